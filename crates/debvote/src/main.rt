@@ -6,26 +6,24 @@
 //! reports every problem in it and in the ballots. Without arguments the program reads a poll and its ballots from
 //! standard input, joined by a line `%%`, and acts as `steps`.
 //!
-//! The program gives its words, the files and the standard input of the system, which can be read and nothing else, and standard
-//! output to one call of `vote_program`, which answers them.
+//! The program gives what the system has to one call of `vote_program`, which answers it: its words, the files and standard input,
+//! which can be read and nothing else, and standard output and standard error.
 #![tactic(auto)]
 
-ghost use Rattle.std.specs.Prelude.{◌≡◌, None, Some, IfErr, IfOk, drop, map, string_bytes};
-ghost use Rattle.vote_command_line.specs.Words.{texts_of};
-ghost use Rattle.debvote.specs.Program.{Answers, AnswersRun, AreNotGiven};
+ghost use Rattle.std.specs.Prelude.{◌≡◌, IfErr};
+ghost use Rattle.debvote.specs.Program.{AreNotGiven};
 
-use std::alloc::{AllocError, Global};
-use std::io::{ErrorKind, IsTerminal};
+use std::io::{ErrorKind, IsTerminal, Stderr};
 use std::marker::Brand;
 use std::process::ExitCode;
-use std::rt::Env;
+use std::rt::{Env, Files};
 use std::sync::Wait;
 use std::sync::ledger::{Blank, Ledger};
 use std::thread::Threads;
 use std::{env, io};
 use vote_command_line::ArgsFault;
-use vote_files::{Meter, ReadableFiles, ReadableInput, Sources, StandardInput, WriterSink};
-use vote_program::{StatusNote, answer, refuse};
+use vote_files::{Meter, ReadableFiles, ReadableInput, WriterSink};
+use vote_program::{answer, refuse};
 
 /// The program's arguments, its own name first. The contracts of std do not say what they are.
 fn words_given<R: Env + AllocGlobal>(rt: &R) -> Result<Vec<String>, ArgsFault>
@@ -38,87 +36,43 @@ fn words_given<R: Env + AllocGlobal>(rt: &R) -> Result<Vec<String>, ArgsFault>
     }
 }
 
-/// Answers words, on a standard output that counts by this blank. Returns the exit status that was answered, which is noted.
-fn run_metered<
-    S: Sources,
-    I: StandardInput,
-    R: Print + Eprint + AllocGlobal + Threads + Wait + Sync,
-    L: Ledger,
->(
-    rt: &R,
-    files: &S,
-    input: &I,
-    words: &[&str],
-    at_terminal: bool,
-    note: &mut StatusNote,
-    blank: Blank,
-) -> u8
-    requires name { blank.name ≡ L.name }
-    requires parts { blank.parts ≡ L.parts }
-    requires two { blank.parts ≡ 2 }
-    requires unanswered { note.old ≡ None }
-    ensures answers { Answers (S.file_bytes files.now) (I.standard_bytes input.now) words.now result }
-    ensures returned { note.new ≡ Some result }
+/// Runs on what the system has, of which no contract can say what it is, and returns the exit status. Standard output and standard
+/// error count by these blanks.
+fn run_on_system<
+    R: Env + Files + Input + Print + AllocGlobal + Threads + Wait + Sync,
+    P: Print,
+    O: Ledger,
+    E: Ledger,
+>(rt: &R, stderr: &P, at_terminal: bool, output: Blank, errors: Blank) -> u8
+    requires output_name { output.name ≡ O.name }
+    requires output_parts { (output.parts ≡ O.parts) × (output.parts ≡ 2) }
+    requires errors_name { errors.name ≡ E.name }
+    requires errors_parts { (errors.parts ≡ E.parts) × (errors.parts ≡ 2) }
 {
-    let mut sink = WriterSink::new(io::writer(rt), Meter::<L>::new(blank));
-    answer(rt, files, input, words, at_terminal, note, &mut sink)
-}
-
-/// The words after the program's name.
-fn after_name(given: &[String]) -> &[String]
-    ensures { result.now ≡ drop 1 given.now }
-{
-    match given.split_first() {
-        Some((_, words)) => words,
-        None => given,
-    }
-}
-
-/// Borrows the arguments.
-fn borrowed<'a>(alloc: Global, words: &'a [String]) -> Result<Vec<&'a str>, AllocError>
-    ensures { IfOk result (λ all. texts_of all.items ≡ map string_bytes words.now) }
-{
-    let mut all = Vec::new(alloc);
-    for word in words {
-        all.push(word.as_str())?;
-    }
-    Ok(all)
-}
-
-/// Answers the arguments of a run, and returns the exit status.
-fn run_program<
-    S: Sources,
-    I: StandardInput,
-    R: Print + Eprint + AllocGlobal + Threads + Wait + Sync,
->(rt: &R, files: &S, input: &I, given: &[String], at_terminal: bool, note: &mut StatusNote) -> u8
-    requires { note.old ≡ None }
-    ensures { AnswersRun (S.file_bytes files.now) (I.standard_bytes input.now) (map string_bytes given.now) note.new result }
-{
-    match borrowed(rt.alloc(), after_name(given)) {
-        Ok(words) => run_metered::<S, I, R, Brand>(
+    let mut sink = WriterSink::new(io::writer(rt), Meter::<O>::new(output));
+    let mut errors = WriterSink::new(io::writer(stderr), Meter::<E>::new(errors));
+    match words_given(rt) {
+        Ok(given) => answer(
             rt,
-            files,
-            input,
-            words.as_slice(),
+            &ReadableFiles::of(rt),
+            &ReadableInput::of(rt),
+            given.as_slice(),
             at_terminal,
-            note,
-            Blank::new(2),
+            &mut sink,
+            &mut errors,
         ),
-        Err(fault) => refuse(rt, &ArgsFault::from(fault)),
+        Err(fault) => refuse(&fault, &mut sink, &mut errors),
     }
 }
 
 fn main(rt: HostRuntime) -> ExitCode {
-    let status = match words_given(&rt) {
-        Ok(given) => run_program(
-            &rt,
-            &ReadableFiles::of(&rt),
-            &ReadableInput::of(&rt),
-            given.as_slice(),
-            rt.stdin().is_terminal(),
-            &mut StatusNote::new(),
-        ),
-        Err(fault) => refuse(&rt, &fault),
-    };
+    let (stderr, at_terminal) = (rt.stderr(), rt.stdin().is_terminal());
+    let status = run_on_system::<HostRuntime, Stderr, Brand, Brand>(
+        &rt,
+        &stderr,
+        at_terminal,
+        Blank::new(2),
+        Blank::new(2),
+    );
     ExitCode::from(status)
 }

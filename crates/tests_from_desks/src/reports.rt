@@ -1,70 +1,46 @@
 //! What `report` tells of a run: the line of each fault, and its status; and nothing of a run that came to its end.
 
+ghost use Rattle.std.specs.Prelude.{◌≡◌};
+
 use crate::inputs::assert_same;
 use std::alloc::{AllocError, Global};
-use std::cell::Cell;
-use std::fmt::Display;
-use std::io;
+use std::marker::Brand;
+use std::sync::ledger::{Blank, Ledger};
 use std::test::Fail;
 use vote_commands::{Ended, InputFault, InputFile, RunFault};
 use vote_desks::{AuditFault, DeskFault, EnterFault, VoteFault};
+use vote_files::{Meter, WriterSink};
 use vote_poll::{PollFault, PollKey};
 use vote_program::report;
 
-/// A standard error that keeps the last line, and counts them.
-#[derive(Drop)]
-struct Heard {
+/// What is told of a run on a standard error that keeps it, and the status.
+fn told<L: Ledger>(
     alloc: Global,
-    last: Cell<Option<String>>,
-    lines: Cell<u8>,
+    outcome: Result<Ended, RunFault>,
+    blank: Blank,
+) -> Result<(Vec<u8>, u8), AllocError>
+    requires name { blank.name ≡ L.name }
+    requires parts { blank.parts ≡ L.parts }
+    requires two { blank.parts ≡ 2 }
+{
+    let heard = Vec::with_capacity(alloc, 128)?;
+    let mut errors = WriterSink::new(heard, Meter::<L>::new(blank));
+    let status = report(&mut errors, &outcome);
+    Ok((errors.into_writer(), status))
 }
 
-impl Heard {
-    fn new(alloc: Global) -> Heard {
-        Heard {
-            alloc,
-            last: Cell::new(None),
-            lines: Cell::new(0),
-        }
-    }
-
-    /// The last line, if any, and how many there were.
-    fn into_told(self) -> (Option<String>, u8) {
-        let Heard {
-            alloc: _,
-            last,
-            lines,
-        } = self;
-        (last.into_inner(), lines.into_inner())
-    }
-}
-
-impl Eprint for Heard {
-    /// What ends no line is no fault line.
-    fn eprint<D: Display + Drop>(&self, _value: D) -> io::Result<()> {
-        self.lines.set(u8::MAX);
-        Ok(())
-    }
-
-    fn eprintln<D: Display + Drop>(&self, value: D) -> io::Result<()> {
-        let line = value.to_string(self.alloc)?;
-        self.last.set(Some(line));
-        self.lines.set(self.lines.get().saturating_add(1));
-        Ok(())
-    }
-}
-
-/// Whether this line is told of a run, and no other, or nothing where there is none; and the status.
-fn reported(alloc: Global, outcome: Result<Ended, RunFault>, line: Option<&str>) -> (bool, u8) {
-    let heard = Heard::new(alloc);
-    let status = report(&heard, &outcome);
-    let (last, lines) = heard.into_told();
-    let is_told = match (&last, line) {
-        (None, None) => lines == 0,
-        (Some(last), Some(line)) => lines == 1 && last.as_str() == line,
-        _ => false,
+/// Whether this line is told of a run, and nothing else, or nothing at all where there is none; and the status.
+fn reported(
+    alloc: Global,
+    outcome: Result<Ended, RunFault>,
+    line: Option<&str>,
+) -> Result<(bool, u8), AllocError> {
+    let (heard, status) = told::<Brand>(alloc, outcome, Blank::new(2))?;
+    let is_told = match line {
+        None => heard.is_empty(),
+        Some(line) => heard.as_slice().strip_suffix(b"\n") == Some(line.as_bytes()),
     };
-    (is_told, status)
+    Ok((is_told, status))
 }
 
 /// Each fault of a run, its line and its status.
@@ -269,12 +245,13 @@ const FAULTS: &[(RunFault, &str, u8)] = &[
 ];
 
 #[test]
-fn each_fault_has_its_line(rt: HostRuntime) {
+fn each_fault_has_its_line(rt: HostRuntime) -> Result<(), Fail> {
     for row in FAULTS {
         let (fault, line, status) = *row;
-        let found = reported(rt.alloc(), Err(fault), Some(line));
+        let found = reported(rt.alloc(), Err(fault), Some(line))?;
         assert_same(&rt, (fault, found), (fault, (true, status)));
     }
+    Ok(())
 }
 
 /// Each way in which a run comes to its end, and its status.
@@ -289,10 +266,11 @@ const ENDS: &[(Ended, u8)] = &[
 ];
 
 #[test]
-fn a_run_that_came_to_its_end_has_no_line(rt: HostRuntime) {
+fn a_run_that_came_to_its_end_has_no_line(rt: HostRuntime) -> Result<(), Fail> {
     for row in ENDS {
         let (end, status) = *row;
-        let found = reported(rt.alloc(), Ok(end), None);
+        let found = reported(rt.alloc(), Ok(end), None)?;
         assert_same(&rt, (end, found), (end, (true, status)));
     }
+    Ok(())
 }

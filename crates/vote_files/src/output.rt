@@ -14,6 +14,7 @@ pub fn write_text<W: Sink>(sink: &mut W, text: &[u8]) -> Result<(), DeviceFault>
     ensures err { OnErr result (AppendsPrefix (W.contents sink.old) (W.contents sink.new) text.now) }
     ensures fault { IsErr result ↔ (W.faults sink.old < W.faults sink.new) }
     ensures flushed { OnOk result (W.flushed sink.new ≡ true) }
+    ensures unfailed { OnOk result (W.faults sink.new ≡ W.faults sink.old) }
     ensures calls { W.calls sink.new ≤ W.calls sink.old + length text.now + 1 }
 {
     let mut rest = text;

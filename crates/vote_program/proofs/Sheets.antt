@@ -29,6 +29,7 @@ use Rattle.vote_commands.specs.declared.FinishedRun.{FinishedRun}
 use Rattle.vote_commands.specs.declared.RunFault.{RunFault}
 use Rattle.vote_commands.specs.declared.RunFault.TheVariants as run
 use Rattle.vote_program.specs.ProgramAnswers.{AnswersWorded, AnswersWords}
+use Rattle.vote_program.specs.Errors.{Errors, SaysEnd, SaysNothing}
 use Rattle.vote_program.specs.RequestEnds.{EndsRequest, Written}
 use Rattle.vote_program.specs.SheetOfFiles.{AskForSheet, IsSheetOfFiles, WritesTheSheet}
 
@@ -157,17 +158,22 @@ of_asked file_bytes words written finished end poll ballots before casting (requ
     absurd (no_count _ (same_asked _ _ _ _ _ sheet.request.1.1 asks.1.1).0 (λ e. omega (arith, e)))
 
 -- words that ask for a sheet are a request
-is_task : (words : List Text) (request : NamedRequest) (fault : ArgsFault) (written : Written) (answered : ℕ) → AreArgsOf words request → HaveArgsFault words fault → AnswersWords fault written answered
-    → (answered ≡ 0) ⊎ (answered ≡ 1) → ⊥
-is_task words request (Help text) written answered asks none answers few = (rw asks.0 at none).2
-is_task words request (Refused text) written answered asks none answers few = not_few answered (omega (arith, answers.0)) few
-is_task words request NotUtf8 written answered asks none answers few = none
-is_task words request Memory written answered asks none answers few = not_few answered (omega (arith, answers.0)) few
+is_task : (words : List Text) (request : NamedRequest) (fault : ArgsFault) (written : Written) (errors : Errors) (answered : ℕ) → AreArgsOf words request → HaveArgsFault words fault
+    → AnswersWords fault written errors answered → (answered ≡ 0) ⊎ (answered ≡ 1) → ⊥
+is_task words request (Help text) written errors answered asks none answers few = (rw asks.0 at none).2
+is_task words request (Refused text) written errors answered asks none answers few = not_few answered (omega (arith, answers.0)) few
+is_task words request NotUtf8 written errors answered asks none answers few = none
+is_task words request Memory written errors answered asks none answers few = not_few answered (omega (arith, answers.0)) few
 
-pub of_words : (file_bytes : Text → Option Text) (words : List Text) (written : Written) (answered : ℕ) → AnswersWorded file_bytes words written answered → WritesTheSheet file_bytes words written answered
-of_words file_bytes words written answered (inl done) poll ballots before casting sheet old few =
+says_nothing : (result : Result Ended RunFault) (end : Ended) (errors : Errors) → result ≡ Ok end → SaysEnd result errors → SaysNothing errors
+says_nothing result end errors is says = subst (λ r. SaysEnd r errors) is says
+
+pub of_words : (file_bytes : Text → Option Text) (words : List Text) (written : Written) (errors : Errors) (answered : ℕ) → AnswersWorded file_bytes words written errors answered
+    → WritesTheSheet file_bytes words written errors answered
+of_words file_bytes words written errors answered (inl done) poll ballots before casting sheet old few =
     let came = ended done.1.end answered done.4 few in
-    of_asked file_bytes words written done.1 came.0 poll ballots before casting done.0 sheet done.2 old came.1 done.3
-of_words file_bytes words written answered (inr none) poll ballots before casting sheet old few =
+    let told = of_asked file_bytes words written done.1 came.0 poll ballots before casting done.0 sheet done.2 old came.1 done.3 in
+    (told.0, told.1, told.2, says_nothing done.1.end came.0 errors came.1 done.5)
+of_words file_bytes words written errors answered (inr none) poll ballots before casting sheet old few =
     let request = request.Count sheet.poll_name sheet.ballots_name sheet.desks sheet.option_name purpose.Sheet in
-    absurd (is_task words request none.0 written answered sheet.request none.1 none.2 few)
+    absurd (is_task words request none.0 written errors answered sheet.request none.1 none.2 few)

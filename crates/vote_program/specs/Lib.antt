@@ -2,6 +2,9 @@
 pub mod LoadedRequests
 pub mod Unread
 pub mod ArgsStatus
+pub mod Errors
 pub mod RequestEnds
 pub mod ProgramAnswers
 pub mod SheetOfFiles
+-- what private functions say of their parts
+pub mod LineParts

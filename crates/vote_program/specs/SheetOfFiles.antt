@@ -10,6 +10,7 @@ use Rattle.vote_request.specs.declared.Purpose.TheVariants as purpose
 use Rattle.vote_request.specs.declared.Request.TheVariants as request
 use Rattle.vote_command_line.specs.Words.{AreArgsOf}
 use Rattle.vote_commands.specs.Counting.{NamesNoOption, casting_option}
+use Rattle.vote_program.specs.Errors.{Errors, SaysNothing}
 use Rattle.vote_program.specs.RequestEnds.{Written}
 
 -- The words ask for the sheet of two files, of which these bytes are told, with this casting vote, if there is one. The number of desks is any.
@@ -32,9 +33,9 @@ pub record IsSheetOfFiles (poll_text ballots : Text) (casting : Option Text) (sh
   pub is_sheet : IsSheet poll (lines_of ballots) (casting_option poll casting) sheet
 
 -- If words ask for the sheet of files that tell their bytes, if the output tells its bytes too, and if the exit status is 0 or 1, then
--- the output has grown by one text, which is the sheet of these files.
-abbrev pub WritesTheSheet : (Text → Option Text) → List Text → Written → ℕ → Type 0
-WritesTheSheet file_bytes words written answered =
+-- the output has grown by one text, which is the sheet of these files, and nothing is written on standard error.
+abbrev pub WritesTheSheet : (Text → Option Text) → List Text → Written → Errors → ℕ → Type 0
+WritesTheSheet file_bytes words written errors answered =
     (poll ballots before : Text) (casting : Option Text)
     → AskForSheet file_bytes words poll ballots casting → written.old ≡ Some before → (answered ≡ 0) ⊎ (answered ≡ 1)
-    → (sheet : Text) × IsSheetOfFiles poll ballots casting sheet × (written.new ≡ Some (before ++ sheet))
+    → (sheet : Text) × IsSheetOfFiles poll ballots casting sheet × (written.new ≡ Some (before ++ sheet)) × SaysNothing errors

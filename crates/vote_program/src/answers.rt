@@ -1,116 +1,151 @@
 //! What the program answers to its words: the exit status, and what it writes.
 
-ghost use Rattle.std.specs.Prelude.{◌≡◌, ◌<◌, ◌↔◌, None, Some, length};
+ghost use Rattle.std.specs.Prelude.{◌≡◌, ◌<◌, ◌≤◌, ◌↔◌, IfOk, drop, length, map, string_bytes};
 ghost use Rattle.vote_command_line.specs.Words.{texts_of};
-ghost use Rattle.vote_program.specs.ProgramAnswers.{AnswersJoined, AnswersWorded, AnswersWords};
+ghost use Rattle.vote_program.specs.Errors.{SaysHint, errors_in};
+ghost use Rattle.vote_program.specs.ProgramAnswers.{AnswersHelp, AnswersJoined, AnswersWorded, AnswersWords, words_in};
 ghost use Rattle.vote_program.specs.RequestEnds.{written_by};
 ghost use Rattle.vote_program.specs.SheetOfFiles.{WritesTheSheet};
-ghost use Rattle.vote_program.specs.ArgsStatus.{args_status};
 
-use crate::exit_status::{args_status, report};
-use crate::note::StatusNote;
+use crate::exit_status::{args_status, report, say};
 use crate::request_run::{carry_out, print_joined};
+use std::alloc::{AllocError, Global};
 use std::sync::Wait;
 use std::thread::Threads;
 use vote_command_line::{ArgsFault, parse_args};
 use vote_commands::RunFault;
 use vote_files::{Sink, Sources, StandardInput, write_text};
 
-const TERMINAL_HINT: &str = "reading a poll and its ballots from the terminal; see debvote --help";
+const TERMINAL_HINT: &str =
+    "debvote: reading a poll and its ballots from the terminal; see debvote --help\n";
 
-/// Prints on standard error why words make no request, and returns the exit status. Help is not printed here.
-pub fn refuse<R: Eprint>(rt: &R, fault: &ArgsFault) -> u8
-    ensures { result ≡ args_status fault.now }
+/// Writes the help that words ask for. Returns the exit status.
+fn help<W: Sink, E: Sink>(text: &str, sink: &mut W, errors: &mut E) -> u8
+    ensures answers { AnswersHelp text.now (written_by W.contents W.flushed sink.old sink.new) (errors_in E.contents E.faults errors.old errors.new) result }
+    ensures output { (result ≡ 7) ↔ (W.faults sink.old < W.faults sink.new) }
+{
+    match write_text(sink, text.as_bytes()) {
+        Ok(()) => 0,
+        Err(_) => report(errors, &Err(RunFault::Output)),
+    }
+}
+
+/// Answers words that make no request: writes the help that they ask for, or says on standard error why they are refused. Returns
+/// the exit status.
+pub fn refuse<W: Sink, E: Sink>(fault: &ArgsFault, sink: &mut W, errors: &mut E) -> u8
+    ensures answers { AnswersWords fault.now (written_by W.contents W.flushed sink.old sink.new) (errors_in E.contents E.faults errors.old errors.new) result }
+    ensures output { (result ≡ 7) ↔ (W.faults sink.old < W.faults sink.new) }
 {
     match fault {
-        ArgsFault::Help(_) => {}
-        ArgsFault::Refused(text) => {
-            let _ = rt.eprint(text);
-        }
-        ArgsFault::NotUtf8 => {
-            let _ = eprintln!(rt; "debvote: an argument is not UTF-8");
-        }
-        ArgsFault::Memory => return report(rt, &Err(RunFault::Memory)),
+        ArgsFault::Help(text) => return help(text.as_str(), sink, errors),
+        ArgsFault::Refused(text) => say(errors, text.as_str()),
+        ArgsFault::NotUtf8 => say(errors, "debvote: an argument is not UTF-8\n"),
+        ArgsFault::Memory => return report(errors, &Err(RunFault::Memory)),
     }
     args_status(fault)
 }
 
-/// Answers words that make no request: writes the help that they ask for, or refuses them. Returns the exit status.
-fn answer_args_fault<W: Sink, R: Eprint>(rt: &R, fault: &ArgsFault, sink: &mut W) -> u8
-    ensures answers { AnswersWords fault.now (written_by W.contents W.flushed sink.old sink.new) result }
-    ensures output { (result ≡ 7) ↔ (W.faults sink.old < W.faults sink.new) }
-{
-    let ArgsFault::Help(text) = fault else {
-        return refuse(rt, fault);
-    };
-    match write_text(sink, text.as_bytes()) {
-        Ok(()) => args_status(fault),
-        Err(_) => report(rt, &Err(RunFault::Output)),
-    }
-}
-
 /// Answers words: performs the request that they make, or says why they make none. Returns the exit status.
-fn answer_words<S: Sources, W: Sink, R: Eprint + AllocGlobal + Threads + Wait + Sync>(
+fn answer_words<S: Sources, W: Sink, E: Sink, R: AllocGlobal + Threads + Wait + Sync>(
     rt: &R,
     files: &S,
     words: &[&str],
     sink: &mut W,
+    errors: &mut E,
 ) -> u8
-    ensures answers { AnswersWorded (S.file_bytes files.now) (texts_of words.now) (written_by W.contents W.flushed sink.old sink.new) result }
+    ensures answers { AnswersWorded (S.file_bytes files.now) (texts_of words.now) (written_by W.contents W.flushed sink.old sink.new)
+        (errors_in E.contents E.faults errors.old errors.new) result }
     ensures output { (result ≡ 7) ↔ (W.faults sink.old < W.faults sink.new) }
 {
     match parse_args(rt.alloc(), words) {
-        Ok(request) => report(rt, &carry_out(rt, rt.alloc(), files, &request, sink).end),
-        Err(fault) => answer_args_fault(rt, &fault, sink),
+        Ok(request) => {
+            let finished = carry_out(rt, rt.alloc(), files, &request, sink);
+            report(errors, &finished.end)
+        }
+        Err(fault) => refuse(&fault, sink, errors),
     }
 }
 
-/// Answers words, or without any a joined input. Returns the exit status.
-fn answer_either<
-    S: Sources,
-    I: StandardInput,
-    W: Sink,
-    R: Eprint + AllocGlobal + Threads + Wait + Sync,
->(rt: &R, files: &S, input: &I, words: &[&str], at_terminal: bool, sink: &mut W) -> u8
-    ensures alone { length words.now ≡ 0 → AnswersJoined (I.standard_bytes input.now) (written_by W.contents W.flushed sink.old sink.new) result }
-    ensures worded { 0 < length words.now
-        → AnswersWorded (S.file_bytes files.now) (texts_of words.now) (written_by W.contents W.flushed sink.old sink.new) result }
+/// Says at a terminal what the program waits for.
+fn say_hint<E: Sink>(errors: &mut E, at_terminal: bool)
+    ensures { SaysHint at_terminal (errors_in E.contents E.faults errors.old errors.new) }
+{
+    if at_terminal {
+        say(errors, TERMINAL_HINT);
+    }
+}
+
+/// Answers no words: a joined input. Returns the exit status.
+fn answer_joined<I: StandardInput, W: Sink, E: Sink, R: AllocGlobal + Threads + Wait + Sync>(
+    rt: &R,
+    input: &I,
+    at_terminal: bool,
+    sink: &mut W,
+    errors: &mut E,
+) -> u8
+    ensures answers { AnswersJoined at_terminal (I.standard_bytes input.now) (written_by W.contents W.flushed sink.old sink.new)
+        (errors_in E.contents E.faults errors.old errors.new) result }
     ensures output { (result ≡ 7) ↔ (W.faults sink.old < W.faults sink.new) }
 {
-    if !words.is_empty() {
-        return answer_words(rt, files, words, sink);
-    }
-    if at_terminal {
-        let _ = eprintln!(rt; "debvote: {TERMINAL_HINT}");
-    }
-    report(rt, &print_joined(rt, rt.alloc(), input, sink).end)
+    say_hint(errors, at_terminal);
+    report(errors, &print_joined(rt, rt.alloc(), input, sink).end)
 }
 
-/// Answers the words after the program's name, or without any a joined input. Returns the exit status, and notes it.
+/// The words after the program's name.
+fn after_name(given: &[String]) -> &[String]
+    ensures { result.now ≡ drop 1 given.now }
+{
+    match given.split_first() {
+        Some((_, words)) => words,
+        None => given,
+    }
+}
+
+/// Borrows the words.
+fn borrowed<'a>(alloc: Global, words: &'a [String]) -> Result<Vec<&'a str>, AllocError>
+    ensures { IfOk result (λ all. texts_of all.items ≡ map string_bytes words.now) }
+{
+    let mut all = Vec::new(alloc);
+    for word in words {
+        all.push(word.as_str())?;
+    }
+    Ok(all)
+}
+
+/// Answers the words that the system gives: those after the first, which is the program's name, or without any a joined input. Returns
+/// the exit status.
 pub fn answer<
     S: Sources,
     I: StandardInput,
     W: Sink,
-    R: Eprint + AllocGlobal + Threads + Wait + Sync,
+    E: Sink,
+    R: AllocGlobal + Threads + Wait + Sync,
 >(
     rt: &R,
     files: &S,
     input: &I,
-    words: &[&str],
+    given: &[String],
     at_terminal: bool,
-    note: &mut StatusNote,
     sink: &mut W,
+    errors: &mut E,
 ) -> u8
-    requires unanswered { note.old ≡ None }
-    ensures sheet { 0 < length words.now
-        → WritesTheSheet (S.file_bytes files.now) (texts_of words.now) (written_by W.contents W.flushed sink.old sink.new) result }
-    ensures alone { length words.now ≡ 0 → AnswersJoined (I.standard_bytes input.now) (written_by W.contents W.flushed sink.old sink.new) result }
-    ensures worded { 0 < length words.now
-        → AnswersWorded (S.file_bytes files.now) (texts_of words.now) (written_by W.contents W.flushed sink.old sink.new) result }
+    ensures sheet { 1 < length given.now
+        → WritesTheSheet (S.file_bytes files.now) (words_in given.now) (written_by W.contents W.flushed sink.old sink.new)
+        (errors_in E.contents E.faults errors.old errors.new) result }
+    ensures alone { length given.now ≤ 1
+        → AnswersJoined at_terminal (I.standard_bytes input.now) (written_by W.contents W.flushed sink.old sink.new)
+        (errors_in E.contents E.faults errors.old errors.new) result }
+    ensures worded { 1 < length given.now
+        → AnswersWorded (S.file_bytes files.now) (words_in given.now) (written_by W.contents W.flushed sink.old sink.new)
+        (errors_in E.contents E.faults errors.old errors.new) result }
     ensures output { (result ≡ 7) ↔ (W.faults sink.old < W.faults sink.new) }
-    ensures noted { note.new ≡ Some result }
 {
-    let status = answer_either(rt, files, input, words, at_terminal, sink);
-    note.write(status);
-    status
+    let words = after_name(given);
+    if words.is_empty() {
+        return answer_joined(rt, input, at_terminal, sink, errors);
+    }
+    match borrowed(rt.alloc(), words) {
+        Ok(words) => answer_words(rt, files, words.as_slice(), sink, errors),
+        Err(fault) => refuse(&ArgsFault::from(fault), sink, errors),
+    }
 }

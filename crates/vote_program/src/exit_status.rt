@@ -3,17 +3,28 @@
 ghost use Rattle.std.specs.Prelude.{◌≡◌, ◌↔◌, IsErrOf};
 ghost use Rattle.vote_commands.specs.Status.{status};
 ghost use Rattle.vote_program.specs.ArgsStatus.{args_status};
+ghost use Rattle.vote_program.specs.Errors.{Says, SaysEnd, errors_in};
 
+use crate::fault_lines::fault_line;
 use vote_command_line::ArgsFault;
 use vote_commands::{Ended, RunFault, status};
+use vote_files::{Sink, write_text};
 
-/// Prints on standard error why a run did not come to its end, and returns the exit status.
-pub fn report<R: Eprint>(rt: &R, outcome: &Result<Ended, RunFault>) -> u8
+/// Writes a text on standard error. If it can't be written, the run goes on.
+pub(crate) fn say<E: Sink>(errors: &mut E, text: &str)
+    ensures { Says text.now (errors_in E.contents E.faults errors.old errors.new) }
+{
+    let _ = write_text(errors, text.as_bytes());
+}
+
+/// Says on standard error why a run did not come to its end, and returns the exit status.
+pub fn report<E: Sink>(errors: &mut E, outcome: &Result<Ended, RunFault>) -> u8
     ensures status { result ≡ status outcome.now }
     ensures output { (result ≡ 7) ↔ IsErrOf outcome.now RunFault.Output }
+    ensures says { SaysEnd outcome.now (errors_in E.contents E.faults errors.old errors.new) }
 {
     if let Err(fault) = outcome {
-        let _ = eprintln!(rt; "debvote: {fault}");
+        say(errors, fault_line(fault).as_str());
     }
     status(outcome)
 }

@@ -1,31 +1,31 @@
 //! The program between its words and its output: a request of the command line with the files that it names, or a joined input.
 //!
 //! - [`answer`] is the one call that the program makes: it answers the words after the program's name, over any files
-//!   ([`Sources`](vote_files::Sources)), any [`StandardInput`](vote_files::StandardInput) and any [`Sink`](vote_files::Sink), and
-//!   gives the exit status, which it notes for contracts ([`StatusNote`]).
+//!   ([`Sources`](vote_files::Sources)), any [`StandardInput`](vote_files::StandardInput) and any two outputs
+//!   ([`Sink`](vote_files::Sink)), standard output and standard error, and returns the exit status.
 //! - [`carry_out`] reads the files that a request names, whole and up to their limits ([`read_inputs`]), and performs the request
 //!   with their bytes ([`with_bytes`]); [`print_joined`] does so for standard input ([`read_joined`]).
-//! - [`report`] prints on standard error why a run did not come to its end, and returns the exit status; [`refuse`] does so for an
+//! - [`report`] says on standard error why a run did not come to its end, and returns the exit status; [`refuse`] does so for an
 //!   [`ArgsFault`](vote_command_line::ArgsFault), and [`args_status`] is its status.
 //!
 //! **What is promised.** The answer to words is the end of the request that they make, on the bytes that the sources tell of the
 //! names in those words; or that of the fault that the words have. A loaded request asks for what the named one asks for, with the
 //! bytes of its own files. The fault of an input that was not read names that input, and of the files of a request only one that
 //! the request names; an input has no more bytes than its limit, which [`laws`] has in numbers. The exit status is that of the
-//! tables of `vote_commands` and of [`args_status`], and it is that of a failed output exactly when the sink failed.
+//! tables of `vote_commands` and of [`args_status`], and it is that of a failed output exactly when the sink failed. Standard error
+//! gets the line of the fault, if there is one, and nothing else; where words are refused, the text of `clap`.
 #![tactic(auto)]
 
 mod answers;
 mod exit_status;
+mod fault_lines;
 mod inputs;
 pub mod laws;
 mod loaded_request;
-mod note;
 mod request_run;
 
 pub use answers::{answer, refuse};
 pub use exit_status::{args_status, report};
 pub use inputs::{Inputs, read_inputs, read_joined};
 pub use loaded_request::with_bytes;
-pub use note::StatusNote;
 pub use request_run::{carry_out, print_joined};

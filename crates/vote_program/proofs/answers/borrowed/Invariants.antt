@@ -1,6 +1,6 @@
 use Rattle.std.proofs.Common.{◌≡◌, map, string_bytes, take}
 use Rattle.vote_command_line.specs.Words.{texts_of}
-use Rattle.debvote.proofs.borrowed.Given as goal
+use Rattle.vote_program.proofs.answers.borrowed.Given as goal
 
 -- the words before this one are borrowed
 abbrev pub invariant-loop-word : goal.invariant-loop-word
