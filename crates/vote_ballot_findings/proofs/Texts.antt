@@ -1,5 +1,5 @@
 -- What calls say that add to a text.
-use Rattle.std.proofs.Common.{◌≡◌, ◌++◌, ◌∙◌, ◌∷◌, [], ℕ, List, append_assoc, append-nil, Result, Ok, Err, OnOk, is_ok, if◌then◌else◌, ap, codes, refl, sym, ◌+◌, ◌≤◌, suc, length, Bool, true, false, not, cond, nat_lt, inl, inr, arith, unwrap_or}
+use Rattle.std.proofs.Common.{◌≡◌, ◌++◌, ◌∙◌, ◌∷◌, [], ℕ, List, append_assoc, append-nil, Result, Ok, Err, OnOk, is_ok, if◌then◌else◌, ap, refl, sym, ◌+◌, ◌≤◌, suc, length, Bool, true, false, not, cond, nat_lt, inl, inr, arith, unwrap_or}
 use Rattle.std.specs.List.{flat_map, position, position_or_len, prefix_len}
 use Rattle.std.proofs.lemmas.Bool.{cases_Bool}
 use Rattle.std.proofs.lemmas.Bool.Decides.{nat_tests}
