@@ -1,6 +1,7 @@
 -- What the box replies to the lines that one desk casts in their order.
-use Rattle.std.proofs.Common.{◌≡◌, ◌+◌, ◌<◌, ◌++◌, ◌∙◌, ℕ, zero, suc, List, [], ◌∷◌, drop, take, refl, ap, sym, Option, Some, None, false, cond, arith, slice_get, take-append-drop, nat_lt, inl, inr}
+use Rattle.std.proofs.Common.{◌≡◌, ◌+◌, ◌<◌, ◌++◌, ◌∙◌, ℕ, zero, suc, List, [], ◌∷◌, drop, take, refl, ap, sym, Option, Some, None, false, cond, arith, slice_get, get_or, option_map, take-append-drop, nat_lt, inl, inr}
 use Rattle.std.proofs.lemmas.Bool.{cases_Bool}
+use Rattle.std.proofs.lemmas.Option.{slice_get-get_or, slice_get-map, slice_get_within}
 use Rattle.vote_poll.specs.PollContent.{PollContent}
 use Rattle.vote_poll.specs.Readings.{reading, readings}
 use Rattle.vote_poll.specs.declared.Reading.{Reading}
@@ -53,15 +54,10 @@ open_by (step ∷ steps) (suc place) casts =
     rw (here, later)
 
 reading_at : (poll : PollContent) (lines : List Text) (place : ℕ) (bytes : Text) → slice_get lines place ≡ Some bytes → slice_get (readings poll lines) place ≡ Some (reading poll bytes)
-reading_at poll [] place bytes at = cc
-reading_at poll (line ∷ lines) zero bytes at = let same : line ≡ bytes = cc in ap (λ x. Some (reading poll x)) same
-reading_at poll (line ∷ lines) (suc place) bytes at = reading_at poll lines place bytes at
+reading_at poll lines place bytes at = slice_get-map (reading poll) lines place ∙ ap (option_map (reading poll)) at
 
 at_below : {X : Type 0} (xs : List X) (place k : ℕ) (x : X) → slice_get xs place ≡ Some x → k < place → (y : X) × (slice_get xs k ≡ Some y)
-at_below [] place k x at below = cc
-at_below (y ∷ xs) place zero x at below = (y, refl)
-at_below (y ∷ xs) zero (suc k) x at below = absurd (omega arith)
-at_below (y ∷ xs) (suc place) (suc k) x at below = at_below xs place k x at (omega arith)
+at_below xs place k x at below = (get_or xs k x, slice_get-get_or xs k x (omega (arith, slice_get_within xs place x at)))
 
 pub replies_of_box : (poll : PollContent) (lines : List Text) (b : BoxState) → HoldsLines poll lines b → AreCastInOrder (readings poll lines) b.steps → AreReplies poll lines b.steps
 replies_of_box poll lines b holds order place bytes at =

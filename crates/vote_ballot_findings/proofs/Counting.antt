@@ -1,28 +1,16 @@
 -- How many lines are refused.
-use Rattle.std.proofs.Common.{◌≡◌, ◌+◌, ◌-◌, ◌++◌, ◌∙◌, ℕ, zero, suc, List, [], ◌∷◌, length, drop, take, refl, ap, Bool, true, false, not, arith, cond, count_by, filter, option_map, option_to_list}
+use Rattle.std.proofs.Common.{◌≡◌, ◌+◌, ◌-◌, ◌++◌, ◌∙◌, ℕ, zero, suc, List, [], ◌∷◌, length, drop, take, refl, ap, Bool, true, false, not, arith, cond, filter, option_map, option_to_list}
 use Rattle.std.proofs.lemmas.Bool.Decides.{nat_tests}
-use Rattle.std.proofs.lemmas.List.{length-map}
 use Rattle.std.proofs.lemmas.List.Sums.{length-filter}
 use Rattle.vote_poll.specs.PollContent.{PollContent, last_in_time}
 use Rattle.vote_poll.specs.Readings.{is_ballot, reading, readings}
 use Rattle.vote_poll.specs.declared.Reading.{Reading}
 use Rattle.vote_poll.specs.declared.Reading.TheVariants.{Ballot, Bad}
-use Rattle.vote_steps.specs.History.{is_late, refused, valid}
-use Rattle.vote_steps.specs.Boxes.{BoxState}
-use Rattle.vote_steps.specs.HeldLines.{HasSizes}
-use Rattle.vote_steps.specs.Standing.{CountsLines}
-use Rattle.vote_sheet.specs.LastBallots.{readings_in_time, refused_count}
+use Rattle.vote_steps.specs.History.{is_late, refused}
+use Rattle.vote_sheet.specs.LastBallots.{readings_in_time}
 use Rattle.vote_sheet.specs.Texts.{Text}
-use Rattle.vote_sheet.proofs.Holding.{count-not, taken_and_left}
 use Rattle.vote_ballot_findings.specs.Refusals.{EachRefusalIsListed, Refusal, bad_reply, refusals_from}
 
--- ---- in the box
-pub refused_are : (poll : PollContent) (lines : List Text) (b : BoxState) → HasSizes poll lines b → CountsLines (readings poll lines) b → refused b.last_in_time b.steps ≡ refused_count poll lines
-refused_are poll lines b sizes counted =
-    let valid_are : valid b.last_in_time b.steps ≡ count_by is_ballot (readings_in_time poll lines) = counted.valid_is ∙ ap (λ n. count_by is_ballot (take n (readings poll lines))) sizes.3 in
-    omega (arith, counted.refused_is, length-map lines (reading poll), valid_are, count-not is_ballot (readings_in_time poll lines), taken_and_left poll lines (last_in_time poll))
-
--- ---- in the list
 abbrev is_no_ballot : Reading → Bool
 is_no_ballot read = not (is_ballot read)
 

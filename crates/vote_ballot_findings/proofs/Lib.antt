@@ -1,10 +1,6 @@
 pub mod Texts
-pub mod Edits
 pub mod Listing
 pub mod BoxReplies
 pub mod Counting
-pub mod RankTexts
-pub mod Parts
-pub mod Steps
-pub mod NextStates
+pub mod Nearest
 pub mod LinePrefixes

@@ -1,103 +1,212 @@
--- The prefixes of a line, and where the longest one ends that is the prefix of a ballot line.
-use Rattle.std.proofs.Common.{◌≡◌, ◌+◌, ◌-◌, ◌<◌, ◌≤◌, ◌++◌, ◌⊎◌, inl, inr, ℕ, List, [], ◌∷◌, map, length, take, drop, get_or, min, refl, ap, ap₂, sym, subst, ◌∙◌, Option, Some, None, true, false, nat_le, nat_lt, ◌&&◌, ◌==◌, arith, append_assoc, append-nil, take-append-drop, length-take}
-use Rattle.std.specs.List.{All, list_all, join_with_byte}
-use Rattle.std.proofs.lemmas.Bool.{cases_Bool, and_parts, eqb-false, eqb-true, leb-false, leb-true, ltb-false, ltb-true}
-use Rattle.std.proofs.lemmas.List.Elements.{All-cons, All-head, All-tail}
-use Rattle.std.proofs.lemmas.List.{take_more, take-take, length-append}
-use Rattle.vote_poll.specs.BallotLine.{IsRank, rank_text}
-use Rattle.vote_poll_text.specs.Names.{is_voter_byte, is_within}
-use Rattle.vote_poll.specs.BallotLine.{IsBallotText}
-use Rattle.vote_ballot_findings.specs.Column.{IsColumn, IsLinePrefix}
-use Rattle.vote_ballot_findings.specs.Prefixes.{AreRanks, Completes, IsIn, IsNext, IsNextState, IsReached, IsState, Part, Name, Rank, Digit, Comma, more_text}
+-- What a ballot line can begin with: a name of which a part is there, or a name, a space and ranks, of which the last may be missing.
+use Rattle.std.proofs.Common.{◌≡◌, ◌+◌, ◌-◌, ◌<◌, ◌≤◌, ◌++◌, ◌⊎◌, ◌/◌, ◌%◌, inl, inr, ℕ, List, [], ◌∷◌, map, length, take, drop, min, refl, ap, ap₂, sym, subst, ◌∙◌, Option, Some, None, true, false, nat_le, ◌&&◌, arith, append_assoc, append-nil, take-append-drop, length-take, length-append, ◌==◌}
+use Rattle.std.specs.Prelude.{Bool}
+use Rattle.std.specs.Fmt.{decimal}
+use Rattle.std.specs.List.{All, list_all, list_any, join_with_byte}
+use Rattle.std.proofs.lemmas.Bool.{cases_Bool, and_parts}
+use Rattle.std.proofs.lemmas.Bool.Decides.{nat_tests}
+use Rattle.std.proofs.lemmas.Fmt.{decimal_digit, decimal_step}
+use Rattle.std.proofs.lemmas.List.Elements.{All-cons, All-head, All-nil, All-tail}
+use Rattle.std.proofs.lemmas.List.{take-take}
+use Rattle.std.proofs.lemmas.List.Folds.{list_all-append}
+use Rattle.vote_poll.specs.BallotLine.{IsBallotText, IsRank, rank_text}
+use Rattle.vote_poll_text.specs.Names.{is_voter_byte, is_voter_name, is_within}
 use Rattle.vote_poll.proofs.NamesLaws.{within_bounds, within_from}
-use Rattle.vote_ballot_findings.proofs.Parts.{more_ends, ranks_from_hyphen, ranks_have_byte, named_from_space, named_from_byte}
+use Rattle.vote_ballot_findings.specs.Column.{IsColumn, IsLinePrefix}
 
--- ---- a whole line
-join_ranks : (rank : Option ℕ) (ranks : List (Option ℕ)) → join_with_byte 44 (map rank_text (rank ∷ ranks)) ≡ rank_text rank ++ more_text ranks
-join_ranks rank [] = sym (append-nil (rank_text rank))
-join_ranks rank (next ∷ ranks) = ap (λ text. rank_text rank ++ 44 ∷ text) (join_ranks next ranks)
-
-ranks_of_line : (ranks : List (Option ℕ)) → 1 ≤ length ranks → All IsRank ranks → AreRanks (join_with_byte 44 (map rank_text ranks))
-ranks_of_line [] some are = absurd (omega arith)
-ranks_of_line (rank ∷ ranks) some are = record {
-  rank = rank;
-  more = more_text ranks;
-  is_rank = All-head IsRank rank ranks are;
-  are_more = record { ranks = ranks; are_ranks = All-tail IsRank rank ranks are; is_text = refl };
-  is_text = join_ranks rank ranks;
-}
-
-whole_from_line : (text : List ℕ) → IsBallotText text → Completes Name 0 text
-whole_from_line text (voter, ranks, is) =
-    let (size, bytes) = and_parts (is_within 1 32 (length voter)) (list_all is_voter_byte voter) is.is_name in
-    let (least, most) = within_bounds 1 32 (length voter) size in
-    let short : length text ≤ 200 = is.is_short in (
-      omega arith,
-      record {
-        name = voter;
-        ranks = join_with_byte 44 (map rank_text ranks);
-        is_name = bytes;
-        least = omega arith;
-        most = omega arith;
-        are_ranks = ranks_of_line ranks is.has_rank is.are_ranks;
-        is_text = is.is_text ∙ append_assoc voter (32 ∷ []) (join_with_byte 44 (map rank_text ranks));
-      },
-    )
-
-line_from_whole : (text : List ℕ) → Completes Name 0 text → IsBallotText text
-line_from_whole text (short, h) =
-    let ranks : List (Option ℕ) = h.are_ranks.rank ∷ h.are_ranks.are_more.ranks in
-    let spelled : h.ranks ≡ join_with_byte 44 (map rank_text (h.are_ranks.rank ∷ h.are_ranks.are_more.ranks)) =
-    h.are_ranks.is_text ∙ ap (λ t. rank_text h.are_ranks.rank ++ t) h.are_ranks.are_more.is_text ∙ sym (join_ranks h.are_ranks.rank h.are_ranks.are_more.ranks) in
-    let size : is_within 1 32 (length h.name) ≡ true = within_from 1 32 (length h.name) (omega (arith, h.least)) (omega (arith, h.most)) in (
-      h.name,
-      h.are_ranks.rank ∷ h.are_ranks.are_more.ranks,
-      record {
-        is_text = h.is_text ∙ ap (λ t. h.name ++ 32 ∷ t) spelled ∙ sym (append_assoc h.name (32 ∷ []) (join_with_byte 44 (map rank_text (h.are_ranks.rank ∷ h.are_ranks.are_more.ranks))));
-        is_name = ap₂ (λ x y. x && y) size h.is_name;
-        are_ranks = All-cons IsRank h.are_ranks.rank h.are_ranks.are_more.ranks h.are_ranks.is_rank h.are_ranks.are_more.are_ranks;
-        has_rank = omega arith;
-        is_short = omega arith;
-      },
-    )
-
--- ---- what can be completed
-named_can_end : (place : ℕ) → place ≤ 32 → (rest : List ℕ) × Completes Name place rest
-named_can_end place most =
-    elim (cases_Bool (nat_lt 0 place)) [
-      | inl some ↦ let least : 1 ≤ place = omega (arith, ltb-true 0 place some) in
-          (32 ∷ 45 ∷ [], (omega arith, named_from_space place (45 ∷ []) least most (ranks_from_hyphen [] more_ends)))
-      | inr none ↦ let zero : place ≡ 0 = omega (arith, ltb-false 0 place none) in
-          (97 ∷ 32 ∷ 45 ∷ [], (omega arith, named_from_byte place 97 (32 ∷ 45 ∷ []) refl (named_from_space (place + 1) (45 ∷ []) (omega arith) (omega arith) (ranks_from_hyphen [] more_ends))))
+-- of a text that is parted in two ways one first part begins with the other
+parted : (a b c d : List ℕ) → a ++ b ≡ c ++ d → ((m : List ℕ) × (c ≡ a ++ m) × (b ≡ m ++ d)) ⊎ ((m : List ℕ) × (a ≡ c ++ m) × (d ≡ m ++ b))
+parted [] b c d e = inl (c, refl, e)
+parted (x ∷ a) b [] d e = inr (x ∷ a, refl, sym e)
+parted (x ∷ a) b (y ∷ c) d e =
+    let first : x ≡ y = cc in
+    let rest : a ++ b ≡ c ++ d = cc in
+    elim (parted a b c d rest) [
+      | inl (m, is, left) ↦ inl (m, ap₂ (λ z t. z ∷ t) (sym first) is, left)
+      | inr (m, is, left) ↦ inr (m, ap₂ (λ z t. z ∷ t) first is, left)
     ]
 
--- there is room for what can stand after a prefix of so many bytes: a name is not too long yet, and a rank has a byte
-abbrev HasRoom : Part → ℕ → Type 0
-HasRoom Name place = place ≤ 32
-HasRoom Rank place = place < 200
-HasRoom Digit place = place ≤ 200
-HasRoom Comma place = place ≤ 200
+-- ---- ranks
+-- the text lists ranks, one at least
+abbrev AreRanks : List ℕ → Type 0
+AreRanks text = (ranks : List (Option ℕ)) × (1 ≤ length ranks) × All IsRank ranks × (text ≡ join_with_byte 44 (map rank_text ranks))
 
-can_end : (part : Part) (place : ℕ) → HasRoom part place → (rest : List ℕ) × Completes part place rest
-can_end Name place room = named_can_end place room
-can_end Rank place room = (45 ∷ [], (omega arith, ranks_from_hyphen [] more_ends))
-can_end Digit place room = ([], (omega arith, inl more_ends))
-can_end Comma place room = ([], (omega arith, more_ends))
+one_rank : (rank : Option ℕ) → IsRank rank → AreRanks (rank_text rank)
+one_rank rank is = (rank ∷ [], omega arith, All-cons IsRank rank [] is (All-nil IsRank), refl)
 
--- ---- the prefixes of a line
-pub begins_in_name : (line : List ℕ) → IsIn Name 0 line
-begins_in_name line rest = (line_from_whole rest, whole_from_line rest)
+more_ranks : (rank : Option ℕ) (text : List ℕ) → IsRank rank → AreRanks text → AreRanks (rank_text rank ++ 44 ∷ text)
+more_ranks rank text is ([], some, are, same) = absurd (omega arith)
+more_ranks rank text is (next ∷ ranks, some, are, same) =
+    (rank ∷ next ∷ ranks, omega arith, All-cons IsRank rank (next ∷ ranks) is are, ap (λ t. rank_text rank ++ 44 ∷ t) same)
 
-one_byte_more : (line rest : List ℕ) (place : ℕ) → place < length line → take (place + 1) line ++ rest ≡ take place line ++ get_or line place 0 ∷ rest
-one_byte_more line rest place within =
-    ap (λ t. t ++ rest) (take_more line place 0 within) ∙ append_assoc (take place line) (get_or line place 0 ∷ []) rest
+-- the text lists ranks, or does with a 1 behind it
+abbrev AreBegun : List ℕ → Type 0
+AreBegun text = AreRanks text ⊎ AreRanks (text ++ 49 ∷ [])
 
-pub goes_on : (part next : Part) (place : ℕ) (line : List ℕ) → place < length line → IsIn part place line → IsNext part place (get_or line place 0) (Some next) → IsIn next (place + 1) line
-goes_on part next place line within is step rest = (
-  λ h. subst IsBallotText (sym (one_byte_more line rest place within)) ((is (get_or line place 0 ∷ rest)).0 ((step rest).1 h)),
-  λ h. (step rest).0 ((is (get_or line place 0 ∷ rest)).1 (subst IsBallotText (one_byte_more line rest place within) h)),
+rank_of_one : AreRanks (49 ∷ [])
+rank_of_one = subst AreRanks (decimal_digit 1 (omega arith)) (one_rank (Some 1) (omega arith, omega arith))
+
+none_begun : AreBegun []
+none_begun = inr rank_of_one
+
+-- what a rank of one byte or of two begins with
+front_of_byte : (x : ℕ) (rank : Option ℕ) (text rest : List ℕ) → IsRank rank → rank_text rank ≡ x ∷ [] → x ∷ [] ≡ text ++ rest → AreBegun text
+front_of_byte x rank [] rest is spelled e = none_begun
+front_of_byte x rank (y ∷ []) rest is spelled e = let same : x ∷ [] ≡ y ∷ [] = cc in inl (subst AreRanks (spelled ∙ same) (one_rank rank is))
+front_of_byte x rank (y ∷ z ∷ text) rest is spelled e = cc
+
+front_of_bytes : (x y : ℕ) (first rank : Option ℕ) (text rest : List ℕ) → IsRank first → IsRank rank → rank_text first ≡ x ∷ [] → rank_text rank ≡ x ∷ y ∷ [] → x ∷ y ∷ [] ≡ text ++ rest
+    → AreBegun text
+front_of_bytes x y first rank [] rest one two spelled whole e = none_begun
+front_of_bytes x y first rank (z ∷ []) rest one two spelled whole e = let same : x ∷ [] ≡ z ∷ [] = cc in inl (subst AreRanks (spelled ∙ same) (one_rank first one))
+front_of_bytes x y first rank (z ∷ u ∷ []) rest one two spelled whole e = let same : x ∷ y ∷ [] ≡ z ∷ u ∷ [] = cc in inl (subst AreRanks (whole ∙ same) (one_rank rank two))
+front_of_bytes x y first rank (z ∷ u ∷ v ∷ text) rest one two spelled whole e = cc
+
+front_of_rank : (rank : Option ℕ) (text rest : List ℕ) → IsRank rank → rank_text rank ≡ text ++ rest → AreBegun text
+front_of_rank None text rest is e = front_of_byte 45 None text rest is refl e
+front_of_rank (Some n) text rest is e =
+    let most : n ≤ 99 = is.1 in
+    elim (cases_Bool (nat_le n 9)) [
+      | inl small ↦ let below : n < 10 = grind (arith, nat_tests) in
+          let spelled : decimal n ≡ (48 + n) ∷ [] = decimal_digit n below in
+          front_of_byte (48 + n) (Some n) text rest is spelled (sym spelled ∙ e)
+      | inr large ↦ let from_ten : 10 ≤ n = grind (arith, nat_tests) in
+          let tens : decimal (n / 10) ≡ (48 + n / 10) ∷ [] = decimal_digit (n / 10) (omega arith) in
+          let spelled : decimal n ≡ (48 + n / 10) ∷ (48 + n % 10) ∷ [] = decimal_step n from_ten (omega arith) ∙ ap (λ t. t ++ (48 + n % 10) ∷ []) tens in
+          front_of_bytes (48 + n / 10) (48 + n % 10) (Some (n / 10)) (Some n) text rest (omega arith, omega arith) is tens spelled (sym spelled ∙ e)
+    ]
+
+-- after a whole rank there is nothing, or a comma and what other ranks begin with
+behind_rank : (rank : Option ℕ) (ranks m rest : List ℕ) → IsRank rank → 44 ∷ ranks ≡ m ++ rest → ((front : List ℕ) → ranks ≡ front ++ rest → AreBegun front) → AreBegun (rank_text rank ++ m)
+behind_rank rank ranks [] rest is e more = inl (subst AreRanks (sym (append-nil (rank_text rank))) (one_rank rank is))
+behind_rank rank ranks (x ∷ m) rest is e more =
+    let comma : 44 ≡ x = cc in
+    let left : ranks ≡ m ++ rest = cc in
+    elim (more m left) [
+      | inl are ↦ inl (subst (λ c. AreRanks (rank_text rank ++ c ∷ m)) comma (more_ranks rank m is are))
+      | inr are ↦ inr (subst AreRanks (sym (append_assoc (rank_text rank) (x ∷ m) (49 ∷ []))) (subst (λ c. AreRanks (rank_text rank ++ c ∷ (m ++ 49 ∷ []))) comma (more_ranks rank (m ++ 49 ∷ []) is are)))
+    ]
+
+front_of_ranks : (ranks : List (Option ℕ)) (text rest : List ℕ) → 1 ≤ length ranks → All IsRank ranks → join_with_byte 44 (map rank_text ranks) ≡ text ++ rest → AreBegun text
+front_of_ranks [] text rest some are e = absurd (omega arith)
+front_of_ranks (rank ∷ []) text rest some are e = front_of_rank rank text rest (All-head IsRank rank [] are) e
+front_of_ranks (rank ∷ next ∷ ranks) text rest some are e =
+    let is = All-head IsRank rank (next ∷ ranks) are in
+    elim (parted (rank_text rank) (44 ∷ join_with_byte 44 (map rank_text (next ∷ ranks))) text rest e) [
+      | inl (m, whole, left) ↦ subst AreBegun (sym whole)
+          (behind_rank rank (join_with_byte 44 (map rank_text (next ∷ ranks))) m rest is left (λ front e'. front_of_ranks (next ∷ ranks) front rest (omega arith) (All-tail IsRank rank (next ∷ ranks) are) e'))
+      | inr (m, part, left) ↦ front_of_rank rank text m is part
+    ]
+
+-- ---- a line
+line_of : (name text : List ℕ) → is_voter_name name ≡ true → AreRanks text → length (name ++ 32 ∷ text) ≤ 200 → IsBallotText (name ++ 32 ∷ text)
+line_of name text is (ranks, some, are, same) short = (
+  name,
+  ranks,
+  record {
+    is_text = ap (λ t. name ++ 32 ∷ t) same ∙ sym (append_assoc name (32 ∷ []) (join_with_byte 44 (map rank_text ranks)));
+    is_name = is;
+    are_ranks = are;
+    has_rank = some;
+    is_short = short;
+  },
 )
 
+-- a ballot line has the text, or has it and one of these ends
+abbrev pub EndsWith : List ℕ → List ℕ → Type 0
+EndsWith text end = IsBallotText (text ++ end)
+
+first_rank : (name : List ℕ) → is_voter_name name ≡ true → EndsWith name (32 ∷ 49 ∷ [])
+first_rank name is =
+    let (size, bytes) = and_parts (is_within 1 32 (length name)) (list_all is_voter_byte name) is in
+    let (least, most) = within_bounds 1 32 (length name) size in
+    line_of name (49 ∷ []) is rank_of_one (omega (arith, length-append name (32 ∷ 49 ∷ [])))
+
+pub empty_begins : (text : List ℕ) → length text ≡ 0 → IsLinePrefix text
+empty_begins [] none = (97 ∷ 32 ∷ 49 ∷ [], first_rank (97 ∷ []) refl)
+empty_begins (b ∷ text) none = absurd (omega arith)
+
+-- ---- what begins a line
+-- a space stands in the text
+abbrev pub has_space : List ℕ → Bool
+has_space text = list_any (λ b. b == 32) text
+
+no_space : (text : List ℕ) → list_all is_voter_byte text ≡ true → has_space text ≡ false
+no_space [] all = refl
+no_space (b ∷ text) all =
+    let (first, others) = and_parts (is_voter_byte b) (list_all is_voter_byte text) all in
+    let here : (b == 32) ≡ false = grind (arith, nat_tests) in
+    rw (here, no_space text others)
+
+name_has_no_space : (name : List ℕ) → is_voter_name name ≡ true → has_space name ≡ false
+name_has_no_space name is = no_space name (and_parts (is_within 1 32 (length name)) (list_all is_voter_byte name) is).1
+
+space_stays : (name rest : List ℕ) → has_space (name ++ 32 ∷ rest) ≡ true
+space_stays [] rest = refl
+space_stays (b ∷ name) rest =
+    elim (cases_Bool (b == 32)) [
+      | inl is ↦ rw is refl
+      | inr other ↦ rw (other, space_stays name rest)
+    ]
+
+front_of_name : (text m : List ℕ) → 1 ≤ length text → is_voter_name (text ++ m) ≡ true → is_voter_name text ≡ true
+front_of_name text m some is =
+    let (size, bytes) = and_parts (is_within 1 32 (length (text ++ m))) (list_all is_voter_byte (text ++ m)) is in
+    let (least, most) = within_bounds 1 32 (length (text ++ m)) size in
+    let front = and_parts (list_all is_voter_byte text) (list_all is_voter_byte m) (sym (list_all-append is_voter_byte text m) ∙ bytes) in
+    ap₂ (λ x y. x && y) (within_from 1 32 (length text) some (omega (arith, length-append text m))) front.0
+
+-- what is after the space is a line, or one with a rank more, if there is room for it
+ranks_begun : (name text rest : List ℕ) → is_voter_name name ≡ true → EndsWith (name ++ 32 ∷ text) rest → length ((name ++ 32 ∷ text) ++ rest) ≤ 200 → AreBegun text
+    → EndsWith (name ++ 32 ∷ text) [] ⊎ EndsWith (name ++ 32 ∷ text) (49 ∷ [])
+ranks_begun name text [] is line short begun = inl line
+ranks_begun name text (b ∷ rest) is line short (inl are) =
+    inl (subst IsBallotText (sym (append-nil (name ++ 32 ∷ text))) (line_of name text is are (omega (arith, short, length-append (name ++ 32 ∷ text) (b ∷ rest)))))
+ranks_begun name text (b ∷ rest) is line short (inr are) =
+    inr (subst IsBallotText (sym (append_assoc name (32 ∷ text) (49 ∷ [])))
+    (line_of name (text ++ 49 ∷ []) is are
+    (omega (arith, short, length-append (name ++ 32 ∷ text) (b ∷ rest), length-append name (32 ∷ text), length-append name (32 ∷ (text ++ 49 ∷ [])), length-append text (49 ∷ [])))))
+
+begun_behind : (text name m rest ranks : List ℕ) → is_voter_name name ≡ true → EndsWith text rest → length (text ++ rest) ≤ 200 → text ≡ name ++ m → 32 ∷ ranks ≡ m ++ rest
+    → ((front : List ℕ) → ranks ≡ front ++ rest → AreBegun front)
+    → (is_voter_name text ≡ true) ⊎ ((has_space text ≡ true) × (EndsWith text [] ⊎ EndsWith text (49 ∷ [])))
+begun_behind text name [] rest ranks is line short part left more = inl (subst (λ t. is_voter_name t ≡ true) (sym (append-nil name) ∙ sym part) is)
+begun_behind text name (x ∷ m) rest ranks is line short part left more =
+    let space : x ≡ 32 = cc in
+    let behind : ranks ≡ m ++ rest = cc in
+    let same : text ≡ name ++ 32 ∷ m = part ∙ ap (λ z. name ++ z ∷ m) space in
+    inr (
+      ap has_space same ∙ space_stays name m,
+      subst (λ t. EndsWith t [] ⊎ EndsWith t (49 ∷ [])) (sym same)
+          (ranks_begun name m rest is (subst (λ t. EndsWith t rest) same line) (subst (λ t. length (t ++ rest) ≤ 200) same short) (more m behind)),
+    )
+
+-- a text that begins a line is a name, or has a space
+begins : (text : List ℕ) → 1 ≤ length text → IsLinePrefix text → (is_voter_name text ≡ true) ⊎ ((has_space text ≡ true) × (EndsWith text [] ⊎ EndsWith text (49 ∷ [])))
+begins text some (rest, (name, ranks, is)) =
+    let spelled = join_with_byte 44 (map rank_text ranks) in
+    let whole : text ++ rest ≡ name ++ 32 ∷ spelled = is.is_text ∙ append_assoc name (32 ∷ []) spelled in
+    elim (parted text rest name (32 ∷ spelled) whole) [
+      | inl (m, longer, left) ↦ inl (front_of_name text m some (subst (λ n. is_voter_name n ≡ true) longer is.is_name))
+      | inr (m, part, left) ↦ begun_behind text name m rest spelled is.is_name (name, ranks, is) is.is_short part left
+          (λ front e. front_of_ranks ranks front rest is.has_rank is.are_ranks e)
+    ]
+
+pub begins_name : (text : List ℕ) → 1 ≤ length text → has_space text ≡ false → IsLinePrefix text → EndsWith text (32 ∷ 49 ∷ [])
+begins_name text some none prefix =
+    elim (begins text some prefix) [
+      | inl name ↦ first_rank text name
+      | inr other ↦ let wrong : true ≡ false = sym other.0 ∙ none in cc
+    ]
+
+pub begins_ranks : (text : List ℕ) → 1 ≤ length text → has_space text ≡ true → IsLinePrefix text → EndsWith text [] ⊎ EndsWith text (49 ∷ [])
+begins_ranks text some space prefix =
+    elim (begins text some prefix) [
+      | inl name ↦ let wrong : true ≡ false = sym space ∙ name_has_no_space text name in cc
+      | inr other ↦ other.1
+    ]
+
+-- ---- the longest prefix of a line
 shorter_prefix : (m n : ℕ) (line : List ℕ) → m ≤ n → IsLinePrefix (take n line) → IsLinePrefix (take m line)
 shorter_prefix m n line few (rest, is) =
     let prefix : take m (take n line) ≡ take m line = take-take m n line few in
@@ -107,135 +216,32 @@ shorter_prefix m n line few (rest, is) =
 short_prefix : (prefix : List ℕ) → IsLinePrefix prefix → length prefix ≤ 200
 short_prefix prefix (rest, (voter, ranks, is)) = omega (arith, length-append prefix rest, is.is_short)
 
-prefix_in : (part : Part) (place : ℕ) (line : List ℕ) → HasRoom part place → IsIn part place line → IsLinePrefix (take place line)
-prefix_in part place line room is = let end = can_end part place room in (end.0, (is end.0).0 end.1)
+-- so many bytes are a prefix, and no prefix is as long as the column
+pub record IsBetween (line : List ℕ) (known column : ℕ) : Type 0 where
+  pub below : known < column
+  pub within : column ≤ length line + 1
+  pub is_prefix : IsLinePrefix (take known line)
+  pub longest : (n : ℕ) → n ≤ length line → IsLinePrefix (take n line) → n < column
 
-prefix_before : (part : Part) (place : ℕ) (line : List ℕ) → HasRoom part place → IsIn part place line → IsLinePrefix (take (place + 1 - 1) line)
-prefix_before part place line room is = let same : place + 1 - 1 ≡ place = omega arith in subst (λ n. IsLinePrefix (take n line)) (sym same) (prefix_in part place line room is)
-
-no_longer : (part : Part) (place : ℕ) (line : List ℕ) → place < length line → IsIn part place line → IsNext part place (get_or line place 0) None
-    → (n : ℕ) → IsLinePrefix (take n line) → (nat_le n place ≡ true) ⊎ (nat_le n place ≡ false) → n < place + 1
-no_longer part place line within is step n prefix (inl few) = omega (arith, leb-true n place few)
-no_longer part place line within is step n prefix (inr more) =
-    let longer : place + 1 ≤ n = omega (arith, leb-false n place more) in
-    let (rest, text) = shorter_prefix (place + 1) n line longer prefix in
-    absurd (step rest ((is (get_or line place 0 ∷ rest)).1 (subst IsBallotText (one_byte_more line rest place within) text)))
-
-pub stops : (part : Part) (place : ℕ) (line : List ℕ) → place < length line → HasRoom part place → IsIn part place line → IsNext part place (get_or line place 0) None → IsColumn line (place + 1)
-stops part place line within room is step = record {
-  from_one = omega arith;
+pub begin_between : (line : List ℕ) → IsBetween line 0 (min (length line) 200 + 1)
+begin_between line = record {
+  below = omega arith;
   within = omega arith;
-  is_prefix = prefix_before part place line room is;
-  longest = λ n most prefix. no_longer part place line within is step n prefix (cases_Bool (nat_le n place));
-}
-
-pub ends : (part : Part) (place : ℕ) (line : List ℕ) → place ≡ min (length line) 200 → HasRoom part place → IsIn part place line → IsColumn line (place + 1)
-ends part place line whole room is = record {
-  from_one = omega arith;
-  within = omega arith;
-  is_prefix = prefix_before part place line room is;
+  is_prefix = empty_begins [] refl;
   longest = λ n most prefix. omega (arith, short_prefix (take n line) prefix, length-take n line);
 }
 
--- ---- where ranks are read
-pub ranks_reached : (place : ℕ) (line : List ℕ) → place < 200 → IsIn Rank place line → IsReached 0 place line
-ranks_reached place line room is = record {
-  part = Rank;
-  is_state = refl;
-  is_in = is;
-  is_prefix = shorter_prefix (place - 1) place line (omega arith) (prefix_in Rank place line room is);
-}
-
--- after the name there is room before the last byte
-room_before : (part : Part) (state place : ℕ) → IsState state (Some part) → place < 200 → HasRoom part place
-room_before Name state place is short = absurd is
-room_before Rank state place is short = short
-room_before Digit state place is short = omega arith
-room_before Comma state place is short = omega arith
-
--- the state of a part is a shift
-small_state : (part : Part) (state : ℕ) → IsState state (Some part) → state ≤ 16
-small_state Name state is = absurd is
-small_state Rank state is = omega (arith, is)
-small_state Digit state is = omega (arith, is)
-small_state Comma state is = omega (arith, is)
-
-reached_by : (part : Part) (state place : ℕ) (line : List ℕ) (next : Option Part) → place < length line → HasRoom part place → IsIn part place line → (state ≡ 24 → ⊥) → IsState state next
-    → IsNext part place (get_or line place 0) next → IsReached state (place + 1) line
-reached_by part state place line None within room is some is_state step = absurd (some is_state)
-reached_by part state place line (Some next) within room is some is_state step =
-    record { part = next; is_state = is_state; is_in = goes_on part next place line within is step; is_prefix = prefix_before part place line room is }
-
-pub reaches : (state next place : ℕ) (line : List ℕ) → place < length line → place < 200 → (next ≡ 24 → ⊥) → (is : IsReached state place line) → IsNextState is.part place (get_or line place 0) next
-    → IsReached next (place + 1) line
-reaches state next place line within short some is step =
-    reached_by is.part next place line step.0 within (room_before is.part state place is.is_state short) is.is_in some step.1 step.2
-
--- in a block the state may be that of no prefix
-pub reaches_in_block : (state next place : ℕ) (line : List ℕ) → place < length line → place < 200 → (state ≡ 24 → next ≡ 24)
-    → ((part : Part) (n : ℕ) → IsState state (Some part) → IsNextState part n (get_or line place 0) next) → (state ≡ 24) ⊎ IsReached state place line → (next ≡ 24) ⊎ IsReached next (place + 1) line
-reaches_in_block state next place line within short stays step (inl nowhere) = inl (stays nowhere)
-reaches_in_block state next place line within short stays step (inr is) =
-    elim (cases_Bool (next == 24)) [
-      | inl nowhere ↦ inl (eqb-true next 24 nowhere)
-      | inr some ↦ inr (reaches state next place line within short (eqb-false next 24 some) is (step is.part place is.is_state))
-    ]
-
-pub state_in_block : (state place : ℕ) (line : List ℕ) → (state ≡ 24) ⊎ IsReached state place line → state ≤ 24
-state_in_block state place line (inl nowhere) = omega arith
-state_in_block state place line (inr is) = let small : state ≤ 16 = small_state is.part state is.is_state in omega arith
-
-pub reached_in_block : (state place : ℕ) (line : List ℕ) → (state ≡ 24) ⊎ IsReached state place line → (state ≡ 24 → ⊥) → IsReached state place line
-reached_in_block state place line (inl nowhere) some = absurd (some nowhere)
-reached_in_block state place line (inr is) some = is
-
-no_next : (part : Part) (place b state : ℕ) (next : Option Part) → state ≡ 24 → IsState state next → IsNext part place b next → IsNext part place b None
-no_next part place b state None nowhere is step = step
-no_next part place b state (Some next) nowhere is step = let small : state ≤ 16 = small_state next state is in absurd (omega arith)
-
-pub stops_in_ranks : (state next place : ℕ) (line : List ℕ) → place < length line → place < 200 → next ≡ 24 → (is : IsReached state place line) → IsNextState is.part place (get_or line place 0) next
-    → IsColumn line (place + 1)
-stops_in_ranks state next place line within short nowhere is step =
-    stops is.part place line within (room_before is.part state place is.is_state short) is.is_in
-    (no_next is.part place (get_or line place 0) next step.0 nowhere step.1 step.2)
-
--- there is no room for a rank after the last byte
-no_rank_after : (line : List ℕ) → IsIn Rank 200 line → IsLinePrefix (take 200 line) → ⊥
-no_rank_after line is (rest, text) =
-    let (short, ranks) = (is rest).1 text in
-    omega (arith, short, ranks_have_byte rest ranks)
-
-rank_at_comma : (part : Part) (place : ℕ) (line : List ℕ) → IsState 0 (Some part) → IsIn part place line → IsIn Rank place line
-rank_at_comma Name place line state is = absurd state
-rank_at_comma Rank place line state is = is
-rank_at_comma Digit place line state is = absurd (omega (arith, state))
-rank_at_comma Comma place line state is = absurd (omega (arith, state))
-
-before_comma : (line : List ℕ) → IsIn Rank 200 line → (n : ℕ) → IsLinePrefix (take n line) → (nat_le 200 n ≡ true) ⊎ (nat_le 200 n ≡ false) → n < 200
-before_comma line is n prefix (inl all) = absurd (no_rank_after line is (shorter_prefix 200 n line (leb-true 200 n all) prefix))
-before_comma line is n prefix (inr few) = leb-false 200 n few
-
-pub stops_at_comma : (line : List ℕ) → 200 ≤ length line → IsReached 0 200 line → IsColumn line 200
-stops_at_comma line whole is = record {
-  from_one = omega arith;
-  within = omega arith;
+-- a prefix that does not begin a line ends in the column, or behind it
+pub before_column : (line : List ℕ) (known column place : ℕ) → known < place → place < column → (IsLinePrefix (take place line) → ⊥) → IsBetween line known column → IsBetween line known place
+before_column line known column place some less none is = record {
+  below = some;
+  within = omega (arith, is.within);
   is_prefix = is.is_prefix;
-  longest = λ n most prefix. before_comma line (rank_at_comma is.part 200 line is.is_state is.is_in) n prefix (cases_Bool (nat_le 200 n));
+  longest = λ n most prefix. elim (cases_Bool (nat_le place n)) [
+    | inl all ↦ absurd (none (shorter_prefix place n line (grind (arith, nat_tests)) prefix))
+    | inr few ↦ grind (arith, nat_tests)
+  ];
 }
-
-room_at_end : (part : Part) (state place : ℕ) → IsState state (Some part) → place ≤ 200 → (state ≡ 0 → place ≡ 200 → ⊥) → HasRoom part place
-room_at_end Name state place is most no_comma = absurd is
-room_at_end Rank state place is most no_comma =
-    elim (cases_Bool (nat_lt place 200)) [
-      | inl room ↦ omega (arith, ltb-true place 200 room)
-      | inr none ↦ absurd (no_comma is (omega (arith, ltb-false place 200 none)))
-    ]
-room_at_end Digit state place is most no_comma = most
-room_at_end Comma state place is most no_comma = most
-
-pub ends_in_ranks : (state place : ℕ) (line : List ℕ) → place ≡ min (length line) 200 → (state ≡ 0 → place ≡ 200 → ⊥) → IsReached state place line → IsColumn line (place + 1)
-ends_in_ranks state place line whole no_comma is =
-    ends is.part place line whole (room_at_end is.part state place is.is_state (omega arith) no_comma) is.is_in
 
 -- of two columns neither comes after the other
 pub columns_are_one : (line : List ℕ) (a b : ℕ) → IsColumn line a → IsColumn line b → a ≡ b

@@ -1,5 +1,7 @@
 -- The refused lines one after another, and what is listed of them.
-use Rattle.std.proofs.Common.{◌≡◌, ◌+◌, ◌++◌, ◌∙◌, ℕ, zero, suc, List, [], ◌∷◌, length, drop, take, refl, ap, sym, subst, None, Some, Bool, true, false, not, if◌then◌else◌, arith, append_assoc, append-nil, slice_get}
+use Rattle.std.proofs.Common.{◌≡◌, ◌+◌, ◌++◌, ◌∙◌, ℕ, List, [], ◌∷◌, length, drop, take, refl, ap, sym, subst, None, Some, Bool, true, false, not, if◌then◌else◌, arith, append_assoc, append-nil, length-take, slice_get}
+use Rattle.std.proofs.lemmas.List.{drop_more, take_more}
+use Rattle.std.proofs.lemmas.Option.{get_or_from_slice_get, slice_get_within}
 use Rattle.vote_poll.specs.PollContent.{PollContent, last_in_time}
 use Rattle.vote_poll.specs.Readings.{reading}
 use Rattle.vote_poll_text.specs.Lines.{line_feed}
@@ -62,24 +64,15 @@ refusals_append poll number (bytes ∷ some) others =
     ∙ ap (λ n. here ++ (refusals_from poll (number + 1) some ++ refusals_from poll n others)) count
     ∙ sym (append_assoc here (refusals_from poll (number + 1) some) (refusals_from poll (number + length (bytes ∷ some)) others))
 
-pub take_next : {X : Type 0} (xs : List X) (place : ℕ) (x : X) → slice_get xs place ≡ Some x → take (place + 1) xs ≡ take place xs ++ x ∷ []
-take_next [] place x at = cc
-take_next (y ∷ xs) zero x at = let same : y ≡ x = cc in ap (λ z. z ∷ []) same
-take_next (y ∷ xs) (suc place) x at =
-    let next : suc place + 1 ≡ suc (place + 1) = omega arith in
-    ap (λ n. take n (y ∷ xs)) next ∙ ap (λ t. y ∷ t) (take_next xs place x at)
-
-length_taken : {X : Type 0} (xs : List X) (place : ℕ) (x : X) → slice_get xs place ≡ Some x → length (take place xs) ≡ place
-length_taken [] place x at = cc
-length_taken (y ∷ xs) zero x at = refl
-length_taken (y ∷ xs) (suc place) x at = ap suc (length_taken xs place x at)
+take_next : {X : Type 0} (xs : List X) (place : ℕ) (x : X) → slice_get xs place ≡ Some x → take (place + 1) xs ≡ take place xs ++ x ∷ []
+take_next xs place x at = take_more xs place x (slice_get_within xs place x at) ∙ ap (λ y. take place xs ++ y ∷ []) (get_or_from_slice_get xs place x x at)
 
 pub refusals_next : (poll : PollContent) (lines : List Text) (place : ℕ) (bytes : Text) (reply : Reply) → slice_get lines place ≡ Some bytes
     → if_refusing reply ≡ refusing_reply (last_in_time poll) (place + 1) (reading poll bytes)
     → refusals poll (take (place + 1) lines) ≡ refusals poll (take place lines) ++ refusal (place + 1) bytes reply
 refusals_next poll lines place bytes reply at same =
     let before = refusals poll (take place lines) in
-    let number : 1 + length (take place lines) ≡ place + 1 = omega (arith, length_taken lines place bytes at) in
+    let number : 1 + length (take place lines) ≡ place + 1 = omega (arith, length-take place lines, slice_get_within lines place bytes at) in
     ap (refusals poll) (take_next lines place bytes at)
     ∙ refusals_append poll 1 (take place lines) (bytes ∷ [])
     ∙ ap (λ n. before ++ refusals_from poll n (bytes ∷ [])) number
@@ -88,6 +81,4 @@ refusals_next poll lines place bytes reply at same =
 
 -- ---- the lines from one place on
 pub drop_at : {X : Type 0} (xs : List X) (place : ℕ) (x : X) → slice_get xs place ≡ Some x → drop place xs ≡ x ∷ drop (place + 1) xs
-drop_at [] place x at = cc
-drop_at (y ∷ xs) zero x at = let same : y ≡ x = cc in ap (λ z. z ∷ xs) same
-drop_at (y ∷ xs) (suc place) x at = let next : suc place + 1 ≡ suc (place + 1) = omega arith in drop_at xs place x at ∙ ap (λ n. x ∷ drop n (y ∷ xs)) (sym next)
+drop_at xs place x at = drop_more xs place x (slice_get_within xs place x at) ∙ ap (λ y. y ∷ drop (place + 1) xs) (get_or_from_slice_get xs place x x at)

@@ -1,5 +1,5 @@
 -- What calls say that add to a text.
-use Rattle.std.proofs.Common.{◌≡◌, ◌++◌, ◌∙◌, ◌∷◌, [], ℕ, List, append_assoc, append-nil, Result, Ok, Err, OnOk, is_ok, if◌then◌else◌, ap, codes, refl, sym, ◌+◌, ◌≤◌, suc, length, Bool, true, false, not, cond, nat_lt, inl, inr, arith, unwrap_or}
+use Rattle.std.proofs.Common.{◌≡◌, ◌++◌, ◌∙◌, ◌∷◌, [], ℕ, List, append_assoc, append-nil, Result, Ok, Err, OnOk, is_ok, if◌then◌else◌, ap, refl, sym, ◌+◌, ◌≤◌, suc, length, Bool, true, false, not, cond, nat_lt, inl, inr, arith, unwrap_or}
 use Rattle.std.specs.List.{flat_map, position, position_or_len, prefix_len}
 use Rattle.std.proofs.lemmas.Bool.{cases_Bool}
 use Rattle.std.proofs.lemmas.Bool.Decides.{nat_tests}
@@ -52,12 +52,8 @@ pub weaker : (kind other : Text → Type 0) (t0 t1 : Text) → ((text : Text) �
 weaker kind other t0 t1 step (text, is, e) = (text, step text is, e)
 
 -- ---- lines on a file
-pub one_line : (remark t0 t1 t2 t3 : Text) → IsRemark remark → t1 ≡ t0 ++ codes "the ballot file " → t2 ≡ t1 ++ remark → t3 ≡ t2 ++ codes "\n" → Added AreFileLines t0 t3
-one_line remark t0 t1 t2 t3 is e1 e2 e3 = (
-  file_line remark ++ [],
-  (remark ∷ [], All-cons IsRemark remark [] is (All-nil IsRemark), refl),
-  rw (e3, e2, e1) (simp (append_assoc, append-nil)),
-)
+pub one_line : (remark t0 t1 : Text) → IsRemark remark → t1 ≡ t0 ++ file_line remark → Added AreFileLines t0 t1
+one_line remark t0 t1 is e = (file_line remark, (remark ∷ [], All-cons IsRemark remark [] is (All-nil IsRemark), sym (append-nil (file_line remark))), e)
 
 pub no_line : (t0 : Text) → Added AreFileLines t0 t0
 no_line t0 = none_added AreFileLines t0 ([], All-nil IsRemark, refl)

@@ -1,11 +1,10 @@
 -- What private functions say of the text that they add to.
-use Rattle.std.specs.Prelude.{◌≡◌, ◌≢◌, ℕ, List, ◌∷◌, ◌++◌, Result, OnOk, Some, slice_get, string_bytes}
+use Rattle.std.specs.Prelude.{◌≡◌, List, ◌++◌, Result, OnOk, string_bytes}
 use Rattle.std.specs.declared.string.String.{String}
 use Rattle.vote_poll.specs.PollContent.{PollContent}
 use Rattle.vote_sheet.specs.LastBallots.{refused_count, valid_count, voter_count}
 use Rattle.vote_sheet.specs.Texts.{Text}
 use Rattle.vote_steps.specs.declared.ballot_box.Totals.{Totals}
-use Rattle.vote_ballot_findings.specs.NearNames.{Leads}
 
 -- a call that returned Ok added a text of this kind, and changed nothing else
 abbrev pub AddsSome : {Z A F : Type 0} → (Text → Type 0) → Result A F → String Z → String Z → Type 0
@@ -16,12 +15,3 @@ pub record AreTotals (poll : PollContent) (lines : List Text) (totals : Totals) 
   pub valid : totals.valid ≡ valid_count poll lines
   pub refused : totals.refused ≡ refused_count poll lines
   pub voters : totals.voters ≡ voter_count poll lines
-
--- ---- near names
--- no byte is the first of both names
-abbrev pub BeginApart : Text → Text → Type 0
-BeginApart name other = (first : ℕ) (rest other_rest : Text) → name ≡ first ∷ rest → other ≢ first ∷ other_rest
-
--- the name stands on the roll, and at most so many edits lead to it
-abbrev pub IsWithin : Text → List Text → ℕ → Text → Type 0
-IsWithin name roll edits other = (place : ℕ) × (slice_get roll place ≡ Some other) × Leads edits name other

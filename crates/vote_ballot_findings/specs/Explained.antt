@@ -80,10 +80,13 @@ AreFindings poll (refusal ∷ refusals) text =
     (hint : Text) × (rest : Text) × IsHint poll refusal.bytes refusal.reply hint × AreFindings poll refusals rest × (text ≡ finding refusal hint ++ rest)
 
 -- ---- an example
+abbrev pub example_line : Text → Text
+example_line ballot = line (codes "a ballot line of this poll: " ∷ ballot ∷ [])
+
 -- nothing, or a line with a ballot of this poll
 abbrev pub IsExample : PollContent → Text → Type 0
 IsExample poll text =
-    (text ≡ []) ⊎ ((ballot : Text) × IsTrue (is_ballot (reading poll ballot)) × (text ≡ line (codes "a ballot line of this poll: " ∷ ballot ∷ [])))
+    (text ≡ []) ⊎ ((ballot : Text) × IsTrue (is_ballot (reading poll ballot)) × (text ≡ example_line ballot))
 
 -- ---- the whole
 -- the numbers of the result sheet, and how many lines are late

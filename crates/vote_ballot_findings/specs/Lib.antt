@@ -7,4 +7,3 @@ pub mod Replies
 pub mod Explained
 -- what private functions say of their parts
 pub mod Adding
-pub mod Prefixes

@@ -2,10 +2,8 @@
 //! the line, written so, is a ballot of the poll, and where nothing else can be meant.
 
 use crate::MOST_SHOWN;
-use crate::cells::{Cell, count_of_kind, counts_from_zero, has_kind};
-use crate::characters::{
-    begins_with_dash, begins_with_soft_hyphen, begins_with_wide_digit, push_first,
-};
+use crate::cells::{count_of_ranks, remark_on_ranks};
+use crate::characters::{begins_with_dash, begins_with_wide_digit, push_first};
 use crate::plain_line::{
     has_letter, is_ballot, is_digit, is_name_byte, is_told, plain_line, split_at_name, trimmed,
 };
@@ -64,26 +62,24 @@ fn from_first_name(text: &[u8]) -> &[u8] {
     }
 }
 
-/// Whether a text begins with a space and a rank.
-fn begins_with_spaced_rank(text: &[u8]) -> bool {
-    matches!(text, [b' ', b'0'..=b'9' | b'-', ..])
+/// What is remarked where a second ballot may go on in a line; nothing elsewhere.
+fn remark_on_two(poll: &Poll, before: &[u8], rest: &[u8]) -> &'static str {
+    let is_other = begins_with_elector(poll, from_first_name(rest));
+    match rest {
+        _ if !has_ranks(before) => "",
+        [byte, ..] if is_other && is_voter_byte(*byte) => TWO_FILES,
+        _ if is_other => "; two ballots on one line? each stands on a line of its own",
+        [b' ', b'0'..=b'9' | b'-', ..] if is_ballot(poll, before) => TWO_FILES,
+        _ => "",
+    }
 }
 
-/// What is remarked where a second ballot may go on in a line.
-fn remark_on_two(poll: &Poll, before: &[u8], rest: &[u8]) -> Option<&'static str> {
-    if !has_ranks(before) {
-        return None;
-    }
-    if begins_with_elector(poll, from_first_name(rest)) {
-        return match rest {
-            [byte, ..] if is_voter_byte(*byte) => Some(TWO_FILES),
-            _ => Some("; two ballots on one line? each stands on a line of its own"),
-        };
-    }
-    if begins_with_spaced_rank(rest) && is_ballot(poll, before) {
-        return Some(TWO_FILES);
-    }
-    None
+/// Whether a line is one that a merge leaves.
+fn is_of_merge(line: &[u8]) -> bool {
+    line.starts_with(b"<<<<<<<")
+        || line.starts_with(b"=======")
+        || line.starts_with(b">>>>>>>")
+        || line.starts_with(b"|||||||")
 }
 
 /// Whether a number or a bullet stands before a ballot: a text without a letter that is no name of the roll.
@@ -96,57 +92,33 @@ fn is_numbered(poll: &Poll, line: &[u8]) -> bool {
 }
 
 /// What is remarked on a line that is no ballot at all.
-fn remark_on_whole_line(poll: &Poll, line: &[u8]) -> Option<&'static str> {
-    let text = trimmed(line);
-    if text.is_empty() {
-        return Some("; the line is empty");
-    }
-    if text.starts_with(b"<<<<<<<")
-        || text.starts_with(b"=======")
-        || text.starts_with(b">>>>>>>")
-        || text.starts_with(b"|||||||")
-    {
-        return Some(
+fn remark_on_whole_line(poll: &Poll, line: &[u8]) -> &'static str {
+    match trimmed(line) {
+        [] => "; the line is empty",
+        text if is_of_merge(text) =>
             "; the mark of a merge conflict: two versions of the file stand between such marks, and who keeps it says which is right",
-        );
+        [b'#', ..] | [b'/', b'/', ..] => "; a comment? a ballot file has none",
+        [b'>', ..] => "; quoted in a mail? ask whose ballot it is",
+        _ if is_numbered(poll, line) => "; a number or bullet before the ballot?",
+        _ => "",
     }
-    if text.starts_with(b"#") || text.starts_with(b"//") {
-        return Some("; a comment? a ballot file has none");
-    }
-    if text.starts_with(b">") {
-        return Some("; quoted in a mail? ask whose ballot it is");
-    }
-    if is_numbered(poll, line) {
-        return Some("; a number or bullet before the ballot?");
-    }
-    None
 }
 
 /// The rule that a line breaks in a column, where one ballot alone can be meant.
 fn broken_rule(before: &[u8], rest: &[u8]) -> &'static str {
     let is_in_name = !before.contains(&b' ');
-    if matches!(rest, [b'A'..=b'Z', ..]) {
-        return "; names on the roll have small letters";
+    let has_rank = rest.iter().any(|byte| is_digit(*byte) || *byte == b'-');
+    match rest {
+        [b'A'..=b'Z', ..] => "; names on the roll have small letters",
+        _ if begins_with_dash(rest) => "; a plain hyphen belongs there",
+        _ if begins_with_wide_digit(rest) => "; a plain digit belongs there",
+        [b'0', ..] if !is_in_name => "; a rank has no zero before it",
+        _ if before.is_empty() => "; a line begins with the name",
+        _ if is_in_name || before.ends_with(b" ") =>
+            "; one space stands between the name and the ranks",
+        _ if !has_rank => "; the line ends with the last rank",
+        _ => "; between the ranks stand commas alone",
     }
-    if begins_with_dash(rest) {
-        return "; a plain hyphen belongs there";
-    }
-    if begins_with_wide_digit(rest) {
-        return "; a plain digit belongs there";
-    }
-    if rest.starts_with(b"0") && !is_in_name {
-        return "; a rank has no zero before it";
-    }
-    if before.is_empty() {
-        return "; a line begins with the name";
-    }
-    if is_in_name || before.ends_with(b" ") {
-        return "; one space stands between the name and the ranks";
-    }
-    if !rest.iter().any(|byte| is_digit(*byte) || *byte == b'-') {
-        return "; the line ends with the last rank";
-    }
-    "; between the ranks stand commas alone"
 }
 
 /// What is told of a line that can mean one ballot alone, if it is no row of a table.
@@ -225,116 +197,63 @@ fn has_ranks_alone(poll: &Poll, plain: &[u8]) -> bool {
     let (first, ranks) = split_at_byte(plain, b' ');
     !has_letter(first)
         && poll.voter_of(first).is_none()
-        && count_of_kind(poll, first, Cell::Rank) == 1
-        && has_kind(poll, ranks, Cell::Rank)
-        && count_of_kind(poll, ranks, Cell::Rank) == ranks.split(|byte| *byte == b',').count()
-}
-
-/// What is remarked on ranks, the first of these that holds.
-fn remark_on_ranks(poll: &Poll, ranks: &[u8]) -> Option<&'static str> {
-    if has_kind(poll, ranks, Cell::Option) {
-        return Some(
-            "; the names of options where ranks belong: ask the elector for a rank of each option, in the order of the poll",
-        );
-    }
-    if has_kind(poll, ranks, Cell::Cross) {
-        return Some(
-            "; a cross is a choice, and ranks are an order: ask the elector for a rank of each option",
-        );
-    }
-    if has_kind(poll, ranks, Cell::Equals) {
-        return Some(
-            "; an equals sign: options that are equal have the same rank, a number without a sign; ask the elector",
-        );
-    }
-    if has_kind(poll, ranks, Cell::Decimal) {
-        return Some(
-            "; a rank is a whole number, and options that are equal have the same one; ask the elector",
-        );
-    }
-    if has_kind(poll, ranks, Cell::Great) {
-        return Some(
-            "; ranks go from 1, the first choice, to 99: are these points, of which more is better? ask the elector",
-        );
-    }
-    if has_kind(poll, ranks, Cell::Zero) && counts_from_zero(ranks) {
-        return Some("; are ranks counted from 0 here? then each is one more; ask the elector");
-    }
-    if has_kind(poll, ranks, Cell::Zero) {
-        return Some(
-            "; 0 is no rank: is the option not ranked, which a hyphen says, are ranks counted from 0, or are these points? ask the elector",
-        );
-    }
-    if has_kind(poll, ranks, Cell::Signed) {
-        return Some(
-            "; a hyphen before a rank: is the option not ranked, or is the hyphen a dash? ask the elector",
-        );
-    }
-    if has_kind(poll, ranks, Cell::Spaced) {
-        return Some("; a space between two ranks: is a comma missing there? ask the elector");
-    }
-    if has_kind(poll, ranks, Cell::Word) {
-        return Some(
-            "; a word where a rank belongs: ask the elector for a rank of each option, from 1 for the first choice",
-        );
-    }
-    if has_kind(poll, ranks, Cell::Empty) {
-        return Some(
-            "; a rank is missing: is the option not ranked, which a hyphen says? ask the elector",
-        );
-    }
-    if has_kind(poll, ranks, Cell::Other) {
-        return Some(
-            "; ranks are numbers from 1, the first choice, to 99, and a hyphen says that an option is not ranked; ask the elector",
-        );
-    }
-    None
+        && count_of_ranks(poll, first) == 1
+        && count_of_ranks(poll, ranks) == ranks.split(|byte| *byte == b',').count()
 }
 
 /// What is remarked on a line that may mean several things.
-fn remark_on_doubt(poll: &Poll, line: &[u8], rest: &[u8], plain: &[u8]) -> Option<&'static str> {
-    if begins_with_soft_hyphen(rest) {
-        return Some("; it is mostly not seen: is a hyphen meant, or nothing? ask the elector");
-    }
-    if line.contains(&b'@') {
-        return Some("; an address? a ballot begins with the name on the roll");
-    }
-    if line.contains(&b'>') {
-        return Some(
-            "; an order with the sign >: ask the elector for a rank of each option, in the order of the poll",
-        );
-    }
-    if has_ranks_alone(poll, plain) {
-        return Some("; the name is missing before the ranks: ask who sent it");
-    }
+fn remark_on_doubt(poll: &Poll, line: &[u8], rest: &[u8], plain: &[u8]) -> &'static str {
     let text = trimmed(line);
-    if has_letter(text) && text.iter().all(|byte| is_name_byte(*byte)) {
-        return Some(
+    let is_word = has_letter(text) && text.iter().all(|byte| is_name_byte(*byte));
+    match rest {
+        [0xC2, 0xAD, ..] =>
+            "; it is mostly not seen: is a hyphen meant, or nothing? ask the elector",
+        _ if line.contains(&b'@') => "; an address? a ballot begins with the name on the roll",
+        _ if line.contains(&b'>') =>
+            "; an order with the sign >: ask the elector for a rank of each option, in the order of the poll",
+        _ if has_ranks_alone(poll, plain) =>
+            "; the name is missing before the ranks: ask who sent it",
+        _ if is_word =>
             "; one word: a ballot has a name, a space and the ranks; does it go on in the next line?",
-        );
+        _ if text.contains(&b';') && text.contains(&b',') =>
+            "; commas and semicolons: which of them part the ranks? ask the elector",
+        _ => "",
     }
-    if text.contains(&b';') && text.contains(&b',') {
-        return Some("; commas and semicolons: which of them part the ranks? ask the elector");
-    }
-    None
+}
+
+/// Whether several words stand before the ranks.
+fn has_words(poll: &Poll, line: &[u8]) -> bool {
+    let (name, other) = (word(line, 0), word(line, 1));
+    let is_word = matches!(other, [b'a'..=b'z' | b'A'..=b'Z', _, ..]);
+    let has_rank = matches!(word(line, 2), [b'0'..=b'9' | b'-', ..]);
+    has_letter(name)
+        && is_word
+        && poll.option_of(other).is_none()
+        && (has_rank || poll.voter_of(name).is_none())
 }
 
 /// What is remarked on the name of a line, where it ends before this column or goes on there.
-fn remark_on_name(poll: &Poll, line: &[u8], before: &[u8], rest: &[u8]) -> Option<&'static str> {
-    if letter_place(rest).is_some() && !before.contains(&b' ') {
-        return Some("; a voter's name has a to z, 0 to 9, . and -");
-    }
-    let (name, other) = (word(line, 0), word(line, 1));
-    let is_word = matches!(other, [b'a'..=b'z' | b'A'..=b'Z', _, ..]);
-    if !has_letter(name) || !is_word || poll.option_of(other).is_some() {
-        return None;
-    }
-    if poll.voter_of(name).is_none() || matches!(word(line, 2), [b'0'..=b'9' | b'-', ..]) {
-        return Some(
+fn remark_on_name(poll: &Poll, line: &[u8], before: &[u8], rest: &[u8]) -> &'static str {
+    match rest {
+        _ if letter_place(rest).is_some() && !before.contains(&b' ') =>
+            "; a voter's name has a to z, 0 to 9, . and -",
+        _ if has_words(poll, line) =>
             "; several words before the ranks: a name on the roll is one word, and each elector has a line; ask who is meant",
-        );
+        _ => "",
     }
-    None
+}
+
+/// What is remarked on what stands after the name of a line.
+fn remark_on_rest(poll: &Poll, before: &[u8], rest: &[u8], plain: &[u8]) -> &'static str {
+    if plain.starts_with(b" ") {
+        return FORM;
+    }
+    match remark_on_ranks(poll, split_at_byte(plain, b' ').1) {
+        "" if before.ends_with(b",") && rest.is_empty() =>
+            "; the last rank is missing: is the option not ranked, which a hyphen says, or does the line go on in the next one? ask the elector",
+        "" => FORM,
+        words => words,
+    }
 }
 
 /// Adds what is remarked on a line that may mean several things.
@@ -350,24 +269,13 @@ fn push_doubt(
     if is_elector(poll, name) && is_elector(poll, other) && name != other {
         return push_two_names(text, name, other);
     }
-    if let Some(words) = remark_on_doubt(poll, line, rest, plain) {
-        return text.push_str(words);
-    }
-    if let Some(words) = remark_on_name(poll, line, before, rest) {
-        return text.push_str(words);
-    }
-    if matches!(plain, [b' ', ..]) {
-        return text.push_str(FORM);
-    }
-    if let Some(words) = remark_on_ranks(poll, split_at_byte(plain, b' ').1) {
-        return text.push_str(words);
-    }
-    if before.ends_with(b",") && rest.is_empty() {
-        return text.push_str(
-            "; the last rank is missing: is the option not ranked, which a hyphen says, or does the line go on in the next one? ask the elector",
-        );
-    }
-    text.push_str(FORM)
+    let doubt = remark_on_doubt(poll, line, rest, plain);
+    let of_name = remark_on_name(poll, line, before, rest);
+    text.push_str(match (doubt, of_name) {
+        ("", "") => remark_on_rest(poll, before, rest, plain),
+        ("", of_name) => of_name,
+        (doubt, _) => doubt,
+    })
 }
 
 /// Adds what is remarked on a line after what stands in the column in which it leaves the grammar.
@@ -382,32 +290,31 @@ fn push_close_look(
 ) -> Result<(), AllocError> {
     let plain = plain_line(alloc, line)?;
     let is_told = is_told(poll, &plain, before.contains(&b' '));
+    let (two, whole) = (
+        remark_on_two(poll, before, rest),
+        remark_on_whole_line(poll, line),
+    );
     if is_told && !line.contains(&b',') {
-        return text.push_str(told_rule(before, rest, look));
-    }
-    if let Some(words) = remark_on_two(poll, before, rest) {
-        return text.push_str(words);
-    }
-    if line.len() > MAX_LINE {
-        let length = line.len();
-        return write!(
+        text.push_str(told_rule(before, rest, look))
+    } else if !two.is_empty() {
+        text.push_str(two)
+    } else if line.len() > MAX_LINE {
+        write!(
             text,
-            "; the line has {length} bytes, and a ballot has 200 at most"
-        );
+            "; the line has {} bytes, and a ballot has 200 at most",
+            line.len()
+        )
+    } else if !whole.is_empty() {
+        text.push_str(whole)
+    } else if rest.len() > 1 && rest.starts_with(b"\r") {
+        text.push_str(" within the line")
+    } else if is_told {
+        text.push_str(told_rule(before, rest, look))
+    } else if has_name_last(alloc, poll, line)? {
+        text.push_str("; the name stands after the ranks, and belongs before them")
+    } else {
+        push_doubt(text, poll, line, before, rest, &plain)
     }
-    if let Some(words) = remark_on_whole_line(poll, line) {
-        return text.push_str(words);
-    }
-    if rest.len() > 1 && rest.starts_with(b"\r") {
-        return text.push_str(" within the line");
-    }
-    if is_told {
-        return text.push_str(told_rule(before, rest, look));
-    }
-    if has_name_last(alloc, poll, line)? {
-        return text.push_str("; the name stands after the ranks, and belongs before them");
-    }
-    push_doubt(text, poll, line, before, rest, &plain)
 }
 
 /// Adds what stands in the column in which a line leaves the grammar, and, on a closer look, what is remarked on the line.

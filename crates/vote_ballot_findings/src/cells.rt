@@ -3,33 +3,21 @@
 use crate::plain_line::{has_letter, is_digit};
 use vote_poll::{MAX_RANK, Poll};
 
-/// What stands where a rank belongs.
-#[derive(Clone, Copy, PartialEq, Eq)]
-pub(crate) enum Cell {
-    /// A rank, or a hyphen.
-    Rank,
-    /// Nothing.
-    Empty,
-    /// The number 0.
-    Zero,
-    /// A number that is greater than any rank.
-    Great,
-    /// A number with a point, as 1.5.
-    Decimal,
-    /// A number with an equals sign.
-    Equals,
-    /// A hyphen, or several, before a number.
-    Signed,
-    /// A cross or a check mark.
-    Cross,
-    /// The name of an option.
+/// What stands where a rank belongs, in the order in which it is remarked.
+#[derive(Clone, Copy, PartialEq, Eq, PartialOrd, Ord)]
+enum Cell {
     Option,
-    /// Numbers with a space between.
+    Cross,
+    Equals,
+    Decimal,
+    Great,
+    Zero,
+    Signed,
     Spaced,
-    /// A word.
     Word,
-    /// Anything else.
+    Empty,
     Other,
+    Rank,
 }
 
 /// The number that digits spell, if a text is nothing else.
@@ -48,26 +36,22 @@ fn number(text: &[u8]) -> Option<usize> {
 
 /// What a text is that has signs beside digits.
 fn kind_by_signs(cell: &[u8]) -> Cell {
-    if cell.iter().any(|byte| *byte == b'=') {
-        return Cell::Equals;
+    let (mut is_spaced, mut is_decimal) = (true, true);
+    for byte in cell {
+        is_spaced &= matches!(*byte, b'0'..=b'9' | b' ' | b'-');
+        is_decimal &= matches!(*byte, b'0'..=b'9' | b'.');
     }
-    if cell.starts_with(b"-") {
-        return Cell::Signed;
+    match cell {
+        _ if cell.contains(&b'=') => Cell::Equals,
+        [b'-', ..] => Cell::Signed,
+        _ if is_spaced => Cell::Spaced,
+        _ if is_decimal => Cell::Decimal,
+        _ => Cell::Other,
     }
-    if cell
-        .iter()
-        .all(|byte| matches!(*byte, b'0'..=b'9' | b' ' | b'-'))
-    {
-        return Cell::Spaced;
-    }
-    if cell.iter().all(|byte| matches!(*byte, b'0'..=b'9' | b'.')) {
-        return Cell::Decimal;
-    }
-    Cell::Other
 }
 
 /// What stands in place of a rank.
-pub(crate) fn kind_of(poll: &Poll, cell: &[u8]) -> Cell {
+fn kind_of(poll: &Poll, cell: &[u8]) -> Cell {
     match number(cell) {
         Some(0) => return Cell::Zero,
         Some(value) if value > MAX_RANK as usize => return Cell::Great,
@@ -84,18 +68,11 @@ pub(crate) fn kind_of(poll: &Poll, cell: &[u8]) -> Cell {
     }
 }
 
-/// Whether one of the ranks of a text with commas is of a kind.
-pub(crate) fn has_kind(poll: &Poll, ranks: &[u8], kind: Cell) -> bool {
+/// How many ranks a text with commas has.
+pub(crate) fn count_of_ranks(poll: &Poll, ranks: &[u8]) -> usize {
     ranks
         .split(|byte| *byte == b',')
-        .any(|cell| kind_of(poll, cell) == kind)
-}
-
-/// How many of them are.
-pub(crate) fn count_of_kind(poll: &Poll, ranks: &[u8], kind: Cell) -> usize {
-    ranks
-        .split(|byte| *byte == b',')
-        .filter(|cell| kind_of(poll, cell) == kind)
+        .filter(|cell| kind_of(poll, cell) == Cell::Rank)
         .count()
 }
 
@@ -107,7 +84,7 @@ fn has_number(ranks: &[u8], wanted: usize) -> bool {
 }
 
 /// Whether numbers from 0 up stand in place of ranks, without a gap.
-pub(crate) fn counts_from_zero(ranks: &[u8]) -> bool {
+fn counts_from_zero(ranks: &[u8]) -> bool {
     let mut greatest = 0;
     let mut cells = 0usize;
     for cell in ranks.split(|byte| *byte == b',') {
@@ -119,4 +96,38 @@ pub(crate) fn counts_from_zero(ranks: &[u8]) -> bool {
         }
     }
     greatest > 0 && greatest < cells && (0..greatest).all(|value| has_number(ranks, value))
+}
+
+/// What is remarked on ranks, of the first kind that is none; nothing if all are.
+pub(crate) fn remark_on_ranks(poll: &Poll, ranks: &[u8]) -> &'static str {
+    let mut first = Cell::Rank;
+    for cell in ranks.split(|byte| *byte == b',') {
+        first = first.min(kind_of(poll, cell));
+    }
+    match first {
+        Cell::Option =>
+            "; the names of options where ranks belong: ask the elector for a rank of each option, in the order of the poll",
+        Cell::Cross =>
+            "; a cross is a choice, and ranks are an order: ask the elector for a rank of each option",
+        Cell::Equals =>
+            "; an equals sign: options that are equal have the same rank, a number without a sign; ask the elector",
+        Cell::Decimal =>
+            "; a rank is a whole number, and options that are equal have the same one; ask the elector",
+        Cell::Great =>
+            "; ranks go from 1, the first choice, to 99: are these points, of which more is better? ask the elector",
+        Cell::Zero if counts_from_zero(ranks) =>
+            "; are ranks counted from 0 here? then each is one more; ask the elector",
+        Cell::Zero =>
+            "; 0 is no rank: is the option not ranked, which a hyphen says, are ranks counted from 0, or are these points? ask the elector",
+        Cell::Signed =>
+            "; a hyphen before a rank: is the option not ranked, or is the hyphen a dash? ask the elector",
+        Cell::Spaced => "; a space between two ranks: is a comma missing there? ask the elector",
+        Cell::Word =>
+            "; a word where a rank belongs: ask the elector for a rank of each option, from 1 for the first choice",
+        Cell::Empty =>
+            "; a rank is missing: is the option not ranked, which a hyphen says? ask the elector",
+        Cell::Other =>
+            "; ranks are numbers from 1, the first choice, to 99, and a hyphen says that an option is not ranked; ask the elector",
+        Cell::Rank => "",
+    }
 }

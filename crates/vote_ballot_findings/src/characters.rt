@@ -46,11 +46,6 @@ pub(crate) fn begins_with_dash(text: &[u8]) -> bool {
     matches!(text, [0xE2, 0x80 | 0x88, ..]) && plain_character(text).0 == b'-'
 }
 
-/// Whether a text begins with a soft hyphen.
-pub(crate) fn begins_with_soft_hyphen(text: &[u8]) -> bool {
-    matches!(text, [0xC2, 0xAD, ..])
-}
-
 /// Whether a text begins with a digit that is none of ASCII.
 pub(crate) fn begins_with_wide_digit(text: &[u8]) -> bool {
     matches!(text, [0xEF, 0xBC, 0x90..=0x99, ..])

@@ -5,7 +5,7 @@ ghost use Rattle.vote_poll_text.specs.Adding.{Adds};
 ghost use Rattle.vote_steps.specs.HeldLines.{HoldsLines};
 ghost use Rattle.vote_sheet.specs.LastBallots.{refused_count};
 ghost use Rattle.vote_ballot_findings.specs.Adding.{AddsSome, AreTotals};
-ghost use Rattle.vote_ballot_findings.specs.Explained.{IsExample, SaysAll, totals_text};
+ghost use Rattle.vote_ballot_findings.specs.Explained.{IsExample, SaysAll, example_line, totals_text};
 ghost use Rattle.vote_ballot_findings.specs.Refusals.{EachRefusalIsListed, late_count};
 ghost use Rattle.vote_ballot_findings.specs.Replies.{AreReplies, RefusedAsBySteps};
 
@@ -56,6 +56,13 @@ fn example(alloc: Global, poll: &Poll) -> Result<String, AllocError> {
     Ok(ballot)
 }
 
+/// Adds a line with an example.
+fn push_line(text: &mut String, example: &str) -> Result<(), AllocError>
+    ensures { Adds result text.old (example_line example.now) text.new }
+{
+    writeln!(text, "a ballot line of this poll: {example}")
+}
+
 /// Adds a ballot line as an example, if it is a ballot of the poll.
 fn push_example(text: &mut String, poll: &Poll, example: &str) -> Result<(), AllocError>
     ensures { AddsSome (IsExample poll.now) result text.old text.new }
@@ -63,9 +70,7 @@ fn push_example(text: &mut String, poll: &Poll, example: &str) -> Result<(), All
     if !is_ballot(poll, example.as_bytes()) {
         return Ok(());
     }
-    text.push_str("a ballot line of this poll: ")?;
-    text.push_str(example)?;
-    text.push_str("\n")
+    push_line(text, example)
 }
 
 /// Adds an example, if a line is of bad shape.

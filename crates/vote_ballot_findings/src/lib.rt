@@ -21,8 +21,8 @@
 //! where one thing alone can have been meant: where the line, written as it is told, is a ballot of this poll. Where two things can,
 //! it says both and ends: ask the elector. `tests/followed-cures` does what is told on files whose meaning is known.
 //!
-//! The lines are cast at one desk, as `steps` casts them. The search for near names reads the roll three times at most, for the first
-//! hundred names; a line of bad shape is looked at more closely if it is one of the first thousand.
+//! The lines are cast at one desk, as `steps` casts them. For each of the first hundred names that are not on the roll it is read once,
+//! for near ones; a line of bad shape is looked at more closely if it is one of the first thousand.
 //!
 //! The modules: `explain` has the text, `findings` the lines of it, `prefixes` the column, `near_names` the names that are suggested,
 //! `remark` adds what is open to the text, and the others make it: `whole_file` what is remarked on the file, `bad_shape` on a line

@@ -2,9 +2,10 @@
 
 ghost use Rattle.std.specs.Prelude.{◌≡◌, IsTrue};
 ghost use Rattle.std.specs.List.{list_all};
+ghost use Rattle.vote_poll_text.specs.Adding.{Adds};
 ghost use Rattle.vote_poll_text.specs.Names.{is_printable};
 ghost use Rattle.vote_ballot_findings.specs.Adding.{AddsSome};
-ghost use Rattle.vote_ballot_findings.specs.Explained.{AreFileLines, IsRemark};
+ghost use Rattle.vote_ballot_findings.specs.Explained.{AreFileLines, IsRemark, file_line};
 
 use crate::MOST_REMARK;
 use std::alloc::AllocError;
@@ -34,16 +35,21 @@ pub(crate) fn push_remark(text: &mut String, remark: &str) -> Result<(), AllocEr
     text.push_str(remark)
 }
 
-/// Adds a line with a remark on the file.
+/// Adds a line on the file.
+fn push_line(text: &mut String, remark: &str) -> Result<(), AllocError>
+    ensures { Adds result text.old (file_line remark.now) text.new }
+{
+    writeln!(text, "the ballot file {remark}")
+}
+
+/// Adds a line with a remark on the file, if it is a remark.
 fn push_file_line(text: &mut String, remark: &str) -> Result<(), AllocError>
     ensures { AddsSome AreFileLines result text.old text.new }
 {
     if !is_remark(remark) {
         return Ok(());
     }
-    text.push_str("the ballot file ")?;
-    text.push_str(remark)?;
-    text.push_str("\n")
+    push_line(text, remark)
 }
 
 /// Adds a line with each of these remarks on the file.

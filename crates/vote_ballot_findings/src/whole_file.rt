@@ -78,12 +78,7 @@ fn first_line<'l>(lines: &Lines<'l>) -> &'l [u8] {
 
 /// Whether one of the lines begins as a poll file does.
 fn look_like_poll(lines: &Lines<'_>) -> bool {
-    for place in 0..lines.len() {
-        if lines.line(place).starts_with(b"title =") {
-            return true;
-        }
-    }
-    false
+    (0..lines.len()).any(|place| lines.line(place).starts_with(b"title ="))
 }
 
 /// What a file is that is no text, or no text of lines, by its first line.
@@ -116,28 +111,14 @@ fn first_cell(line: &[u8]) -> Option<&[u8]> {
     None
 }
 
-/// Whether a cell is the name of an elector.
-fn is_elector(poll: &Poll, cell: &[u8]) -> bool {
-    poll.voter_of(cell).is_some()
-}
-
-/// Whether the first line looks like heads of the columns of a table: its first cell is a word, and no elector.
-fn has_heads(poll: &Poll, lines: &Lines<'_>) -> bool {
-    match first_cell(first_line(lines)) {
-        Some(cell) => has_letter(cell) && !is_elector(poll, cell),
-        None => false,
-    }
-}
-
-/// How closely the lines of bad shape are looked at: not at all if the file is something else than ballots.
+/// How closely the lines of bad shape are looked at: not at all if the file is something else than ballots, and with care if the first
+/// line looks like heads of the columns of a table: its first cell is a word, and no elector.
 pub(crate) fn look_at(poll: &Poll, lines: &Lines<'_>) -> Look {
-    if file_kind(first_line(lines)).is_some() || look_like_poll(lines) {
-        return Look::AtColumn;
-    }
-    if has_heads(poll, lines) {
-        Look::AtRow
-    } else {
-        Look::AtLine
+    let first = first_line(lines);
+    match first_cell(first) {
+        _ if file_kind(first).is_some() || look_like_poll(lines) => Look::AtColumn,
+        Some(cell) if has_letter(cell) && poll.voter_of(cell).is_none() => Look::AtRow,
+        _ => Look::AtLine,
     }
 }
 
@@ -153,98 +134,66 @@ fn is_of_old_mac(lines: &Lines<'_>, ended: bool) -> bool {
     }
 }
 
-/// What the remarks on a file are added to.
-#[derive(Drop)]
-struct Remarks<'f> {
-    alloc: Global,
-    found: Vec<String>,
-    /// The name of the file for a command, where it has one that is not too long.
-    file: Option<&'f str>,
+/// How a file is mended: what is said, the command, and the same behind another one.
+type Cure = (&'static str, &'static str, &'static str);
+
+const OLD_MAC: Cure = (
+    "comes from an old Mac: carriage returns end its lines; make line feeds of them",
+    "tr '\\r' '\\n'",
+    " | tr '\\r' '\\n'",
+);
+
+const WINDOWS: Cure = (
+    "comes from Windows: carriage returns end its lines of bad shape; take them out",
+    "tr -d '\\r'",
+    " | tr -d '\\r'",
+);
+
+const MARK: Cure = ("begins with a byte-order mark; take it out", "", "");
+
+/// What carriage returns within lines are.
+const WITHIN: &str =
+    "has carriage returns within lines: look at each, since no command can tell whether a line ends there";
+
+/// Adds a remark.
+fn say(alloc: Global, remarks: &mut Vec<String>, words: &str) -> Result<(), AllocError> {
+    remarks.push(String::from_str(alloc, words)?)?;
+    Ok(())
 }
 
-impl Remarks<'_> {
-    /// Adds a remark.
-    fn say(&mut self, words: &str) -> Result<(), AllocError> {
-        let mut remark = String::new(self.alloc);
-        remark.push_str(words)?;
-        self.found.push(remark)?;
-        Ok(())
+/// A remark on a table whose first row begins with this cell: how it is brought in, and whether its heads may be missing.
+fn remark_on_table(alloc: Global, poll: &Poll, cell: &[u8]) -> Result<String, AllocError> {
+    let mut remark = String::from_str(
+        alloc,
+        "looks like a table: debvote-election add --csv takes the rows below the first, by the names of its columns",
+    )?;
+    if poll.voter_of(cell).is_some() {
+        remark.push_str("; but the first begins with ")?;
+        push_shown(&mut remark, cell, MOST_SHOWN)?;
+        remark.push_str(", who is on the roll: are the names of the columns missing?")?;
     }
+    Ok(remark)
+}
 
-    /// Adds a remark with the command that does what it tells, by one program or by two.
-    fn mend(&mut self, cure: &str, first: &str, next: &str) -> Result<(), AllocError> {
-        let mut remark = String::new(self.alloc);
-        push_mending(&mut remark, cure, first, next, self.file)?;
-        self.found.push(remark)?;
-        Ok(())
+/// Adds how the ends of the lines are mended, and a byte-order mark with them.
+fn say_cure(
+    alloc: Global,
+    remarks: &mut Vec<String>,
+    cure: Cure,
+    is_marked: bool,
+    file: Option<&str>,
+) -> Result<(), AllocError> {
+    let (words, command, behind) = cure;
+    let mut remark = String::new(alloc);
+    if is_marked {
+        push_mending(&mut remark, words, "tail -c +4", behind, file)?;
+    } else if !command.is_empty() {
+        push_mending(&mut remark, words, command, "", file)?;
+    } else {
+        return Ok(());
     }
-
-    /// Adds how the ends of lines are mended, and a byte-order mark with them.
-    fn mend_ends(
-        &mut self,
-        cure: &str,
-        command: &str,
-        behind: &str,
-        is_marked: bool,
-    ) -> Result<(), AllocError> {
-        if is_marked {
-            return self.mend(cure, "tail -c +4", behind);
-        }
-        self.mend(cure, command, "")
-    }
-
-    /// Adds how a table is brought in whose first row begins with this cell, and whether its heads may be missing.
-    fn say_table(&mut self, poll: &Poll, cell: &[u8]) -> Result<(), AllocError> {
-        let mut remark = String::new(self.alloc);
-        remark.push_str(
-            "looks like a table: debvote-election add --csv takes the rows below the first, by the names of its columns",
-        )?;
-        if is_elector(poll, cell) {
-            remark.push_str("; but the first begins with ")?;
-            push_shown(&mut remark, cell, MOST_SHOWN)?;
-            remark.push_str(", who is on the roll: are the names of the columns missing?")?;
-        }
-        self.found.push(remark)?;
-        Ok(())
-    }
-
-    /// Adds what the carriage returns of the file are, and a byte-order mark.
-    fn say_ends(
-        &mut self,
-        lines: &Lines<'_>,
-        signs: Signs,
-        ended: bool,
-        is_marked: bool,
-    ) -> Result<(), AllocError> {
-        if is_of_old_mac(lines, ended) {
-            return self.mend_ends(
-                "comes from an old Mac: carriage returns end its lines; make line feeds of them",
-                "tr '\\r' '\\n'",
-                " | tr '\\r' '\\n'",
-                is_marked,
-            );
-        }
-        if signs.has_return_within {
-            self.say(
-                "has carriage returns within lines: look at each, since no command can tell whether a line ends there",
-            )?;
-        } else if signs.has_return && !signs.lacks_return {
-            return self.mend_ends(
-                "comes from Windows: carriage returns end its lines of bad shape; take them out",
-                "tr -d '\\r'",
-                " | tr -d '\\r'",
-                is_marked,
-            );
-        }
-        if is_marked {
-            return self.mend(
-                "begins with a byte-order mark; take it out",
-                "tail -c +4",
-                "",
-            );
-        }
-        Ok(())
-    }
+    remarks.push(remark)?;
+    Ok(())
 }
 
 /// What is remarked on a file, of which a line feed ends all lines or all but the last, and whose lines these steps cast.
@@ -257,30 +206,36 @@ pub(crate) fn remarks_on_file(
     steps: &[Step],
 ) -> Result<Vec<String>, AllocError> {
     let file = file.filter(|name| name.len() <= MOST_NAME);
-    let mut remarks = Remarks {
-        alloc,
-        found: Vec::new(alloc),
-        file,
-    };
+    let mut remarks = Vec::new(alloc);
     let first = first_line(lines);
     let is_bad = is_of_bad_shape(steps.first());
     if look_like_poll(lines) {
-        remarks.say("looks like a poll: are the files exchanged?")?;
+        say(
+            alloc,
+            &mut remarks,
+            "looks like a poll: are the files exchanged?",
+        )?;
     }
     if let Some(kind) = file_kind(first) {
-        remarks.say(kind)?;
+        say(alloc, &mut remarks, kind)?;
     }
     if let Some(cell) = first_cell(first) {
-        if is_bad && (has_letter(cell) || is_elector(poll, cell)) {
-            remarks.say_table(poll, cell)?;
+        if is_bad && (has_letter(cell) || poll.voter_of(cell).is_some()) {
+            remarks.push(remark_on_table(alloc, poll, cell)?)?;
         }
     }
     let signs = signs_of(lines, steps, ended);
-    remarks.say_ends(
-        lines,
-        signs,
-        ended,
-        is_bad && first.starts_with(BYTE_ORDER_MARK),
-    )?;
-    Ok(remarks.found)
+    let cure = if is_of_old_mac(lines, ended) {
+        OLD_MAC
+    } else if signs.has_return_within {
+        say(alloc, &mut remarks, WITHIN)?;
+        MARK
+    } else if signs.has_return && !signs.lacks_return {
+        WINDOWS
+    } else {
+        MARK
+    };
+    let is_marked = is_bad && first.starts_with(BYTE_ORDER_MARK);
+    say_cure(alloc, &mut remarks, cure, is_marked, file)?;
+    Ok(remarks)
 }

@@ -6,7 +6,7 @@ use Rattle.std.specs.Result.{is_ok}
 use Rattle.std.proofs.lemmas.Bool.{cases_Bool}
 use Rattle.std.proofs.lemmas.Bool.Decides.{nat_tests}
 use Rattle.std.proofs.lemmas.List.Elements.{All-nil, All-cons, All-append}
-use Rattle.std.proofs.lemmas.List.{take_more}
+use Rattle.std.proofs.lemmas.List.{length-take, take_more}
 use Rattle.std.proofs.lemmas.List.Splits.{length-slice_split}
 use Rattle.std.specs.Prelude.{◌==◌}
 use Rattle.toml.specs.Data.{Members}
@@ -25,7 +25,6 @@ use Rattle.vote_poll_findings.specs.UnreadView.{SaysAll, SaysUnread, file_of, ke
 use Rattle.vote_poll_findings.specs.declared.unread.UnreadKeys.{UnreadKeys}
 use Rattle.vote_poll_findings.specs.declared.path.UnreadKey.{UnreadKey}
 use Rattle.vote_poll_findings.specs.declared.TheConstants.{MAX_HINT, MAX_SHOWN}
-use Rattle.vote_poll_findings.proofs.PathLaws.{length_cut}
 
 -- ---- bytes as they are shown
 abbrev Stays : ℕ → Type 0
@@ -71,7 +70,7 @@ hint_of words = record {
   words = words;
   is_shown = refl;
   unbroken = shown_unbroken (take (MAX_HINT / 4) words);
-  short = omega (arith, shown_few (take (MAX_HINT / 4) words), length_cut (MAX_HINT / 4) words);
+  short = omega (arith, shown_few (take (MAX_HINT / 4) words), length-take (MAX_HINT / 4) words);
 }
 
 -- ---- lines, one after another

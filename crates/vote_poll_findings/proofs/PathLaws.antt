@@ -1,6 +1,6 @@
 -- Paths that are cut.
 use Rattle.std.proofs.Common.{◌≡◌, ◌≤◌, ◌<◌, ◌+◌, ◌∷◌, ◌++◌, [], ℕ, zero, suc, List, take, length, get_or, refl, ap, sym, ◌∙◌, append_assoc, append-nil, set, arith}
-use Rattle.std.proofs.lemmas.List.{take_all, take_more, take_more_set, take-append-le, length-append, length-take-le}
+use Rattle.std.proofs.lemmas.List.{length-take, take_all, take_more, take_more_set, take-append-le, length-append, length-take-le}
 
 -- what is cut, and goes on, may be cut at its end alone
 pub cut_append : {X : Type 0} (n : ℕ) (xs ys : List X) → take n (take n xs ++ ys) ≡ take n (xs ++ ys)
@@ -25,11 +25,6 @@ cut_room n m xs y whole room =
     let few : length (take m xs ++ y ∷ []) ≤ n = omega (arith, length-append (take m xs) (y ∷ []), length-take-le m xs) in
     take_more_set xs m y (omega (arith, whole)) ∙ sym (take_all n (take m xs ++ y ∷ []) few)
 
-pub length_cut : {X : Type 0} (n : ℕ) (xs : List X) → length (take n xs) ≤ n
-length_cut zero xs = omega arith
-length_cut (suc n) [] = omega arith
-length_cut (suc n) (x ∷ xs) = omega (arith, length_cut n xs)
-
 -- what is cut already
 pub cut_short : {X : Type 0} (n m : ℕ) (xs : List X) → m ≤ n → take m xs ≡ take n (take m xs ++ [])
-cut_short n m xs few = sym (ap (take n) (append-nil (take m xs)) ∙ take_all n (take m xs) (omega (arith, length_cut m xs)))
+cut_short n m xs few = sym (ap (take n) (append-nil (take m xs)) ∙ take_all n (take m xs) (omega (arith, length-take m xs)))

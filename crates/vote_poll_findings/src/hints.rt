@@ -11,7 +11,7 @@ use toml::{Table, Value};
 use vote_poll::{MAX_ELECTORS, MAX_OPTIONS, MAX_QUORUM_MULTIPLE, MAX_RATIO, parse_ratio};
 use vote_poll_keys::{FoundKeys, PollFault, PollKey, value_at};
 use vote_poll_text::{
-    MAX_LINES, MAX_OPTION_NAME, MAX_TITLE, MAX_VOTER_NAME, is_printable, is_voter_byte, push_shown,
+    MAX_LINES, MAX_OPTION_NAME, MAX_TITLE, MAX_VOTER_NAME, is_voter_byte, push_shown,
 };
 
 /// Adds a text in quotes, at most so many of its bytes as are shown.
@@ -21,20 +21,12 @@ fn push_quoted(words: &mut String, text: &str) -> Result<(), AllocError> {
     words.push_str("\"")
 }
 
-/// Whether the name of a voter may have this byte, or another name.
-fn may_have(is_voter: bool, byte: u8) -> bool {
-    if is_voter {
-        is_voter_byte(byte)
-    } else {
-        is_printable(byte)
-    }
-}
-
 /// The first character of a name that it may not have.
 fn bad_character(name: &str, is_voter: bool) -> Option<char> {
     for character in name.chars() {
-        if !character.is_ascii() || !may_have(is_voter, character as u8) {
-            return Some(character);
+        match character {
+            ' '..='~' if !is_voter || is_voter_byte(character as u8) => {}
+            _ => return Some(character),
         }
     }
     None
@@ -52,30 +44,22 @@ fn push_shape(
         return Ok(true);
     }
     push_quoted(words, name)?;
-    if name.len() > most {
-        write!(words, " has {} bytes, {most} are the most", name.len())?;
-    } else if let Some(bad) = bad_character(name, is_voter) {
-        words.push_str(" has ")?;
-        push_character(words, bad)?;
-        if !bad.is_ascii() {
-            words.push_str(if is_voter {
-                "; a voter's name has a to z, 0 to 9, . and -"
-            } else {
-                "; options have plain characters, and a page can show another spelling"
+    match bad_character(name, is_voter) {
+        _ if name.len() > most => {
+            write!(words, " has {} bytes, {most} are the most", name.len())?;
+        }
+        Some(bad) => {
+            words.push_str(" has ")?;
+            push_character(words, bad)?;
+            words.push_str(match (bad.is_ascii(), is_voter) {
+                (true, _) => "",
+                (_, true) => "; a voter's name has a to z, 0 to 9, . and -",
+                _ => "; options have plain characters, and a page can show another spelling",
             })?;
         }
-    } else if name.starts_with(' ') || name.ends_with(' ') {
-        write!(
-            words,
-            " {} with a space",
-            if name.starts_with(' ') {
-                "begins"
-            } else {
-                "ends"
-            }
-        )?;
-    } else {
-        return Ok(false);
+        None if name.starts_with(' ') => words.push_str(" begins with a space")?,
+        None if name.ends_with(' ') => words.push_str(" ends with a space")?,
+        None => return Ok(false),
     }
     Ok(true)
 }
@@ -94,24 +78,10 @@ fn push_range(
 /// The least number of votes that meets a quorum of so many times Q, where Q is half the square root of the number of electors
 /// (section 4.2.7 of the Constitution).
 fn quorum_votes(multiple: u64, electors: u64) -> u64 {
-    let wanted = multiple.saturating_mul(multiple).saturating_mul(electors);
-    for votes in 0..MAX_LINES as u64 {
-        if votes.saturating_mul(votes).saturating_mul(4) >= wanted {
-            return votes;
-        }
+    match multiple.saturating_mul(multiple).saturating_mul(electors) {
+        0 => 0,
+        square => (square - 1).isqrt() / 2 + 1,
     }
-    MAX_LINES as u64
-}
-
-/// Q in hundredths of a vote, rounded down.
-fn hundredths_of_q(electors: u64) -> u64 {
-    let square = electors.saturating_mul(2500);
-    for hundredths in 1..MAX_LINES as u64 {
-        if hundredths.saturating_mul(hundredths) > square {
-            return hundredths - 1;
-        }
-    }
-    MAX_LINES as u64
 }
 
 /// Adds that the quorum is no number of votes, and which multiple of Q gives so many votes or more, if one does.
@@ -121,7 +91,7 @@ fn push_times_q(words: &mut String, votes: Option<i64>, electors: usize) -> Resu
         return Ok(());
     }
     let electors = electors as u64;
-    let hundredths = hundredths_of_q(electors);
+    let hundredths = electors.saturating_mul(2500).isqrt();
     let (whole, tenths, rest) = (hundredths / 100, hundredths / 10 % 10, hundredths % 10);
     write!(words, ", {whole}.{tenths}{rest} votes for {electors}")?;
     let Some(wanted) = votes else {
@@ -181,24 +151,20 @@ fn kind_words(value: &Value) -> &'static str {
     }
 }
 
-/// Whether an entry is of the wrong kind for the list at a key.
-fn is_wrong_entry(key: PollKey, entry: &Value) -> bool {
-    match key {
-        PollKey::Options | PollKey::Roll => !entry.is_str(),
-        PollKey::Ratios => !entry.is_integer(),
-        _ => false,
-    }
-}
-
 /// Adds the first entry of a list that is of the wrong kind, and its option or position.
 fn push_wrong_entry(words: &mut String, key: PollKey, entries: &[Value]) -> Result<(), AllocError> {
     for (place, entry) in entries.iter().enumerate() {
-        if is_wrong_entry(key, entry) {
-            let kind = kind_words(entry);
-            return match key {
-                PollKey::Roll => write!(words, " with {kind} at position {place}, counted from 0"),
-                _ => write!(words, " with {kind} at option {}", place.saturating_add(1)),
-            };
+        let kind = kind_words(entry);
+        match key {
+            PollKey::Roll if !entry.is_str() => {
+                return write!(words, " with {kind} at position {place}, counted from 0");
+            }
+            PollKey::Options if entry.is_str() => {}
+            PollKey::Ratios if entry.is_integer() => {}
+            PollKey::Options | PollKey::Ratios => {
+                return write!(words, " with {kind} at option {}", place.saturating_add(1));
+            }
+            _ => {}
         }
     }
     Ok(())
@@ -234,10 +200,7 @@ fn with_first_places<'t>(
 
 /// The entries of a list that was found, or none.
 fn entries<T>(list: &Option<Vec<T>>) -> &[T] {
-    match list {
-        Some(entries) => entries,
-        None => &[],
-    }
+    list.as_deref().unwrap_or(&[])
 }
 
 /// The line of a table, or of a list of tables, that stands above all keys of a file, and how often it does.

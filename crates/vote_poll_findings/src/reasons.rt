@@ -49,6 +49,9 @@ const OLD_MAC: &str =
 const LOST_OR_WITHIN: &str =
     ": a quotation mark may be missing, or one too many, or one may belong to a text: ask who wrote it";
 
+/// What a table is.
+const CSV: &str = ": a table (CSV); a poll has a line for each key, as title = \"A title\"";
+
 /// What a quorum says.
 pub(crate) const TIMES_Q: &str =
     "; it says how many times Q is needed, half the square root of the number of electors";
@@ -198,20 +201,19 @@ fn is_in_text(place: &Place<'_>) -> bool {
 
 /// Where the quotation mark of an elector's name is missing, and the name: no name has a comma, so nothing else can be meant.
 fn lost_mark<'t>(place: &Place<'t>) -> (&'static str, &'t [u8]) {
-    if quotes(place.left).saturating_add(quotes(place.right)) % 2 == 0 {
-        return ("", b"");
-    }
+    let is_even = quotes(place.left).saturating_add(quotes(place.right)) % 2 == 0;
     let (before, name) = (place.before.trim_ascii_end(), until(place.right, b'"'));
-    let rest = after_last_mark(place.left);
-    let text = last_text(place.left);
-    if is_in_text(place) && begins_anew(next_line(place).unwrap_or(b"]")) {
-        ("after", until(until(rest, b','), b']'))
-    } else if rest.is_empty() && text.trim_ascii_end().ends_with(b",") {
-        ("after", until(text, b','))
-    } else if name.len() < place.right.len() && matches!(before, [.., b',' | b'[']) {
-        ("before", name)
-    } else {
-        ("", b"")
+    let (rest, text) = (after_last_mark(place.left), last_text(place.left));
+    match before {
+        _ if is_even => ("", b""),
+        _ if is_in_text(place) && begins_anew(next_line(place).unwrap_or(b"]")) => {
+            ("after", until(until(rest, b','), b']'))
+        }
+        _ if rest.is_empty() && text.trim_ascii_end().ends_with(b",") => {
+            ("after", until(text, b','))
+        }
+        [.., b',' | b'['] if name.len() < place.right.len() => ("before", name),
+        _ => ("", b""),
     }
 }
 
@@ -281,16 +283,12 @@ pub(crate) fn message<'e>(place: &Place<'_>, said: &'e str) -> &'e str {
 
 /// What a file is whose line has no `=` where one is expected.
 fn other_format(place: &Place<'_>) -> &'static str {
-    if place.right.contains(&b'=') {
-        return "";
-    }
     match place.right {
+        right if right.contains(&b'=') => "",
         [b':', ..] =>
             ": a colon, as in YAML; a poll has a line for each key, as title = \"A title\"",
-        [b',' | b';', ..] =>
-            ": a table (CSV); a poll has a line for each key, as title = \"A title\"",
-        _ if place.left.ends_with(b"\t") =>
-            ": a table (CSV); a poll has a line for each key, as title = \"A title\"",
+        [b',' | b';', ..] => CSV,
+        _ if place.left.ends_with(b"\t") => CSV,
         _ => "",
     }
 }

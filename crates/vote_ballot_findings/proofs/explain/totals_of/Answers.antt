@@ -1,5 +1,5 @@
 use Rattle.std.proofs.Common.{◌∙◌, ap, rules}
-use Rattle.vote_ballot_findings.proofs.Counting.{refused_are}
+use Rattle.vote_sheet.proofs.Holding.{refused_are}
 use Rattle.vote_ballot_findings.proofs.explain.totals_of.Goals as goal
 
 pub returns : goal.returns
