@@ -70,6 +70,21 @@ class Files(unittest.TestCase):
                 self.assertEqual(outcome_of(letters_of_file("box", line + field + ADA)), [f"in: ada {RANKS}"], field)
                 self.assertEqual(outcome_of(letters_of_file("box", line + field + ADA + below)), ["waits: parted off"], field)
 
+    def test_letters_that_somebody_put_together(self) -> None:
+        """As `cat *.eml` does: of the second nobody would see anything."""
+        coded = letter("ben", "YmVuIDEsMiw0LDMK\n", head="Content-Transfer-Encoding: base64\n")
+        above = {
+            "plain text": ADA,
+            "parts": letter("ada", f"--b\n\nada {RANKS}\n--b--\n", kind="multipart/mixed; boundary=b"),
+            "HTML": letter("ada", f"<p>ada {RANKS}</p><br>\n", kind="text/html"),
+        }
+        for what, data in above.items():
+            for between in (b"", b"\n", b"Return-Path: <ben@club.example>\n"):
+                self.assertEqual(outcome_of(letters_of_file("x", data + between + coded)), ["waits: parted off"], what)
+        attached = letter("ada", f"--b\n\nada {RANKS}\n--b\nContent-Type: message/rfc822\n\n", kind="multipart/mixed; boundary=b")
+        found = letters_of_file("x", attached + letter("ben", "hello\n") + b"--b--\n")
+        self.assertEqual(outcome_of(found), [f"in: ada {RANKS}"])
+
     def test_a_boundary_with_a_blank(self) -> None:
         """Lotus Notes writes such."""
         notes = "=_alternative 004A8E32C1256F5A_="
