@@ -79,6 +79,18 @@ class Sending(SendTest):
         self.assertEqual(self.send("call").status, 0)
         self.assertEqual(self.server.addresses()[7:], ["ada@new.example"])
 
+    def test_a_receipt_that_was_postponed_goes_to_a_new_address(self) -> None:
+        """So servers answer of a domain that has no mail server."""
+        self.add_lines(f"ada {RANKS}", f"ben {RANKS}")
+        self.server.rcpt_answers = {"ada@club.example": "450 4.1.2 domain not found"}
+        for _ in range(2):
+            self.assertIn("Postponed: ada, ada@club.example", self.send("receipts").output)
+        self.write("members.csv", support.members_of(support.NAMES).replace("ada@club", "ada@new"))
+        self.done("roll", "--yes")
+        self.assertIn("Sent 1 of 2 letters.", self.send("receipts").output)
+        self.assertEqual(self.server.addresses(), ["ben@club.example", "ada@new.example"])
+        self.assertIn("There is no letter to send", self.send("receipts").output)
+
     def test_a_receipt_that_was_refused_goes_to_a_new_address(self) -> None:
         self.add_lines(f"ada {RANKS}", f"ben {RANKS}")
         self.server.rcpt_answers = {"ada@club.example": "550 no"}

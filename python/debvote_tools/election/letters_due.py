@@ -118,7 +118,7 @@ class LettersDue:
         """A letter to each elector about all that came since the last one, also to an address that they had before."""
         came = what_came(self.election, self.history, is_over=self.composer.is_over)
         for_act, new = self.history.last.number + 1, []
-        told = {(letter.elector, key) for letter in self.letters if not self.was_refused_elsewhere(letter) for key in letter.about}
+        told = {(letter.elector, key) for letter in self.letters if not self.failed_elsewhere(letter) for key in letter.about}
         old = old_addresses(self.election, self.history, self.letters)
         for number, items in came.by_elector.items():
             elector, keys = self.electors[number], [one.key for one in items if (number, one.key) not in told]
@@ -128,15 +128,16 @@ class LettersDue:
         def text_of(elector: Elector, letter: SentLetter) -> str:
             return self.composer.receipt(elector, about_now(letter.about, came.by_elector[elector.number]))
 
-        waiting = [letter for letter in self.letters if letter.state in (WRITTEN, POSTPONED, BEGUN) and letter.address]
+        waiting = [one for one in self.letters if one.state in (WRITTEN, POSTPONED, BEGUN) and one.address]
+        waiting = [one for one in waiting if not self.failed_elsewhere(one)]
         # not to those who are no longer on the list, nor about a letter that is a ballot now, of which a new one tells
         there = [one for one in waiting if one.elector in self.electors and about_now(one.about, came.by_elector[one.elector])]
         return for_act, new, there if self.is_sending else [], text_of
 
-    def was_refused_elsewhere(self, letter: SentLetter) -> bool:
-        """Whether the server refused it for an address that its elector has no longer."""
+    def failed_elsewhere(self, letter: SentLetter) -> bool:
+        """Whether the server refused or postponed it for an address that its elector has no longer."""
         elector = self.electors.get(letter.elector)
-        return letter.state == REFUSED and elector is not None and letter.address not in elector.addresses
+        return letter.state in (REFUSED, POSTPONED) and elector is not None and letter.address not in elector.addresses
 
     def closed(self) -> Plan:
         """The letter of the close to each elector."""
