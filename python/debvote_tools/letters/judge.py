@@ -111,9 +111,13 @@ class Circumstances:
                 found[key].append(elector)
         return dict(found)
 
+    def by_real_name(self, name: str) -> str | None:
+        """An elector by the real name, folded."""
+        return self.electors_by_real_name.get(name)
+
     @functools.cached_property
-    def by_real_name(self) -> dict[str, str]:
-        """The electors by their real names, folded."""
+    def electors_by_real_name(self) -> dict[str, str]:
+        """All electors by their real names, folded. Few letters ask for it, and with many electors it takes a while."""
         languages = dict.fromkeys((self.language, ""))
         found = {folded(who, language): elector for elector, who in self.real_names.items() for language in languages}
         return {name: elector for name, elector in found.items() if name}

@@ -321,7 +321,7 @@ def read_body(data: bytes) -> Body:
     around = "\n".join(text for part in message.walk() for text in (part.preamble, part.epilogue) if text)
     outside = decoded_bytes(around.encode("ascii", "surrogateescape"), "utf-8").splitlines()
     lines += outside
-    if any(RECEIVED.match(line) for line in (*first.lines, *pieces_of_first, *outside)):
+    if message.keys() and any(RECEIVED.match(line) for line in (*first.lines, *pieces_of_first, *outside)):
         trouble = trouble or Reason.PARTED_OFF()
     own, others = ({" ".join(line.split()): None for line in some} for some in (first.lines, lines))
     other_lines = [line for line in others if line not in own and may_be_ballot(line)]

@@ -3,7 +3,7 @@
 import dataclasses
 import re
 import unicodedata
-from collections.abc import Iterator, Mapping, Sequence
+from collections.abc import Callable, Iterator, Mapping, Sequence
 from typing import Protocol
 
 from debvote_tools.letters.greeting import above_end, is_quoted
@@ -114,9 +114,13 @@ class Readings:
 
 
 def readings_of(
-    letter: ParsedLetter, roll: frozenset[str], elector: Elector | None, language: str, by_real_name: Mapping[str, str]
+    letter: ParsedLetter,
+    roll: frozenset[str],
+    elector: Elector | None,
+    language: str,
+    by_real_name: Callable[[str], str | None],
 ) -> Readings:
-    """What the lines of a letter may read as, before debvote has answered. `by_real_name` has the names of the roll by the real names,
+    """What the lines of a letter may read as, before debvote has answered. `by_real_name` finds a name of the roll by the real name,
     folded.
     """
     text = letter.body.text
@@ -145,7 +149,7 @@ class Reader:
     roll: frozenset[str]
     elector: Elector | None
     language: str
-    by_real_name: Mapping[str, str]
+    by_real_name: Callable[[str], str | None]
 
     def ballot_line(self, number: int, line: str) -> BallotLine | None:
         """What a line that is not quoted may read as: repaired, a name of the roll and ranks. The sender may have written their own name
@@ -166,7 +170,7 @@ class Reader:
         if not may_be_ballot(line) or is_quoted(line) or self.ballot_line(number, line) is not None:
             return None
         named = NAMED.fullmatch(unicodedata.normalize("NFC", repaired(line)))
-        names = [] if named is None else [self.by_real_name.get(folded(named[1], language)) for language in (self.language, "")]
+        names = [] if named is None else [self.by_real_name(folded(named[1], language)) for language in (self.language, "")]
         name = next(filter(None, names), None)
         return None if named is None or name is None else BallotLine(number, f"{name} {named[2]}")
 
