@@ -80,6 +80,16 @@ class Adding(LettersTest):
         self.assertIn("1 new letter; 1 came before.", ended.output)
         self.assertEqual(self.exported()[0], f"ada {RANKS}\nben {RANKS}\n")
 
+    def test_a_mailbox_longer_than_any_file_of_lines(self) -> None:
+        """Else what is beyond that length would be in no list, and nobody would be told."""
+        picture = f"--b\nContent-Type: image/png\n\n{'x' * 70}\n--b--\n".replace("x\n", "x\n" + f"{'x' * 70}\n" * 100_000)
+        long = [letter("cleo", picture, number=number) for number in range(5)]
+        long = [one.replace("Subject", "Content-Type: multipart/mixed; boundary=b\nSubject") for one in long]
+        for given in (None, mailbox(*long, letter("ben", f"ben {RANKS}"))):
+            ended = self.add(*long, letter("ada", f"ada {RANKS}")) if given is None else self.election("add", "--yes", given=given)
+            self.assertIn("1 ballot of letters went in; 5 letters wait.", ended.output, ended)
+        self.assertEqual(self.exported()[0], f"ada {RANKS}\nben {RANKS}\n")
+
     def test_look_keeps_nothing(self) -> None:
         before = self.contents()
         ended = self.add(letter("ada", f"ada {RANKS}"), words=("--look",))

@@ -5,6 +5,7 @@ import pathlib
 import tempfile
 import time
 import unittest
+import unittest.mock
 
 from letters_support import RANKS, answer, letter, mailbox, outcomes, parsed
 
@@ -59,6 +60,31 @@ class Files(unittest.TestCase):
                 self.assertEqual(outcome_of(letters_of_file("box", LINE + above + b"\n" + line + coded)), ["waits: parted off"], line)
                 self.assertEqual(outcome_of(letters_of_file("one", above + b"\n" + line + coded)), ["waits: parted off"], line)
 
+    def test_whatever_field_is_below_a_line_without_a_date(self) -> None:
+        """Thunderbird and others put fields of their own above all that the mail server wrote."""
+        coded = letter("ben", "YmVuIDEsMiw0LDMK\n", head="Content-Transfer-Encoding: base64\n")
+        for line in (b"From \n", b"From ben 2026-11-23T10:00:00\n"):
+            for field in (b"X-Mozilla-Status: 0001\n", b"X-UID: 7\n", b"Delivery-Date: x\n", b"Status: RO\n", b"To: vote\n", b"Subject: x\n"):
+                below = b"\n" + line + field + coded
+                self.assertEqual(outcome_of(letters_of_file("box", LINE + ADA + below)), ["waits: parted off"], field)
+                self.assertEqual(outcome_of(letters_of_file("box", line + field + ADA)), [f"in: ada {RANKS}"], field)
+                self.assertEqual(outcome_of(letters_of_file("box", line + field + ADA + below)), ["waits: parted off"], field)
+
+    def test_letters_that_somebody_put_together(self) -> None:
+        """As `cat *.eml` does: of the second nobody would see anything."""
+        coded = letter("ben", "YmVuIDEsMiw0LDMK\n", head="Content-Transfer-Encoding: base64\n")
+        above = {
+            "plain text": ADA,
+            "parts": letter("ada", f"--b\n\nada {RANKS}\n--b--\n", kind="multipart/mixed; boundary=b"),
+            "HTML": letter("ada", f"<p>ada {RANKS}</p><br>\n", kind="text/html"),
+        }
+        for what, data in above.items():
+            for between in (b"", b"\n", b"Return-Path: <ben@club.example>\n"):
+                self.assertEqual(outcome_of(letters_of_file("x", data + between + coded)), ["waits: parted off"], what)
+        attached = letter("ada", f"--b\n\nada {RANKS}\n--b\nContent-Type: message/rfc822\n\n", kind="multipart/mixed; boundary=b")
+        found = letters_of_file("x", attached + letter("ben", "hello\n") + b"--b--\n")
+        self.assertEqual(outcome_of(found), [f"in: ada {RANKS}"])
+
     def test_a_boundary_with_a_blank(self) -> None:
         """Lotus Notes writes such."""
         notes = "=_alternative 004A8E32C1256F5A_="
@@ -68,7 +94,7 @@ class Files(unittest.TestCase):
             self.assertEqual(outcome_of(found), [f"in: ada {RANKS}", f"in: ben {RANKS}"])
 
     def test_lines_that_part_nothing(self) -> None:
-        text = f"ada {RANKS}\n\nFrom Monday on\n\n>From x Mon Nov 23 10:00:00 2026\n\nfrom x Mon Nov 23 10:00:00 2026\n\nFrom 10:00 on\n"
+        text = f"ada {RANKS}\n\nFrom Monday on\n\nFrom Monday on see\nhttps://x.example\n\n>From x Mon Nov 23 10:00:00 2026\n\nfrom x Mon Nov 23 10:00:00 2026\n\nFrom 10:00 on\n"
         found = letters_of_file("box", mailbox(letter("ada", text), BEN))
         self.assertEqual(len(found.letters), 2)
 
@@ -202,6 +228,21 @@ class Folders(unittest.TestCase):
             self.write(place, ADA if "host" in place else b"x")
         wanted = {".Sent": NotRead.FOLDER, "cur/deep": NotRead.FOLDER, "dovecot-uidlist": NotRead.NO_LETTER}
         self.assertEqual(self.found(), (["new/1.host", "cur/2.host:2,S"], wanted))
+
+    def test_a_letter_of_a_maildir_that_is_looked_at_meanwhile(self) -> None:
+        self.write("new/1.host", ADA)
+        self.write("cur/2.host:2,S", BEN)
+        iterdir = pathlib.Path.iterdir
+
+        def listed(folder: pathlib.Path) -> list[pathlib.Path]:
+            """What is in a folder; the first letter moves as soon as one of both is listed."""
+            found = list(iterdir(folder))
+            if folder.name in ("new", "cur") and (self.folder / "new/1.host").exists():
+                (self.folder / "new/1.host").rename(self.folder / "cur/1.host:2,S")
+            return found
+
+        with unittest.mock.patch.object(pathlib.Path, "iterdir", listed):
+            self.assertEqual(self.found(), (["cur/1.host:2,S", "cur/2.host:2,S"], {"new/1.host": NotRead.NO_LETTER}))
 
     def test_a_file_of_a_folder_is_never_parted(self) -> None:
         """Several letters may be in it, so it waits; a mailbox is named, or all but its first letter would be text of that."""

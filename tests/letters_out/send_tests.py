@@ -79,6 +79,22 @@ class Sending(SendTest):
         self.assertEqual(self.send("call").status, 0)
         self.assertEqual(self.server.addresses()[7:], ["ada@new.example"])
 
+    def test_a_receipt_that_was_postponed_goes_to_a_new_address(self) -> None:
+        """So servers answer of a domain that has no mail server."""
+        self.add_lines(f"ada {RANKS}", f"ben {RANKS}")
+        self.server.rcpt_answers = {"ada@club.example": "450 4.1.2 domain not found"}
+        for _ in range(2):
+            self.assertIn("Postponed: ada, ada@club.example", self.send("receipts").output)
+        self.write("members.csv", support.members_of(support.NAMES).replace("ada@club", "ada@new"))
+        self.done("roll", "--yes")
+        self.assertIn("Sent 1 of 2 letters.", self.send("receipts").output)
+        self.assertEqual(self.server.addresses(), ["ben@club.example", "ada@new.example"])
+        # the old address gets it, too, as soon as it can
+        self.server.rcpt_answers = {}
+        self.assertIn("Sent 1 of 1 letter.", self.send("receipts").output)
+        self.assertEqual(self.server.addresses()[2:], ["ada@club.example"])
+        self.assertIn("There is no letter to send", self.send("receipts").output)
+
     def test_a_receipt_that_was_refused_goes_to_a_new_address(self) -> None:
         self.add_lines(f"ada {RANKS}", f"ben {RANKS}")
         self.server.rcpt_answers = {"ada@club.example": "550 no"}
@@ -241,6 +257,23 @@ class Reminders(SendTest):
         self.assertEqual(self.server.addresses()[7:], ["ben@club.example"])
         self.assertEqual(self.send("reminders").status, 0)
         self.assertEqual(sorted(self.server.addresses()[8:]), sorted(set(ALL) - {"dan@club.example"}))
+
+    def test_a_letter_that_no_server_can_take_holds_up_no_new_run(self) -> None:
+        """One to be printed, or to an address that was wrong, or that the server postpones for days."""
+        members = support.members_of(support.NAMES)
+        self.write("members.csv", members.replace("gus@club.example", ""))
+        self.done("roll", "--yes")
+        self.assertEqual(self.send("reminders").status, 0)
+        self.assertEqual(self.send("reminders").status, 0)
+        self.assertEqual(len(self.server.taken), 16)
+        self.server.rcpt_answers = {"ben@club.example": "450 4.1.2 domain not found"}
+        self.assertIn("Sent 7 of 8 letters.", self.send("reminders").output)
+        self.assertIn("Sent 0 of 1 letter.", self.send("reminders").output)
+        self.set_clock("2026-11-24T10:00:00+00:00")
+        self.assertIn("Sent 7 of 8 letters.", self.send("reminders").output)
+        self.write("members.csv", members.replace("gus@club.example", "").replace("ben@club", "ben@new"))
+        self.done("roll", "--yes")
+        self.assertIn("Sent 8 of 8 letters.", self.send("reminders").output)
 
 
 class AtTerminal(SendTest):

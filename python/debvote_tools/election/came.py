@@ -6,7 +6,7 @@ import pathlib
 import re
 import sys
 from collections.abc import Mapping, Sequence
-from typing import NamedTuple
+from typing import BinaryIO, NamedTuple
 
 from debvote_tools.console import tell
 from debvote_tools.election.election import Election
@@ -88,7 +88,7 @@ def read_files(election: Election, paths: Sequence[str], *, is_table: bool) -> d
 
 
 def read_file(election: Election, path: str) -> CameFile:
-    """Reads a file whole; of one that is too long one byte more than the limit. It may be a pipe, so it is read once."""
+    """Reads a file. It may be a pipe, so it is read once."""
     if path == HYPHEN:
         return read_standard_input()
     # no other handle may be opened on the book: to close it would end the locks of this process
@@ -96,7 +96,7 @@ def read_file(election: Election, path: str) -> CameFile:
         raise Fault(path, "it is the book of this election", "name a file of ballots that came", Status.BAD_BALLOTS, NOTHING_ADDED)
     try:
         with open(path, "rb") as file:
-            return CameFile(path, file.read(BALLOTS_LIMIT + 1))
+            return CameFile(path, bytes_in(file))
     except OSError as error:
         raise Fault(path, error.strerror, "name a file of ballots that you may read", Status.BAD_BALLOTS, NOTHING_ADDED) from None
 
@@ -107,7 +107,13 @@ def read_standard_input() -> CameFile:
         raise Fault(STANDARD_INPUT, "it is closed", "name a file", Status.BAD_BALLOTS, NOTHING_ADDED)
     if sys.stdin.isatty():
         tell("Type the ballots, a line each; Ctrl-D on an empty line ends them.")
-    return CameFile(STANDARD_INPUT, sys.stdin.buffer.read(BALLOTS_LIMIT + 1))
+    return CameFile(STANDARD_INPUT, bytes_in(sys.stdin.buffer))
+
+
+def bytes_in(file: BinaryIO) -> bytes:
+    """All that a file has if it has letters; of another that is too long one byte more than the limit."""
+    data = file.read(BALLOTS_LIMIT + 1)
+    return data + file.read() if are_letters(data) else data
 
 
 def named(path: str) -> str:

@@ -1,5 +1,6 @@
 """Which letters of a kind are due, and what each says: those that were written before and wait for the server, and new ones."""
 
+import datetime
 from collections.abc import Callable, Iterable, Mapping, Sequence
 
 from debvote_tools.book import lines_by_act, queries, sent
@@ -28,6 +29,9 @@ from debvote_tools.rendering import InText
 from debvote_tools.secret.words import BY_PYTHON
 from debvote_tools.sheet import sheet_in
 from debvote_tools.times import now
+
+# so long a run of reminders goes on: what a server postpones for longer holds up no new one
+LASTING = datetime.timedelta(days=1)
 
 # the act to which letters belong, new ones, those that were written before and belong to the same, and the text of each
 Plan = tuple[int, Sequence[SentLetter], Sequence[SentLetter], Callable[[Elector, SentLetter], str]]
@@ -94,21 +98,27 @@ class LettersDue:
         return self.to_each(acts[-1].number, text_of)
 
     def reminders(self) -> Plan:
-        """A letter to each elector without a ballot that stands. A run that was cut off goes on; else each run is a new one."""
+        """A letter to each elector without a ballot that stands. A run of this day that was cut off goes on; else each run is a new one."""
         self.demand_not_over()
         came = what_came(self.election, self.history, is_over=False)
         silent = {number: elector for number, elector in self.electors.items() if elector.name not in came.standing}
         last = max((letter.for_act for letter in self.letters), default=0)
         of_last = [letter for letter in self.letters if letter.for_act == last and letter.elector in silent]
-        goes_on = self.is_sending and any(letter.state in (WRITTEN, POSTPONED) for letter in of_last)
+
+        def has_address_of_now(letter: SentLetter) -> bool:
+            return letter.address == address_in(silent[letter.elector].addresses)
+
+        def is_cut_off(letter: SentLetter) -> bool:
+            """Whether a server can take it, and a run of this day has not sent it."""
+            is_of_this_day = self.time - letter.time < LASTING and has_address_of_now(letter)
+            return is_of_this_day and bool(letter.address) and letter.state in (WRITTEN, POSTPONED)
+
+        goes_on = self.is_sending and any(map(is_cut_off, of_last))
 
         def text_of(elector: Elector, letter: SentLetter) -> str:
             return self.composer.reminder(elector, waits_of(came.by_elector[elector.number]))
 
-        def is_left(letter: SentLetter) -> bool:
-            return letter.state == BEGUN or (goes_on and letter.address == address_in(silent[letter.elector].addresses))
-
-        written = list(filter(is_left, of_last))
+        written = [letter for letter in of_last if letter.state == BEGUN or (goes_on and has_address_of_now(letter))]
         if goes_on:
             return last, [], written, text_of
         for_act = self.history.last.number + 1
@@ -118,7 +128,7 @@ class LettersDue:
         """A letter to each elector about all that came since the last one, also to an address that they had before."""
         came = what_came(self.election, self.history, is_over=self.composer.is_over)
         for_act, new = self.history.last.number + 1, []
-        told = {(letter.elector, key) for letter in self.letters if not self.was_refused_elsewhere(letter) for key in letter.about}
+        told = {(letter.elector, key) for letter in self.letters if not self.failed_elsewhere(letter) for key in letter.about}
         old = old_addresses(self.election, self.history, self.letters)
         for number, items in came.by_elector.items():
             elector, keys = self.electors[number], [one.key for one in items if (number, one.key) not in told]
@@ -128,15 +138,16 @@ class LettersDue:
         def text_of(elector: Elector, letter: SentLetter) -> str:
             return self.composer.receipt(elector, about_now(letter.about, came.by_elector[elector.number]))
 
-        waiting = [letter for letter in self.letters if letter.state in (WRITTEN, POSTPONED, BEGUN) and letter.address]
+        waiting = [one for one in self.letters if one.state in (WRITTEN, POSTPONED, BEGUN) and one.address]
+        waiting = [one for one in waiting if not (self.failed_elsewhere(one) and is_written_anew(one, (*self.letters, *new)))]
         # not to those who are no longer on the list, nor about a letter that is a ballot now, of which a new one tells
         there = [one for one in waiting if one.elector in self.electors and about_now(one.about, came.by_elector[one.elector])]
         return for_act, new, there if self.is_sending else [], text_of
 
-    def was_refused_elsewhere(self, letter: SentLetter) -> bool:
-        """Whether the server refused it for an address that its elector has no longer."""
+    def failed_elsewhere(self, letter: SentLetter) -> bool:
+        """Whether the server refused or postponed it for an address that its elector has no longer."""
         elector = self.electors.get(letter.elector)
-        return letter.state == REFUSED and elector is not None and letter.address not in elector.addresses
+        return letter.state in (REFUSED, POSTPONED) and elector is not None and letter.address not in elector.addresses
 
     def closed(self) -> Plan:
         """The letter of the close to each elector."""
@@ -212,6 +223,14 @@ def old_addresses(election: Election, history: History, receipts: Iterable[SentL
         elector: [address for act, old in lists if act > last.get(elector, 0) and (address := address_in(old))]
         for elector, lists in before.items()
     }
+
+
+def is_written_anew(letter: SentLetter, receipts: Iterable[SentLetter]) -> bool:
+    """Whether a later receipt to the same address tells all that this one does."""
+    later = (
+        one for one in receipts if (one.elector, one.address) == (letter.elector, letter.address) and one.for_act > letter.for_act
+    )
+    return any(set(letter.about) <= set(one.about) for one in later)
 
 
 def about_now(about: Sequence[About], came: Sequence[Came]) -> list[Came]:

@@ -8,6 +8,7 @@ import unicodedata
 from collections.abc import Callable, Collection, Sequence
 
 from debvote_tools.letters.reasons import Because, Reason
+from debvote_tools.terminal_text import TURNING
 
 # the line that ends a letter, and one that parts paragraphs as an empty one does
 END, STROKE = "-- ", "--"
@@ -17,8 +18,8 @@ MAX_ABOVE, MAX_CHARACTERS = 5, 200
 
 # how a greeting in Spanish may begin
 OPENING = ("¡", "¿")
-# what no greeting has; a colon has many forms
-REFUSED = "@<>|"
+# what no greeting has; what turns a text may turn the lines below it, too, and a colon has many forms
+REFUSED = f"@<>|{TURNING}"
 COLONS = ":\u02d0\u02f8\u0589\u05c3\u0703\u0903\u1361\u1365\u16ec\u1803\u1804\u205a\u205d\u2236\u2982\ua4fd\ua789\ufe30"
 
 
@@ -51,7 +52,7 @@ def paragraphs_of(lines: Sequence[str], passed_over: Collection[str] = ()) -> li
 
 
 def is_greeting(line: str, *, may_have_digits: bool = False) -> bool:
-    """Whether a line may be a greeting: it begins with a letter, and has no digit, no colon and none of `@ < > |`, of any form."""
+    """Whether a line may be a greeting: it begins with a letter, has no digit, no colon and none of `@ < > |`, of any form, and turns no text."""
     if not (line[:1].isalpha() or line.startswith(OPENING)):
         return False
     # each character by itself: of many accents on one letter the time would grow with the square of their number

@@ -106,6 +106,9 @@ class HtmlText:
             self.found_other(tag)
         elif not has_plain_attributes(tag, given):
             self.found_other(f"{tag}{given}")
+            # wherever it is, browsers give its attributes to all that is within
+            if tag in ("html", "body"):
+                self.plain_lines = 0
         if tag == "title" and (self.lines or self.parts):
             self.found_other(tag)
         if tag in HOLDING:

@@ -14,7 +14,17 @@ from collections.abc import Callable, Collection, Mapping, Sequence
 from debvote_tools.addresses import address_key
 from debvote_tools.letters.greeting import is_quoted, paragraphs_of, why_not_first
 from debvote_tools.letters.parse import Body, ParsedLetter, marks_of
-from debvote_tools.letters.readings import MAX_BALLOTS, BallotLine, Elector, LineReader, Near, Readings, first_ballot, readings_of
+from debvote_tools.letters.readings import (
+    MAX_BALLOTS,
+    BallotLine,
+    Elector,
+    LineReader,
+    Near,
+    Readings,
+    first_ballot,
+    folded,
+    readings_of,
+)
 from debvote_tools.letters.reasons import Because, Reason
 from debvote_tools.terminal_text import shown_text
 
@@ -100,6 +110,17 @@ class Circumstances:
             for key in dict.fromkeys(filter(None, map(address_key, addresses))):
                 found[key].append(elector)
         return dict(found)
+
+    def by_real_name(self, name: str) -> str | None:
+        """An elector by the real name, folded."""
+        return self.electors_by_real_name.get(name)
+
+    @functools.cached_property
+    def electors_by_real_name(self) -> dict[str, str]:
+        """All electors by their real names, folded. Few letters ask for it, and with many electors it takes a while."""
+        languages = dict.fromkeys((self.language, ""))
+        found = {folded(who, language): elector for elector, who in self.real_names.items() for language in languages}
+        return {name: elector for name, elector in found.items() if name}
 
     def elector_of(self, letter: ParsedLetter) -> Elector | None:
         """The one elector whose address the sender of a letter has."""
@@ -404,9 +425,8 @@ def set_copy(case: JudgedLetter, first: JudgedLetter, box: Box) -> None:
 
 def judge_all(letters: Sequence[ParsedLetter], circumstances: Circumstances, reader: LineReader) -> list[JudgedLetter]:
     """Judges letters in the order of their times; those without a time come last, in their order."""
-    found = [
-        readings_of(letter, circumstances.roll, circumstances.elector_of(letter), circumstances.language) for letter in letters
-    ]
+    given = circumstances
+    found = [readings_of(one, given.roll, given.elector_of(one), given.language, given.by_real_name) for one in letters]
     asked = dict.fromkeys(line.encode() for readings in found for line in readings.asked())
     asked |= dict.fromkeys(ballot.line.encode() for ballots in circumstances.ballots.values() for ballot in ballots)
     answers = reader.answers(list(asked)) if asked else {}

@@ -43,6 +43,8 @@ LINE_END, PART_LINE = re.compile(rb"\r\n?|\n"), re.compile(rb"[\r\n]--")
 ODD_BREAK = re.compile(r"(?m)=[ \t]+\r?$")
 # what ends a line in some programs, beside LF and CR LF
 ODD_END = re.compile("[\r\v\f\x1c-\x1f\x85\u2028\u2029](?!(?<=\r)\n)")
+# what mail servers write into the head of each letter
+RECEIVED = re.compile(r"received[ \t]*:[ \t]*(?:from|by|\()", re.IGNORECASE)
 # a field goes on in a line of blanks, which ends the head in some programs
 BLANK_LINE = re.compile(r"\n[ \t]*\r?(?:\n|\Z)")
 
@@ -312,12 +314,15 @@ def read_body(data: bytes) -> Body:
         return Body(trouble=Reason.DEFECT(defect=type(error).__name__))
     if LONE_RETURN.search(data):
         trouble = trouble or Reason.LINE_END(character="U+000D")
-    first = texts[0][0] if texts else Text()
+    first, pieces_of_first = texts[0] if texts else (Text(), [])
     lines = [line for text, _ in texts[1:] for line in (*text.lines, *text.joined)]
     lines += [line for _, pieces in texts for line in pieces]
     # around the parts no program shows a text, but a letter may be there that a mailbox did not part
     around = "\n".join(text for part in message.walk() for text in (part.preamble, part.epilogue) if text)
-    lines += decoded_bytes(around.encode("ascii", "surrogateescape"), "utf-8").splitlines()
+    outside = decoded_bytes(around.encode("ascii", "surrogateescape"), "utf-8").splitlines()
+    lines += outside
+    if message.keys() and any(RECEIVED.match(line) for line in (*first.lines, *pieces_of_first, *outside)):
+        trouble = trouble or Reason.PARTED_OFF()
     own, others = ({" ".join(line.split()): None for line in some} for some in (first.lines, lines))
     other_lines = [line for line in others if line not in own and may_be_ballot(line)]
     count = len(other_lines) + sum(map(may_be_ballot, first.lines))

@@ -3,7 +3,7 @@
 import dataclasses
 import re
 import unicodedata
-from collections.abc import Iterator, Mapping, Sequence
+from collections.abc import Callable, Iterator, Mapping, Sequence
 from typing import Protocol
 
 from debvote_tools.letters.greeting import above_end, is_quoted
@@ -113,10 +113,18 @@ class Readings:
         return Readings(views, tuple(filter(valid, self.others)), tuple(filter(valid, self.offered)), tuple(near), self.crowd)
 
 
-def readings_of(letter: ParsedLetter, roll: frozenset[str], elector: Elector | None, language: str) -> Readings:
-    """What the lines of a letter may read as, before debvote has answered."""
+def readings_of(
+    letter: ParsedLetter,
+    roll: frozenset[str],
+    elector: Elector | None,
+    language: str,
+    by_real_name: Callable[[str], str | None],
+) -> Readings:
+    """What the lines of a letter may read as, before debvote has answered. `by_real_name` finds a name of the roll by the real name,
+    folded.
+    """
     text = letter.body.text
-    reader = Reader(roll, elector, language)
+    reader = Reader(roll, elector, language, by_real_name)
     views = [tuple(reader.ballot_line(number, line) for number, line in enumerate(text.lines, start=1))]
     if text.joined:
         views.append(tuple(reader.ballot_line(start + 1, line) for start, line in zip(text.starts, text.joined)))
@@ -126,7 +134,8 @@ def readings_of(letter: ParsedLetter, roll: frozenset[str], elector: Elector | N
     if found.ballot_count > MAX_BALLOTS:
         return Readings(tuple((None,) * len(view) for view in views), crowd=found.ballot_count)
     if found.ballot_count:
-        return found
+        beside = [other for number, line in numbered if (other := reader.line_of_other(number, line)) is not None]
+        return dataclasses.replace(found, others=(*found.others, *beside[:MAX_BALLOTS]))
     own = [(number, line) for number, line in numbered if may_be_ballot(line) and not is_quoted(line)]
     offered = [completed for number, line in own if (completed := reader.with_name(number, line)) is not None]
     near = [near for number, line in own if (near := reader.near(number, line)) is not None]
@@ -140,6 +149,7 @@ class Reader:
     roll: frozenset[str]
     elector: Elector | None
     language: str
+    by_real_name: Callable[[str], str | None]
 
     def ballot_line(self, number: int, line: str) -> BallotLine | None:
         """What a line that is not quoted may read as: repaired, a name of the roll and ranks. The sender may have written their own name
@@ -154,6 +164,15 @@ class Reader:
         if named is None or self.elector is None or not self.is_name_of_sender(named[1], self.elector):
             return None
         return BallotLine(number, f"{self.elector.name} {named[2]}")
+
+    def line_of_other(self, number: int, line: str) -> BallotLine | None:
+        """The ballot of a line with the real name of somebody else, as in the letter of a family. It never goes in by itself."""
+        if not may_be_ballot(line) or is_quoted(line) or self.ballot_line(number, line) is not None:
+            return None
+        named = NAMED.fullmatch(unicodedata.normalize("NFC", repaired(line)))
+        names = [] if named is None else [self.by_real_name(folded(named[1], language)) for language in (self.language, "")]
+        name = next(filter(None, names), None)
+        return None if named is None or name is None else BallotLine(number, f"{name} {named[2]}")
 
     def is_name_of_sender(self, name: str, elector: Elector) -> bool:
         """Whether a name as somebody wrote it is that of the one elector whose address the sender has, and of no other."""

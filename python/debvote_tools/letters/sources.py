@@ -12,8 +12,9 @@ MAX_LETTER = 10_485_760
 # in bytes; the head of a letter is shorter
 MAX_HEAD = 262_144
 
-# where the letters of a Maildir are, those that were looked at and those that were not; and where it has unfinished ones
-MAILDIR, UNFINISHED = ("cur", "new"), "tmp"
+# where the letters of a Maildir are: those that nobody has looked at come first, since one that somebody looks at meanwhile goes from the
+# first folder to the second; and where it has unfinished ones
+MAILDIR, UNFINISHED = ("new", "cur"), "tmp"
 
 # a field of a head, and the names of some that every head has
 FIELD = re.compile(rb"[!-9;-~]+[ \t]*:")
@@ -24,12 +25,12 @@ KNOWN = re.compile(
 MIN_KNOWN = 2
 
 # the line between two letters of an mbox; with a date it has the name of a day, and after it a time
-FROM_LINE = re.compile(rb"(?m)^From [^\r\n]{1,990}\r?$")
+FROM_LINE = re.compile(rb"(?m)^From [^\r\n]{0,990}\r?$")
 DAYS = (b"Mon", b"Tue", b"Wed", b"Thu", b"Fri", b"Sat", b"Sun")
 TIME = re.compile(rb"\d\d?:\d\d(?::\d\d)?")
 
-# another letter within a letter, which a line without a date parts, or one that was changed
-INNER = re.compile(rb"(?im)^>?From [^\r\n]*\r?\n(?:received|return-path|delivered-to|from|date|message-id|mime-version)[ \t]*:")
+# another letter within a letter, which a line without a date parts, or one that was changed: its head may begin with any field
+INNER = re.compile(rb"(?im)^>?From [^\r\n]*\r?\n(?:received|from|to|date|subject|status|[a-z0-9]++-[a-z0-9-]++)[ \t]*:")
 
 # in bytes; of the empty line that ends a file so much may be missing
 MAX_MISSING = 2
