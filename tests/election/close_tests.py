@@ -77,7 +77,10 @@ class Close(CloseTest):
         self.set_clock("2026-11-27T09:00:00+00:00")
         self.done("call", *UNTIL)
         before = self.contents()
-        self.assert_fault(self.election("close"), 9, "Friday, 4 December 2026, 18:00 (UTC+01:00)", "--early", "nothing was changed")
+        # what lets a close pass over letters says nothing of the end
+        for words in ((), ("--force", "--because", "all have voted")):
+            ended = self.election("close", *words)
+            self.assert_fault(ended, 9, "Friday, 4 December 2026, 18:00 (UTC+01:00)", "--early", "nothing was changed")
         self.assertEqual(self.contents(), before)
         self.assertIn("could still vote", self.done("close", "--early").output)
 
@@ -127,7 +130,11 @@ class Reopen(CloseTest):
         self.assertEqual(self.exported()[0], b"ada 1,2,3,4\ncleo 2,1,3,4\ndan 1,2,3,4\n")
         self.assertIn(b"eve", self.exported()[1])
         self.assertEqual(self.numbers()["stage"], "called")
-        self.done("close")
+        checksum = hashlib.sha256(self.exported()[0]).hexdigest()
+        for said in ("Closed: 3 lines came in time", "with 3 lines in time. Nothing was changed"):
+            output = self.done("close").output
+            self.assertIn(said, output)
+            self.assertIn(f"Checksum of the ballots: {checksum}\n", output)
         self.assertIn("3 lines came in time", self.read("letters/closed.txt").decode())
 
     def test_faults(self) -> None:
