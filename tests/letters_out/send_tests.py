@@ -231,6 +231,24 @@ class Reminders(SendTest):
         self.assertEqual(self.send("reminders").status, 0)
         self.assertEqual(sorted(self.server.addresses()[8:]), sorted(set(ALL) - {"dan@club.example"}))
 
+    def test_a_letter_on_paper_holds_up_no_later_run(self) -> None:
+        self.write("members.csv", support.members_of(support.NAMES).replace("ada@club.example", ""))
+        self.done("roll", "--yes")
+        for count in (8, 16):
+            self.assertEqual(self.send("reminders").status, 0)
+            self.assertEqual(len(self.server.taken), count)
+
+    def test_nor_does_one_to_an_address_that_its_elector_no_longer_has(self) -> None:
+        self.server.rcpt_answers = {"ben@club.example": "451 later", "dan@club.example": "451 later"}
+        self.assertEqual(self.send("reminders").status, 9)
+        self.write("members.csv", support.members_of(support.NAMES).replace("ben@club", "ben@new"))
+        self.done("roll", "--yes")
+        self.server.rcpt_answers = {}
+        self.assertEqual(self.send("reminders").status, 0)
+        self.assertEqual(self.server.addresses()[7:], ["dan@club.example"])
+        self.assertEqual(self.send("reminders").status, 0)
+        self.assertEqual(self.server.addresses()[8:], ["ada@club.example", "ben@new.example", *ALL[2:]])
+
 
 class AtTerminal(SendTest):
     def test_the_password_is_asked_and_a_bar_is_shown(self) -> None:

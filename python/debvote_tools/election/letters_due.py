@@ -95,15 +95,18 @@ class LettersDue:
         silent = {number: elector for number, elector in self.electors.items() if elector.name not in came.standing}
         last = max((letter.for_act for letter in self.letters), default=0)
         of_last = [letter for letter in self.letters if letter.for_act == last and letter.elector in silent]
-        goes_on = self.is_sending and any(letter.state in (WRITTEN, POSTPONED) for letter in of_last)
+
+        def is_current(letter: SentLetter) -> bool:
+            return letter.address == address_in(silent[letter.elector].addresses)
+
+        # what can't be sent any more, on paper or to an old address, is no run that goes on
+        waits = (letter.address and letter.state in (WRITTEN, POSTPONED) and is_current(letter) for letter in of_last)
+        goes_on = self.is_sending and any(waits)
 
         def text_of(elector: Elector, letter: SentLetter) -> str:
             return self.composer.reminder(elector, waits_of(came.by_elector[elector.number]))
 
-        def is_left(letter: SentLetter) -> bool:
-            return letter.state == BEGUN or (goes_on and letter.address == address_in(silent[letter.elector].addresses))
-
-        written = list(filter(is_left, of_last))
+        written = [letter for letter in of_last if letter.state == BEGUN or (goes_on and is_current(letter))]
         if goes_on:
             return last, [], written, text_of
         for_act = self.history.last.number + 1
