@@ -155,9 +155,11 @@ class Paper(OutTest):
         page = self.read(name[2]).decode()
         self.assertIn("<bdi>Ada &lt;script&gt;alert(1)&lt;/script&gt; &amp; Söhne</bdi>", page)
         self.assertNotIn("<script>alert", page)
-        self.assertIn(f"{name[1]} _,_,_,_", page)
-        self.assertIn("eve _,_,_,_", page)
-        self.assertNotIn("ben _,_", page)
+        # each is for the person above it
+        letters = [part.partition("</section>")[0] for part in page.split('<section class="letter">')[1:]]
+        self.assertEqual([re.findall(r"(\S+) _,_,_,_", part) for part in letters], [[name[1]], ["eve"]])
+        self.assertEqual(["&lt;script&gt;" in part for part in letters], [True, False])
+        self.assertIn("<bdi>Eve</bdi>", letters[1])
         self.assertEqual([state for _, state in self.rows("call")], ["written"] * 3)
 
 
@@ -462,6 +464,23 @@ class Closed(OutTest):
         for message in found.values():
             self.assertIn(text, message.get_content())
             self.assertRegex(message["Subject"], r"^Vote closed: Where we meet in spring \[[0-9a-f]{16}\]$")
+
+    def test_after_a_second_close_all_get_its_letter(self) -> None:
+        self.add_lines(f"ada {RANKS}")
+        self.done("close", "--early")
+        first = self.texts("closed")
+        self.done("reopen", "--because", "a bag was forgotten")
+        for kind, said in (("closed", "the vote is not closed"), ("call", "nobody is invited"), ("reminders", "nobody is invited")):
+            self.assert_fault(self.election("letters", kind), 9, said)
+        self.write("lines", f"ben {RANKS}\n")
+        self.done("add", "--came-before-close", "yes", "lines")
+        self.done("close", "--early")
+        second = self.texts("closed")
+        self.assertEqual((sorted(first), sorted(second)), (support.NAMES, support.NAMES))
+        for name in support.NAMES:
+            self.assertIn("1 line came in time.", first[name])
+            self.assertIn("2 lines came in time.", second[name])
+            self.assertIn(" ".join(self.read("letters/closed.txt").decode().split()), second[name])
 
 
 class Result(OutTest):
