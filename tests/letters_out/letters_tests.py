@@ -215,6 +215,14 @@ class Receipts(OutTest):
         self.assertEqual(list(texts), ["ada"])
         self.assertIn("the secretary has struck it", texts["ada"])
 
+    def test_undo_names_those_whose_receipts_no_longer_hold(self) -> None:
+        self.add_lines(f"ada {RANKS}")
+        self.add_lines(f"ben {RANKS}", f"cleo {RANKS}")
+        self.assertEqual(sorted(self.texts("receipts")), ["ada", "ben", "cleo"])
+        self.add_lines(f"ben {OTHER_RANKS}", f"dan {RANKS}")
+        self.assertNotIn("receipt", self.done("undo", "--yes").output)
+        self.assertIn("\nThese have receipts that no longer hold: ben, cleo\n", self.done("undo", "--yes").output)
+
     def test_letters(self) -> None:
         self.add_letters(
             letter("ada", f"Ada: {RANKS}.\n"),

@@ -93,6 +93,14 @@ class Sending(SendTest):
         for text in texts.values():
             self.assertIn("Until when: Sunday, 6 December 2026, 12:00 (UTC)", text)
 
+    def test_after_a_second_close_its_letter_goes_out_too(self) -> None:
+        for count in (1, 2):
+            self.done("close", "--early")
+            self.assertEqual(self.send("closed").status, 0)
+            self.assertEqual(self.server.addresses(), ALL * count)
+            self.assertIn("There is no letter to send", self.send("closed").output)
+            self.done("reopen", "--because", "a bag was forgotten")
+
     def test_a_refused_sender_stops_and_costs_nobody_their_letter(self) -> None:
         self.server.mail_answer = "553 not yours"
         ended = self.send("call")
