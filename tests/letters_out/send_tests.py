@@ -186,6 +186,19 @@ class Sending(SendTest):
         self.assertEqual(sent, {f"{name}@club.example": message_id for name, message_id in ids.items()})
         self.assertIn("There is no letter to send", self.send("receipts").output)
 
+    def test_a_receipt_that_was_refused_goes_to_a_new_address(self) -> None:
+        self.add_lines("ada 1,2,4,3", "ben 1,2,4,3")
+        self.server.rcpt_answers = {"ada@club.example": "550 no such user"}
+        self.assertEqual(self.send("receipts").status, 9)
+        # to the same address it is no letter to send
+        self.assertIn("There is no letter to send", self.send("receipts").output)
+        self.write("members.csv", support.members_of(support.NAMES).replace("ada@club", "ada@new"))
+        self.done("roll", "--yes")
+        self.assertIn("Refused: ada, ada@club.example: 550", self.send("receipts").output)
+        self.assertEqual(self.server.addresses(), ["ben@club.example", "ada@new.example"])
+        self.assertIn("It was read as: (ada 1,2,4,3)", one_line(parsed(self.server.taken[1].data)))
+        self.assertIn("There is no letter to send", self.send("receipts").output)
+
 
 class Killed(SendTest):
     """A run is killed at each step of each letter."""

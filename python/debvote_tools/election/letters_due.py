@@ -5,7 +5,7 @@ from collections.abc import Callable, Iterable, Mapping, Sequence
 from debvote_tools.book import entered, queries, sent
 from debvote_tools.book.book import DoneAct
 from debvote_tools.book.queries import Elector
-from debvote_tools.book.sent import BEGUN, POSTPONED, TAKEN, WRITTEN, About, SentLetter
+from debvote_tools.book.sent import BEGUN, POSTPONED, REFUSED, TAKEN, WRITTEN, About, SentLetter
 from debvote_tools.call.data import is_mail_address
 from debvote_tools.call.files import call_letter, extension_letter
 from debvote_tools.debvote import casting_words
@@ -116,7 +116,7 @@ class LettersDue:
         """A letter to each elector about all that came since the last one, also to an address that they had before."""
         came = what_came(self.election, self.history, is_over=self.composer.is_over)
         for_act, new = self.history.last.number + 1, []
-        told = {(letter.elector, key) for letter in self.letters for key in letter.about}
+        told = {(letter.elector, key) for letter in self.letters if self.may_arrive(letter) for key in letter.about}
         old = old_addresses(self.election, self.history, self.letters)
         for number, items in came.by_elector.items():
             elector, keys = self.electors[number], [one.key for one in items if (number, one.key) not in told]
@@ -164,6 +164,11 @@ class LettersDue:
             raise Fault(self.kind, "the time to vote is over, so nobody is invited", cure, Status.DOUBT, "nothing was written")
 
     # ------------------------------------------------------------ letters
+    def may_arrive(self, letter: SentLetter) -> bool:
+        """Whether a letter may come to its elector: not if a server has refused it for an address that the elector no longer has."""
+        elector = self.electors.get(letter.elector)
+        return letter.state != REFUSED or elector is None or letter.address == address_in(elector.addresses)
+
     def letter_to(self, elector: Elector, for_act: int, address: str | None = None, about: Sequence[About] = ()) -> SentLetter:
         """A letter that is not written yet."""
         address = address_in(elector.addresses) if address is None else address
