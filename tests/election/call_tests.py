@@ -82,6 +82,16 @@ class Open(CallTest):
         self.assertEqual(self.contents(), before)
 
 
+    def test_an_end_that_the_call_did_not_say(self) -> None:
+        """Electors who could send a ballot until the close have no more time by it."""
+        self.done("call", "--to", "vote@club.example")
+        self.done("call", *UNTIL)
+        text = " ".join(self.read("letters/extension.txt").decode().split())
+        said = f"You can now vote until the time below. Nothing else that the call says has changed. Until when: {FIRST} The call did not"
+        self.assertIn(said, text)
+        self.assertNotIn("more time", text)
+
+
 class Again(CallTest):
     def setUp(self) -> None:
         super().setUp()
@@ -113,8 +123,9 @@ class Again(CallTest):
         self.done("call")
 
     def test_taken_back(self) -> None:
+        self.done("call", "--until", "2026-12-05 18:00", "--zone", "Europe/Berlin")
         self.done("call", "--take-back")
-        self.assertEqual(list((self.folder / "call").iterdir()), [])
+        self.assertEqual([*(self.folder / "call").iterdir(), *(self.folder / "letters").iterdir()], [])
         self.assertEqual(json.loads(self.done("status", "--json").output)["stage"], "new")
         self.write("poll.toml", support.POLL.replace("spring", "autumn"))
         self.done("call", "--to", "other@club.example")
