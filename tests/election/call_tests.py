@@ -58,8 +58,11 @@ class Open(CallTest):
         self.assertEqual(self.done("log").output, log)
 
     def test_the_list_has_to_be_the_one_that_was_read(self) -> None:
-        self.write("members.csv", support.members_of([*support.NAMES, "jan"]))
-        self.assert_fault(self.election("call"), 9, "members.csv", "debvote-election roll")
+        rows = support.members_of(support.NAMES)
+        keys = rows.replace("\n", ",\n").replace("mail,", "mail,key").replace("ben@club.example,", f"ben@club.example,{'A' * 40}")
+        for changed in (rows + "Jan,jan@club.example\n", rows.replace("ben@club", "ben@new"), keys):
+            self.write("members.csv", changed)
+            self.assert_fault(self.election("call"), 9, "members.csv: it is not the list that was read last", "debvote-election roll")
 
     def test_no_line_reads_as_a_ballot(self) -> None:
         self.done("call", *UNTIL, "--to", "vote@club.example")
@@ -151,7 +154,7 @@ class Secret(CallTest):
         self.done("codes")
         self.done("call", *UNTIL, "--to", "vote@club.example")
         table = [line.split(",") for line in self.read("private/codes.csv").decode().splitlines()[1:]]
-        self.assertEqual([row[0] for row in table], support.NAMES)
+        self.assertEqual([(row[0], row[2]) for row in table], [(name, f"{name}@club.example") for name in support.NAMES])
         self.assertEqual(len({row[3] for row in table}), 9)
         self.assertEqual([row[4] for row in table], [alias_of(row[3], row[0]) for row in table])
         poll = read_plain(self.read("call/poll.toml"))
@@ -185,6 +188,23 @@ class Secret(CallTest):
         self.assertIn("Made 1 code.", self.done("codes").output)
         after = self.read("private/codes.csv").decode().splitlines()
         self.assertEqual(after[:-1], before)
+
+    def test_a_code_stays_with_its_person(self) -> None:
+        """Also if the name is written in another way; whoever gets the name on the roll after them gets another code."""
+
+        def codes() -> list[list[str]]:
+            self.done("roll")
+            self.done("codes")
+            return [row.split(",")[3:] for row in self.read("private/codes.csv").decode().splitlines()[1:]]
+
+        before = codes()
+        self.write("members.csv", support.members_of(support.NAMES).replace("Ada,", "ADA,"))
+        self.assertEqual(codes(), before)
+        others = "".join(f",{name.title()},{name}@club.example\n" for name in support.NAMES[1:])
+        self.write("members.csv", f"name,who,mail\nada,Zed,zed@club.example\n{others}")
+        after = codes()
+        self.assertEqual(after[1:], before[1:])
+        self.assertEqual([old == new for old, new in zip(before[0], after[0])], [False, False])
 
     def test_slips_tell_the_end_as_it_is(self) -> None:
         self.done("codes")

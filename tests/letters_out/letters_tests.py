@@ -95,6 +95,16 @@ class Call(OutTest):
         self.done("call", "--until", "2026-12-08 12:00", "--zone", "UTC")
         self.assertIn("Until when: Tuesday, 8 December 2026, 12:00 (UTC)", self.texts("call")["ada"])
 
+    def test_who_has_the_call_that_holds(self) -> None:
+        """One that was taken back is none; one that went out after an extension is one."""
+        self.written("call")
+        self.done("call", "--take-back")
+        self.done("call", *self.call_words)
+        for day, is_whole in ((6, True), (8, False)):
+            self.done("call", "--until", f"2026-12-{day:02} 12:00", "--zone", "UTC")
+            for text in self.texts("call").values():
+                self.assertEqual(("WHAT IS VOTED ON" in text, "You have more time to vote." in text), (is_whole, not is_whole))
+
     def test_after_the_end_nobody_is_invited(self) -> None:
         self.set_clock("2026-12-04T18:00:01+00:00")
         for kind in ("call", "reminders"):
@@ -161,6 +171,9 @@ class Paper(OutTest):
         self.assertEqual(["&lt;script&gt;" in part for part in letters], [True, False])
         self.assertIn("<bdi>Eve</bdi>", letters[1])
         self.assertEqual([state for _, state in self.rows("call")], ["written"] * 3)
+        # who asks for it once more gets the same
+        self.done("letters", "call")
+        self.assertEqual(self.read(name[2]).decode(), page)
 
 
 class Receipts(OutTest):
@@ -533,6 +546,11 @@ class Result(OutTest):
             "The secretary struck envelope 2: its line does not count. The reason, in the secretary's words: “a mistake of 'ours' & <yours>”",
             text,
         )
+
+    def test_none_of_a_vote_that_is_open_again(self) -> None:
+        self.published()
+        self.done("reopen", "--because", "a bag was forgotten")
+        self.assert_fault(self.election("letters", "result"), 9, "nothing is published")
 
     def test_doubts(self) -> None:
         self.write("lines", f"ada {RANKS}\nben 1\ncleo 1\n")
