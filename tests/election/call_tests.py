@@ -211,6 +211,8 @@ class Secret(CallTest):
         self.done("call", *UNTIL, "--to", "vote@club.example")
         self.done("call", "--until", "2026-12-06 18:00", "--zone", "Europe/Berlin")
         self.assertIn(SECOND, self.read("private/slips.html").decode())
+        self.done("call", "--at", "https://club.example/vote/")
+        self.assertIn("https://club.example/vote/", self.read("private/slips.html").decode())
 
     def test_codes_on_the_roll(self) -> None:
         self.done("codes", "--on-roll")
@@ -218,6 +220,7 @@ class Secret(CallTest):
             self.assertNotRegex(status.rpartition("digest")[0], r"[0-9a-f]{32}")
         self.assertEqual([file.name for file in (self.folder / "private").iterdir()], ["slips.html"])
         self.assert_fault(self.election("roll"), 9, "codes are on the roll")
+        self.assertIn("Made 0 codes.", self.done("codes").output)
         ended = self.done("call", *UNTIL)
         self.assertEqual(sorted(file.name for file in (self.folder / "call").iterdir()), ["SHA256SUMS", "call.txt", "index.html"])
         codes = set(re.findall(r"\b[0-9a-f]{32}\b", self.done("export", self.scratch / "out").output + (self.scratch / "out" / "poll.toml").read_text()))

@@ -135,6 +135,14 @@ class Refused(OutTest):
         )
 
 
+    def test_an_address_of_before_the_call_gets_no_receipt(self) -> None:
+        self.write("members.csv", support.members_of(support.NAMES).replace("ada@club", "ada@new"))
+        self.done("roll")
+        self.done("call", "--to", "vote@club.example")
+        self.add_lines(f"ada {RANKS}")
+        self.assertEqual([message["To"] for message in self.written("receipts").values()], ["ada@new.example"])
+
+
 class CodesOnRoll(OutTest):
     poll = support.POLL + "secret = true\n"
     call_words = None
@@ -228,6 +236,24 @@ class Receipts(OutTest):
         self.assertEqual(list(texts), ["ada"])
         self.assertIn("the secretary has struck it", texts["ada"])
 
+    def test_one_refuses_if_what_came_last_was_refused(self) -> None:
+        self.add_lines("ada 1,2", f"ada {RANKS}", f"ben {RANKS}", "ben 1,2")
+        texts = self.texts("receipts")
+        self.assertIn("It has 2 ranks", texts["ada"])
+        self.assertNotIn("_,_", texts["ada"])
+        self.assertIn("You can send a right line now", texts["ben"])
+
+    def test_a_letter_of_which_one_ballot_is_entered(self) -> None:
+        """It waits for the other elector, who is told."""
+        self.add_letters(letter("ada", f"ada {RANKS}\nben {OTHER_RANKS}\n"))
+        self.done("held", 1, "--enter", 1)
+        texts = self.texts("receipts")
+        self.assertEqual(sorted(texts), ["ada", "ben"])
+        self.assertIn("It counts unless you send a later one.", texts["ada"])
+        self.assertIn(ELSEWHERE, texts["ben"])
+        shown = {name: "letter 1, from " in self.done("show", name).output for name in ("ada", "ben", "cleo")}
+        self.assertEqual(shown, {"ada": True, "ben": True, "cleo": False})
+
     def test_undo_names_those_whose_receipts_no_longer_hold(self) -> None:
         self.add_lines(f"ada {RANKS}")
         self.add_lines(f"ben {RANKS}", f"cleo {RANKS}")
@@ -310,6 +336,9 @@ class Receipts(OutTest):
         self.assertEqual(
             sorted(message["To"] for message in found.values()), ["ada@club.example", "ada@new.example", "ben@club.example"]
         )
+        shown = self.done("show", "ada").output
+        for address in ("ada@club.example", "ada@new.example"):
+            self.assertIn(f"  receipt, 2026-11-23 10:00:00 UTC, to {address}: written\n", shown)
         self.add_lines(f"ada {OTHER_RANKS}")
         self.assertEqual([message["To"] for message in self.written("receipts").values()], ["ada@new.example"])
 
@@ -350,6 +379,14 @@ class Receipts(OutTest):
                 "Content-Transfer-Encoding",
             ],
         )
+
+
+class ReceiptsElsewhere(OutTest):
+    call_words = ("--to", "vote@club.example", "--until", "2026-12-04 18:00", "--zone", "Europe/Berlin")
+
+    def test_times_are_in_the_zone_of_the_end(self) -> None:
+        self.add_lines(f"ada {RANKS}")
+        self.assertIn("Your ballot of Monday, 23 November 2026, 11:00 (UTC+01:00) has arrived.", self.texts("receipts")["ada"])
 
 
 class FullDisk(OutTest):
@@ -414,6 +451,15 @@ class Reminders(OutTest):
         # a stranger's letter silences nobody
         self.assertIn(ELSEWHERE, texts["dan"])
         self.assertIn("dan _,_,_,_", texts["dan"])
+
+    def test_an_own_letter_that_waits_behind_one_of_a_stranger(self) -> None:
+        self.add_letters(
+            letter("ada", f"ada {RANKS}\n", sender="x@x.example", time="Mon, 23 Nov 2026 08:00:00 +0000"),
+            letter("ada", "I want the lake\n", number=2, time="Mon, 23 Nov 2026 09:00:00 +0000"),
+        )
+        text = self.texts("reminders")["ada"]
+        self.assertIn(f"{ELSEWHERE} Your letter of Monday, 23 November 2026, 09:00 (UTC) has arrived.", text)
+        self.assertNotRegex(text, r"_,_|https|Until when")
 
     def test_the_end_after_two_extensions(self) -> None:
         for day, words in ((6, "Sunday, 6 December"), (8, "Tuesday, 8 December")):
@@ -601,6 +647,15 @@ class Secret(OutTest):
         self.done("call", "--until", "2026-12-06 12:00", "--zone", "UTC")
         for message in self.written("call").values():
             self.assertFalse([code for code in codes.values() if code in message.get_content()])
+
+    def test_a_doubt_tells_no_number_of_lines(self) -> None:
+        for line in (f"ada {RANKS}", "ben 1", "cleo 1"):
+            self.add_lines(line)
+        self.done("close", "--early")
+        self.done("publish", "--yes", "--force", "--because", "they were asked")
+        for text in self.texts("result").values():
+            self.assertIn("- More than half of the lines that came are refused. Why it was published", text)
+            self.assertNotIn("2 of 3", text)
 
     def test_nothing_else_has_codes_or_ranks(self) -> None:
         codes = self.codes()

@@ -11,7 +11,8 @@ import unittest.mock
 
 import support
 import terminal
-from out_support import MailServer, SendTest, one_line, parsed
+from letters_support import letter
+from out_support import RANKS, MailServer, SendTest, one_line, parsed
 
 from debvote_tools.book.sent import TAKEN, SentLetter
 from debvote_tools.faults import Fault
@@ -64,6 +65,8 @@ class Sending(SendTest):
         self.assertIn("Postponed: ben, ben@club.example: 451 4.7.1 greylisted\n", ended.output)
         self.assertIn("Postponed: dan, dan@club.example: 452 full\n", ended.output)
         self.assertNotIn("\x1b", ended.output)
+        for name, said in {"ada": "refused (550 5.1.1 no such", "ben": "postponed (451 4.7.1 greylisted)\n", "eve": "taken\n"}.items():
+            self.assertIn(f"UTC, to {name}@club.example: {said}", self.done("show", name).output)
         self.assertEqual(self.server.addresses(), ALL[4:])
         self.server.rcpt_answers = self.server.data_answers = {}
         ended = self.send("call")
@@ -188,8 +191,10 @@ class Sending(SendTest):
 
     def test_a_receipt_that_was_refused_goes_to_a_new_address(self) -> None:
         self.add_lines("ada 1,2,4,3", "ben 1,2,4,3")
-        self.server.rcpt_answers = {"ada@club.example": "550 no such user"}
+        self.server.rcpt_answers = {"ada@club.example": "550 no such user", "ben@club.example": "451 later"}
         self.assertEqual(self.send("receipts").status, 9)
+        del self.server.rcpt_answers["ben@club.example"]
+        self.assertEqual(self.send("receipts").status, 0)
         # to the same address it is no letter to send
         self.assertIn("There is no letter to send", self.send("receipts").output)
         self.write("members.csv", support.members_of(support.NAMES).replace("ada@club", "ada@new"))
@@ -198,6 +203,17 @@ class Sending(SendTest):
         self.assertEqual(self.server.addresses(), ["ben@club.example", "ada@new.example"])
         self.assertIn("It was read as: (ada 1,2,4,3)", one_line(parsed(self.server.taken[1].data)))
         self.assertIn("There is no letter to send", self.send("receipts").output)
+
+    def test_a_receipt_that_is_outdated_before_it_is_taken(self) -> None:
+        """It would tell of nothing: the letter that it is about is a ballot now."""
+        self.add_letters(letter("cleo", f"dan {RANKS}\n"))
+        self.server.rcpt_answers = {"dan@club.example": "451 later"}
+        self.assertEqual(self.send("receipts").status, 9)
+        self.done("held", 1, "--enter", 1)
+        self.server.rcpt_answers = {}
+        self.assertEqual(self.send("receipts").status, 0)
+        [taken] = self.server.taken
+        self.assertIn(f"It was read as: (dan {RANKS})", one_line(parsed(taken.data)))
 
 
 class Killed(SendTest):
