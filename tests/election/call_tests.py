@@ -116,6 +116,9 @@ class Again(CallTest):
     def test_what_is_added_and_what_not(self) -> None:
         self.done("call", "--at", "https://club.example/vote/")
         self.assertIn("https://club.example/vote/", self.texts())
+        self.done("call", "--at", "https://club.example/moved/")
+        self.assertIn("https://club.example/moved/", self.texts())
+        self.assertNotIn("https://club.example/vote/", self.texts())
         for words in (("--to", "other@club.example"), ("--names",), ("--form",), ("--keyring", "poll.toml")):
             with self.subTest(words):
                 self.assert_fault(self.election("call", *words), 9, words[0], "--take-back")

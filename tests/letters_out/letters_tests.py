@@ -622,7 +622,10 @@ class ResultAt(OutTest):
         self.assertIn("https://x.example/r/#ada", self.texts("result", "--at", "https://x.example/r/")["ada"])
         acts = [(act.name, act.detail) for act in self.book().acts()]
         self.assertEqual(acts.count(("announce", {"at": "https://x.example/r/"})), 1)
+        self.texts("result", "--at", "https://x.example/r/")
+        self.assertEqual(len(self.book().acts()), len(acts))
         self.assertIn("https://x.example/r/#ada", self.texts("result")["ada"])
+        self.assertIn("https://x.example/s/#ada", self.texts("result", "--at", "https://x.example/s/")["ada"])
 
 
 class Secret(OutTest):

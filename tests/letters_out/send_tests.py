@@ -141,6 +141,19 @@ class Sending(SendTest):
         self.assertEqual(self.server.addresses()[8:], ["dan@club.example"])
         self.assert_fault(self.send("call", "--again", "dan"), 2, "no run was cut off in the letter to dan")
 
+    def test_two_runs_that_are_cut_off_each_in_a_letter(self) -> None:
+        self.server.at = lambda step, number: (step, number) == ("data", 3)
+        self.assertEqual([self.send("call").status for _ in range(2)], [7, 7])
+        self.server.at = lambda step, number: False
+        output = self.send("call").output
+        for name in ("dan", "eve"):
+            self.assertIn(f"A run was cut off in the letter to {name}, {name}@club.example: the server may have it.\n", output)
+        self.server.taken.clear()
+        for name, status in (("eve", 9), ("dan", 0)):
+            self.assertEqual(self.send("call", "--again", name).status, status)
+            self.assertEqual((self.server.taken[-1].to, parsed(self.server.taken[-1].data)["To"]), (f"{name}@club.example",) * 2)
+        self.assertEqual(len(self.server.taken), 2)
+
     def test_a_server_that_is_not_there_or_lets_nobody_in(self) -> None:
         self.server.stop()
         ended = self.send("call")
@@ -199,7 +212,9 @@ class Sending(SendTest):
         self.assertIn("There is no letter to send", self.send("receipts").output)
         self.write("members.csv", support.members_of(support.NAMES).replace("ada@club", "ada@new"))
         self.done("roll", "--yes")
-        self.assertIn("Refused: ada, ada@club.example: 550", self.send("receipts").output)
+        ended = self.send("receipts")
+        self.assertEqual(ended.status, 9)
+        self.assertIn("Refused: ada, ada@club.example: 550", ended.output)
         self.assertEqual(self.server.addresses(), ["ben@club.example", "ada@new.example"])
         self.assertIn("It was read as: (ada 1,2,4,3)", one_line(parsed(self.server.taken[1].data)))
         self.assertIn("There is no letter to send", self.send("receipts").output)
