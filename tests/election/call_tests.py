@@ -188,6 +188,7 @@ class Secret(CallTest):
         self.write("members.csv", support.members_of([*support.NAMES, "jan"]))
         self.assert_fault(self.election("codes"), 9, "roll")
         self.done("roll")
+        self.assert_fault(self.election("call"), 9, "electors have no codes")
         self.assertIn("Made 1 code.", self.done("codes").output)
         after = self.read("private/codes.csv").decode().splitlines()
         self.assertEqual(after[:-1], before)

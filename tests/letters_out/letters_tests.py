@@ -135,6 +135,12 @@ class Refused(OutTest):
         )
 
 
+    def test_of_several_addresses_the_first_that_each_server_takes(self) -> None:
+        self.write("members.csv", support.members_of(support.NAMES).replace("ada@club", "ädä@club.example home@ada"))
+        self.done("roll")
+        self.done("call", "--to", "vote@club.example")
+        self.assertEqual(self.written("call")["ada"]["To"], "home@ada.example")
+
     def test_an_address_of_before_the_call_gets_no_receipt(self) -> None:
         self.write("members.csv", support.members_of(support.NAMES).replace("ada@club", "ada@new"))
         self.done("roll")
