@@ -118,6 +118,22 @@ class FromAPipe(CalledTest):
         with subprocess.Popen(["sh", "-c", f"echo ada {RANKS} > {self.folder}/more"]):
             self.assertIn("Added 1 line (1 counted).\n", self.told("add", "more", timeout=support.SECONDS))
 
+    def test_another_call_while_it_reads(self) -> None:
+        """What it says of the lines is of the poll before."""
+        os.mkfifo(self.folder / "more")
+        words = [sys.executable, support.ELECTION, "add", "more"]
+        run = subprocess.Popen(words, cwd=self.folder, env=support.environment(), stdout=subprocess.PIPE, stderr=subprocess.PIPE, text=True)
+        self.addCleanup(run.wait)
+        self.addCleanup(run.kill)
+        with open(self.folder / "more", "w") as pipe:
+            self.told("call", "--take-back")
+            self.told("call", "--to", "vote@club.example")
+            before = self.last_act()
+            pipe.write(f"ada {RANKS}\n")
+        output, faults = run.communicate(timeout=support.SECONDS)
+        self.assertEqual((output, run.returncode, self.last_act()), ("", 9, before))
+        self.assertIn("the vote was called anew meanwhile; nothing was added: run the command again", faults)
+
     def test_lines_from_a_process_substitution(self) -> None:
         read_end, write_end = os.pipe()
         os.write(write_end, f"ada {RANKS}\n".encode())

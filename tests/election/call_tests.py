@@ -58,8 +58,11 @@ class Open(CallTest):
         self.assertEqual(self.done("log").output, log)
 
     def test_the_list_has_to_be_the_one_that_was_read(self) -> None:
-        self.write("members.csv", support.members_of([*support.NAMES, "jan"]))
-        self.assert_fault(self.election("call"), 9, "members.csv", "debvote-election roll")
+        rows = support.members_of(support.NAMES)
+        keys = rows.replace("\n", ",\n").replace("mail,", "mail,key").replace("ben@club.example,", f"ben@club.example,{'A' * 40}")
+        for changed in (rows + "Jan,jan@club.example\n", rows.replace("ben@club", "ben@new"), keys):
+            self.write("members.csv", changed)
+            self.assert_fault(self.election("call"), 9, "members.csv: it is not the list that was read last", "debvote-election roll")
 
     def test_no_line_reads_as_a_ballot(self) -> None:
         self.done("call", *UNTIL, "--to", "vote@club.example")
@@ -80,6 +83,16 @@ class Open(CallTest):
             with self.subTest(words):
                 self.assert_fault(self.election("call", *words), 2, part, "nothing was changed")
         self.assertEqual(self.contents(), before)
+
+
+    def test_an_end_that_the_call_did_not_say(self) -> None:
+        """Electors who could send a ballot until the close have no more time by it."""
+        self.done("call", "--to", "vote@club.example")
+        self.done("call", *UNTIL)
+        text = " ".join(self.read("letters/extension.txt").decode().split())
+        said = f"You can now vote until the time below. Nothing else that the call says has changed. Until when: {FIRST} The call did not"
+        self.assertIn(said, text)
+        self.assertNotIn("more time", text)
 
 
 class Again(CallTest):
@@ -103,6 +116,9 @@ class Again(CallTest):
     def test_what_is_added_and_what_not(self) -> None:
         self.done("call", "--at", "https://club.example/vote/")
         self.assertIn("https://club.example/vote/", self.texts())
+        self.done("call", "--at", "https://club.example/moved/")
+        self.assertIn("https://club.example/moved/", self.texts())
+        self.assertNotIn("https://club.example/vote/", self.texts())
         for words in (("--to", "other@club.example"), ("--names",), ("--form",), ("--keyring", "poll.toml")):
             with self.subTest(words):
                 self.assert_fault(self.election("call", *words), 9, words[0], "--take-back")
@@ -113,8 +129,9 @@ class Again(CallTest):
         self.done("call")
 
     def test_taken_back(self) -> None:
+        self.done("call", "--until", "2026-12-05 18:00", "--zone", "Europe/Berlin")
         self.done("call", "--take-back")
-        self.assertEqual(list((self.folder / "call").iterdir()), [])
+        self.assertEqual([*(self.folder / "call").iterdir(), *(self.folder / "letters").iterdir()], [])
         self.assertEqual(json.loads(self.done("status", "--json").output)["stage"], "new")
         self.write("poll.toml", support.POLL.replace("spring", "autumn"))
         self.done("call", "--to", "other@club.example")
@@ -140,7 +157,7 @@ class Secret(CallTest):
         self.done("codes")
         self.done("call", *UNTIL, "--to", "vote@club.example")
         table = [line.split(",") for line in self.read("private/codes.csv").decode().splitlines()[1:]]
-        self.assertEqual([row[0] for row in table], support.NAMES)
+        self.assertEqual([(row[0], row[2]) for row in table], [(name, f"{name}@club.example") for name in support.NAMES])
         self.assertEqual(len({row[3] for row in table}), 9)
         self.assertEqual([row[4] for row in table], [alias_of(row[3], row[0]) for row in table])
         poll = read_plain(self.read("call/poll.toml"))
@@ -171,15 +188,35 @@ class Secret(CallTest):
         self.write("members.csv", support.members_of([*support.NAMES, "jan"]))
         self.assert_fault(self.election("codes"), 9, "roll")
         self.done("roll")
+        self.assert_fault(self.election("call"), 9, "electors have no codes")
         self.assertIn("Made 1 code.", self.done("codes").output)
         after = self.read("private/codes.csv").decode().splitlines()
         self.assertEqual(after[:-1], before)
+
+    def test_a_code_stays_with_its_person(self) -> None:
+        """Also if the name is written in another way; whoever gets the name on the roll after them gets another code."""
+
+        def codes() -> list[list[str]]:
+            self.done("roll")
+            self.done("codes")
+            return [row.split(",")[3:] for row in self.read("private/codes.csv").decode().splitlines()[1:]]
+
+        before = codes()
+        self.write("members.csv", support.members_of(support.NAMES).replace("Ada,", "ADA,"))
+        self.assertEqual(codes(), before)
+        others = "".join(f",{name.title()},{name}@club.example\n" for name in support.NAMES[1:])
+        self.write("members.csv", f"name,who,mail\nada,Zed,zed@club.example\n{others}")
+        after = codes()
+        self.assertEqual(after[1:], before[1:])
+        self.assertEqual([old == new for old, new in zip(before[0], after[0])], [False, False])
 
     def test_slips_tell_the_end_as_it_is(self) -> None:
         self.done("codes")
         self.done("call", *UNTIL, "--to", "vote@club.example")
         self.done("call", "--until", "2026-12-06 18:00", "--zone", "Europe/Berlin")
         self.assertIn(SECOND, self.read("private/slips.html").decode())
+        self.done("call", "--at", "https://club.example/vote/")
+        self.assertIn("https://club.example/vote/", self.read("private/slips.html").decode())
 
     def test_codes_on_the_roll(self) -> None:
         self.done("codes", "--on-roll")
@@ -187,6 +224,7 @@ class Secret(CallTest):
             self.assertNotRegex(status.rpartition("digest")[0], r"[0-9a-f]{32}")
         self.assertEqual([file.name for file in (self.folder / "private").iterdir()], ["slips.html"])
         self.assert_fault(self.election("roll"), 9, "codes are on the roll")
+        self.assertIn("Made 0 codes.", self.done("codes").output)
         ended = self.done("call", *UNTIL)
         self.assertEqual(sorted(file.name for file in (self.folder / "call").iterdir()), ["SHA256SUMS", "call.txt", "index.html"])
         codes = set(re.findall(r"\b[0-9a-f]{32}\b", self.done("export", self.scratch / "out").output + (self.scratch / "out" / "poll.toml").read_text()))

@@ -69,7 +69,10 @@ class Close(CloseTest):
     def test_after_the_end_a_line_still_counts(self) -> None:
         self.set_clock("2026-11-27T09:00:00+00:00")
         self.done("call", *UNTIL)
+        said = "\nUntil when: Friday, 4 December 2026, 18:00 (UTC+01:00)"
+        self.assertIn(f"{said}\n", self.done("status").output)
         self.set_clock("2026-12-04T19:00:00+01:00")
+        self.assertIn(f"{said}; that is over\n", self.done("status").output)
         self.assertIn("1 counted", self.add("ada 1,2,3,4").output)
         self.done("close")
 
@@ -77,7 +80,10 @@ class Close(CloseTest):
         self.set_clock("2026-11-27T09:00:00+00:00")
         self.done("call", *UNTIL)
         before = self.contents()
-        self.assert_fault(self.election("close"), 9, "Friday, 4 December 2026, 18:00 (UTC+01:00)", "--early", "nothing was changed")
+        # what lets a close pass over letters says nothing of the end
+        for words in ((), ("--force", "--because", "all have voted")):
+            ended = self.election("close", *words)
+            self.assert_fault(ended, 9, "Friday, 4 December 2026, 18:00 (UTC+01:00)", "--early", "nothing was changed")
         self.assertEqual(self.contents(), before)
         self.assertIn("could still vote", self.done("close", "--early").output)
 
@@ -106,6 +112,11 @@ class SecretClose(CloseTest):
         self.assertNotIn(private.encode(), letters)
         self.assertNotIn(hashlib.sha256(ballots.encode()).hexdigest().encode(), letters)
         self.assertNotIn(seal["seal"].encode(), letters)
+        # the poll that is exported is the one of these ballots
+        self.exported()
+        [out] = self.scratch.glob("out*")
+        steps = self.debvote("steps", "--poll", out / "poll.toml", "--ballots", out / "ballots.txt").output
+        self.assertEqual(steps.split(), ["1", "counted", "2", "counted", "3", "replaced"])
 
 
 class Reopen(CloseTest):
@@ -127,7 +138,11 @@ class Reopen(CloseTest):
         self.assertEqual(self.exported()[0], b"ada 1,2,3,4\ncleo 2,1,3,4\ndan 1,2,3,4\n")
         self.assertIn(b"eve", self.exported()[1])
         self.assertEqual(self.numbers()["stage"], "called")
-        self.done("close")
+        checksum = hashlib.sha256(self.exported()[0]).hexdigest()
+        for said in ("Closed: 3 lines came in time", "with 3 lines in time. Nothing was changed"):
+            output = self.done("close").output
+            self.assertIn(said, output)
+            self.assertIn(f"Checksum of the ballots: {checksum}\n", output)
         self.assertIn("3 lines came in time", self.read("letters/closed.txt").decode())
 
     def test_faults(self) -> None:
@@ -164,6 +179,12 @@ class Told(CloseTest):
             "Next: add the ballots as they come",
         ):
             self.assertIn(part, ended.output)
+
+    def test_a_refused_line_of_who_has_a_ballot_is_not_told(self) -> None:
+        self.add("ada 1,2", "ada 1,2,3,4", "ben 1,2,3,4", "zoe 1,2,3,4")
+        output = self.done("status").output
+        self.assertIn("Refused lines of which no elector is known (1):\n  envelope 4: zoe 1,2,3,4\n", output)
+        self.assertNotIn("ada 1,2", output)
 
     def test_envelopes_keep_their_numbers(self) -> None:
         self.add("ada 1,2,3,4", "ben 1,2")

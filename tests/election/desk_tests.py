@@ -147,6 +147,17 @@ class AtATerminal(CalledTest):
         self.end(desk)
         self.assertEqual((self.lines(), self.late_lines()), ([], [f"ada {RANKS}"]))
 
+    def test_another_call_meanwhile(self) -> None:
+        """The options have other numbers now."""
+        desk = self.desk()
+        self.told("call", "--take-back")
+        self.write("poll.toml", self.poll.replace('"At the lake", "In the town hall"', '"In the town hall", "At the lake"'))
+        self.told("call", "--to", "vote@club.example")
+        desk.type(f"ada {RANKS}\nn\nq\n")
+        output, status = desk.end()
+        self.assertIn("the vote was called anew meanwhile; nothing was cast: start the desk again", output)
+        self.assertEqual((status, self.lines()), (9, []))
+
     def test_after_the_close(self) -> None:
         self.told("add", given=f"ada {RANKS}\n")
         self.act("close", {"lines": 1, "checksum": "", "early": False})

@@ -4,6 +4,7 @@ import json
 import unittest
 
 import support
+from terminal import Terminal
 
 
 class RollTest(support.ElectionTest):
@@ -36,6 +37,8 @@ class Roll(RollTest):
         ended = self.roll("chair,Anna Meier,a@club.example", ",Ben,b@club.example", head="name,who,mail")
         self.assertEqual(self.on_roll(), ["chair", "ben"])
         self.assertIn("No longer on the list: zoe (Zoe)", ended.output)
+        ended = self.roll("Cleo,c@club.example")
+        self.assertIn("No longer on the list: chair (Anna Meier)\nNo longer on the list: ben (Ben)\n", ended.output)
 
     def test_two_of_one_name(self) -> None:
         ended = self.roll("Anna,a@club.example", "Anna,b@club.example")
@@ -74,6 +77,33 @@ class AfterTheCall(RollTest):
         self.assertIn("ada: address ada@club.example becomes new@club.example", ended.output)
         self.assertIn("1 elector changed; the page of the result tells how many", ended.output)
         self.assertEqual(self.on_roll(), support.NAMES)
+
+    def test_a_key_changes_once(self) -> None:
+        rows = [f"{name.title()},{name}@club.example," for name in support.NAMES]
+        self.roll(f"{rows[0]}{'A' * 40}", *rows[1:], head="who,mail,key")
+        self.assertIn("1 elector changed", self.done("roll", "--yes").output)
+        self.assertIn("Nothing was changed", self.done("roll").output)
+
+    def test_each_change_is_asked_about(self) -> None:
+        """And what another `roll` has changed meanwhile stays."""
+        rows = [f"{name.title()},{name}@new.example" for name in support.NAMES[:2]]
+        self.write("members.csv", "\n".join(["who,mail", *rows, *support.members_of(support.NAMES).splitlines()[3:], ""]))
+        for is_overtaken in (True, False):
+            terminal = Terminal(self, "roll")
+            terminal.until("ada (Ada): address ada@club.example becomes ada@new.example. Is that right? [y/n] ")
+            if is_overtaken:
+                before = self.read("members.csv")
+                self.write("members.csv", before.replace(b"ida@club", b"ida@new").replace(b"ada@new", b"ada@club").replace(b"ben@new", b"ben@club"))
+                self.done("roll", "--yes")
+                self.write("members.csv", before.replace(b"ida@club", b"ida@new"))
+            terminal.type("y\nn\n")
+            output, status = terminal.end()
+            self.assertIn("ben (Ben): address ben@club.example becomes ben@new.example. Is that right? [y/n] ", output)
+            self.assertEqual(status, 9 if is_overtaken else 0, output)
+            self.assertIn("another command changed" if is_overtaken else "1 elector changed; the page of the result tells", output)
+            shown = "ada@club.example" if is_overtaken else "ada@new.example"
+            self.assertIn(shown, self.done("show", "ada").output)
+            self.assertIn("ben@club.example", self.done("show", "ben").output)
 
     def test_other_people_stop(self) -> None:
         rows = [f"{name.title()},{name}@club.example" for name in support.NAMES]

@@ -105,6 +105,16 @@ class Call(OutTest):
         self.done("call", "--until", "2026-12-08 12:00", "--zone", "UTC")
         self.assertIn("Until when: Tuesday, 8 December 2026, 12:00 (UTC)", self.texts("call")["ben"])
 
+    def test_who_has_the_call_that_holds(self) -> None:
+        """One that was taken back is none; one that went out after an extension is one."""
+        self.written("call")
+        self.done("call", "--take-back")
+        self.done("call", *self.call_words)
+        for day, is_whole in ((6, True), (8, False)):
+            self.done("call", "--until", f"2026-12-{day:02} 12:00", "--zone", "UTC")
+            for text in self.texts("call").values():
+                self.assertEqual(("WHAT IS VOTED ON" in text, "You have more time to vote." in text), (is_whole, not is_whole))
+
     def test_after_the_end_nobody_is_invited(self) -> None:
         self.set_clock("2026-12-04T18:00:01+00:00")
         for kind in ("call", "reminders"):
@@ -134,6 +144,20 @@ class Refused(OutTest):
             "A ballot of yours looks like this, with your own ranks: ada _,_,_,_",
             self.texts("reminders", "--from", "v@x.example")["ada"],
         )
+
+
+    def test_of_several_addresses_the_first_that_each_server_takes(self) -> None:
+        self.write("members.csv", support.members_of(support.NAMES).replace("ada@club", "ädä@club.example home@ada"))
+        self.done("roll")
+        self.done("call", "--to", "vote@club.example")
+        self.assertEqual(self.written("call")["ada"]["To"], "home@ada.example")
+
+    def test_an_address_of_before_the_call_gets_no_receipt(self) -> None:
+        self.write("members.csv", support.members_of(support.NAMES).replace("ada@club", "ada@new"))
+        self.done("roll")
+        self.done("call", "--to", "vote@club.example")
+        self.add_lines(f"ada {RANKS}")
+        self.assertEqual([message["To"] for message in self.written("receipts").values()], ["ada@new.example"])
 
 
 class CodesOnRoll(OutTest):
@@ -166,10 +190,15 @@ class Paper(OutTest):
         page = self.read(name[2]).decode()
         self.assertIn("<bdi>Ada &lt;script&gt;alert(1)&lt;/script&gt; &amp; Söhne</bdi>", page)
         self.assertNotIn("<script>alert", page)
-        self.assertIn(f"{name[1]} _,_,_,_", page)
-        self.assertIn("eve _,_,_,_", page)
-        self.assertNotIn("ben _,_", page)
+        # each is for the person above it
+        letters = [part.partition("</section>")[0] for part in page.split('<section class="letter">')[1:]]
+        self.assertEqual([re.findall(r"(\S+) _,_,_,_", part) for part in letters], [[name[1]], ["eve"]])
+        self.assertEqual(["&lt;script&gt;" in part for part in letters], [True, False])
+        self.assertIn("<bdi>Eve</bdi>", letters[1])
         self.assertEqual([state for _, state in self.rows("call")], ["written"] * 3)
+        # who asks for it once more gets the same
+        self.done("letters", "call")
+        self.assertEqual(self.read(name[2]).decode(), page)
 
 
 class Names(OutTest):
@@ -235,6 +264,32 @@ class Receipts(OutTest):
         texts = self.texts("receipts")
         self.assertEqual(list(texts), ["ada"])
         self.assertIn("the secretary has struck it", texts["ada"])
+
+    def test_one_refuses_if_what_came_last_was_refused(self) -> None:
+        self.add_lines("ada 1,2", f"ada {RANKS}", f"ben {RANKS}", "ben 1,2")
+        texts = self.texts("receipts")
+        self.assertIn("It has 2 ranks", texts["ada"])
+        self.assertNotIn("_,_", texts["ada"])
+        self.assertIn("You can send a right line now", texts["ben"])
+
+    def test_a_letter_of_which_one_ballot_is_entered(self) -> None:
+        """It waits for the other elector, who is told."""
+        self.add_letters(letter("ada", f"ada {RANKS}\nben {OTHER_RANKS}\n"))
+        self.done("held", 1, "--enter", 1)
+        texts = self.texts("receipts")
+        self.assertEqual(sorted(texts), ["ada", "ben"])
+        self.assertIn("It counts unless you send a later one.", texts["ada"])
+        self.assertIn(ELSEWHERE, texts["ben"])
+        shown = {name: "letter 1, from " in self.done("show", name).output for name in ("ada", "ben", "cleo")}
+        self.assertEqual(shown, {"ada": True, "ben": True, "cleo": False})
+
+    def test_undo_names_those_whose_receipts_no_longer_hold(self) -> None:
+        self.add_lines(f"ada {RANKS}")
+        self.add_lines(f"ben {RANKS}", f"cleo {RANKS}")
+        self.assertEqual(sorted(self.texts("receipts")), ["ada", "ben", "cleo"])
+        self.add_lines(f"ben {OTHER_RANKS}", f"dan {RANKS}")
+        self.assertNotIn("receipt", self.done("undo", "--yes").output)
+        self.assertIn("\nThese have receipts that no longer hold: ben, cleo\n", self.done("undo", "--yes").output)
 
     def test_letters(self) -> None:
         self.add_letters(
@@ -313,6 +368,9 @@ class Receipts(OutTest):
         self.assertEqual(
             sorted(message["To"] for message in found.values()), ["ada@club.example", "ada@new.example", "ben@club.example"]
         )
+        shown = self.done("show", "ada").output
+        for address in ("ada@club.example", "ada@new.example"):
+            self.assertIn(f"  receipt, 2026-11-23 10:00:00 UTC, to {address}: written\n", shown)
         self.add_lines(f"ada {OTHER_RANKS}")
         self.assertEqual([message["To"] for message in self.written("receipts").values()], ["ada@new.example"])
 
@@ -353,6 +411,14 @@ class Receipts(OutTest):
                 "Content-Transfer-Encoding",
             ],
         )
+
+
+class ReceiptsElsewhere(OutTest):
+    call_words = ("--to", "vote@club.example", "--until", "2026-12-04 18:00", "--zone", "Europe/Berlin")
+
+    def test_times_are_in_the_zone_of_the_end(self) -> None:
+        self.add_lines(f"ada {RANKS}")
+        self.assertIn("Your ballot of Monday, 23 November 2026, 11:00 (UTC+01:00) has arrived.", self.texts("receipts")["ada"])
 
 
 class FullDisk(OutTest):
@@ -417,6 +483,15 @@ class Reminders(OutTest):
         # a stranger's letter silences nobody
         self.assertIn(ELSEWHERE, texts["dan"])
         self.assertIn("dan _,_,_,_", texts["dan"])
+
+    def test_an_own_letter_that_waits_behind_one_of_a_stranger(self) -> None:
+        self.add_letters(
+            letter("ada", f"ada {RANKS}\n", sender="x@x.example", time="Mon, 23 Nov 2026 08:00:00 +0000"),
+            letter("ada", "I want the lake\n", number=2, time="Mon, 23 Nov 2026 09:00:00 +0000"),
+        )
+        text = self.texts("reminders")["ada"]
+        self.assertIn(f"{ELSEWHERE} Your letter of Monday, 23 November 2026, 09:00 (UTC) has arrived.", text)
+        self.assertNotRegex(text, r"_,_|https|Until when")
 
     def test_the_end_after_two_extensions(self) -> None:
         for day, words in ((6, "Sunday, 6 December"), (8, "Tuesday, 8 December")):
@@ -489,6 +564,23 @@ class Closed(OutTest):
             self.assertIn(text, message.get_content())
             self.assertRegex(message["Subject"], r"^Vote closed: Where we meet in spring \[[0-9a-f]{16}\]$")
 
+    def test_after_a_second_close_all_get_its_letter(self) -> None:
+        self.add_lines(f"ada {RANKS}")
+        self.done("close", "--early")
+        first = self.texts("closed")
+        self.done("reopen", "--because", "a bag was forgotten")
+        for kind, said in (("closed", "the vote is not closed"), ("call", "nobody is invited"), ("reminders", "nobody is invited")):
+            self.assert_fault(self.election("letters", kind), 9, said)
+        self.write("lines", f"ben {RANKS}\n")
+        self.done("add", "--came-before-close", "yes", "lines")
+        self.done("close", "--early")
+        second = self.texts("closed")
+        self.assertEqual((sorted(first), sorted(second)), (support.NAMES, support.NAMES))
+        for name in support.NAMES:
+            self.assertIn("1 line came in time.", first[name])
+            self.assertIn("2 lines came in time.", second[name])
+            self.assertIn(" ".join(self.read("letters/closed.txt").decode().split()), second[name])
+
 
 class Result(OutTest):
     def published(self, *words: object) -> None:
@@ -533,6 +625,11 @@ class Result(OutTest):
             text,
         )
 
+    def test_none_of_a_vote_that_is_open_again(self) -> None:
+        self.published()
+        self.done("reopen", "--because", "a bag was forgotten")
+        self.assert_fault(self.election("letters", "result"), 9, "nothing is published")
+
     def test_doubts(self) -> None:
         self.write("lines", f"ada {RANKS}\nben 1\ncleo 1\n")
         self.done("add", "--yes", "--force", "lines")
@@ -557,7 +654,10 @@ class ResultAt(OutTest):
         self.assertIn("https://x.example/r/#ada", self.texts("result", "--at", "https://x.example/r/")["ada"])
         acts = [(act.name, act.detail) for act in self.book().acts()]
         self.assertEqual(acts.count(("announce", {"at": "https://x.example/r/"})), 1)
+        self.texts("result", "--at", "https://x.example/r/")
+        self.assertEqual(len(self.book().acts()), len(acts))
         self.assertIn("https://x.example/r/#ada", self.texts("result")["ada"])
+        self.assertIn("https://x.example/s/#ada", self.texts("result", "--at", "https://x.example/s/")["ada"])
 
 
 class Secret(OutTest):
@@ -582,6 +682,15 @@ class Secret(OutTest):
         self.done("call", "--until", "2026-12-06 12:00", "--zone", "UTC")
         for message in self.written("call").values():
             self.assertFalse([code for code in codes.values() if code in message.get_content()])
+
+    def test_a_doubt_tells_no_number_of_lines(self) -> None:
+        for line in (f"ada {RANKS}", "ben 1", "cleo 1"):
+            self.add_lines(line)
+        self.done("close", "--early")
+        self.done("publish", "--yes", "--force", "--because", "they were asked")
+        for text in self.texts("result").values():
+            self.assertIn("- More than half of the lines that came are refused. Why it was published", text)
+            self.assertNotIn("2 of 3", text)
 
     def test_nothing_else_has_codes_or_ranks(self) -> None:
         codes = self.codes()

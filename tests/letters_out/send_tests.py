@@ -11,6 +11,7 @@ import unittest.mock
 
 import support
 import terminal
+from letters_support import letter
 from out_support import RANKS, MailServer, SendTest, one_line, parsed
 
 from debvote_tools.book.sent import TAKEN, SentLetter
@@ -64,6 +65,8 @@ class Sending(SendTest):
         self.assertIn("Postponed: ben, ben@club.example: 451 4.7.1 greylisted\n", ended.output)
         self.assertIn("Postponed: dan, dan@club.example: 452 full\n", ended.output)
         self.assertNotIn("\x1b", ended.output)
+        for name, said in {"ada": "refused (550 5.1.1 no such", "ben": "postponed (451 4.7.1 greylisted)\n", "eve": "taken\n"}.items():
+            self.assertIn(f"UTC, to {name}@club.example: {said}", self.done("show", name).output)
         self.assertEqual(self.server.addresses(), ALL[4:])
         self.server.rcpt_answers = self.server.data_answers = {}
         ended = self.send("call")
@@ -95,17 +98,6 @@ class Sending(SendTest):
         self.assertEqual(self.server.addresses()[2:], ["ada@club.example"])
         self.assertIn("There is no letter to send", self.send("receipts").output)
 
-    def test_a_receipt_that_was_refused_goes_to_a_new_address(self) -> None:
-        self.add_lines(f"ada {RANKS}", f"ben {RANKS}")
-        self.server.rcpt_answers = {"ada@club.example": "550 no"}
-        self.assertEqual(self.send("receipts").status, 9)
-        self.assertIn("There is no letter to send", self.send("receipts").output)
-        self.write("members.csv", support.members_of(support.NAMES).replace("ada@club", "ada@new"))
-        self.done("roll", "--yes")
-        self.send("receipts")
-        self.assertEqual(self.server.addresses(), ["ben@club.example", "ada@new.example"])
-        self.assertIn("There is no letter to send", self.send("receipts").output)
-
     def test_after_an_extension_who_has_no_call_gets_it_whole(self) -> None:
         self.server.rcpt_answers = {"ben@club.example": "451 later", "cleo@club.example": "550 no"}
         self.assertEqual(self.send("call").status, 9)
@@ -119,6 +111,14 @@ class Sending(SendTest):
         self.assertEqual(whole, ["ben", "cleo"])
         for text in texts.values():
             self.assertIn("Until when: Sunday, 6 December 2026, 12:00 (UTC)", text)
+
+    def test_after_a_second_close_its_letter_goes_out_too(self) -> None:
+        for count in (1, 2):
+            self.done("close", "--early")
+            self.assertEqual(self.send("closed").status, 0)
+            self.assertEqual(self.server.addresses(), ALL * count)
+            self.assertIn("There is no letter to send", self.send("closed").output)
+            self.done("reopen", "--because", "a bag was forgotten")
 
     def test_a_refused_sender_stops_and_costs_nobody_their_letter(self) -> None:
         self.server.mail_answer = "553 not yours"
@@ -156,6 +156,19 @@ class Sending(SendTest):
         self.assertEqual(self.send("call", "--again", "dan").status, 0)
         self.assertEqual(self.server.addresses()[8:], ["dan@club.example"])
         self.assert_fault(self.send("call", "--again", "dan"), 2, "no run was cut off in the letter to dan")
+
+    def test_two_runs_that_are_cut_off_each_in_a_letter(self) -> None:
+        self.server.at = lambda step, number: (step, number) == ("data", 3)
+        self.assertEqual([self.send("call").status for _ in range(2)], [7, 7])
+        self.server.at = lambda step, number: False
+        output = self.send("call").output
+        for name in ("dan", "eve"):
+            self.assertIn(f"A run was cut off in the letter to {name}, {name}@club.example: the server may have it.\n", output)
+        self.server.taken.clear()
+        for name, status in (("eve", 9), ("dan", 0)):
+            self.assertEqual(self.send("call", "--again", name).status, status)
+            self.assertEqual((self.server.taken[-1].to, parsed(self.server.taken[-1].data)["To"]), (f"{name}@club.example",) * 2)
+        self.assertEqual(len(self.server.taken), 2)
 
     def test_a_server_that_is_not_there_or_lets_nobody_in(self) -> None:
         self.server.stop()
@@ -204,6 +217,34 @@ class Sending(SendTest):
         sent = {parsed(one.data)["To"]: parsed(one.data)["Message-ID"] for one in self.server.taken}
         self.assertEqual(sent, {f"{name}@club.example": message_id for name, message_id in ids.items()})
         self.assertIn("There is no letter to send", self.send("receipts").output)
+
+    def test_a_receipt_that_was_refused_goes_to_a_new_address(self) -> None:
+        self.add_lines("ada 1,2,4,3", "ben 1,2,4,3")
+        self.server.rcpt_answers = {"ada@club.example": "550 no such user", "ben@club.example": "451 later"}
+        self.assertEqual(self.send("receipts").status, 9)
+        del self.server.rcpt_answers["ben@club.example"]
+        self.assertEqual(self.send("receipts").status, 0)
+        # to the same address it is no letter to send
+        self.assertIn("There is no letter to send", self.send("receipts").output)
+        self.write("members.csv", support.members_of(support.NAMES).replace("ada@club", "ada@new"))
+        self.done("roll", "--yes")
+        ended = self.send("receipts")
+        self.assertEqual(ended.status, 9)
+        self.assertIn("Refused: ada, ada@club.example: 550", ended.output)
+        self.assertEqual(self.server.addresses(), ["ben@club.example", "ada@new.example"])
+        self.assertIn("It was read as: (ada 1,2,4,3)", one_line(parsed(self.server.taken[1].data)))
+        self.assertIn("There is no letter to send", self.send("receipts").output)
+
+    def test_a_receipt_that_is_outdated_before_it_is_taken(self) -> None:
+        """It would tell of nothing: the letter that it is about is a ballot now."""
+        self.add_letters(letter("cleo", f"dan {RANKS}\n"))
+        self.server.rcpt_answers = {"dan@club.example": "451 later"}
+        self.assertEqual(self.send("receipts").status, 9)
+        self.done("held", 1, "--enter", 1)
+        self.server.rcpt_answers = {}
+        self.assertEqual(self.send("receipts").status, 0)
+        [taken] = self.server.taken
+        self.assertIn(f"It was read as: (dan {RANKS})", one_line(parsed(taken.data)))
 
 
 class Killed(SendTest):
@@ -274,6 +315,24 @@ class Reminders(SendTest):
         self.write("members.csv", members.replace("gus@club.example", "").replace("ben@club", "ben@new"))
         self.done("roll", "--yes")
         self.assertIn("Sent 8 of 8 letters.", self.send("reminders").output)
+
+    def test_a_letter_on_paper_holds_up_no_later_run(self) -> None:
+        self.write("members.csv", support.members_of(support.NAMES).replace("ada@club.example", ""))
+        self.done("roll", "--yes")
+        for count in (8, 16):
+            self.assertEqual(self.send("reminders").status, 0)
+            self.assertEqual(len(self.server.taken), count)
+
+    def test_nor_does_one_to_an_address_that_its_elector_no_longer_has(self) -> None:
+        self.server.rcpt_answers = {"ben@club.example": "451 later", "dan@club.example": "451 later"}
+        self.assertEqual(self.send("reminders").status, 9)
+        self.write("members.csv", support.members_of(support.NAMES).replace("ben@club", "ben@new"))
+        self.done("roll", "--yes")
+        self.server.rcpt_answers = {}
+        self.assertEqual(self.send("reminders").status, 0)
+        self.assertEqual(self.server.addresses()[7:], ["dan@club.example"])
+        self.assertEqual(self.send("reminders").status, 0)
+        self.assertEqual(self.server.addresses()[8:], ["ada@club.example", "ben@new.example", *ALL[2:]])
 
 
 class AtTerminal(SendTest):

@@ -218,6 +218,7 @@ def take_back(election: Election, arguments: Arguments) -> None:
     with book.act("take back", {"call": call_act.number}, seen=history.last.number):
         pass
     write_made(election.path(CALL), {}, PUBLIC, FILES)
+    (election.path(LETTERS) / EXTENSION).unlink(missing_ok=True)
     tell("Took the call back: if anybody has seen it, tell them that it does not hold.")
     tell(f"Next: put right what was wrong, then run {election.command('call')}")
 
