@@ -98,6 +98,24 @@ class Sending(SendTest):
         self.assertEqual(self.server.addresses()[2:], ["ada@club.example"])
         self.assertIn("There is no letter to send", self.send("receipts").output)
 
+    def test_a_receipt_that_is_a_file_goes_to_a_new_address(self) -> None:
+        self.add_lines(f"ada {RANKS}")
+        self.done("letters", "receipts")
+        self.write("members.csv", support.members_of(support.NAMES).replace("ada@club", "ada@new"))
+        self.done("roll", "--yes")
+        for _ in range(2):
+            self.assertEqual(self.send("receipts").status, 0)
+            self.assertEqual(sorted(self.server.addresses()), ["ada@club.example", "ada@new.example"])
+
+    def test_files_to_a_new_address_and_to_the_old_one_are_sent_once_each(self) -> None:
+        self.write("members.csv", support.members_of(support.NAMES).replace("ada@club", "ada@new"))
+        self.done("roll", "--yes")
+        self.add_lines(f"ada {RANKS}")
+        self.done("letters", "receipts")
+        for _ in range(2):
+            self.assertEqual(self.send("receipts").status, 0)
+            self.assertEqual(sorted(self.server.addresses()), ["ada@club.example", "ada@new.example"])
+
     def test_after_an_extension_who_has_no_call_gets_it_whole(self) -> None:
         self.server.rcpt_answers = {"ben@club.example": "451 later", "cleo@club.example": "550 no"}
         self.assertEqual(self.send("call").status, 9)

@@ -145,9 +145,11 @@ class LettersDue:
         return for_act, new, there if self.is_sending else [], text_of
 
     def failed_elsewhere(self, letter: SentLetter) -> bool:
-        """Whether the server refused or postponed it for an address that its elector has no longer."""
-        elector = self.electors.get(letter.elector)
-        return letter.state in (REFUSED, POSTPONED) and elector is not None and letter.address not in elector.addresses
+        """Whether no server has taken it, and its elector has the address no longer. A file may have gone out by a mail program, unless it
+        is the server that is to send it now.
+        """
+        elector, states = self.electors.get(letter.elector), (REFUSED, POSTPONED, *([WRITTEN] if self.is_sending else []))
+        return letter.state in states and elector is not None and letter.address not in elector.addresses
 
     def closed(self) -> Plan:
         """The letter of the close to each elector."""
