@@ -131,7 +131,8 @@ class Files(unittest.TestCase):
             for text in texts_of(data).values():
                 self.assertIn(wanted[kind], text)
             if kind in ("extended", "late"):
-                letter = f"You have more time to vote. Nothing else that the call says has changed. {wanted[kind]}"
+                change = "You have more time to vote." if kind == "extended" else "You can now vote until the time below."
+                letter = f"{change} Nothing else that the call says has changed. {wanted[kind]}"
                 self.assertIn(letter, " ".join(extension_letter(data).split()))
                 self.assertIn("If you have voted, you need not vote again", extension_letter(data))
         # after a second extension, too, it is the end that the call said at first
