@@ -261,7 +261,7 @@ class Sending(SendTest):
         self.done("held", 1, "--enter", 1)
         self.server.rcpt_answers = {}
         self.assertEqual(self.send("receipts").status, 0)
-        [taken] = self.server.taken
+        [taken] = [taken for taken in self.server.taken if taken.to == "dan@club.example"]
         self.assertIn(f"It was read as: (dan {RANKS})", one_line(parsed(taken.data)))
 
 
