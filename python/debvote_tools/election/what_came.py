@@ -1,6 +1,5 @@
 """All that came of each elector, and what became of it: what receipts and reminders are about."""
 
-import collections
 import datetime
 from collections.abc import Mapping, Sequence
 from typing import NamedTuple
@@ -29,33 +28,23 @@ def what_came(election: Election, history: History, *, is_over: bool) -> WhatCam
     envelopes, kept = queries.envelopes(book), letters.letters(book)
     found = letters_in.judged(election, history, kept)
     electors = queries.electors(book)
-    by_name, by_address = {elector.name: elector for elector in electors}, by_address_of(electors)
-    by_number = {elector.number: elector for elector in electors}
+    by_name = {elector.name: elector for elector in electors}
     lines = LinesNow(vote_of(election, history), history, envelopes, is_over=is_over)
     came: dict[int, list[Came]] = {elector.number: [] for elector in electors}
-    senders = {letter.number: by_address.get(letter.parsed.sender) for letter in found}
     for envelope in envelopes:
-        number = envelope.elector or senders.get(envelope.letter or 0)
-        if number in came:
-            came[number].append(lines.came_of(envelope))
+        if envelope.elector in came:
+            came[envelope.elector].append(lines.came_of(envelope))
     entered_of = {(envelope.letter, envelope.elector) for envelope in envelopes}
     kept_at = {letter.number: history.act(letter.act).time for letter in kept}
     for letter in found:
         # whoever sent it gets to know, too, if its ballot is in another's name
-        sender = by_number.get(senders[letter.number] or 0)
-        concerned = [by_name.get(name) for name in letter.electors] + [sender]
-        for elector in dict.fromkeys(filter(None, concerned)):
+        sender = letter.circumstances.elector_of(letter.parsed)
+        concerned = [*letter.electors, *([sender.name] if sender else [])]
+        for elector in dict.fromkeys(filter(None, map(by_name.get, concerned))):
             if (letter.number, elector.number) not in entered_of:
                 came[elector.number] += came_of_letter(letter, elector, kept_at[letter.number])
     ordered = {number: sorted(items, key=lambda one: one.time) for number, items in came.items()}
     return WhatCame(ordered, lines.standing)
-
-
-def by_address_of(electors: Sequence[Elector]) -> dict[str, int]:
-    """The electors by their addresses, but for addresses that several have."""
-    pairs = [(key, elector.number) for elector in electors for key in set(map(address_key, elector.addresses))]
-    counts = collections.Counter(key for key, _ in pairs)
-    return {key: number for key, number in pairs if counts[key] == 1}
 
 
 class LinesNow:
