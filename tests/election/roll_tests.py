@@ -30,6 +30,11 @@ class Roll(RollTest):
         self.assertIn("Without an address, so letters in their name wait, and what goes out is printed: anna-meier", ended.output)
         self.assertEqual(self.read("members.csv").decode(), "who,mail\nCléo,cleo@club.example\nAnna Meier,\nØdegård,o@club.example\n")
 
+    def test_an_address_that_not_every_mail_server_takes_is_told(self) -> None:
+        ended = self.roll("Cléo,cléo@club.example", "Ben,bén@club.example b@club.example")
+        self.assertIn("With no address that every mail server takes, so what goes out to them is printed: cleo\n", ended.output)
+        self.assertNotIn("Without an address", ended.output)
+
     def test_a_name_stays_with_its_person(self) -> None:
         self.roll("Anna Meier,a@club.example", "Ben,b@club.example")
         self.roll("Ben,new@club.example", "Zoe,z@club.example", "Anna  Meier,a@club.example")

@@ -6,6 +6,7 @@ from collections.abc import Sequence
 from debvote_tools.arguments import flag
 from debvote_tools.book import queries
 from debvote_tools.book.book import Book
+from debvote_tools.call.data import is_mail_address
 from debvote_tools.console import is_terminal, is_yes, tell
 from debvote_tools.election import acting
 from debvote_tools.election.election import MEMBERS_FILE, Election
@@ -101,6 +102,9 @@ def report(election: Election, roll: Roll, *, has_all: bool) -> None:
     without = [elector for elector in electors if not elector.addresses]
     if without:
         tell(f"Without an address, so letters in their name wait, and what goes out is printed: {names_of(without)}")
+    unusual = [elector for elector in electors if elector.addresses and not any(map(is_mail_address, elector.addresses))]
+    if unusual:
+        tell(f"With no address that every mail server takes, so what goes out to them is printed: {names_of(unusual)}")
     tell(*(f"No longer on the list: {gone.name} ({shown_text(gone.who)})" for gone in roll.gone))
     tell(f"Next: {election.command('check')}")
 
