@@ -30,8 +30,8 @@ class Fault(Exception):
     def __init__(
         self, file: object, reason: object, cure: str, status: int = Status.DOUBT, done: str | None = "nothing was changed"
     ) -> None:
-        behind = "; " if done is None else f"; {done}: " if done else ": "
-        words = f"{reason}{behind}{cure}" if file is None else f"{file}: {reason}{behind}{cure}"
+        ending = "; " if done is None else f"; {done}: " if done else ": "
+        words = f"{reason}{ending}{cure}" if file is None else f"{file}: {reason}{ending}{cure}"
         super().__init__(words, status)
         self.words: str | None = words
         self.status = status

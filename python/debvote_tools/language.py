@@ -55,7 +55,7 @@ class Language:
         return self.between("{entries} and {last}")
 
     def between(self, text: str) -> str:
-        """What a sentence has between its two places, with which it begins and ends: so parts are put behind each other."""
+        """What a sentence has between its two places, with which it begins and ends: so parts are joined one after another."""
         return self.catalog.gettext(text)[text.index("}") + 1 : -len(text[text.rindex("{") :])]
 
     def words(self, sentences: Mapping[str, str]) -> str:

@@ -9,7 +9,7 @@ import itertools
 import sqlite3
 from collections.abc import Iterable, Iterator
 
-# so many lines of an act are in memory at once
+# how many lines of an act are in memory at once
 LINES_AT_ONCE = 1_000
 
 # what is in the place of the digest before the first act

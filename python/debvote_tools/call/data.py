@@ -112,7 +112,7 @@ def example_ranks(count: int) -> str:
 
 
 def gaps_of(count: int) -> str:
-    """What stands in the place of the ranks of so many options, where an elector is to write them."""
+    """The text in place of this number of ranks, where an elector is to write them."""
     return ",".join("_" * count)
 
 

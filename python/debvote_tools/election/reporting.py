@@ -29,7 +29,7 @@ def wrapped(names: Iterable[str]) -> str:
 
 
 def quorum_words(multiple: int, votes: int) -> str:
-    """What a quorum of so many times Q asks for, which is so many votes."""
+    """What a quorum of a number of times Q, which is a number of votes, asks for."""
     if multiple == 0:
         return "Quorum: none"
     least = count_of(votes, "elector")

@@ -136,7 +136,7 @@ class Composer:
 
 # ---------------------------------------------------------------- no line reads as a ballot
 def without_ballots(text: str, options: int) -> str:
-    """The text, with round brackets around each line that reads as a ballot of so many options."""
+    """The text, with round brackets around each line that reads as a ballot of this number of options."""
     return "\n".join(f"({line.strip()})" if reads_as_ballot(line, options) else line for line in text.split("\n"))
 
 

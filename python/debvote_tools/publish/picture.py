@@ -10,7 +10,7 @@ from markupsafe import Markup
 
 from debvote_tools.console import tell_aside
 
-# where a picture takes Graphviz longer, there is none
+# if Graphviz takes longer, there is no picture
 PICTURE_SECONDS = 60
 
 # a graph of more options than these is too large to be read within the page, and takes Graphviz minutes to draw with care
@@ -25,12 +25,12 @@ SHAPES = {SPACE + name for name in ("svg", "g", "polygon", "polyline", "ellipse"
 
 
 def words_for_dot(options: int) -> list[str]:
-    """How Graphviz is asked to draw the graph of so many options."""
+    """How Graphviz is asked to draw a graph with this number of options."""
     return ["dot", *(WITH_CARE if options <= MOST_IN_PAGE else IN_HASTE)]
 
 
 def picture_of(graph: str, options: int) -> bytes | None:
-    """The picture of a graph by Graphviz, or none; where there is none it says why."""
+    """The picture of a graph by Graphviz. If there is none it says why."""
     dot = shutil.which("dot")
     if dot is None:
         tell_aside("Note: no picture: Graphviz (its program dot) is not installed")
@@ -58,7 +58,7 @@ class ShownPicture:
 
 
 def shown_picture(picture: bytes | None, options: int, words: str) -> ShownPicture:
-    """The picture of so many options; the words are for who does not see it."""
+    """The picture of this number of options; the words are for those who do not see it."""
     command = shlex.join(words_for_dot(options))
     if picture is None or options > MOST_IN_PAGE:
         return ShownPicture(picture is not None, None, 0, command)

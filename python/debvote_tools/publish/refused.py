@@ -10,7 +10,7 @@ from debvote_tools.lines import ballot_lines
 from debvote_tools.rendering import InHtml
 from debvote_tools.terminal_text import seen
 
-# so many characters of a line are shown, and texts of so many bytes in all, or a few more
+# how many characters of a line are shown, and how many bytes of lines in all, or a few more
 SHOWN = 100
 TEXTS_LIMIT = 1_000_000
 

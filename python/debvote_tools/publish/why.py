@@ -75,7 +75,7 @@ def left_alone(options: Options, option: int) -> list[str]:
 
 
 def defeated(options: Options, option: int, beaten: list[int], others: int) -> str:
-    """Whom an option defeats, of so many others, with the numbers; of many the nearest."""
+    """The options that an option defeats, of a number of others, with the votes; of many the nearest."""
     speaker, votes = options.speaker, options.sheet.votes
     if len(beaten) <= MOST:
         shown = speaker.joined(by(options, (option, other), other) for other in beaten)

@@ -25,7 +25,7 @@ from debvote_tools.terminal_text import shown_text
 
 HELP = "Write letters to the electors, or send them: the call, receipts, reminders, the close, the result"
 
-# so many names are told of electors without an address
+# how many electors without an address are named
 MOST = 20
 # in characters
 BAR = 40
