@@ -63,12 +63,23 @@ class Files(unittest.TestCase):
     def test_whatever_field_is_below_a_line_without_a_date(self) -> None:
         """Thunderbird and others put fields of their own above all that the mail server wrote."""
         coded = letter("ben", "YmVuIDEsMiw0LDMK\n", head="Content-Transfer-Encoding: base64\n")
-        for line in (b"From \n", b"From ben 2026-11-23T10:00:00\n"):
-            for field in (b"X-Mozilla-Status: 0001\n", b"X-UID: 7\n", b"Delivery-Date: x\n", b"Status: RO\n", b"To: vote\n", b"Subject: x\n"):
-                below = b"\n" + line + field + coded
-                self.assertEqual(outcome_of(letters_of_file("box", LINE + ADA + below)), ["waits: parted off"], field)
-                self.assertEqual(outcome_of(letters_of_file("box", line + field + ADA)), [f"in: ada {RANKS}"], field)
-                self.assertEqual(outcome_of(letters_of_file("box", line + field + ADA + below)), ["waits: parted off"], field)
+        line = b"From ben 2026-11-23T10:00:00\n"
+        for field in (b"X-Mozilla-Status: 0001\n", b"X-UID: 7\n", b"Delivery-Date: x\n", b"Status: RO\n", b"To: vote\n", b"Subject: x\n"):
+            below = b"\n" + line + field + coded
+            self.assertEqual(outcome_of(letters_of_file("box", LINE + ADA + below)), ["waits: parted off"], field)
+            self.assertEqual(outcome_of(letters_of_file("box", line + field + ADA)), [f"in: ada {RANKS}"], field)
+            self.assertEqual(outcome_of(letters_of_file("box", line + field + ADA + below)), ["waits: parted off"], field)
+
+    def test_a_mailbox_of_thunderbird(self) -> None:
+        """Today it writes lines without sender and date; older letters in it have lines with a date."""
+        status = b"X-Mozilla-Status: 0001\nX-Mozilla-Status2: 00000000\n"
+        for lines in ((b"From \n", b"From \n"), (b"From - \n", b"From -\n"), (b"From - Mon Nov 23 10:00:00 2026\n", b"From \n"), (b"From \n", LINE)):
+            box = lines[0] + status + ADA + b"\n" + lines[1] + status + BEN + b"\n"
+            for data in (box, box.replace(b"\n", b"\r\n")):
+                self.assertEqual(outcome_of(letters_of_file("box", data)), [f"in: ada {RANKS}", f"in: ben {RANKS}"], lines)
+        # without an empty line between, and as text of a letter that is not in a mailbox
+        self.assertEqual(outcome_of(letters_of_file("box", b"From \n" + ADA + b"From \n" + BEN)), [f"in: ada {RANKS}", "waits: parted off"])
+        self.assertEqual(outcome_of(letters_of_file("x", ADA + b"\nFrom \n" + BEN)), ["waits: parted off"])
 
     def test_letters_that_somebody_put_together(self) -> None:
         """As `cat *.eml` does: of the second nobody would see anything."""

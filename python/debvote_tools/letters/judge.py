@@ -144,7 +144,7 @@ class JudgedLetter:
         # the time of its ballot: that of the signature where letters have to be signed, else that of the arrival
         self.time = letter.signature.time if circumstances.keys is not None and letter.signature is not None else letter.arrived
         self.decision = circumstances.decisions.get(letter.key)
-        text = letter.body.text
+        text = letter.body
         self.index = first_ballot(text.lines, readings.views[0])
         self.joined_index = first_ballot(text.joined, readings.views[1]) if len(readings.views) > 1 else None
         self.ballot = None if self.index is None else readings.views[0][self.index]
@@ -210,7 +210,7 @@ class JudgedLetter:
     @property
     def other_words(self) -> str:
         """The beginning of the sender's own words beside their ballots."""
-        lines, view = self.parsed.body.text.lines, self.readings.views[0]
+        lines, view = self.parsed.body.lines, self.readings.views[0]
         own = (index for paragraph in paragraphs_of(lines, self.circumstances.passed_over) for index in paragraph)
         return shown_text(" ".join(lines[index] for index in own if view[index] is None and not is_quoted(lines[index])))
 
@@ -220,7 +220,7 @@ Rule = Callable[[JudgedLetter, Circumstances], Because | None]
 
 # ---------------------------------------------------------------- the rules
 def can_be_read(case: JudgedLetter, circumstances: Circumstances) -> Because | None:
-    letter, text = case.parsed, case.parsed.body.text
+    letter, text = case.parsed, case.parsed.body
     if letter.is_parted_off:
         return Reason.PARTED_OFF()
     if letter.is_automatic:
@@ -273,7 +273,7 @@ def is_signed_by_its_elector(case: JudgedLetter, circumstances: Circumstances) -
         return Reason.SIGNED_BEFORE_THE_CALL(time=signature.time)
     if letter.arrived is None or signature.time > letter.arrived + AHEAD:
         return Reason.SIGNED_AHEAD(time=signature.time)
-    has_mark = any(line.strip() == f"[{circumstances.mark}]" for line in letter.body.text.lines)
+    has_mark = any(line.strip() == f"[{circumstances.mark}]" for line in letter.body.lines)
     return None if has_mark else Reason.NO_MARK(mark=circumstances.mark)
 
 
@@ -288,7 +288,7 @@ def has_one_ballot(case: JudgedLetter, circumstances: Circumstances) -> Because 
 
 def ballot_is_first(case: JudgedLetter, circumstances: Circumstances) -> Because | None:
     """Of the lines as they stand, and joined if the letter says that they flow."""
-    text = case.parsed.body.text
+    text = case.parsed.body
     if case.ballot is None or case.index is None:
         if case.joined_index is not None:
             return Reason.JOINED()
@@ -309,7 +309,7 @@ def placed(case: JudgedLetter, circumstances: Circumstances, lines: Sequence[str
     """Why the ballot is not the first of these lines."""
     answered = case.parsed.in_reply_to
     is_answer = bool(answered) and answered in circumstances.our_letters.get(case.elector, ())
-    is_html, passed_over = case.parsed.body.text.is_html, circumstances.passed_over
+    is_html, passed_over = case.parsed.body.is_html, circumstances.passed_over
     return why_not_first(lines, index, is_answer=is_answer, is_html=is_html, passed_over=passed_over)
 
 

@@ -123,7 +123,7 @@ def readings_of(
     """What the lines of a letter may read as, before debvote has answered. `by_real_name` finds a name of the roll by the real name,
     folded.
     """
-    text = letter.body.text
+    text = letter.body
     reader = Reader(roll, elector, language, by_real_name)
     views = [tuple(reader.ballot_line(number, line) for number, line in enumerate(text.lines, start=1))]
     if text.joined:
