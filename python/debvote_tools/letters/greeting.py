@@ -4,11 +4,11 @@ No list of what a quotation looks like can be complete, so nothing here looks fo
 a few lines of greeting or, in an answer to a letter that only this elector has, the quotation of it.
 """
 
+import re
 import unicodedata
 from collections.abc import Callable, Collection, Sequence
 
 from debvote_tools.letters.reasons import Because, Reason
-from debvote_tools.terminal_text import TURNING
 
 # the line that ends a letter, and one that parts paragraphs as an empty one does
 END, STROKE = "-- ", "--"
@@ -18,9 +18,13 @@ MAX_ABOVE, MAX_CHARACTERS = 5, 200
 
 # how a greeting in Spanish may begin
 OPENING = ("¡", "¿")
-# what no greeting has; what turns a text may turn the lines below it, too, and a colon has many forms
-REFUSED = f"@<>|{TURNING}"
-COLONS = ":\u02d0\u02f8\u0589\u05c3\u0703\u0903\u1361\u1365\u16ec\u1803\u1804\u205a\u205d\u2236\u2982\ua4fd\ua789\ufe30"
+# what a greeting has: letters of any script with their marks, blanks, dashes and quotation marks; these signs, which join pictures or
+# turn nothing but themselves, too; and pictures
+CATEGORIES = ("Lu", "Ll", "Lt", "Lm", "Lo", "Mn", "Mc", "Me", "Zs", "Pd", "Pi", "Pf")
+SIGNS = "\t,.;!?'\"()/&*+…·¡¿、。，！？،؟।\u200d\u200e\u200f"
+PICTURES = re.compile("[\u2600-\u2767\u2794-\u27bf\U0001f300-\U0001faff]")
+# letters that look like a colon
+LIKE_COLONS = "\u02d0\u0903\ua4fd"
 
 
 def is_quoted(line: str) -> bool:
@@ -52,20 +56,20 @@ def paragraphs_of(lines: Sequence[str], passed_over: Collection[str] = ()) -> li
 
 
 def is_greeting(line: str, *, may_have_digits: bool = False) -> bool:
-    """Whether a line may be a greeting: it begins with a letter, has no digit, no colon and none of `@ < > |`, of any form, and turns no text."""
-    if not (line[:1].isalpha() or line.startswith(OPENING)):
-        return False
-    # each character by itself: of many accents on one letter the time would grow with the square of their number
-    plain = line if line.isascii() else line + "".join(unicodedata.normalize("NFKC", character) for character in line)
-    return not any(
-        character in REFUSED or character in COLONS or (character.isnumeric() and not may_have_digits) for character in plain
-    )
+    """Whether a line may be a greeting: it begins with a letter, and has what greetings have, which are no digits and no colon."""
+    begins = line[:1].isalpha() or line.startswith(OPENING)
+    return begins and all(is_plain(character) or (may_have_digits and character.isnumeric()) for character in set(line))
+
+
+def is_plain(character: str) -> bool:
+    is_listed = unicodedata.category(character) in CATEGORIES or character in SIGNS or PICTURES.match(character)
+    return bool(is_listed) and not character.isnumeric() and character not in LIKE_COLONS
 
 
 def is_head_of_quotation(line: str) -> bool:
     """Whether a line may be above the ballot of an answer to ours: as a greeting, but it may have digits, and a colon at its end."""
     bare = line.rstrip()
-    return is_greeting(bare[:-1] if unicodedata.normalize("NFKC", bare[-1:]) == ":" else bare, may_have_digits=True)
+    return is_greeting(bare[:-1] if bare.endswith((":", "：")) else bare, may_have_digits=True)
 
 
 def why_not_first(
