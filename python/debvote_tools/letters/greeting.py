@@ -6,12 +6,13 @@ a few lines of greeting or, in an answer to a letter that only this elector has,
 
 import re
 import unicodedata
-from collections.abc import Callable, Collection, Sequence
+from collections.abc import Collection, Sequence
 
+from debvote_tools.letters.parse import END, Body
 from debvote_tools.letters.reasons import Because, Reason
 
-# the line that ends a letter, and one that parts paragraphs as an empty one does
-END, STROKE = "-- ", "--"
+# the line that parts paragraphs as an empty one does
+STROKE = "--"
 
 # the most lines of greeting above a ballot, and the most characters of them together
 MAX_ABOVE, MAX_CHARACTERS = 5, 200
@@ -55,10 +56,13 @@ def paragraphs_of(lines: Sequence[str], passed_over: Collection[str] = ()) -> li
     return [paragraph for paragraph in paragraphs if paragraph]
 
 
-def is_greeting(line: str, *, may_have_digits: bool = False) -> bool:
-    """Whether a line may be a greeting: it begins with a letter, and has what greetings have, which are no digits and no colon."""
+def is_greeting(line: str, *, is_answer: bool) -> bool:
+    """Whether a line may be a greeting: it begins with a letter, and has what greetings have, so no digit and no colon. Above the ballot of an
+    answer to ours it may be the head of a quotation, with digits, and a colon at its end.
+    """
     begins = line[:1].isalpha() or line.startswith(OPENING)
-    return begins and all(is_plain(character) or (may_have_digits and character.isnumeric()) for character in set(line))
+    bare = line.removesuffix(":").removesuffix("：") if is_answer else line
+    return begins and all(is_plain(character) or (is_answer and character.isnumeric()) for character in set(bare))
 
 
 def is_plain(character: str) -> bool:
@@ -66,38 +70,25 @@ def is_plain(character: str) -> bool:
     return bool(is_listed) and not character.isnumeric() and character not in LIKE_COLONS
 
 
-def is_head_of_quotation(line: str) -> bool:
-    """Whether a line may be above the ballot of an answer to ours: as a greeting, but it may have digits, and a colon at its end."""
-    bare = line.rstrip()
-    return is_greeting(bare[:-1] if bare.endswith((":", "：")) else bare, may_have_digits=True)
-
-
-def why_not_first(
-    lines: Sequence[str], ballot: int, *, is_answer: bool, is_html: bool = False, passed_over: Collection[str] = ()
-) -> Because | None:
+def why_not_first(body: Body, ballot: int, *, is_answer: bool, passed_over: Collection[str] = ()) -> Because | None:
     """Why the ballot with this index among the lines is not the first line of the letter; None if it is.
 
     `is_answer` says that the letter answers one of ours, which only this elector has. `passed_over` are lines without their blanks, such
     as the mark of the vote, that may be anywhere.
     """
+    lines = body.lines
     paragraphs = paragraphs_of(lines, passed_over)
     own = next(paragraph for paragraph in paragraphs if ballot in paragraph)
     before = paragraphs[: paragraphs.index(own)]
-    if any(is_quoted(lines[index]) for index in own):
+    quoted = [paragraph for paragraph in (*before, own) if any(is_quoted(lines[index]) for index in paragraph)]
+    if own in quoted or (quoted and not is_answer):
         return Reason.QUOTED()
-    if is_answer:
-        counting = [paragraph for paragraph in before if not any(is_quoted(lines[index]) for index in paragraph)]
-        return not_as_wanted(lines, [index for paragraph in counting for index in paragraph], is_head_of_quotation)
-    above = [index for paragraph in [*before, own] for index in paragraph if index < ballot]
-    if any(is_quoted(lines[index]) for index in above):
-        return Reason.QUOTED()
-    beside = [index for index in own if index > ballot]
-    why = not_as_wanted(lines, [*above, *beside], is_greeting)
-    is_much = len(above) > (0 if is_html else MAX_ABOVE) or sum(len(lines[index].strip()) for index in above) > MAX_CHARACTERS
-    return why or (Reason.MUCH_ABOVE() if is_much else None)
-
-
-def not_as_wanted(lines: Sequence[str], indices: Sequence[int], is_wanted: Callable[[str], bool]) -> Because | None:
-    """The first of these lines that is not as wanted, by its number from 1."""
-    found = next((index for index in indices if not is_wanted(lines[index])), None)
-    return None if found is None else Reason.NOT_FIRST(number=found + 1)
+    greetings = [index for paragraph in before if paragraph not in quoted for index in paragraph]
+    greetings += [index for index in own if index != ballot and not is_answer]
+    for index in greetings:
+        line = lines[index] if index in body.flowing else lines[index].rstrip()
+        if not is_greeting(line, is_answer=is_answer):
+            return Reason.NOT_FIRST(number=index + 1)
+    above = [lines[index].strip() for index in greetings if index < ballot]
+    is_much = len(above) > (0 if body.is_html else MAX_ABOVE) or len("".join(above)) > MAX_CHARACTERS
+    return Reason.MUCH_ABOVE() if is_much and not is_answer else None

@@ -195,7 +195,11 @@ def are_plain(given: str, names: Collection[str], styles: Mapping[str, re.Patter
         return False
     for name, *values in ATTRIBUTE.findall(bare.lower()):
         value = html.unescape("".join(values))
-        if name not in names or (name == "dir" and value not in DIRECTIONS) or (name == "style" and not is_plain_style(value, styles)):
+        if (
+            name not in names
+            or (name == "dir" and value not in DIRECTIONS)
+            or (name == "style" and not is_plain_style(value, styles))
+        ):
             return False
     return True
 

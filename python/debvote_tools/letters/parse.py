@@ -37,6 +37,9 @@ CONTROL = re.compile("[\0-\x08\v\f\x0e-\x1f\x7f\x85\u2028\u2029]|\r(?!\n)")
 # what mail servers write into the head of each letter
 RECEIVED = re.compile(r"received[ \t]*:", re.IGNORECASE)
 
+# the line that ends a letter
+END = "-- "
+
 # the sender: an address, perhaps with a name before it or a comment after it, in ASCII
 ATOM = r"[\w!#$%&'*+/=?^`{|}~-]+"
 ADDRESS = rf"{ATOM}(?:\.{ATOM})*@[\w-]+(?:\.[\w-]+)*"
@@ -57,15 +60,14 @@ AUTOMATIC = re.compile(
 
 @dataclasses.dataclass(frozen=True)
 class Body:
-    """What a letter says below its head: the lines of its text as they stand and, if the letter says that they flow, joined, each with the
-    index of its first line; the other lines of all its parts that may read as a ballot; and why it can't be read with certainty.
+    """What a letter says below its head: the lines of its text; the indices of those that are not whole, since the letter says that they flow;
+    the other lines of all its parts that may read as a ballot; and why it can't be read with certainty.
 
     Of HTML the first `plain_lines` have plain marks alone, and `first_other` is the first other mark.
     """
 
     lines: tuple[str, ...] = ()
-    joined: tuple[str, ...] = ()
-    starts: tuple[int, ...] = ()
+    flowing: tuple[int, ...] = ()
     is_html: bool = False
     plain_lines: int = 0
     first_other: str = ""
@@ -231,8 +233,7 @@ def body_of(letter: Part) -> Body:
     outside = [line for part, _ in parts for line in decoded_bytes(part.around, "utf-8").splitlines()]
     if letter.fields and any(RECEIVED.match(line) for line in (*text.lines, *pieces, *outside)):
         letter.found(Reason.PARTED_OFF())
-    lines = [line for other, _ in read[1:] for line in (*other.lines, *other.joined)]
-    lines += [line for _, pieces in read for line in pieces]
+    lines = [line for other, _ in read[1:] for line in other.lines] + [line for _, pieces in read for line in pieces]
     own, others = ({" ".join(line.split()): None for line in some} for some in (text.lines, lines + outside))
     other_lines = [line for line in others if line not in own and may_be_ballot(line)]
     count = len(other_lines) + sum(map(may_be_ballot, text.lines))
@@ -271,27 +272,25 @@ def text_of(part: Part, *, is_first: bool) -> tuple[Body, list[str]]:
     lines = text.rstrip("\r\n").splitlines()
     flows = part.parameters.get("format", "").lower() == "flowed"
     whole = joined(lines, deletes_space=part.parameters.get("delsp", "").lower() == "yes") if flows else []
+    flowing = tuple(index for indices, _ in whole for index in indices)
     # some other kinds are HTML, too
-    return Body(tuple(lines), tuple(line for _, line in whole), tuple(start for start, _ in whole)), found.lines + found.pieces
+    return Body(tuple(lines), flowing), [*("".join(texts) for _, texts in whole), *found.lines, *found.pieces]
 
 
-def joined(lines: Sequence[str], *, deletes_space: bool) -> list[tuple[int, str]]:
-    """Lines that flow, made whole: a line with a blank at its end goes on in the next, if both are quoted as deep."""
-    whole: list[tuple[int, str]] = []
+def joined(lines: Sequence[str], *, deletes_space: bool) -> list[tuple[list[int], list[str]]]:
+    """The indices and texts of lines that belong together: one with a blank at its end goes on in the next, if both are quoted as deep."""
+    whole: list[tuple[list[int], list[str]]] = []
     depth, goes_on = -1, False
     for index, line in enumerate(lines):
         bare = line.lstrip(">")
         own_depth = len(line) - len(bare)
         bare = bare.removeprefix(" ")
-        is_end = bare == "-- "
-        text = bare[:-1] if deletes_space and bare.endswith(" ") and not is_end else bare
-        if goes_on and own_depth == depth and not is_end:
-            start, before = whole[-1]
-            whole[-1] = (start, before + text)
-        else:
-            whole.append((index, f"{'>' * own_depth} {text}" if own_depth else text))
-        depth, goes_on = own_depth, bare.endswith(" ") and not is_end
-    return whole
+        if not (goes_on and own_depth == depth and bare and bare != END):
+            whole.append(([], ["> "] if own_depth else []))
+        depth, goes_on = own_depth, bare.endswith(" ") and bare != END
+        whole[-1][0].append(index)
+        whole[-1][1].append(bare[:-1] if deletes_space and goes_on else bare)
+    return [(indices, texts) for indices, texts in whole if len(indices) > 1]
 
 
 # ---------------------------------------------------------------- as the book keeps it

@@ -31,9 +31,7 @@ class Reason(enum.Enum):
     SET_ASIDE = "it was set aside"
     STRUCK = "its ballot was struck"
     # it can't be read with certainty
-    PARTED_OFF = (
-        "it may be text of the letter above it in the mailbox, or have other letters in it: look at the file, and save its letters as .eml"
-    )
+    PARTED_OFF = "it may be text of the letter above it in the mailbox, or have other letters in it: look at the file, and save its letters as .eml"
     TOO_LONG = "it has {length} {what}, and {limit} are the most"
     TOO_MANY_PARTS = "it has too many parts or lines, or parts too deep within each other"
     AMBIGUOUS = "programs may read it in different ways, because of {what}"
