@@ -96,7 +96,7 @@ class Random(unittest.TestCase):
         chance = random.Random(1)
         for _ in range(3_000):
             found = parsed(self.changed(chance, b'\0\r\n\xff\x80;:="<>-b ', 20))
-            "\n".join((*found.shown_lines, found.subject, found.shown_sender, found.sender, found.message_id)).encode()
+            "\n".join((*found.shown_lines, found.subject, found.shown_sender, found.sender, found.in_reply_to)).encode()
 
     def test_halves_of_characters(self) -> None:
         for charset, text in (("unicode_escape", "\\ud800"), ("raw_unicode_escape", "\\ud800"), ("utf-7", "+2AA-")):

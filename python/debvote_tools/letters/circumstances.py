@@ -17,8 +17,6 @@ NO_NAME, LATIN = re.compile(r"(?:[^\w.-]|[_\u02b0-\u02ff])+"), re.compile("[a-z0
 
 
 class Decision(enum.Enum):
-    """What an act decided of a letter."""
-
     ENTERED = "entered"
     TAKEN_BACK = "taken back"
     PUT_BACK = "put back"
@@ -66,7 +64,6 @@ class Circumstances:
 
     @functools.cached_property
     def electors_by_address(self) -> dict[str, list[str]]:
-        """The electors who have an address, by its form without case."""
         found: dict[str, list[str]] = collections.defaultdict(list)
         for elector, addresses in self.addresses.items():
             for key in dict.fromkeys(filter(None, map(address_key, addresses))):

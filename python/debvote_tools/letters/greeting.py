@@ -80,13 +80,15 @@ def why_not_first(body: Body, ballot: int, *, is_answer: bool, passed_over: Coll
     paragraphs = paragraphs_of(lines, passed_over)
     own = next(paragraph for paragraph in paragraphs if ballot in paragraph)
     before = paragraphs[: paragraphs.index(own)]
-    quoted = [paragraph for paragraph in (*before, own) if any(is_quoted(lines[index]) for index in paragraph)]
-    if own in quoted or (quoted and not is_answer):
+    # by their first lines
+    quoted = {paragraph[0] for paragraph in (*before, own) if any(is_quoted(lines[index]) for index in paragraph)}
+    if own[0] in quoted or (quoted and not is_answer):
         return Reason.QUOTED()
-    greetings = [index for paragraph in before if paragraph not in quoted for index in paragraph]
+    greetings = [index for paragraph in before if paragraph[0] not in quoted for index in paragraph]
     greetings += [index for index in own if index != ballot and not is_answer]
+    flowing = frozenset(body.flowing)
     for index in greetings:
-        line = lines[index] if index in body.flowing else lines[index].rstrip()
+        line = lines[index] if index in flowing else lines[index].rstrip()
         if not is_greeting(line, is_answer=is_answer):
             return Reason.NOT_FIRST(number=index + 1)
     above = [lines[index].strip() for index in greetings if index < ballot]

@@ -71,7 +71,6 @@ ODD_CHARACTERS = re.compile("[\0-\x08\v\x0e-\x1f\x7f\x85\u2028\u2029]")
 
 
 def read_html(text: str) -> "HtmlText":
-    """Reads a text in HTML."""
     reader = HtmlText()
     for token in TOKEN.finditer(text):
         if token["text"] is not None:
@@ -112,14 +111,12 @@ class HtmlText:
         self.holder = ""
 
     def found_other(self, name: str, *, may_be_below: bool) -> None:
-        """A mark comes that is not plain."""
         if not self.first_other:
             self.first_other, self.plain_lines = name, len(self.lines)
         if not may_be_below:
             self.odd = self.odd or name
 
     def begin(self, tag: str, given: str) -> None:
-        """An element begins."""
         if tag not in PLAIN or not (tag == "meta" or are_plain(given, PLAIN_ATTRIBUTES, PLAIN_STYLES)):
             is_known = tag in BELOW and are_plain(given, BELOW_ATTRIBUTES, BELOW_STYLES)
             self.found_other(f"{tag}{given}", may_be_below=is_known)

@@ -23,8 +23,6 @@ AHEAD = datetime.timedelta(minutes=10)
 
 
 class Outcome(enum.Enum):
-    """What becomes of a letter."""
-
     GOES_IN = "goes in"
     WAITS = "waits"
     # it is another letter once more, and is passed over
@@ -78,18 +76,15 @@ class JudgedLetter:
 
     @property
     def arrived_before_call(self) -> bool:
-        """Whether it arrived before the call, whatever it waits for."""
         return self.parsed.arrived is not None and self.parsed.arrived <= self.circumstances.called
 
     @property
     def arrived_late(self) -> bool:
-        """Whether it arrived after the end or the first close, whatever it waits for."""
         ends = filter(None, (self.circumstances.end, self.circumstances.first_close))
         return any(self.parsed.arrived is not None and self.parsed.arrived > end for end in ends)
 
     @property
     def elector(self) -> str:
-        """The elector on its ballot."""
         return "" if self.ballot is None else self.ballot.elector
 
     @functools.cached_property
@@ -244,7 +239,6 @@ class Box:
         self.lines[elector, ballot.time].add(ballot.line)
 
     def last(self, elector: str) -> datetime.datetime | None:
-        """The time of the last ballot of an elector."""
         times = self.times[elector]
         return times[-1] if times else None
 

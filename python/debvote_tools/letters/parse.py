@@ -94,8 +94,7 @@ class ParsedLetter:
     # where letters have to be signed, since anybody can change the rest
     identity: str
     is_parted_off: bool
-    # both in one plain form, or empty
-    message_id: str
+    # in one plain form, or empty
     in_reply_to: str
     # the one address that it came from, in small letters, or empty; and who sent it, as it is shown
     sender: str
@@ -123,7 +122,6 @@ class ParsedLetter:
 
 
 def parse(raw: RawLetter) -> ParsedLetter:
-    """What a letter says."""
     letter = Part(raw.data)
     senders, subjects, ids = letter.values("from"), letter.values("subject"), letter.values("message-id")
     if (longest := max(map(len, subjects), default=0)) > MAX_FIELD:
@@ -134,7 +132,6 @@ def parse(raw: RawLetter) -> ParsedLetter:
         digest=hashlib.sha256(raw.data).hexdigest(),
         identity=identity_of(letter, ids, sender or " ".join(senders), body),
         is_parted_off=raw.is_parted_off,
-        message_id=plain_id(ids),
         in_reply_to=plain_id(letter.values("in-reply-to")),
         sender=sender,
         shown_sender=", ".join(map(decoded, senders)),
@@ -238,8 +235,8 @@ def body_of(letter: Part) -> Body:
     other_lines = [line for line in others if line not in own and may_be_ballot(line)]
     count = len(other_lines) + sum(map(may_be_ballot, text.lines))
     if count > MAX_LINES:
-        trouble = Reason.TOO_LONG(length=count, what="lines with numbers", limit=MAX_LINES)
-        return Body(text.lines[:SHOWN_LINES], trouble=trouble)
+        letter.found(Reason.TOO_LONG(length=count, what="lines with numbers", limit=MAX_LINES))
+        text, other_lines = Body(text.lines[:SHOWN_LINES]), []
     trouble = next((part.trouble for part, _ in parts if part.trouble is not None), None)
     return dataclasses.replace(text, other_lines=tuple(other_lines), trouble=trouble)
 
@@ -295,7 +292,6 @@ def joined(lines: Sequence[str], *, deletes_space: bool) -> list[tuple[list[int]
 
 # ---------------------------------------------------------------- as the book keeps it
 def as_json(letter: ParsedLetter) -> str:
-    """A letter that was parsed, to be kept."""
     return json.dumps(vars(letter), default=as_plain)
 
 
@@ -304,14 +300,13 @@ def as_plain(value: object) -> object:
 
 
 def from_json(text: str) -> ParsedLetter:
-    """A letter that was kept."""
     kept = json.loads(text)
     body, signature = kept["body"], kept["signature"]
-    lines = {name: tuple(value) if isinstance(value, list) else value for name, value in body.items()}
+    values: dict[str, Any] = {name: tuple(value) if isinstance(value, list) else value for name, value in body.items()}
     kept |= {
         "marks": tuple(kept["marks"]),
         "arrived": None if kept["arrived"] is None else datetime.datetime.fromisoformat(kept["arrived"]),
-        "body": Body(**lines | {"trouble": because_from(body["trouble"])}),
+        "body": Body(**values | {"trouble": because_from(body["trouble"])}),
         "signature": signature and Signature(signature["fingerprint"], datetime.datetime.fromisoformat(signature["time"])),
         "why_unsigned": because_from(kept["why_unsigned"]),
     }

@@ -31,8 +31,6 @@ MAX_BALLOTS, MAX_NEAR = 100, 5
 
 
 class LineReader(Protocol):
-    """Asks debvote about lines."""
-
     def answers(self, lines: Sequence[bytes]) -> Mapping[bytes, str | None]:
         """What debvote says of each line, as `bad rank count: ..`; None of a valid ballot of this poll. No line is late."""
 
@@ -77,7 +75,6 @@ class Readings:
     crowd: int = 0
 
     def ballots(self) -> Iterator[BallotLine]:
-        """All lines that read as a ballot."""
         yield from filter(None, self.lines)
         yield from self.others
 
@@ -86,7 +83,6 @@ class Readings:
         return len({line.ballot for line in self.ballots()})
 
     def asked(self) -> Iterator[str]:
-        """What debvote is asked about."""
         yield from (line.ballot for line in (*self.ballots(), *self.offered))
         yield from (near.ballot for near in self.near)
 
