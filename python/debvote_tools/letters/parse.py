@@ -49,7 +49,7 @@ MESSAGE_ID = re.compile(r"<[!-;=?-~]{1,250}>")
 MARK = re.compile(r"\[([0-9a-f]{16})\]", re.IGNORECASE)
 # a time as mail servers write it, and where it is in a field Received
 TIME = r"(?:[A-Z][a-z]{2}, *)?\d{1,2} +[A-Z][a-z]{2} +20\d\d +\d{1,2}:\d\d(?::\d\d)? +(?:[+-]\d{4}|UTC?|GMT|[ECMP][SD]T)"
-ARRIVED = re.compile(rf"; *({TIME})(?: *\([^()]*\))? *\Z")
+ARRIVED = re.compile(rf"; *({TIME})(?: *\([^();]*\))? *\Z")
 # by these fields a program says that it answers by itself, or that a letter came back
 AUTOMATIC = re.compile(
     r"auto-submitted:(?!\s*(?:no)?\s*(?:;|\Z))|precedence:\s*auto[_-]reply|content-type:\s*multipart/report|return-path:\s*<\s*>"
@@ -303,10 +303,11 @@ def from_json(text: str) -> ParsedLetter:
     kept = json.loads(text)
     body, signature = kept["body"], kept["signature"]
     values: dict[str, Any] = {name: tuple(value) if isinstance(value, list) else value for name, value in body.items()}
+    values["trouble"] = because_from(body["trouble"])
     kept |= {
         "marks": tuple(kept["marks"]),
         "arrived": None if kept["arrived"] is None else datetime.datetime.fromisoformat(kept["arrived"]),
-        "body": Body(**values | {"trouble": because_from(body["trouble"])}),
+        "body": Body(**values),
         "signature": signature and Signature(signature["fingerprint"], datetime.datetime.fromisoformat(signature["time"])),
         "why_unsigned": because_from(kept["why_unsigned"]),
     }

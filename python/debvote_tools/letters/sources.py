@@ -194,4 +194,4 @@ def has_others(letter: bytes) -> bool:
     """Whether other letters may be in a letter: below a line that parts no letters, since it has no date or was changed, or that is not in
     an mbox.
     """
-    return any(parts_letters(line[0]) or FIELD.match(letter, line.end()) for line in FROM_LINE.finditer(letter))
+    return any(DATED.match(line[0]) or FIELD.match(letter, line.end()) for line in FROM_LINE.finditer(letter))
