@@ -41,13 +41,14 @@ def above_end(lines: Sequence[str]) -> int:
     return lines.index(END) if END in lines else len(lines)
 
 
-def paragraphs_of(lines: Sequence[str], passed_over: Collection[str] = ()) -> list[list[int]]:
+def paragraphs_of(body: Body, passed_over: Collection[str] = ()) -> list[list[int]]:
     """The paragraphs above the end of a letter, each as the indices of its lines. A line that is passed over is in no
     paragraph, and ends none.
     """
     paragraphs: list[list[int]] = [[]]
-    for index, line in enumerate(lines[: above_end(lines)]):
-        if line.strip() in passed_over:
+    flowing = frozenset(body.flowing)
+    for index, line in enumerate(body.lines[: above_end(body.lines)]):
+        if line.strip() in passed_over or (index in flowing and is_empty(line)):
             continue
         if is_empty(line) or line == STROKE:
             paragraphs.append([])
@@ -77,7 +78,7 @@ def why_not_first(body: Body, ballot: int, *, is_answer: bool, passed_over: Coll
     as the mark of the vote, that may be anywhere.
     """
     lines = body.lines
-    paragraphs = paragraphs_of(lines, passed_over)
+    paragraphs = paragraphs_of(body, passed_over)
     own = next(paragraph for paragraph in paragraphs if ballot in paragraph)
     before = paragraphs[: paragraphs.index(own)]
     # by their first lines

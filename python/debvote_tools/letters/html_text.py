@@ -26,6 +26,7 @@ ATTRIBUTE = re.compile(r"""(?<!\s)\s++([a-zA-Z-]++)(?:\s*+=\s*+(?:"([^"]*+)"|'([
 # the elements, attributes and styles of plain marks
 PLAIN = frozenset("html head meta title body div p br span font b strong i em u center blockquote".split())
 PLAIN_ATTRIBUTES = frozenset("class id lang dir style".split())
+META_ATTRIBUTES = frozenset("charset content http-equiv name".split())
 # from right to left numbers are in another order
 DIRECTIONS = ("ltr", "auto")
 RIGHT_TO_LEFT = ("R", "AL", "RLE", "RLO", "RLI", "LRE", "LRO", "LRI", "FSI", "PDF", "PDI")
@@ -117,7 +118,8 @@ class HtmlText:
             self.odd = self.odd or name
 
     def begin(self, tag: str, given: str) -> None:
-        if tag not in PLAIN or not (tag == "meta" or are_plain(given, PLAIN_ATTRIBUTES, PLAIN_STYLES)):
+        names = META_ATTRIBUTES if tag == "meta" else PLAIN_ATTRIBUTES
+        if tag not in PLAIN or not are_plain(given, names, PLAIN_STYLES):
             is_known = tag in BELOW and are_plain(given, BELOW_ATTRIBUTES, BELOW_STYLES)
             self.found_other(f"{tag}{given}", may_be_below=is_known)
         if tag == "title" and (self.lines or self.parts):

@@ -119,7 +119,7 @@ class JudgedLetter:
     def other_words(self) -> str:
         """The beginning of the sender's own words beside their ballots."""
         lines, view = self.parsed.body.lines, self.readings.lines
-        own = (index for paragraph in paragraphs_of(lines, self.circumstances.passed_over) for index in paragraph)
+        own = (index for paragraph in paragraphs_of(self.parsed.body, self.circumstances.passed_over) for index in paragraph)
         return shown_text(" ".join(lines[index] for index in own if view[index] is None and not is_quoted(lines[index])))
 
 

@@ -268,26 +268,33 @@ def text_of(part: Part, *, is_first: bool) -> tuple[Body, list[str]]:
         return body, found.pieces
     lines = text.rstrip("\r\n").splitlines()
     flows = part.parameters.get("format", "").lower() == "flowed"
-    whole = joined(lines, deletes_space=part.parameters.get("delsp", "").lower() == "yes") if flows else []
-    flowing = tuple(index for indices, _ in whole for index in indices)
+    flowing, whole = joined(lines, deletes_space=part.parameters.get("delsp", "").lower() == "yes") if flows else ([], [])
     # some other kinds are HTML, too
-    return Body(tuple(lines), flowing), [*("".join(texts) for _, texts in whole), *found.lines, *found.pieces]
+    return Body(tuple(lines), tuple(flowing)), [*whole, *found.lines, *found.pieces]
 
 
-def joined(lines: Sequence[str], *, deletes_space: bool) -> list[tuple[list[int], list[str]]]:
-    """The indices and texts of lines that belong together: one with a blank at its end goes on in the next, if both are quoted as deep."""
+def joined(lines: Sequence[str], *, deletes_space: bool) -> tuple[list[int], list[str]]:
+    """Which lines belong together, and the texts that they are: one with a blank at its end goes on in the next, if both are quoted as deep. An
+    empty line there belongs to the one above it, and parts no paragraphs.
+    """
     whole: list[tuple[list[int], list[str]]] = []
+    flowing = []
     depth, goes_on = -1, False
     for index, line in enumerate(lines):
         bare = line.lstrip(">")
         own_depth = len(line) - len(bare)
         bare = bare.removeprefix(" ")
-        if not (goes_on and own_depth == depth and bare and bare != END):
-            whole.append(([], ["> "] if own_depth else []))
+        belongs_above = goes_on and own_depth == depth and bare != END
         depth, goes_on = own_depth, bare.endswith(" ") and bare != END
+        if belongs_above and not bare:
+            flowing.append(index)
+            continue
+        if not belongs_above:
+            whole.append(([], ["> "] if own_depth else []))
         whole[-1][0].append(index)
         whole[-1][1].append(bare[:-1] if deletes_space and goes_on else bare)
-    return [(indices, texts) for indices, texts in whole if len(indices) > 1]
+    several = [(indices, texts) for indices, texts in whole if len(indices) > 1]
+    return flowing + [index for indices, _ in several for index in indices], ["".join(texts) for _, texts in several]
 
 
 # ---------------------------------------------------------------- as the book keeps it

@@ -137,7 +137,7 @@ class Part:
             return self.below
         if self.coding == "quoted-printable" and QUOTED_PRINTABLE.fullmatch(self.below):
             return binascii.a2b_qp(self.below)
-        bare = b"".join(self.below.split())
+        bare = re.sub(rb"[ \t]*(?:\r?\n|\Z)", b"", self.below)
         if self.coding == "base64" and BASE64.fullmatch(bare):
             return base64.b64decode(bare)
         self.found(Reason.AMBIGUOUS(what="content-transfer-encoding"))

@@ -170,12 +170,13 @@ def parts_of(data: bytes) -> list[tuple[bytes, bytes, bytes]]:
     has several.
     """
     start = begin_of(data)
-    lines = FROM_LINE.finditer(data, start.end()) if start[1] else ()
+    is_mailbox = start[1] is not None and parts_letters(start[1])
+    lines = FROM_LINE.finditer(data, start.end()) if is_mailbox else ()
     begins = [line.span() for line in lines if parts_letters(line[0]) and FIELD.match(data, line.end())]
     parts = []
     for (begin, letter_begin), (end, _) in zip([start.span(), *begins], [*begins, (len(data), 0)]):
         letter = data[letter_begin:end]
-        below = b"" if not start[1] else b"\n" if letter.endswith(b"\n\n") else b"\r\n" if letter.endswith(b"\n\r\n") else b""
+        below = b"" if not is_mailbox else b"\n" if letter.endswith(b"\n\n") else b"\r\n" if letter.endswith(b"\n\r\n") else b""
         parts.append((data[begin:letter_begin], letter.removesuffix(below), below))
     return parts
 
