@@ -179,10 +179,11 @@ def marks_of(line: str) -> list[str]:
 
 
 def sender_of(senders: Sequence[str]) -> str:
-    """The address of a letter that has one; else empty. A name has no line ends or the like, coded or not."""
+    """The address of a letter that has one; else empty. Its name can be decoded, and shown on one line."""
     value = senders[0].replace("\t", " ") if len(senders) == 1 else ""
-    found = SENDER.fullmatch(value) if len(value) <= MAX_FIELD and words_in(value).isprintable() else None
-    return "" if found is None else address_key(found[1] or found[2])
+    found, shown = SENDER.fullmatch(value[: MAX_FIELD + 1]), words_in(value)
+    is_plain = found is not None and len(value) <= MAX_FIELD and shown.isprintable() and "=?" not in shown
+    return address_key(found[1] or found[2]) if found is not None and is_plain else ""
 
 
 def arrival_of(received: str) -> datetime.datetime | None:
