@@ -44,10 +44,10 @@ PLAIN_STYLES |= {
 }
 # what else may be below a ballot, since it changes nothing above it; with any other mark nothing of a letter is plain
 BELOW = PLAIN - {"html", "head", "meta", "title", "body"} | frozenset(
-    "a img hr ul ol li pre h1 h2 h3 h4 h5 h6 s small big sub sup code table thead tbody tfoot tr td th".split()
+    "a img hr ul ol li pre h1 h2 h3 h4 h5 h6 s small code table thead tbody tfoot tr td th".split()
 )
 BELOW_ATTRIBUTES = PLAIN_ATTRIBUTES | frozenset(
-    "name href src alt title target rel width height border cellpadding cellspacing colspan rowspan align valign bgcolor color face size "
+    "name href src alt title target rel width height border cellpadding cellspacing colspan rowspan valign bgcolor color face size "
     "type cite".split()
 )
 BELOW_STYLES = PLAIN_STYLES | {

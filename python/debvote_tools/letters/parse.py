@@ -49,6 +49,7 @@ MESSAGE_ID = re.compile(r"<[!-;=?-~]{1,250}>")
 MARK = re.compile(r"\[([0-9a-f]{16})\]", re.IGNORECASE)
 # a time as mail servers write it, and where it is in a field Received
 TIME = r"(?:[A-Z][a-z]{2}, *)?\d{1,2} +[A-Z][a-z]{2} +20\d\d +\d{1,2}:\d\d(?::\d\d)? +(?:[+-]\d{4}|UTC?|GMT|[ECMP][SD]T)"
+CLOCK = r"(?<![:\d])\d{1,2}:\d\d:\d\d(?![:\d])"
 ARRIVED = re.compile(rf"; *({TIME})(?: *\([^();]*\))? *\Z")
 # by these fields a program says that it answers by itself, or that a letter came back
 AUTOMATIC = re.compile(
@@ -192,7 +193,7 @@ def arrival_of(received: str) -> datetime.datetime | None:
     """
     value = received.replace("\t", " ")
     found = ARRIVED.search(value) if len(value) <= MAX_FIELD else None
-    if found is None or len(re.findall(TIME, value)) > 1:
+    if found is None or len(re.findall(f"{TIME}|{CLOCK}", value)) > 1:
         return None
     try:
         arrived = email.utils.parsedate_to_datetime(found[1])

@@ -24,9 +24,9 @@ KNOWN = re.compile(
 MIN_KNOWN = 2
 
 # what editors put before the first line of a file, and the line that begins an mbox
-START = re.compile(rb"(?:%b)?[\r\n]*(From [^\r\n]{0,990}\r?\n[\r\n]*)?" % MARK)
+START = re.compile(rb"(?:%b)?[\r\n]*(From [^\r\n]*\r?\n[\r\n]*)?" % MARK)
 # lines that may begin a letter. One does in an mbox if it has the name of a day and after it a time, or is bare as Thunderbird writes it
-FROM_LINE = re.compile(rb"(?im)^>?From [^\r\n]{0,990}(?:\r?\n|\Z)")
+FROM_LINE = re.compile(rb"(?im)^>?From [^\r\n]*(?:\r?\n|\Z)")
 DATED = re.compile(rb"From (?>[^\r\n]*?\b(?:Mon|Tue|Wed|Thu|Fri|Sat|Sun),* )(?:[^\r\n]* )?\d\d?:\d\d(?::\d\d)?\s")
 BARE = re.compile(rb"From (?:- ?)?\r?\n")
 # in bytes; of the empty line that ends a file so much may be missing
