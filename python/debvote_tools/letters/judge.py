@@ -61,6 +61,11 @@ class JudgedLetter:
         above = readings.lines[: above_end(letter.body.lines)]
         self.index = next((index for index, line in enumerate(above) if line is not None), None)
         self.ballot = None if self.index is None else readings.lines[self.index]
+        self.elector = "" if self.ballot is None else self.ballot.elector
+        # the lines that read as ballots, the one that may go in first, and ranks without a name; each may be entered by its number
+        self.ballots: tuple[BallotLine, ...] = tuple(dict.fromkeys((*filter(None, [self.ballot]), *readings.ballots())))
+        self.offered = readings.offered
+        self.near: tuple[Near, ...] = () if self.ballots else readings.near
         # without `why_not_latest`, by which a letter depends on others
         self.why_by_itself = next(filter(None, (rule(self, circumstances) for rule in RULES)), None)
 
@@ -82,24 +87,6 @@ class JudgedLetter:
     def arrived_late(self) -> bool:
         ends = filter(None, (self.circumstances.end, self.circumstances.first_close))
         return any(self.parsed.arrived is not None and self.parsed.arrived > end for end in ends)
-
-    @property
-    def elector(self) -> str:
-        return "" if self.ballot is None else self.ballot.elector
-
-    @functools.cached_property
-    def ballots(self) -> tuple[BallotLine, ...]:
-        """The lines that read as ballots, the one that may go in first. Each may be entered by its number, as may those that are offered."""
-        return tuple(dict.fromkeys((*filter(None, [self.ballot]), *self.readings.ballots())))
-
-    @property
-    def offered(self) -> tuple[BallotLine, ...]:
-        """Ranks without a name, with that of the elector who seems to have sent them."""
-        return self.readings.offered
-
-    @property
-    def near(self) -> tuple[Near, ...]:
-        return () if self.ballots else self.readings.near
 
     @functools.cached_property
     def electors(self) -> tuple[str, ...]:
