@@ -269,8 +269,10 @@ def text_of(part: Part, *, is_first: bool) -> tuple[Body, list[str]]:
         body = Body(tuple(found.lines), is_html=True, plain_lines=found.plain_lines, first_other=found.first_other)
         return body, found.pieces
     lines = text.rstrip("\r\n").splitlines()
-    flows = part.parameters.get("format", "").lower() == "flowed"
-    flowing, whole = joined(lines, deletes_space=part.parameters.get("delsp", "").lower() == "yes") if flows else ([], [])
+    flow, delsp = part.parameters.get("format", "fixed").lower(), part.parameters.get("delsp", "no").lower()
+    if flow not in ("fixed", "flowed") or delsp not in ("no", "yes"):
+        part.found(Reason.AMBIGUOUS(what="content-type"))
+    flowing, whole = joined(lines, deletes_space=delsp == "yes") if flow == "flowed" else ([], [])
     # some other kinds are HTML, too
     return Body(tuple(lines), tuple(flowing)), [*whole, *found.lines, *found.pieces]
 

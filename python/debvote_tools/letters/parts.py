@@ -22,8 +22,8 @@ MAX_PARTS, MAX_DEPTH, MAX_OF_PART = 100, 12, 4_096
 END_OF_HEAD = re.compile(rb"(?:\A|\n)\r?\n")
 LONE_RETURN = re.compile(rb"\r(?!\n)")
 FIELD = re.compile(rb"(?m)^([!-9;-~]+)[ \t]*:([^\n]*(?:\n[ \t][^\n]*)*)")
-# fields and nothing else. None goes on in a line of blanks, which ends the head in some programs
-PLAIN_HEAD = re.compile(rb"(?:[!-9;-~]++:[^\r\n]*+(?:\r?\n[ \t]++[^ \t\r\n][^\r\n]*+)*\r?(?:\n|\Z))*")
+# fields and nothing else, without control characters. None goes on in a line of blanks, which ends the head in some programs
+PLAIN_HEAD = re.compile(rb"(?:[!-9;-~]++:[\t -~\x80-\xff]*+(?:\r?\n[ \t]++[!-~\x80-\xff][\t -~\x80-\xff]*+)*\r?(?:\n|\Z))*")
 
 # the description of a part, each field once; of its parameters only a name may be coded or in pieces. No text matches in two ways, or
 # the time to find that it does not match at all would double with each parameter
