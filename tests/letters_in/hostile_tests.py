@@ -51,6 +51,10 @@ class Bombs(unittest.TestCase):
             "100,000 parts of a coded boundary": letter("ada", "--b\n\nx\n" * 100_000 + "--b--\n", kind="multipart/mixed; boundary*=utf-8''%62"),
             "40 parts within each other, and carriage returns": letter("ada", nested(40) + "\r" * 3_000_000, kind="multipart/mixed; boundary=b0"),
             "20 parts in a charset that takes long": letter("ada", f"--b\nContent-Type: text/plain; charset=punycode\n\n{'a' * 260_000}\n" * 20 + "--b--\n", kind=MIXED),
+            "blanks in base64": letter("ada", f"A{' ' * 250_000}A", head="Content-Transfer-Encoding: base64\n"),
+            "quotations and words in turns": letter("ada", "> a\n\nb\n\n" * 28_000 + BALLOT),
+            "flowing lines and empty ones": letter("ada", "a \n\n" * 60_000 + BALLOT, kind="text/plain; format=flowed"),
+            "cells without end": letter("ada", f"<p>{BALLOT}</p>" + "<table><tr><td>x" * 15_000, kind="text/html; x=y; z"),
             "40 parts of HTML": letter("ada", f"--b\nContent-Type: text/html\n\n{'<p>ada 1,1,1,1</p>' * 14_000}\n" * 40 + "--b--\n", kind=MIXED),
             "60,000 accents on one letter": letter("ada", f"a{chr(0x301) * 60_000}{chr(0x316) * 60_000}\n{BALLOT}\n"),
             **{

@@ -38,6 +38,7 @@ BOUNDARY = re.compile(r"[\w'()+,./:=? -]{0,69}[\w'()+,./:=?-]", re.ASCII)
 
 AS_IT_STANDS = ("", "7bit", "8bit", "binary")
 QUOTED_PRINTABLE = re.compile(rb"[^=]*+(?:=(?:[0-9A-Fa-f]{2}|\r?(?:\n|\Z))[^=]*+)*")
+LINE_END = re.compile(rb"(?<![ \t])[ \t]*+(?:\r?\n|\Z)")
 BASE64 = re.compile(rb"(?:[A-Za-z0-9+/]{4})*(?:[A-Za-z0-9+/]{2}==|[A-Za-z0-9+/]{3}=)?")
 
 
@@ -137,7 +138,7 @@ class Part:
             return self.below
         if self.coding == "quoted-printable" and QUOTED_PRINTABLE.fullmatch(self.below):
             return binascii.a2b_qp(self.below)
-        bare = re.sub(rb"[ \t]*(?:\r?\n|\Z)", b"", self.below)
+        bare = LINE_END.sub(b"", self.below)
         if self.coding == "base64" and BASE64.fullmatch(bare):
             return base64.b64decode(bare)
         self.found(Reason.AMBIGUOUS(what="content-transfer-encoding"))
