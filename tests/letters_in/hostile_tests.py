@@ -61,7 +61,7 @@ class Bombs(unittest.TestCase):
                 f"marks without end: {text[:8]}": letter("ada", text, kind="text/html")
                 for text in ("<" * 250_000, "<!--" * 60_000, "<![" * 60_000, "<a " * 60_000, "<p " + "a" * 200_000, "<div>" * 50_000, "&" * 250_000,
                              "<p style='" + "margin:0 " * 20_000 + "'>", "<p" + " a=b" * 50_000 + ">", "<p " + "a=' " * 50_000, "<blockquote>" * 20_000,
-                             "<b" + " " * 250_000 + "!>", "<i a" + " " * 250_000 + "!>", "<u a=" + " " * 250_000 + "!>")
+                             "&#" + "9" * 250_000, "<p dir='&#" + "0" * 250_000 + "'>", "<!-- &#" + "9" * 250_000, "<b" + " " * 250_000 + "!>", "<i a" + " " * 250_000 + "!>", "<u a=" + " " * 250_000 + "!>")
             },
             "lines that are near to ballots": letter("ada", "\n".join(f"I vote ada 1,{number % 90},3 or not" for number in range(4_900))),
             "a line of names": letter("ada", "ada " * 60_000 + "1,2"),
