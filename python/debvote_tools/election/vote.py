@@ -4,14 +4,14 @@ import collections
 import dataclasses
 import functools
 import re
-from collections.abc import Sequence
+from collections.abc import Iterator, Sequence
 from typing import NamedTuple
 
 from debvote_tools.debvote import Debvote, Finding
 from debvote_tools.election.election import Election
 from debvote_tools.election.history import History
 from debvote_tools.faults import other_format
-from debvote_tools.files import LINES_LIMIT
+from debvote_tools.files import BALLOTS_LIMIT, LINES_LIMIT
 from debvote_tools.lines import Line, ballot_file
 
 # what debvote adds to a finding if names on the roll are near
@@ -86,8 +86,7 @@ class Vote:
     def answers(self, lines: Sequence[bytes]) -> dict[bytes, str | None]:
         """What debvote says of each line, as `bad rank count: ..`; None of a valid ballot. It is asked about so many at once as it takes."""
         answers: dict[bytes, str | None] = dict.fromkeys(lines)
-        for start in range(0, len(lines), LINES_LIMIT):
-            part = lines[start : start + LINES_LIMIT]
+        for part in parts_of(lines):
             answers |= {part[index]: f"{finding.word}: {finding.hint}" for index, finding in self.findings(part).items()}
         return answers
 
@@ -128,6 +127,19 @@ class Vote:
     def standing(self, lines: Sequence[bytes]) -> dict[str, str]:
         """The ranks of the ballots that stand if these lines are all, by elector. Without lines debvote is not asked."""
         return self.debvote.standing(self.poll_bytes, ballot_file(lines)) if lines else {}
+
+
+def parts_of(lines: Sequence[bytes]) -> Iterator[list[bytes]]:
+    """Lines in parts, each of as many as debvote takes at once."""
+    part: list[bytes] = []
+    size = 0
+    for line in lines:
+        if len(part) == LINES_LIMIT or size + len(line) + 1 > BALLOTS_LIMIT:
+            yield part
+            part, size = [], 0
+        part.append(line)
+        size += len(line) + 1
+    yield part
 
 
 def bare_name(name: str) -> str:
