@@ -79,7 +79,7 @@ def read_html(text: str) -> "HtmlText":
         if token["text"] is not None:
             reader.read_text(token["text"])
         elif reader.holder and not (token["end"] and token["tag"].lower() == reader.holder):
-            reader.read_text(token[0])
+            reader.read_declaration(token[0])
         elif token["other"] is not None:
             reader.read_declaration(token["other"])
         elif token["end"]:
@@ -160,7 +160,9 @@ class HtmlText:
             self.holder = ""
 
     def read_declaration(self, text: str) -> None:
-        """A comment or a declaration comes. A comment may be shown by some programs."""
+        """A comment or a declaration comes, or a mark in a title, where it is none. Some programs show a comment, and in such a mark the title may
+        end.
+        """
         if not DOCTYPE.fullmatch(text) or self.lines or self.parts:
             self.found_other(text, may_be_below=False)
         self.pieces += re.split(r"(?:[\n\r<>]|!?--|!)+", unescaped(text))
