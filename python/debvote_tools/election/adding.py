@@ -8,9 +8,9 @@
 import collections
 import contextlib
 import dataclasses
+import itertools
 import re
 from collections.abc import Iterator, Sequence
-from typing import NamedTuple
 
 from debvote_tools.arguments import flag, option, positional
 from debvote_tools.book import queries
@@ -22,15 +22,14 @@ from debvote_tools.election import acting, in_time
 from debvote_tools.election.vote import JudgedLine, Vote
 from debvote_tools.election.line_words import LineWords, summary
 from debvote_tools.election.came import NOTHING_ADDED, CameFile
-from debvote_tools.election.came_before import NewAndRepeated, sorted_out
+from debvote_tools.election.came_before import FileLines, sorted_out
 from debvote_tools.election.csv_ballots import Columns, lines_of_table
-from debvote_tools.election.election import Election, is_signed
+from debvote_tools.election.election import Election
 from debvote_tools.election.entering import LATE_REPLY, entered, is_too_long, long_words
 from debvote_tools.election.history import History
-from debvote_tools.election.in_time import Openness, openness_of
 from debvote_tools.election.reporting import count_of
 from debvote_tools.faults import Fault, Status, stop_at
-from debvote_tools.lines import MARK, Line, lines_in
+from debvote_tools.lines import MARK, lines_in
 from debvote_tools.terminal_text import shown_line
 
 FORCE = "add it all the same with --force"
@@ -67,36 +66,24 @@ class Arguments(in_time.Arguments):
     force: bool = flag("Add them although few lines are ballots, one is very long, or an older ballot would replace a later one")
 
 
-class FileLines(NamedTuple):
-    """A file and its lines, in the order in which they are entered."""
-
-    came: CameFile
-    lines: tuple[JudgedLine, ...]
-    empty: tuple[Line, ...]
-
-
 @dataclasses.dataclass(frozen=True)
 class Plan:
     """Which lines would be entered, by the book as it is now."""
 
     decided_at: int = dataclasses.field(compare=False)
-    openness: Openness
-    # whether letters have to be signed, and whether the call says that an empty cell is a hyphen
-    is_signed: bool
-    has_form: bool
-    files: tuple[tuple[FileLines, NewAndRepeated], ...]
+    openness: History
+    files: tuple[FileLines, ...]
 
     @property
     def new_lines(self) -> list[JudgedLine]:
         """The lines of all files that go in."""
-        return [line for _, found in self.files for line in found.new]
+        return [line for file in self.files for line in file.new]
 
     def envelopes(self, act: NewAct) -> Iterator[NewEnvelope]:
         """What goes in, while the act is written: each file is kept whole before its lines."""
-        for file, found in self.files:
+        for file in self.files:
             source = queries.keep_source(act, file.came.kept_name, file.came.data)
-            for line in found.new:
-                yield NewEnvelope(line.as_entered, line.line.place, source)
+            yield from (NewEnvelope(line.as_entered, line.line.place, source) for line in file.new)
 
 
 def doubt(where: object, words: str, cure: str) -> Fault:
@@ -113,12 +100,11 @@ def read_lines(vote: Vote, files: Sequence[CameFile], columns: Columns | None, a
     stop_at([doubt(file.name, what, "write a ballot a line into it") for file in empty])
     if arguments.newest_first:
         lists = [lines[::-1] for lines in lists]
-    filled = [[line for line in lines if not line.is_empty] for lines in lists]
-    read = vote.read([line for lines in filled for line in lines])
+    read = iter(vote.read([line for lines in lists for line in lines if not line.is_empty]))
     found = []
-    for file, lines, own in zip(files, lists, filled):
-        found.append(FileLines(file, tuple(read[: len(own)]), tuple(line for line in lines if line.is_empty)))
-        read = read[len(own) :]
+    for file, lines in zip(files, lists):
+        empty_lines = tuple(line for line in lines if line.is_empty)
+        found.append(FileLines(file, tuple(itertools.islice(read, len(lines) - len(empty_lines))), empty_lines))
     return found
 
 
@@ -126,21 +112,20 @@ def read_lines(vote: Vote, files: Sequence[CameFile], columns: Columns | None, a
 def plan_of(book: Book, vote: Vote, files: Sequence[FileLines], arguments: Arguments) -> Plan:
     """Which lines would be entered now."""
     history = History(book.acts())
-    openness = openness_of(history)
+    openness = history.openness()
     if openness.call != vote.call:
         raise doubt(None, "the vote was called anew meanwhile", "run the command again")
-    found = sorted_out(book, [file.lines for file in files], takes_again=arguments.again, is_reopened=openness.is_reopened)
-    has_form, signed = bool(history.announced("form")), is_signed(book, vote.call)
-    return Plan(history.last.number, openness, signed, has_form, tuple(zip(files, found)))
+    found = sorted_out(book, files, takes_again=arguments.again, is_reopened=openness.is_reopened)
+    return Plan(history.last.number, openness, found)
 
 
 def demand_nothing_against(vote: Vote, plan: Plan, arguments: Arguments) -> None:
     """Stops at what a person has to look at first; all of it is said at once."""
     faults = list(orders_missing(plan)) if is_unsorted(arguments) else []
-    if plan.new_lines and plan.is_signed and not (arguments.force and acting.has_reason(arguments.because)):
+    if plan.new_lines and vote.is_signed and not (arguments.force and acting.has_reason(arguments.because)):
         words = "letters have to be signed in this vote, and nothing says who has sent a line of a file"
         cure = "add the letters themselves; or, if you know by other means who has sent each line, give --force --because TEXT"
-        faults.append(doubt(plan.files[0][0].came.name, words, cure))
+        faults.append(doubt(plan.files[0].came.name, words, cure))
     if not arguments.force:
         faults += doubts(vote, plan, arguments)
     stop_at(faults)
@@ -153,8 +138,8 @@ def is_unsorted(arguments: Arguments) -> bool:
 
 def orders_missing(plan: Plan) -> Iterator[Fault]:
     """Tables that have two ballots of one elector which differ, one of them new at least: nobody has said which one is newer."""
-    for file, found in plan.files:
-        new = {line.line.place for line in found.new}
+    for file in plan.files:
+        new = {line.line.place for line in file.new}
         pair = next((pair for pair in pairs_that_differ(file) if any(line.line.place in new for line in pair)), None)
         if pair is not None:
             rows = " and ".join(map(place_in, pair))
@@ -171,9 +156,9 @@ def pairs_that_differ(file: FileLines) -> Iterator[tuple[JudgedLine, JudgedLine]
             above[line.voter].append(line)
 
 
-def new_one_above(file: FileLines, found: NewAndRepeated) -> tuple[JudgedLine, JudgedLine] | None:
+def new_one_above(file: FileLines) -> tuple[JudgedLine, JudgedLine] | None:
     """A new ballot and one below it that came before, of one elector, which differ. By this order the new one is older, and would count."""
-    new = {line.line.place for line in found.new} if found.repeated else set()
+    new = {line.line.place for line in file.new} if file.repeated else set()
     above: dict[str, JudgedLine] = {}
     for line in file.lines if new else ():
         if line.is_ballot and line.line.place in new:
@@ -191,19 +176,19 @@ def place_in(line: JudgedLine) -> str:
 
 def doubts(vote: Vote, plan: Plan, arguments: Arguments) -> Iterator[Fault]:
     """What stops without --force."""
-    for _, found in plan.files:
-        for line in [line.line for line in found.new if is_too_long(line.line)][:1]:
+    for file in plan.files:
+        for line in [line.line for line in file.new if is_too_long(line.line)][:1]:
             yield doubt(line.where, long_words(line), f"take out what is no ballot, or {FORCE}")
-    for file in with_few_ballots([file for file, found in plan.files if found.new]):
+    for file in with_few_ballots([file for file in plan.files if file.new]):
         tell_others(vote, file)
         yield few_ballots(file, arguments)
-    for file, found in plan.files:
-        older = None if is_unsorted(arguments) else new_one_above(file, found)
+    for file in plan.files:
+        older = None if is_unsorted(arguments) else new_one_above(file)
         if older is not None:
             places = [place_in(line) for line in older]
             words = f"{places[0]} has an older ballot of {older[0].voter} than {places[1]}, which came before, and would replace it"
             yield doubt(file.came.name, words, f"take the older one out, or {FORCE}")
-    if plan.new_lines and arguments.blank_is_unranked and not plan.has_form:
+    if plan.new_lines and arguments.blank_is_unranked and not vote.has_form:
         words = "the call does not say that an empty cell is a hyphen, so an elector may have meant otherwise"
         cure = f"ask the electors whose rows have empty cells; if they were told otherwise, {FORCE}"
         yield doubt("--blank-is-unranked", words, cure)
@@ -285,7 +270,7 @@ def add(election: Election, book: Book, vote: Vote, files: Sequence[FileLines], 
                 book,
                 vote,
                 "add",
-                detail_of(plan, arguments, came_before_close),
+                detail_of(vote, plan, arguments, came_before_close),
                 plan.envelopes,
                 decided_at=plan.decided_at,
                 is_late=plan.openness.is_late(came_before_close),
@@ -297,17 +282,17 @@ def add(election: Election, book: Book, vote: Vote, files: Sequence[FileLines], 
             return plan
 
 
-def detail_of(plan: Plan, arguments: Arguments, came_before_close: bool | None) -> Detail:
+def detail_of(vote: Vote, plan: Plan, arguments: Arguments, came_before_close: bool | None) -> Detail:
     detail: Detail = {
-        "files": [file.came.kept_name for file, _ in plan.files],
+        "files": [file.came.kept_name for file in plan.files],
         "lines": len(plan.new_lines),
-        "passed_over": sum(len(found.repeated) for _, found in plan.files),
+        "passed_over": sum(len(file.repeated) for file in plan.files),
     }
-    if again := [number for _, found in plan.files for number in found.again]:
+    if again := [number for file in plan.files for number in file.again]:
         detail["again"] = again
     if came_before_close is not None:
         detail["came_before_close"] = came_before_close
-    if plan.is_signed:
+    if vote.is_signed:
         detail.update({"unsigned": True, "because": acting.demand_reason(arguments.because, "--force")})
     return detail
 
@@ -338,22 +323,22 @@ def report(
     if numbers:
         what = "what is added" if is_entered else "what would be added"
         yield from in_time.notes(election, plan.openness, what)
-    for file, found in plan.files:
+    for file in plan.files:
         yield from (f"{line.where}: it is empty, and was left out" for line in file.empty)
-        yield from repeated_words(file, found)
+        yield from repeated_words(file)
     yield from LineWords(vote).report(plan.new_lines, numbers, replies, is_entered=is_entered)
-    for file, found in plan.files:
-        yield from duplicate_words(file, found.new)
+    for file in plan.files:
+        yield from duplicate_words(file)
 
 
-def repeated_words(file: FileLines, found: NewAndRepeated) -> Iterator[str]:
+def repeated_words(file: FileLines) -> Iterator[str]:
     """The lines of a file that came before, in words."""
-    if not found.repeated:
+    if not file.repeated:
         return
-    ignored = "is ignored, since it came before" if len(found.repeated) == 1 else "are ignored, since they came before"
-    new = f"{len(found.new)} {'is' if len(found.new) == 1 else 'are'} new"
-    yield f"{file.came.name}: {count_of(len(found.repeated), 'line')} {ignored}; {new}"
-    changed = [repeated for repeated in found.repeated if repeated.change is not None]
+    ignored = "is ignored, since it came before" if len(file.repeated) == 1 else "are ignored, since they came before"
+    new = f"{len(file.new)} {'is' if len(file.new) == 1 else 'are'} new"
+    yield f"{file.came.name}: {count_of(len(file.repeated), 'line')} {ignored}; {new}"
+    changed = [repeated for repeated in file.repeated if repeated.change is not None]
     for repeated in changed[:MAX_REPEATED]:
         line = repeated.line
         yield f"  {line.line.where}: `{shown_line(line.as_entered)}` came before, and {repeated.change}; --again enters it again"
@@ -361,13 +346,13 @@ def repeated_words(file: FileLines, found: NewAndRepeated) -> Iterator[str]:
         yield f"  and {len(changed) - MAX_REPEATED} more that --again enters again"
 
 
-def duplicate_words(file: FileLines, lines: Sequence[JudgedLine]) -> Iterator[str]:
+def duplicate_words(file: FileLines) -> Iterator[str]:
     """The electors of whom a file has several new ballots, in words."""
-    by_name: dict[bytes, list[str]] = collections.defaultdict(list)
-    for line in lines:
-        if line.finding is None:
-            by_name[line.as_entered.partition(b" ")[0]].append(line.line.place)
+    by_name: dict[str, list[str]] = collections.defaultdict(list)
+    for line in file.new:
+        if line.is_ballot:
+            by_name[line.voter].append(line.line.place)
     for name, places in by_name.items():
         if len(places) > 1:
             listed = ", ".join(place.lstrip(": ") for place in places[:5]) + (", .." if places[5:] else "")
-            yield f"Note: {file.came.name} has {len(places)} ballots of {name.decode()} ({listed}); the last one counts."
+            yield f"Note: {file.came.name} has {len(places)} ballots of {name} ({listed}); the last one counts."

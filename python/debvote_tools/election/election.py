@@ -36,11 +36,6 @@ class Sealed(NamedTuple):
         return self.public != self.counted
 
 
-def is_signed(book: Book, call: int) -> bool:
-    """Whether letters have to be signed: the act of the call, or a later one, has sealed a keyring."""
-    return queries.last_act_that_sealed(book, KEYRING) >= call
-
-
 class Election:
     """An election in a folder. What it says of the book is read anew each time, since others may work on it."""
 

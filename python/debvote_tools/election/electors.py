@@ -1,7 +1,8 @@
 """The electors: from the list of members, and from those whom the book knows already, to the roll."""
 
 import collections
-from collections.abc import Callable, Hashable, Iterable, Sequence
+import itertools
+from collections.abc import Callable, Hashable, Iterable, Iterator, Sequence
 from typing import NamedTuple, TypeVar
 
 from debvote_tools.addresses import address_key
@@ -61,8 +62,8 @@ def roll_of(members: Members, known: Sequence[Elector], language: str, *, is_cal
     gone = [elector for elector in known if elector.position is not None and elector.number not in numbers]
     faults = list(members.faults)
     if electors:
-        faults += [*faults_of_people(members, electors), *faults_of_names(members, electors)]
-        faults += faults_after_call(members, electors, gone) if is_called else []
+        found = [*faults_of_people(members.rows, electors), *(faults_after_call(electors, gone) if is_called else ())]
+        faults += [bad_list(members.file, reason, cure, line) for line, reason, cure in found]
     if is_called:
         order = {elector.number: index for index, elector in enumerate(known)}
         electors.sort(key=lambda elector: order[elector.known.number] if elector.known else len(order))
@@ -77,14 +78,13 @@ def with_known(rows: Sequence[Member], known: Sequence[Elector]) -> list[Member]
     """
     found: dict[int, Elector] = {}
     last = [elector for elector in known if elector.position is not None]
-    for form in SAME_PERSON:
-        for candidates in (last, known):
-            numbers = {elector.number for elector in found.values()}
-            rows_by_form = grouped((row for row in rows if row.line not in found), form)
-            for text, electors in grouped((elector for elector in candidates if elector.number not in numbers), form).items():
-                fitting = rows_by_form.get(text, [])
-                if text and len(fitting) == len(electors) == 1:
-                    found[fitting[0].line] = electors[0]
+    for form, candidates in itertools.product(SAME_PERSON, (last, known)):
+        numbers = {elector.number for elector in found.values()}
+        rows_by_form = grouped((row for row in rows if row.line not in found), form)
+        for text, electors in grouped((elector for elector in candidates if elector.number not in numbers), form).items():
+            fitting = rows_by_form.get(text, [])
+            if text and len(fitting) == len(electors) == 1:
+                found[fitting[0].line] = electors[0]
     named = ((row, found.get(row.line)) for row in rows)
     return [row._replace(name=row.name or (elector.name if elector else ""), known=elector) for row, elector in named]
 
@@ -103,9 +103,15 @@ def several(entries: Iterable[Entry], form: Callable[[Entry], Hashable]) -> list
 
 
 def with_proposals(electors: Sequence[Member], known: Sequence[Elector], language: str) -> list[Member]:
-    """The electors, each with a name; who can't get one keeps an empty name."""
-    bases = {elector.line: proposal_base(elector, language) for elector in electors if not elector.name}
-    bases = {line: base for line, base in bases.items() if base}
+    """The electors, each with a name: from who it is, or else from what is before the @ of an address. Who can't get a name so keeps an
+    empty name.
+    """
+    bases = {}
+    for elector in electors:
+        mails = (address.partition("@")[0] for address in elector.addresses)
+        proposals = (elector_name(text, language) for text in (elector.who, *mails) if not elector.name)
+        if base := next(filter(None, proposals), None):
+            bases[elector.line] = base
     taken = [*(elector.name for elector in electors if elector.name), *(elector.name for elector in known)]
     names = dict(zip(bases, made_different(list(bases.values()), taken, ELECTOR_LIMIT, "-")))
     return [
@@ -113,68 +119,52 @@ def with_proposals(electors: Sequence[Member], known: Sequence[Elector], languag
     ]
 
 
-def proposal_base(elector: Member, language: str) -> str:
-    """A name from who it is, or else from what is before the @ of an address."""
-    mails = (address.partition("@")[0] for address in elector.addresses)
-    return next(filter(None, (elector_name(text, language) for text in (elector.who, *mails))), "")
-
-
-# ---------------------------------------------------------------- what is wrong
-def faults_of_people(members: Members, electors: Sequence[Member]) -> list[Fault]:
-    """Members of whom nobody knows which name is whose: two with one `who`, and a row with the name of another member."""
-    faults = []
-    given = {row.line: row.name for row in members.rows}
+# ---------------------------------------------------------------- what is wrong: the line, the reason and the cure
+def faults_of_people(rows: Sequence[Member], electors: Sequence[Member]) -> Iterator[tuple[int | None, str, str]]:
+    """Members of whom nobody knows which name is whose, and names and keys that are missing or that several have."""
+    given = {row.line: row.name for row in rows}
     by_who = grouped(electors, lambda elector: elector.who)
     for who, group in by_who.items():
         nameless = [elector.line for elector in group if not given[elector.line]]
         if who and len(group) > 1 and nameless:
             reason = f"{lines_in_words(group)} have the same `who`: {shown_text(group[0].who)}"
-            cure = "give each a name of their own under `name`, or take a line out if it is one person"
-            faults.append(bad_list(members.file, reason, cure, nameless[0]))
+            yield nameless[0], reason, "give each a name of their own under `name`, or take a line out if it is one person"
     for elector in electors:
         known = elector.known
         if known is not None and known.name == elector.name and known.who not in ("", elector.who):
             for owner in by_who.get(known.who, [])[:1]:
                 reason = f"`{elector.name}` is the name of {shown_text(owner.who)} (line {owner.line}) already"
-                faults.append(bad_list(members.file, reason, "write another name", elector.line))
-    return faults
-
-
-def faults_of_names(members: Members, electors: Sequence[Member]) -> list[Fault]:
-    """Names and keys that are missing, or that several have."""
-    faults = []
+                yield elector.line, reason, "write another name"
     for elector in electors:
         if not elector.name and elector.who:
-            reason = f"no name can be made from {shown_text(elector.who)} or an address"
-            faults.append(bad_list(members.file, reason, "write one under `name`", elector.line))
+            yield elector.line, f"no name can be made from {shown_text(elector.who)} or an address", "write one under `name`"
     for group in several(electors, lambda elector: elector.name):
         reason = f"{lines_in_words(group)} have the same name: {shown_text(group[0].name)}"
-        faults.append(bad_list(members.file, reason, "give each another one, or take a line out", group[1].line))
+        yield group[1].line, reason, "give each another one, or take a line out"
     for group in several(electors, lambda elector: elector.key):
-        reason = f"{lines_in_words(group)} have the same key"
-        faults.append(bad_list(members.file, reason, "leave it to the member who has it", group[1].line))
+        yield group[1].line, f"{lines_in_words(group)} have the same key", "leave it to the member who has it"
     if len(electors) > ROLL_LIMIT:
-        faults.append(bad_list(members.file, f"it has {len(electors)} members, {ROLL_LIMIT} are the most", "take some out"))
-    return faults
+        yield None, f"it has {len(electors)} members, {ROLL_LIMIT} are the most", "take some out"
 
 
-def faults_after_call(members: Members, electors: Sequence[Member], gone: Sequence[Elector]) -> list[Fault]:
+def faults_after_call(electors: Sequence[Member], gone: Sequence[Elector]) -> Iterator[tuple[int | None, str, str]]:
     """People who are not as the call has them."""
     reasons = [("is missing", [f"{elector.name} ({shown_text(elector.who)})" for elector in gone])]
     reasons.append(("is new", [f"{elector.label} on line {elector.line}" for elector in electors if elector.is_new]))
     for elector in electors:
         before = [shown_text(pair[0]) for what, pair in elector.changes.items() if what in ("name", "who")]
         reasons += [(f"was {text}", [f"{elector.label} on line {elector.line}"]) for text in before]
-    cure = "put the list back as it was: after the call addresses and keys alone may change"
-    return [bad_list(members.file, f"{named_in_words(people)} {words}", cure) for words, people in reasons if people]
+    for words, people in reasons:
+        if people:
+            cure = "put the list back as it was: after the call addresses and keys alone may change"
+            yield None, f"{named_in_words(people)} {words}", cure
 
 
 def lines_in_words(electors: Sequence[Member]) -> str:
-    return f"lines {named_in_words(str(elector.line) for elector in electors)}"
+    return f"lines {named_in_words([str(elector.line) for elector in electors])}"
 
 
-def named_in_words(names: Iterable[str]) -> str:
+def named_in_words(names: Sequence[str]) -> str:
     """Names as they are in a sentence; of many the first."""
-    listed = list(names)
-    more = [f"{len(listed) - NAMED_LIMIT} more"] if len(listed) > NAMED_LIMIT else []
-    return ENGLISH.joined([*listed[:NAMED_LIMIT], *more])
+    more = [f"{len(names) - NAMED_LIMIT} more"] if len(names) > NAMED_LIMIT else []
+    return ENGLISH.joined([*names[:NAMED_LIMIT], *more])

@@ -78,8 +78,16 @@ class History:
 
     @property
     def is_reopened(self) -> bool:
-        """Whether the vote was closed once and is open again."""
+        """Whether the vote was closed once and is open again: then only what came before the first close is in time."""
         return bool(self.closes) and not self.is_closed
+
+    def is_late(self, came_before_close: bool | None) -> bool:
+        """Whether lines that are entered now are late, by the answer of whoever enters them."""
+        return self.is_closed or (self.is_reopened and not came_before_close)
+
+    def openness(self) -> "History":
+        """The acts on which it depends whether the vote is open, and until when."""
+        return History(self.named("call", "take back", "extend", "close", "reopen"))
 
     @property
     def stage(self) -> Stage:

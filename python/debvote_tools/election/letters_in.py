@@ -18,10 +18,9 @@ from debvote_tools.book.letters import KeptLetter
 from debvote_tools.book.queries import NewEnvelope
 from debvote_tools.election.vote import Vote, vote_of
 from debvote_tools.election.came import NOTHING_ADDED, CameFile, safe
-from debvote_tools.election.election import KEYRING, Election, is_signed
+from debvote_tools.election.election import KEYRING, Election
 from debvote_tools.election.entering import Entered, entered
 from debvote_tools.election.history import History
-from debvote_tools.election.in_time import openness_of
 from debvote_tools.faults import Fault, Status
 from debvote_tools.files import sha256_of
 from debvote_tools.letters.judge import Ballot, Circumstances, Decision, JudgedLetter, Outcome, judge_all
@@ -59,10 +58,7 @@ def parsed(election: Election, raws: Sequence[RawLetter]) -> list[ParsedLetter]:
 
 def keyring_of(election: Election) -> bytes | None:
     """The keyring that holds; None if letters need no signature."""
-    call = election.history().call
-    if call is None or not is_signed(election.book, call.number):
-        return None
-    return queries.sealed(election.book, KEYRING)
+    return queries.sealed(election.book, KEYRING) if election.history().announced("signed") else None
 
 
 def new_of(election: Election, raws: Sequence[RawLetter]) -> tuple[list[RawLetter], list[ParsedLetter]]:
@@ -96,15 +92,6 @@ def keep(book: Book, raws: Sequence[RawLetter], found: Sequence[ParsedLetter]) -
 
 
 # ---------------------------------------------------------------- how they are judged
-def waiting_now(election: Election, history: History) -> list[JudgedLetter]:
-    """The letters that wait for the secretary."""
-    kept = letters.letters(election.book)
-    # where letters have to be signed, what was signed says which are copies, which the book may not have known when they came
-    if keyring_of(election) is None:
-        kept = letters.undecided(kept)
-    return [letter for letter in judged(election, history, kept) if letter.waits]
-
-
 def judged(
     election: Election, history: History, kept: Sequence[KeptLetter], looked_at: Sequence[ParsedLetter] = ()
 ) -> list[JudgedLetter]:
@@ -215,6 +202,5 @@ def new_envelope(letter: JudgedLetter, line: BallotLine) -> NewEnvelope:
 
 def is_late(history: History, letter: JudgedLetter) -> bool:
     """Whether what is entered of a letter now is late: the vote is closed, or was reopened for what had arrived before the first close."""
-    arrived, openness = letter.parsed.arrived, openness_of(history)
-    first_close = openness.first_close
-    return openness.is_late(arrived is not None and first_close is not None and arrived <= first_close)
+    arrived, closes = letter.parsed.arrived, history.closes
+    return history.is_late(arrived is not None and bool(closes) and arrived <= closes[0].time)

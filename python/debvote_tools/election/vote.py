@@ -7,6 +7,7 @@ import re
 from collections.abc import Sequence
 from typing import NamedTuple
 
+from debvote_tools.book.book import DoneAct
 from debvote_tools.debvote import Debvote, Finding
 from debvote_tools.election.election import Election
 from debvote_tools.election.history import History
@@ -48,14 +49,18 @@ class Vote:
     """The vote that lines are entered for: its poll as ballots are counted by it, and debvote."""
 
     debvote: Debvote
-    # the number of the act that called it
-    call: int
+    # the act that called it
+    call: DoneAct
     poll_bytes: bytes
     # what people read as the names of all options, the default last
     option_names: tuple[str, ...]
     roll: tuple[str, ...]
     # the roll has codes: none is printed that was not typed
     has_codes: bool
+    # letters have to be signed
+    is_signed: bool
+    # the call says that an empty cell of a web form is a hyphen
+    has_form: bool
 
     @functools.cached_property
     def names_on_roll(self) -> frozenset[str]:
@@ -138,4 +143,5 @@ def bare_name(name: str) -> str:
 def vote_of(election: Election, history: History) -> Vote:
     """The vote as it was called. Stops before the call."""
     call, poll = election.called(history), election.sealed().counted
-    return Vote(election.debvote, call.number, poll.as_bytes(), poll.names, poll.roll, bool(history.announced("codes_on_roll")))
+    has_codes, is_signed, has_form = (bool(history.announced(key)) for key in ("codes_on_roll", "signed", "form"))
+    return Vote(election.debvote, call, poll.as_bytes(), poll.names, poll.roll, has_codes, is_signed, has_form)
