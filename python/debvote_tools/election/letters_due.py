@@ -1,10 +1,9 @@
 """Which letters of a kind are due, and what each says: those that were written before and wait for the server, and new ones."""
 
 import datetime
-from collections.abc import Callable, Iterable, Mapping, Sequence
+from collections.abc import Callable, Iterable, Sequence
 
 from debvote_tools.book import lines_by_act, queries, sent
-from debvote_tools.book.book import DoneAct
 from debvote_tools.book.queries import Elector
 from debvote_tools.book.sent import BEGUN, POSTPONED, REFUSED, TAKEN, WRITTEN, About, SentLetter
 from debvote_tools.call.data import is_mail_address
@@ -15,9 +14,9 @@ from debvote_tools.election.call_now import current_data
 from debvote_tools.election.election import Election
 from debvote_tools.election.history import History
 from debvote_tools.election.publication import Words, chronicle_of, last_publication
-from debvote_tools.election.what_came import waits_of, what_came
+from debvote_tools.election.what_came import what_came
 from debvote_tools.faults import Fault, Status
-from debvote_tools.letters_out.compose import Came, Composer, Kind
+from debvote_tools.letters_out.compose import Became, Came, Composer, Kind
 from debvote_tools.letters_out.message import new_message_id
 from debvote_tools.lines import ballot_file
 from debvote_tools.publish.casting_vote import told_if_it_decides
@@ -66,7 +65,7 @@ class LettersDue:
     @property
     def waiting(self) -> list[SentLetter]:
         """The letters that a server can take now."""
-        return [one for one in (*self.written, *self.new) if one.address and one.state in (WRITTEN, POSTPONED)]
+        return list(filter(can_be_sent, (*self.written, *self.new)))
 
     @property
     def cut_off(self) -> list[SentLetter]:
@@ -98,31 +97,26 @@ class LettersDue:
         return self.to_each(acts[-1].number, text_of)
 
     def reminders(self) -> Plan:
-        """A letter to each elector without a ballot that stands. A run of this day that was cut off goes on; else each run is a new one."""
+        """A letter to each elector whose ballot does not count yet. A run of this day that was cut off goes on; else each run is a new one."""
         self.demand_not_over()
         came = what_came(self.election, self.history, is_over=False)
-        silent = {number: elector for number, elector in self.electors.items() if elector.name not in came.standing}
+        voted = {number for number, items in came.items() if any(one.became is Became.COUNTS for one in items)}
+        silent = {number: elector for number, elector in self.electors.items() if number not in voted}
         last = max((letter.for_act for letter in self.letters), default=0)
         of_last = [letter for letter in self.letters if letter.for_act == last and letter.elector in silent]
-
-        def has_address_of_now(letter: SentLetter) -> bool:
-            return letter.address == address_in(silent[letter.elector].addresses)
-
-        def is_cut_off(letter: SentLetter) -> bool:
-            """Whether a server can take it, and a run of this day has not sent it."""
-            is_of_this_day = self.time - letter.time < LASTING and has_address_of_now(letter)
-            return is_of_this_day and bool(letter.address) and letter.state in (WRITTEN, POSTPONED)
-
-        goes_on = self.is_sending and any(map(is_cut_off, of_last))
+        # to the address of now
+        good = [letter for letter in of_last if letter.address == address_in(silent[letter.elector].addresses)]
+        goes_on = self.is_sending and any(can_be_sent(letter) and self.time - letter.time < LASTING for letter in good)
 
         def text_of(elector: Elector, letter: SentLetter) -> str:
-            return self.composer.reminder(elector, waits_of(came.by_elector[elector.number]))
+            waits = [one for one in came[elector.number] if one.became in (Became.WAITS, Became.ELSEWHERE)]
+            return self.composer.reminder(elector, waits)
 
-        written = [letter for letter in of_last if letter.state == BEGUN or (goes_on and has_address_of_now(letter))]
         if goes_on:
-            return last, [], written, text_of
+            return last, [], [letter for letter in of_last if letter.state == BEGUN or letter in good], text_of
         for_act = self.history.last.number + 1
-        return for_act, [self.letter_to(elector, for_act) for elector in silent.values()], written, text_of
+        cut_off = [letter for letter in of_last if letter.state == BEGUN]
+        return for_act, [self.letter_to(elector, for_act) for elector in silent.values()], cut_off, text_of
 
     def receipts(self) -> Plan:
         """A letter to each elector about all that came since the last one, also to an address that they had before."""
@@ -130,18 +124,18 @@ class LettersDue:
         for_act, new = self.history.last.number + 1, []
         told = {(letter.elector, key) for letter in self.letters if not self.failed_elsewhere(letter) for key in letter.about}
         old = old_addresses(self.election, self.history, self.letters)
-        for number, items in came.by_elector.items():
+        for number, items in came.items():
             elector, keys = self.electors[number], [one.key for one in items if (number, one.key) not in told]
             addresses = dict.fromkeys([address_in(elector.addresses), *old.get(number, [])]) if keys else []
             new += [self.letter_to(elector, for_act, address, keys) for address in addresses]
 
         def text_of(elector: Elector, letter: SentLetter) -> str:
-            return self.composer.receipt(elector, about_now(letter.about, came.by_elector[elector.number]))
+            return self.composer.receipt(elector, about_now(letter.about, came[elector.number]))
 
-        waiting = [one for one in self.letters if one.state in (WRITTEN, POSTPONED, BEGUN) and one.address]
+        waiting = [one for one in self.letters if can_be_sent(one) or one.state == BEGUN]
         waiting = [one for one in waiting if not (self.failed_elsewhere(one) and is_written_anew(one, (*self.letters, *new)))]
         # not to those who are no longer on the list, nor about a letter that is a ballot now, of which a new one tells
-        there = [one for one in waiting if one.elector in self.electors and about_now(one.about, came.by_elector[one.elector])]
+        there = [one for one in waiting if one.elector in self.electors and about_now(one.about, came[one.elector])]
         return for_act, new, there if self.is_sending else [], text_of
 
     def failed_elsewhere(self, letter: SentLetter) -> bool:
@@ -168,9 +162,22 @@ class LettersDue:
             cure = f"run {self.election.command('publish')} first"
             raise Fault(None, "nothing is published", cure, Status.DOUBT, "nothing was written")
         if self.composer.call.at is None:
-            words = "the letter has to say where the result is published"
-            raise Fault("--at", words, "give its address with --at URL", Status.BAD_WORDS, "nothing was written")
-        values, standing = result_of(self.election, self.history, act)
+            reason = "the letter has to say where the result is published"
+            raise Fault("--at", reason, "give its address with --at URL", Status.BAD_WORDS, "nothing was written")
+        language, sealed, words = self.election.language, self.election.sealed(), Words(**act.detail["words"])
+        poll, ballots = sealed.counted.as_bytes(), ballot_file(lines_by_act.lines_after(self.election.book, act.number))
+        sheet = sheet_in(self.election.debvote.answer("count", poll, ballots, *casting_words(words.casting)).text)
+        standing = self.election.debvote.standing(poll, ballots)
+        chronicle = chronicle_of(self.election.book, History(self.history.acts[: act.number]), is_secret=sealed.is_aliased)
+        publication = Publication(sealed.public, b"", language=language, casting=words.vote, chronicle=chronicle)
+        values: dict[str, object] = {
+            "ended": outcome_in_words(publication, sheet),
+            "casting": told_if_it_decides(publication, sheet),
+            "checksums": act.detail["checksums"],
+            "doubts": sentences_of(map(Doubt.from_data, act.detail["doubts"]), language, is_secret=sealed.is_aliased),
+            "because": words.because,
+            "acts": told_acts(publication, InText(language)),
+        }
 
         def text_of(elector: Elector, letter: SentLetter) -> str:
             return self.composer.text(self.kind, elector, has_ballot=elector.name in standing, **values)
@@ -196,6 +203,11 @@ class LettersDue:
         found = [(elector, before.get((elector.number, address_in(elector.addresses)))) for elector in self.electors.values()]
         new = [self.letter_to(elector, for_act) for elector, written in found if written is None]
         return for_act, new, [written for _, written in found if written is not None], text_of
+
+
+def can_be_sent(letter: SentLetter) -> bool:
+    """Whether a server can take a letter now. One to be printed has no address."""
+    return bool(letter.address) and letter.state in (WRITTEN, POSTPONED)
 
 
 def address_in(addresses: Sequence[str]) -> str:
@@ -239,23 +251,3 @@ def about_now(about: Sequence[About], came: Sequence[Came]) -> list[Came]:
     """What a receipt is about, as it is now: a ballot may have been struck since it was written."""
     numbers = {key[:2] for key in about}
     return [one for one in came if one.key[:2] in numbers]
-
-
-# ---------------------------------------------------------------- the result
-def result_of(election: Election, history: History, act: DoneAct) -> tuple[dict[str, object], Mapping[str, str]]:
-    """What the letters of a publication say, and the ballots that stood then."""
-    language, sealed, words = election.language, election.sealed(), Words(**act.detail["words"])
-    poll, ballots = sealed.counted.as_bytes(), ballot_file(lines_by_act.lines_after(election.book, act.number))
-    sheet = sheet_in(election.debvote.answer("count", poll, ballots, *casting_words(words.casting)).text)
-    chronicle = chronicle_of(election.book, History(history.acts[: act.number]), is_secret=sealed.is_aliased)
-    publication = Publication(sealed.public, b"", language=language, casting=words.vote, chronicle=chronicle)
-    doubts = [Doubt.from_data(doubt) for doubt in act.detail["doubts"]]
-    values: dict[str, object] = {
-        "ended": outcome_in_words(publication, sheet),
-        "casting": told_if_it_decides(publication, sheet),
-        "checksums": act.detail["checksums"],
-        "doubts": sentences_of(doubts, language, is_secret=sealed.is_aliased),
-        "because": words.because,
-        "acts": told_acts(publication, InText(language)),
-    }
-    return values, election.debvote.standing(poll, ballots)
