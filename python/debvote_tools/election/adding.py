@@ -25,7 +25,7 @@ from debvote_tools.election.came import NOTHING_ADDED, CameFile
 from debvote_tools.election.came_before import FileLines, sorted_out
 from debvote_tools.election.csv_ballots import Columns, lines_of_table
 from debvote_tools.election.election import Election
-from debvote_tools.election.entering import LATE_REPLY, entered, is_too_long, long_words
+from debvote_tools.election.entering import LATE_REPLY, entered, too_long
 from debvote_tools.election.history import History
 from debvote_tools.election.reporting import count_of
 from debvote_tools.faults import Fault, Status, stop_at
@@ -177,8 +177,9 @@ def place_in(line: JudgedLine) -> str:
 def doubts(vote: Vote, plan: Plan, arguments: Arguments) -> Iterator[Fault]:
     """What stops without --force."""
     for file in plan.files:
-        for line in [line.line for line in file.new if is_too_long(line.line)][:1]:
-            yield doubt(line.where, long_words(line), f"take out what is no ballot, or {FORCE}")
+        long_lines = ((line.line.where, why) for line in file.new if (why := too_long(line.line)))
+        for where, why in itertools.islice(long_lines, 1):
+            yield doubt(where, why, f"take out what is no ballot, or {FORCE}")
     for file in with_few_ballots([file for file in plan.files if file.new]):
         tell_others(vote, file)
         yield few_ballots(file, arguments)

@@ -118,11 +118,6 @@ def envelope_words(numbers: Collection[int]) -> str:
     return f"envelope{'s' * (len(numbers) != 1)} {', '.join('-'.join(map(str, run)) for run in runs)}"
 
 
-def is_too_long(line: Line) -> bool:
-    """Whether a line is much longer than any ballot."""
-    return len(line.came) > LONGEST_LINE
-
-
-def long_words(line: Line) -> str:
-    """What is said of a line that is much longer than any ballot."""
-    return f"the line has {len(line.came)} bytes, and a ballot has a few dozen"
+def too_long(line: Line) -> str | None:
+    """Why a line is much longer than any ballot; None if it is not."""
+    return f"the line has {len(line.came)} bytes, and a ballot has a few dozen" if len(line.came) > LONGEST_LINE else None

@@ -33,10 +33,14 @@ class LineWords:
                 yield from change_words(line)
             if line.finding is None:
                 yield f"{number} {reply}  {self.ballot(line.as_entered.decode('ascii'))}"
-            else:
-                yield f"{number} {reply}  {self.of(line, reply)}"
-                yield from cause_words(line, is_entered=is_entered)
-        if not all(line.finding is None for line in lines):
+                continue
+            yield f"{number} {reply}  {self.of(line, reply)}"
+            other = line.finding_of_repaired
+            if other and (other.word, other.hint) != (line.finding.word, line.finding.hint):
+                goes = "it went in" if is_entered else "it would go in"
+                written = f"written as `{shown_line(line.line.repaired)}` it is refused too"
+                yield f"  {goes} as it came; {written}: {other.word}: {other.hint}"
+        if not all(line.is_ballot for line in lines):
             yield self.right_words()
         if LATE_REPLY in replies:
             yield f"{count_of(replies.count(LATE_REPLY), 'line')} came after the close, and late lines do not count."
@@ -46,17 +50,15 @@ class LineWords:
         if line.finding is None:
             return self.ballot(line.as_entered.decode("ascii"))
         word = "" if line.finding.word == reply else f"{line.finding.word}: "
-        return f"{shown_line(line.as_entered)}: {word}{line.finding.hint}{self.more(line)}"
+        # so that nobody takes one elector for another
+        others = f" (or {ENGLISH.joined(list(line.other_names))})" if line.other_names else ""
+        code = IS_CODE if CODE_WITHIN.search(line.line.repaired) and not self.vote.has_codes else ""
+        return f"{shown_line(line.as_entered)}: {word}{line.finding.hint}{others}{code}"
 
     def ballot(self, ballot: str) -> str:
         """A valid ballot in words."""
         voter, _, ranks = ballot.partition(" ")
         return f"{voter}: {self.ranks(ranks)}"
-
-    def more(self, line: JudgedLine) -> str:
-        """All other names that fit if debvote offers one, so that nobody takes one elector for another; and that a line has a code."""
-        others = f" (or {ENGLISH.joined(list(line.other_names))})" if line.other_names else ""
-        return others if self.vote.has_codes or not CODE_WITHIN.search(line.line.repaired) else others + IS_CODE
 
     def right_words(self) -> str:
         """What a right line looks like."""
@@ -86,15 +88,6 @@ def change_words(line: JudgedLine) -> Iterator[str]:
     if before != line.as_entered:
         how = ", ".join(differences(before, line.as_entered))
         yield f"{line.line.where}: `{shown_line(before)}` was changed to `{shown_line(line.as_entered)}` ({how})"
-
-
-def cause_words(line: JudgedLine, *, is_entered: bool) -> Iterator[str]:
-    """Why debvote refuses the repaired line too, if that is another reason."""
-    finding, other = line.finding, line.finding_of_repaired
-    if finding and other and (other.word, other.hint) != (finding.word, finding.hint):
-        goes = "it went in" if is_entered else "it would go in"
-        written = f"written as `{shown_line(line.line.repaired)}` it is refused too"
-        yield f"  {goes} as it came; {written}: {other.word}: {other.hint}"
 
 
 def would_words(line: JudgedLine) -> str:

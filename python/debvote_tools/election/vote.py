@@ -71,45 +71,46 @@ class Vote:
         """A line that is right in this vote: of an elector of the roll, with a rank for each option."""
         return f"{'CODE' if self.has_codes else self.roll[0]} {','.join(str(rank + 1) for rank in range(len(self.option_names)))}"
 
-    # ------------------------------------------------------------ lines that came
     def read(self, lines: Sequence[Line]) -> list[JudgedLine]:
         """What debvote says of lines, none of them empty. It is started twice at most.
 
         The lines are the only input, so what is said of one depends on no other. If the changed line is refused, the line goes in as it
         came, and is refused too, since the changes leave a right line as it is; the reason may be another one.
         """
-        of_repaired = self.findings([line.repaired for line in lines])
-        indices = [index for index in of_repaired if lines[index].unframed != lines[index].repaired]
-        of_unframed = self.findings([lines[index].unframed for index in indices])
-        of_entered = of_repaired | {indices[at]: finding for at, finding in of_unframed.items()}
-        read = [JudgedLine(line, line.repaired) for line in lines]
-        for index, finding in of_repaired.items():
-            line, entered = lines[index], of_entered.get(index)
-            read[index] = JudgedLine(line, line.unframed, entered, finding, self.other_names(entered))
+        refused = self.findings([line.repaired for line in lines])
+        changed = [line.unframed for line in lines if line.repaired in refused and line.unframed != line.repaired]
+        refused_as_they_came = self.findings(changed)
+        read = []
+        for line in lines:
+            finding = refused.get(line.repaired)
+            if finding is None:
+                read.append(JudgedLine(line, line.repaired))
+            else:
+                entered = refused_as_they_came.get(line.unframed, finding)
+                read.append(JudgedLine(line, line.unframed, entered, finding, self.other_names(entered)))
         return read
 
     def answers(self, lines: Sequence[bytes]) -> dict[bytes, str | None]:
         """What debvote says of each line, as `bad rank count: ..`; None of a valid ballot. It is asked about so many at once as it takes."""
         answers: dict[bytes, str | None] = dict.fromkeys(lines)
         for start in range(0, len(lines), LINES_LIMIT):
-            part = lines[start : start + LINES_LIMIT]
-            answers |= {part[index]: f"{finding.word}: {finding.hint}" for index, finding in self.findings(part).items()}
+            refused = self.findings(lines[start : start + LINES_LIMIT])
+            answers |= {line: f"{finding.word}: {finding.hint}" for line, finding in refused.items()}
         return answers
 
-    def findings(self, lines: Sequence[bytes]) -> dict[int, Finding]:
-        """Why debvote refuses some of these lines, by their index. Without lines it is not asked."""
+    def findings(self, lines: Sequence[bytes]) -> dict[bytes, Finding]:
+        """Why debvote refuses some of these lines. If the roll has codes, none is offered. Without lines debvote is not asked."""
         if not lines:
             return {}
-        refused = self.debvote.findings(self.poll_bytes, ballot_file(lines)).refused
-        return {finding.envelope - 1: self.without_codes(finding) for finding in refused}
+        found = {}
+        for finding in self.debvote.findings(self.poll_bytes, ballot_file(lines)).refused:
+            offers_none = finding._replace(hint=OFFER.sub("", finding.hint))
+            found[lines[finding.envelope - 1]] = offers_none if self.has_codes else finding
+        return found
 
-    def without_codes(self, finding: Finding) -> Finding:
-        """A finding that offers no name if the roll has codes."""
-        return finding._replace(hint=OFFER.sub("", finding.hint)) if self.has_codes else finding
-
-    def other_names(self, finding: Finding | None) -> tuple[str, ...]:
+    def other_names(self, finding: Finding) -> tuple[str, ...]:
         """All names that fit as well as the one that debvote offers, as `anna-meier-2` beside `anna-meier`."""
-        offer = OFFER.search(finding.hint) if finding else None
+        offer = OFFER.search(finding.hint)
         return () if offer is None else tuple(name for name in self.names_by_bare_name[bare_name(offer[1])] if name != offer[1])
 
     @functools.cached_property
@@ -120,7 +121,6 @@ class Vote:
             by_bare_name[bare_name(name)].append(name)
         return by_bare_name
 
-    # ------------------------------------------------------------ lines that are in the book
     def replies(self, before: Sequence[bytes], new: Sequence[bytes]) -> list[str]:
         """The reply to each new line, after the lines before. Without new ones debvote is not asked."""
         if not new:

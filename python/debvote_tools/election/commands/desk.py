@@ -16,7 +16,7 @@ from debvote_tools.election import acting, in_time
 from debvote_tools.election.vote import JudgedLine, Vote, vote_of
 from debvote_tools.election.line_words import LineWords, change_words, summary, would_words
 from debvote_tools.election.election import Election
-from debvote_tools.election.entering import electors_of, entered, is_too_long, long_words
+from debvote_tools.election.entering import electors_of, entered, too_long
 from debvote_tools.election.history import History
 from debvote_tools.election.reporting import listed
 from debvote_tools.faults import Fault, Status
@@ -137,9 +137,9 @@ def from_pipe(desk: Desk) -> None:
         for line in desk.lines_of(data):
             if line.is_empty:
                 tell(f"{line.where}: it is empty, and was left out")
-            elif is_too_long(line):
+            elif why := too_long(line):
                 add = desk.election.command("add", "--force", "FILE")
-                tell(f"{line.where}: {long_words(line)}; it was not cast.", f"  To add it from a file: {add}")
+                tell(f"{line.where}: {why}; it was not cast.", f"  To add it from a file: {add}")
             else:
                 lines.append(line)
         read = desk.vote.read(lines)
