@@ -9,11 +9,10 @@ from debvote_tools.book.sent import BEGUN, POSTPONED, REFUSED, TAKEN, WRITTEN, A
 from debvote_tools.call.data import is_mail_address
 from debvote_tools.call.files import call_letter, extension_letter
 from debvote_tools.debvote import casting_words
-from debvote_tools.election import closing_letter
 from debvote_tools.election.call_now import current_data
 from debvote_tools.election.election import Election
 from debvote_tools.election.history import History
-from debvote_tools.election.publication import Words, chronicle_of, last_publication
+from debvote_tools.election.publication import Words, chronicle_of, closing_letter, last_publication
 from debvote_tools.election.what_came import what_came
 from debvote_tools.faults import Fault, Status
 from debvote_tools.letters_out.compose import Became, Came, Composer, Kind
@@ -150,7 +149,7 @@ class LettersDue:
         if not self.history.is_closed:
             cure = f"run {self.election.command('close')} first"
             raise Fault(self.kind, "the vote is not closed", cure, Status.DOUBT, "nothing was written")
-        text = closing_letter.letter(self.history, self.composer.call.poll, self.election.language).decode()
+        text = closing_letter(self.history, self.composer.call.poll, self.election.language).decode()
         return self.to_each(
             self.history.closes[-1].number, lambda elector, letter: self.composer.text(self.kind, elector, letter=text)
         )

@@ -11,16 +11,16 @@ from debvote_tools.book import letters, lines_by_act, queries
 from debvote_tools.book.acts import Detail
 from debvote_tools.book.book import Book, DoneAct, as_text, from_text
 from debvote_tools.debvote import casting_words
-from debvote_tools.election import closing_letter
 from debvote_tools.election.election import Election, Sealed
 from debvote_tools.election.history import History
 from debvote_tools.faults import Fault
 from debvote_tools.files import sha256_of
-from debvote_tools.language import language_of
+from debvote_tools.language import Language, language_of
 from debvote_tools.lines import ballot_file
 from debvote_tools.publish.doubts import Doubt, Kind
 from debvote_tools.publish.inputs import Act, CastingVote, Chronicle, Closed, Done, Publication, SecretVote
 from debvote_tools.publish.names import BALLOTS, PAGE, POLL
+from debvote_tools.rendering import render_letter
 from debvote_tools.sealed_poll import SealedPoll
 from debvote_tools.secret.aliases import aliased_ballots, sealed_checksum
 
@@ -81,7 +81,7 @@ def publication_of(election: Election, words: Words) -> Publication:
         casting=words.vote,
         chronicle=chronicle,
         late=None if sealed.counted.secret else late,
-        closed=closing_letter.letter(history, sealed.public, election.language) if history.closes else None,
+        closed=closing_letter(history, sealed.public, election.language) if history.closes else None,
         real_names={elector.name: elector.who for elector in electors} if has_names else {},
         about=words.about,
         because=words.because,
@@ -90,6 +90,13 @@ def publication_of(election: Election, words: Words) -> Publication:
         secret=secret,
         has_codes=history.has_codes_on_roll,
     )
+
+
+def closing_letter(history: History, poll: SealedPoll, language: Language) -> bytes:
+    """The letter of the last close; the poll is the public one. The time is in the zone in which the end was announced."""
+    close, zone = history.closes[-1], history.until.tzinfo if history.until else datetime.UTC
+    time = close.time.astimezone(zone)
+    return render_letter("debvote_tools.letters_out", "closing.txt", language, close=close, time=time, poll=poll).encode()
 
 
 def demand_as_closed(history: History, ballots: bytes) -> None:

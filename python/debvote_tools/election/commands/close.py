@@ -9,15 +9,16 @@ from debvote_tools.book import queries
 from debvote_tools.book.acts import Detail
 from debvote_tools.book.book import DoneAct
 from debvote_tools.console import tell
-from debvote_tools.election import acting, closing_letter
-from debvote_tools.election.election import LETTERS, Election, Sealed
+from debvote_tools.election import acting
+from debvote_tools.election.election import LETTERS, OWN, Election, Sealed, write_made
 from debvote_tools.election.history import History
-from debvote_tools.election.made_files import OWN, write_made
 from debvote_tools.election.reporting import act_time, count_of
 from debvote_tools.election.in_time import Arrived, waiting_letters
+from debvote_tools.election.publication import closing_letter
 from debvote_tools.faults import Fault, Status, stop_at
 from debvote_tools.files import sha256_of
 from debvote_tools.lines import ballot_file
+from debvote_tools.publish.names import CLOSED
 from debvote_tools.secret.aliases import aliased_ballots, seal_line, sealed_checksum
 
 HELP = "End the vote: lines that are entered later are late"
@@ -35,8 +36,8 @@ def run(election: Election, arguments: Arguments) -> int:
     if is_new:
         close(election, sealed, arguments)
     history = election.history()
-    letter = closing_letter.letter(history, sealed.public, election.language)
-    written = write_made(election.path(LETTERS), {closing_letter.NAME: letter}, OWN)
+    letter = closing_letter(history, sealed.public, election.language)
+    written = write_made(election.path(LETTERS), {CLOSED: letter}, OWN)
     report(election, history.closes[-1], is_new=is_new, has_made_letter=bool(written))
     return Status.DONE
 
@@ -95,7 +96,7 @@ def letters_wait(election: Election, numbers: list[int]) -> Fault:
 
 def report(election: Election, act: DoneAct, *, is_new: bool, has_made_letter: bool) -> None:
     """Says what was closed, now or before, and what comes next."""
-    detail, letter, lines = act.detail, election.path(LETTERS) / closing_letter.NAME, count_of(act.detail["lines"], "line")
+    detail, letter, lines = act.detail, election.path(LETTERS) / CLOSED, count_of(act.detail["lines"], "line")
     if is_new:
         if detail["early"]:
             tell("Note: one could still vote by the time that was announced; the page of the result tells it.")
