@@ -65,6 +65,11 @@ class Arguments(in_time.Arguments):
     )
     force: bool = flag("Add them although few lines are ballots, one is very long, or an older ballot would replace a later one")
 
+    @property
+    def is_unsorted(self) -> bool:
+        """Whether nobody has said how the rows of a table are sorted."""
+        return self.csv and not self.oldest_first and not self.newest_first
+
 
 @dataclasses.dataclass(frozen=True)
 class Plan:
@@ -87,7 +92,6 @@ class Plan:
 
 
 def doubt(where: object, words: str, cure: str) -> Fault:
-    """What a person has to look at first."""
     return Fault(where, words, cure, Status.DOUBT, NOTHING_ADDED)
 
 
@@ -121,19 +125,12 @@ def plan_of(book: Book, vote: Vote, files: Sequence[FileLines], arguments: Argum
 
 def demand_nothing_against(vote: Vote, plan: Plan, arguments: Arguments) -> None:
     """Stops at what a person has to look at first; all of it is said at once."""
-    faults = list(orders_missing(plan)) if is_unsorted(arguments) else []
+    faults = list(orders_missing(plan)) if arguments.is_unsorted else []
     if plan.new_lines and vote.is_signed and not (arguments.force and acting.has_reason(arguments.because)):
         words = "letters have to be signed in this vote, and nothing says who has sent a line of a file"
         cure = "add the letters themselves; or, if you know by other means who has sent each line, give --force --because TEXT"
         faults.append(doubt(plan.files[0].came.name, words, cure))
-    if not arguments.force:
-        faults += doubts(vote, plan, arguments)
-    stop_at(faults)
-
-
-def is_unsorted(arguments: Arguments) -> bool:
-    """Whether nobody has said how the rows of a table are sorted."""
-    return arguments.csv and not arguments.oldest_first and not arguments.newest_first
+    stop_at([*faults, *(() if arguments.force else doubts(vote, plan, arguments))])
 
 
 def orders_missing(plan: Plan) -> Iterator[Fault]:
@@ -180,11 +177,9 @@ def doubts(vote: Vote, plan: Plan, arguments: Arguments) -> Iterator[Fault]:
         long_lines = ((line.line.where, why) for line in file.new if (why := too_long(line.line)))
         for where, why in itertools.islice(long_lines, 1):
             yield doubt(where, why, f"take out what is no ballot, or {FORCE}")
-    for file in with_few_ballots([file for file in plan.files if file.new]):
-        tell_others(vote, file)
-        yield few_ballots(file, arguments)
+    yield from few_ballots(vote, [file for file in plan.files if file.new], arguments)
     for file in plan.files:
-        older = None if is_unsorted(arguments) else new_one_above(file)
+        older = None if arguments.is_unsorted else new_one_above(file)
         if older is not None:
             places = [place_in(line) for line in older]
             words = f"{places[0]} has an older ballot of {older[0].voter} than {places[1]}, which came before, and would replace it"
@@ -196,56 +191,43 @@ def doubts(vote: Vote, plan: Plan, arguments: Arguments) -> Iterator[Fault]:
 
 
 # ---------------------------------------------------------------- a file that has other lines than ballots
-def has_few_ballots(lines: Sequence[JudgedLine]) -> bool:
-    """Whether fewer than half of several lines are ballots. One line alone is looked at by whoever adds it."""
-    return len(lines) > 1 and sum(line.is_ballot for line in lines) * 2 < len(lines)
-
-
-def with_few_ballots(files: Sequence[FileLines]) -> list[FileLines]:
-    """The files of which fewer than half of the lines are ballots; if none has so few, all of them together are looked at."""
-    few = [file for file in files if has_few_ballots(file.lines)]
+def few_ballots(vote: Vote, files: Sequence[FileLines], arguments: Arguments) -> Iterator[Fault]:
+    """A fault for each file of which fewer than half of the lines are ballots; if none has so few, all of them together are looked at. If
+    some are ballots, it tells the first of the others.
+    """
     all_lines = tuple(line for file in files for line in file.lines)
+    few = [file for file in files if has_few_ballots(file.lines)]
     if not few and len(files) > 1 and has_few_ballots(all_lines):
-        return [files[0]._replace(lines=all_lines)]
-    return few
-
-
-def tell_others(vote: Vote, file: FileLines) -> None:
-    """Says which lines are no ballots, if some are; of many the first."""
-    refused = [line for line in file.lines if not line.is_ballot]
-    if len(refused) == len(file.lines):
-        return
+        few = [files[0]._replace(lines=all_lines)]
     words = LineWords(vote)
-    tell(*(f"{line.line.where}: no ballot: {words.of(line)}" for line in refused[:MAX_REFUSED]))
-    if len(refused) > MAX_REFUSED:
-        tell(f"and {len(refused) - MAX_REFUSED} more lines that are no ballots")
+    for file in few:
+        refused = [line for line in file.lines if not line.is_ballot]
+        count = len(file.lines) - len(refused)
+        if count:
+            tell(*(f"{line.line.where}: no ballot: {words.of(line)}" for line in refused[:MAX_REFUSED]))
+        if count and len(refused) > MAX_REFUSED:
+            tell(f"and {len(refused) - MAX_REFUSED} more lines that are no ballots")
+        reason = f"debvote takes {f'{count} alone' if count else 'none'} of the {len(file.lines)} lines as a ballot"
+        yield doubt(file.came.name, reason, f"{cure_of(file, refused[0], arguments)}, or {FORCE}")
 
 
-def few_ballots(file: FileLines, arguments: Arguments) -> Fault:
-    """The fault of a file of which few lines are ballots, with the first of the others."""
-    refused = [line for line in file.lines if not line.is_ballot]
-    count = len(file.lines) - len(refused)
-    words = f"debvote takes {f'{count} alone' if count else 'none'} of the {len(file.lines)} lines as a ballot"
-    return doubt(file.came.name, words, f"{cure_of(file, refused[0], arguments)}, or {FORCE}")
+def has_few_ballots(lines: Sequence[JudgedLine]) -> bool:
+    """One line alone is looked at by whoever adds it."""
+    return len(lines) > 1 and sum(line.is_ballot for line in lines) * 2 < len(lines)
 
 
 def cure_of(file: FileLines, refused: JudgedLine, arguments: Arguments) -> str:
     """What to do, by what the file looks like."""
     if arguments.csv:
         return "look whether --name and --ranks name the right columns, the ranks in the order of the options"
-    if looks_like_members(file.came.data):
+    head = file.came.data.removeprefix(MARK).lstrip().split(b"\n", 1)[0].decode("utf-8", "replace")
+    if MEMBERS_HEADS <= {cell.strip(' \t\r"').casefold() for cell in re.split("[,;\t]", head)}:
         return "it looks like the list of members, so name the file of the ballots"
     if looks_like_table(file.lines):
         return "it looks like a table, which is added with --csv --name COLUMN --ranks COLUMN,COLUMN,.."
     why = "" if refused.finding is None else f" ({refused.finding.word}: {refused.finding.hint})"
     which = "whose first line is" if refused is file.lines[0] else "which has the line"
     return f"look at the file, {which} `{shown_line(refused.as_entered)}`{why}"
-
-
-def looks_like_members(data: bytes) -> bool:
-    """Whether a file begins with the heads of a list of members."""
-    head = data.removeprefix(MARK).lstrip().split(b"\n", 1)[0].decode("utf-8", "replace")
-    return MEMBERS_HEADS <= {cell.strip(' \t\r"').casefold() for cell in re.split("[,;\t]", head)}
 
 
 def looks_like_table(lines: Sequence[JudgedLine]) -> bool:
