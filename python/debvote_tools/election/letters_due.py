@@ -3,18 +3,21 @@
 import datetime
 from collections.abc import Callable, Iterable, Sequence
 
-from debvote_tools.book import lines_by_act, queries, sent
-from debvote_tools.book.queries import Elector
+from debvote_tools.addresses import address_key
+from debvote_tools.book import letters, lines_by_act, queries, sent
+from debvote_tools.book.queries import Elector, Envelope
 from debvote_tools.book.sent import BEGUN, POSTPONED, REFUSED, TAKEN, WRITTEN, About, SentLetter
 from debvote_tools.call.data import is_mail_address
 from debvote_tools.call.files import call_letter, extension_letter
 from debvote_tools.debvote import casting_words
+from debvote_tools.election import letters_in
 from debvote_tools.election.call_now import call_data
 from debvote_tools.election.election import Election
 from debvote_tools.election.history import History
 from debvote_tools.election.publication import Words, chronicle_of, closing_letter, last_publication
-from debvote_tools.election.what_came import what_came
+from debvote_tools.election.vote import vote_of
 from debvote_tools.faults import Fault, Status
+from debvote_tools.letters.judge import JudgedLetter, Outcome
 from debvote_tools.letters_out.compose import Became, Came, Composer, Kind
 from debvote_tools.letters_out.message import new_message_id
 from debvote_tools.lines import ballot_file
@@ -81,7 +84,13 @@ class LettersDue:
         """The call to each elector; after an extension that, to those who have the call."""
         self.demand_not_over()
         acts = self.history.since_call("call", "extend")
-        self.had_call = have([letter for letter in self.letters if acts[0].number <= letter.for_act < acts[-1].number])
+        earlier = [letter for letter in self.letters if acts[0].number <= letter.for_act < acts[-1].number]
+        sent_for = {letter.for_act for letter in earlier if letter.state != WRITTEN}
+        for letter in earlier:
+            # a server has taken it, it is on paper, or all for its act were written as files
+            is_out = letter.state == WRITTEN and not (letter.address and letter.for_act in sent_for)
+            if is_out or letter.state == TAKEN:
+                self.had_call.add((letter.elector, letter.address))
         whole, extension = call_letter(self.composer.call), extension_letter(self.composer.call)
 
         def text_of(elector: Elector, letter: SentLetter) -> str:
@@ -117,7 +126,7 @@ class LettersDue:
         came = what_came(self.election, self.history, is_over=self.composer.is_over)
         for_act, new = self.history.last.number + 1, []
         told = {(letter.elector, key) for letter in self.letters if not self.failed_elsewhere(letter) for key in letter.about}
-        old = old_addresses(self.election, self.history, self.letters)
+        old = self.old_addresses()
         for number, items in came.items():
             elector, keys = self.electors[number], [one.key for one in items if (number, one.key) not in told]
             addresses = dict.fromkeys([address_in(elector.addresses), *old.get(number, [])]) if keys else []
@@ -126,11 +135,25 @@ class LettersDue:
         def text_of(elector: Elector, letter: SentLetter) -> str:
             return self.composer.receipt(elector, about_now(letter.about, came[elector.number]))
 
+        def is_written_anew(letter: SentLetter) -> bool:
+            """Whether a later receipt to the same address tells all that this one does."""
+            same = [one for one in (*self.letters, *new) if (one.elector, one.address) == (letter.elector, letter.address)]
+            return any(one.for_act > letter.for_act and set(letter.about) <= set(one.about) for one in same)
+
         waiting = [one for one in self.letters if can_be_sent(one) or one.state == BEGUN]
-        waiting = [one for one in waiting if not (self.failed_elsewhere(one) and is_written_anew(one, (*self.letters, *new)))]
+        waiting = [one for one in waiting if not (self.failed_elsewhere(one) and is_written_anew(one))]
         # not to those who are no longer on the list, nor about a letter that is a ballot now, of which a new one tells
         there = [one for one in waiting if one.elector in self.electors and about_now(one.about, came[one.elector])]
         return for_act, new, there if self.is_sending else [], text_of
+
+    def old_addresses(self) -> dict[int, list[str]]:
+        """The addresses that electors had before the list was changed after the call, if no receipt was written to them since."""
+        last = {letter.elector: letter.for_act for letter in self.letters}
+        before = sent.addresses_before(self.election.book, self.election.called(self.history).number)
+        return {
+            elector: [address for act, old in lists if act > last.get(elector, 0) and (address := address_in(old))]
+            for elector, lists in before.items()
+        }
 
     def failed_elsewhere(self, letter: SentLetter) -> bool:
         """Whether no server has taken it, and its elector has the address no longer. A file may have gone out by a mail program, unless it
@@ -209,38 +232,61 @@ def address_in(addresses: Sequence[str]) -> str:
     return next(filter(is_mail_address, addresses), "")
 
 
-def have(letters: Sequence[SentLetter]) -> set[tuple[int, str]]:
-    """The electors who have one of some letters, and at which address: a server has taken it, it is on paper, or all for its act were
-    written as files.
-    """
-    sent_for = {letter.for_act for letter in letters if letter.state != WRITTEN}
-    return {
-        (letter.elector, letter.address)
-        for letter in letters
-        if letter.state == TAKEN or (letter.state == WRITTEN and not (letter.address and letter.for_act in sent_for))
-    }
+# ---------------------------------------------------------------- what came, and what became of it
+def what_came(election: Election, history: History, *, is_over: bool) -> dict[int, list[Came]]:
+    """Judges all letters and all lines as they are now: what came of each elector, in the order of its times. debvote is started twice."""
+    envelopes, kept, electors = queries.envelopes(election.book), letters.letters(election.book), queries.electors(election.book)
+    came: dict[int, list[Came]] = {elector.number: [] for elector in electors}
+    answers = vote_of(election, history).answers([envelope.line for envelope in envelopes])
+    # the last valid line of each elector counts
+    last = {one.elector: one.number for one in envelopes if one.struck is None and not one.is_late and answers[one.line] is None}
+
+    def became(envelope: Envelope) -> Became:
+        if envelope.struck is not None:
+            return Became.TAKEN_BACK if history.act(envelope.struck).name == "undo" else Became.STRUCK
+        if envelope.is_late:
+            return Became.LATE
+        if answers[envelope.line] is not None:
+            return Became.REFUSED
+        if last[envelope.elector] != envelope.number:
+            return Became.REPLACED
+        return Became.COUNTS_AT_THE_END if is_over else Became.COUNTS
+
+    for envelope in envelopes:
+        if envelope.elector in came:
+            answer = answers[envelope.line]
+            key = ("envelope", envelope.number, envelope.struck is not None)
+            ranks = "" if answer is not None else envelope.line.decode("ascii").partition(" ")[2]
+            came[envelope.elector].append(Came(key, became(envelope), envelope.time, ranks=ranks, answer=answer or ""))
+    by_name = {elector.name: elector for elector in electors}
+    entered_of = {(envelope.letter, envelope.elector) for envelope in envelopes}
+    kept_at = {letter.number: history.act(letter.act).time for letter in kept}
+    for letter in letters_in.judged(election, history, kept):
+        # whoever sent it gets to know, too, if its ballot is in another's name
+        sender = letter.circumstances.elector_of(letter.parsed)
+        concerned = [*letter.electors, *([sender.name] if sender else [])]
+        for elector in dict.fromkeys(filter(None, map(by_name.get, concerned))):
+            if (letter.number, elector.number) not in entered_of:
+                came[elector.number] += came_of_letter(letter, elector, kept_at[letter.number])
+    return {number: sorted(items, key=lambda one: one.time) for number, items in came.items()}
+
+
+def came_of_letter(letter: JudgedLetter, elector: Elector, kept: datetime.datetime) -> list[Came]:
+    """What became of a letter that entered no line for this elector. A copy is the letter that it copies."""
+    if letter.outcome not in (Outcome.WAITS, Outcome.GOES_IN, Outcome.SET_ASIDE):
+        return []
+    is_own = letter.parsed.sender in map(address_key, elector.addresses)
+    # a program would answer, and be answered; and our own letter, which comes back, has the name of its elector
+    if letter.parsed.is_automatic and (is_own or not letter.ballots):
+        return []
+    key, time = ("letter", letter.number, False), letter.parsed.arrived or kept
+    is_aside = letter.outcome is Outcome.SET_ASIDE
+    if not is_own:
+        return [Came(key, Became.ELSEWHERE_SET_ASIDE if is_aside else Became.ELSEWHERE, time)]
+    return [Came(key, Became.SET_ASIDE if is_aside else Became.WAITS, time, because=letter.reason, near=letter.near)]
 
 
 # ---------------------------------------------------------------- receipts
-def old_addresses(election: Election, history: History, receipts: Iterable[SentLetter]) -> dict[int, list[str]]:
-    """The addresses that electors had before the list was changed after the call, if no receipt was written to them since."""
-    assert history.call is not None
-    last = {letter.elector: letter.for_act for letter in receipts}
-    before = sent.addresses_before(election.book, history.call.number)
-    return {
-        elector: [address for act, old in lists if act > last.get(elector, 0) and (address := address_in(old))]
-        for elector, lists in before.items()
-    }
-
-
-def is_written_anew(letter: SentLetter, receipts: Iterable[SentLetter]) -> bool:
-    """Whether a later receipt to the same address tells all that this one does."""
-    later = (
-        one for one in receipts if (one.elector, one.address) == (letter.elector, letter.address) and one.for_act > letter.for_act
-    )
-    return any(set(letter.about) <= set(one.about) for one in later)
-
-
 def about_now(about: Sequence[About], came: Sequence[Came]) -> list[Came]:
     """What a receipt is about, as it is now: a ballot may have been struck since it was written."""
     numbers = {key[:2] for key in about}

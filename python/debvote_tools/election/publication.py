@@ -3,7 +3,7 @@
 import dataclasses
 import datetime
 import json
-from collections.abc import Mapping
+from collections.abc import Iterator, Mapping
 from typing import Final
 
 from debvote_tools.ballots import in_normal_form
@@ -168,7 +168,7 @@ def chronicle_of(book: Book, history: History, *, is_secret: bool) -> Chronicle:
     for before, act in zip([None, *history.acts], history.acts):
         if before is not None and act.time < before.time:
             acts.append(Act(act.time, Done.CLOCK, {"before": before.time}))
-        acts += told_of(act, book, history, is_secret=is_secret)
+        acts += acts_of_page(act, book, history, is_secret=is_secret)
     # lines, rows and ballots of desks that came after the end, and count; what came in after a close had come before it, as its act says
     after_the_end = 0
     if history.until is not None:
@@ -178,34 +178,34 @@ def chronicle_of(book: Book, history: History, *, is_secret: bool) -> Chronicle:
     return Chronicle(tuple(acts), history.until, after_the_end)
 
 
-def told_of(act: DoneAct, book: Book, history: History, *, is_secret: bool) -> list[Act]:
-    """What is told of an act; nothing of most. In a secret vote the reasons of `strike` and `reopen` stay in the log."""
+def acts_of_page(act: DoneAct, book: Book, history: History, *, is_secret: bool) -> Iterator[Act]:
+    """What the page tells of an act; nothing of most. In a secret vote the reasons of `strike` and `reopen` stay in the log."""
     time, detail = act.time, act.detail
-    told: list[Act] = []
     until = {"until": from_text(detail["until"])} if detail.get("until") else {}
     reason = None if is_secret else detail.get("because")
     match act.name:
         case "call":
-            told = [Act(time, Done.CALLED_UNTIL if until else Done.CALLED, until)]
+            yield Act(time, Done.CALLED_UNTIL if until else Done.CALLED, until)
         case "take back":
-            told = [Act(time, Done.TAKEN_BACK)]
+            yield Act(time, Done.TAKEN_BACK)
         case "extend" if until:
-            told = [Act(time, Done.EXTENDED, until)]
+            yield Act(time, Done.EXTENDED, until)
         case "addresses":
-            told = [Act(time, Done.ROLL_CHANGED, {"number": detail["electors"]})]
+            yield Act(time, Done.ROLL_CHANGED, {"number": detail["electors"]})
         case "strike":
             done = Done.STRUCK_IN_SECRET if is_secret else Done.STRUCK
-            struck = queries.envelopes(book, "struck.act = ?", act.number)
-            told = [Act(time, done, {"envelope": envelope.number}, reason) for envelope in struck]
+            for envelope in queries.envelopes(book, "struck.act = ?", act.number):
+                yield Act(time, done, {"envelope": envelope.number}, reason)
         case "close":
-            told = [close_of(act, book, history)]
+            yield close_of(act, book, history)
         case "reopen":
-            told = [Act(time, Done.REOPENED, because=reason)]
+            yield Act(time, Done.REOPENED, because=reason)
         case "moved":
             noted, there = detail["noted"] and detail["noted"]["act"], detail["there"]["act"]
             done = Done.MOVED if noted else Done.MOVED_UNKNOWN
-            told = [Act(time, done, {"noted": noted, "there": there}, detail["because"])]
-    return [*told, Act(time, Done.KEYRING)] if detail.get("keyring") else told
+            yield Act(time, done, {"noted": noted, "there": there}, detail["because"])
+    if detail.get("keyring"):
+        yield Act(time, Done.KEYRING)
 
 
 def close_of(act: DoneAct, book: Book, history: History) -> Closed:
