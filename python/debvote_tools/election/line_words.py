@@ -31,12 +31,9 @@ class LineWords:
         for number, reply, line in zip(numbers, replies, lines):
             if line.line.came != line.as_entered:
                 yield from change_words(line)
-            if line.finding is None:
-                yield f"{number} {reply}  {self.ballot(line.as_entered.decode('ascii'))}"
-                continue
             yield f"{number} {reply}  {self.of(line, reply)}"
-            other = line.finding_of_repaired
-            if other and (other.word, other.hint) != (line.finding.word, line.finding.hint):
+            finding, other = line.finding, line.finding_of_repaired
+            if finding and other and (other.word, other.hint) != (finding.word, finding.hint):
                 goes = "it went in" if is_entered else "it would go in"
                 written = f"written as `{shown_line(line.line.repaired)}` it is refused too"
                 yield f"  {goes} as it came; {written}: {other.word}: {other.hint}"
