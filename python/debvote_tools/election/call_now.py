@@ -10,18 +10,20 @@ from debvote_tools.election.election import Election, Sealed
 from debvote_tools.election.history import History
 
 
-def call_data(election: Election, history: History, said: Detail | None = None, sealed: Sealed | None = None) -> CallData:
-    """What the page and the letter say: what was announced, with what an act would say now, and the poll that is sealed or would be."""
-    sealed = sealed or election.sealed()
+def current_data(
+    election: Election, history: History | None = None, said: Detail | None = None, sealed: Sealed | None = None
+) -> CallData:
+    """What the page and the letter say as it is now, and with what an act would say or seal."""
+    now, saying, sealed = history or election.history(), said or {}, sealed or election.sealed()
 
     def value_of(key: str) -> Any:
-        return (said or {}).get(key) or history.announced(key)
+        return saying.get(key) or now.announced(key)
 
     return CallData(
         language=election.language,
         poll=sealed.public,
-        quorum_votes=value_of("quorum_votes") or 0,
-        until=datetime.datetime.fromisoformat(value_of("until")) if value_of("until") else None,
+        quorum_votes=value_of("quorum_votes"),
+        until=until_of(saying) or now.until,
         to=value_of("to"),
         at=value_of("at"),
         real_names={elector.name: elector.who for elector in queries.electors(election.book)} if value_of("names") else None,
@@ -30,3 +32,8 @@ def call_data(election: Election, history: History, said: Detail | None = None, 
         has_aliases=sealed.is_aliased,
         has_codes_on_roll=bool(value_of("codes_on_roll")),
     )
+
+
+def until_of(said: Detail) -> datetime.datetime | None:
+    """The end that the command line names."""
+    return datetime.datetime.fromisoformat(said["until"]) if "until" in said else None

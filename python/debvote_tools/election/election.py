@@ -4,7 +4,6 @@ import functools
 import os
 import pathlib
 import shlex
-from collections.abc import Collection, Mapping
 from typing import NamedTuple
 
 from debvote_tools.book import queries
@@ -12,7 +11,6 @@ from debvote_tools.book.book import NAME, Book, DoneAct, open_book
 from debvote_tools.debvote import Debvote
 from debvote_tools.election.history import History
 from debvote_tools.faults import Fault, Status
-from debvote_tools.files import write_whole
 from debvote_tools.language import Language, language_of
 from debvote_tools.sealed_poll import SealedPoll, read_plain
 
@@ -22,9 +20,6 @@ CALL, LETTERS, RESULT, PRIVATE = "call", "letters", "result", "private"
 # the names under which the book has the sealed polls, that of the call, and in a secret vote the one that has names; and the keys of
 # those whose letters have to be signed
 POLL, POLL_WITH_NAMES, KEYRING = "poll", "poll with names", "keyring"
-
-# the modes of a folder and its files: for everybody, and for the secretary alone
-PUBLIC, OWN = (0o755, 0o644), (0o700, 0o600)
 
 # what an election of version 1 has in its folder
 OF_VERSION_1 = ("journal", "ballots", "received")
@@ -112,23 +107,3 @@ def no_book(folder: pathlib.Path) -> Fault:
         words = f"there is no {NAME} in it, so it is no election"
         cure = "go to the folder of the election, or name it with --folder; new makes one"
     return Fault(folder, words, cure, Status.BAD_WORDS, None)
-
-
-def write_made(
-    folder: pathlib.Path, files: Mapping[str, bytes], modes: tuple[int, int], outdated: Collection[str] = ()
-) -> list[pathlib.Path]:
-    """Writes the files of a folder that is made from the book, and returns those that were not there with the same bytes and mode; removes
-    outdated ones.
-    """
-    folder_mode, file_mode = modes
-    folder.mkdir(exist_ok=True)
-    folder.chmod(folder_mode)
-    written = []
-    for name, data in files.items():
-        file = folder / name
-        if not file.is_file() or file.read_bytes() != data or file.stat().st_mode & 0o777 != file_mode:
-            write_whole(file, data, file_mode)
-            written.append(file)
-    for name in set(outdated) - files.keys():
-        (folder / name).unlink(missing_ok=True)
-    return written

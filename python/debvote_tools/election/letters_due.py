@@ -11,7 +11,7 @@ from debvote_tools.call.data import is_mail_address
 from debvote_tools.call.files import call_letter, extension_letter
 from debvote_tools.debvote import casting_words
 from debvote_tools.election import letters_in
-from debvote_tools.election.call_now import call_data
+from debvote_tools.election.call_now import current_data
 from debvote_tools.election.election import Election
 from debvote_tools.election.history import History
 from debvote_tools.election.publication import Words, chronicle_of, closing_letter, last_publication
@@ -50,7 +50,7 @@ class LettersDue:
             cure = "send call/call.txt, letters/closed.txt and result/letter.txt to all with your mail program"
             raise Fault("letters", words, cure, Status.DOUBT, "nothing was written")
         is_past = self.history.until is not None and self.time > self.history.until
-        self.composer = Composer(call_data(election, self.history), is_over=is_past or bool(self.history.closes))
+        self.composer = Composer(current_data(election, self.history), is_over=is_past or bool(self.history.closes))
         self.letters = sent.sent_letters(election.book, kind)
         # those who have the call, each at an address, where the letter of an extension is due
         self.had_call: set[tuple[int, str]] = set()

@@ -1,7 +1,6 @@
 """`call`: the call for votes. It seals the poll, which never changes again."""
 
 import dataclasses
-import datetime
 import pathlib
 
 from debvote_tools import times
@@ -13,23 +12,12 @@ from debvote_tools.call.data import CallData, demand_mail_address, demand_web_ad
 from debvote_tools.call.files import call_files, extension_letter
 from debvote_tools.console import tell
 from debvote_tools.election import acting
-from debvote_tools.election.call_now import call_data
+from debvote_tools.election.call_now import current_data, until_of
 from debvote_tools.election.commands.codes import SLIPS, write_slips
 from debvote_tools.election.commands.roll import demand_read
-from debvote_tools.election.election import (
-    CALL,
-    KEYRING,
-    LETTERS,
-    OWN,
-    POLL,
-    POLL_WITH_NAMES,
-    PRIVATE,
-    PUBLIC,
-    Election,
-    Sealed,
-    write_made,
-)
+from debvote_tools.election.election import CALL, KEYRING, LETTERS, POLL, POLL_WITH_NAMES, PRIVATE, Election, Sealed
 from debvote_tools.election.history import History
+from debvote_tools.election.made_files import OWN, PUBLIC, write_made
 from debvote_tools.election.draft_poll import checked_poll, lacks_codes, tell_poll
 from debvote_tools.election.reporting import act_time
 from debvote_tools.election.until import demand_future, parse_until
@@ -102,7 +90,7 @@ def call(election: Election, arguments: Arguments) -> None:
         }
     )
     keyring = keyring_in(election, arguments.keyring)
-    data = call_data(election, history, detail, Sealed(public, poll))
+    data = current_data(election, history, detail, Sealed(public, poll))
     with book.act("call", detail, seen=history.last.number) as act:
         act.insert("sealed", name=POLL, data=public.as_bytes())
         if public != poll:
@@ -179,7 +167,7 @@ def call_again(election: Election, arguments: Arguments) -> None:
     if is_act:
         add_to_call(election, book, history, said, arguments.keyring)
     make_folders(election)
-    report(election, call_data(election, election.history()))
+    report(election, current_data(election))
 
 
 def demand_no_change(election: Election, history: History, arguments: Arguments) -> None:
@@ -199,7 +187,7 @@ def add_to_call(election: Election, book: Book, history: History, said: Detail, 
     """The act that extends the vote or adds to the call. No end counts after a close, nor one before that which electors know."""
     if history.is_closed:
         raise Fault(None, "the vote is closed", f"see {election.command('status')}")
-    until = datetime.datetime.fromisoformat(said["until"]) if "until" in said else None
+    until = until_of(said)
     if until is not None and history.closes:
         words = f"the vote was closed at {act_time(history.closes[0].time)}, and only what had come before that counts"
         raise Fault("--until", words, f"leave it out; ballots that had come in time go in by {election.command('add')}")
@@ -207,7 +195,7 @@ def add_to_call(election: Election, book: Book, history: History, said: Detail, 
         words = f"electors rely on {times.time_in_words(history.until)}, and {times.time_in_words(until)} is not later"
         raise Fault("--until", words, "name a later time", Status.BAD_WORDS)
     keyring = keyring_in(election, keyring_file)
-    data = call_data(election, history, said)
+    data = current_data(election, history, said)
     if keyring is not None:
         said["keyring"] = True
     with book.act("announce" if until is None else "extend", said, seen=history.last.number) as act:
