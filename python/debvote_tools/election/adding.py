@@ -43,8 +43,6 @@ MEMBERS_HEADS = {"who", "mail"}
 
 @dataclasses.dataclass(frozen=True)
 class Arguments(in_time.Arguments):
-    """The options of `add`."""
-
     files: list[str] = positional(
         "FILE",
         "Letters (a mailbox, a Maildir, a folder of .eml), or ballots, a line each, or with --csv tables; - or none is standard input",
@@ -81,7 +79,6 @@ class Plan:
 
     @property
     def new_lines(self) -> list[JudgedLine]:
-        """The lines of all files that go in."""
         return [line for file in self.files for line in file.new]
 
     def envelopes(self, act: NewAct) -> Iterator[NewEnvelope]:
@@ -97,7 +94,6 @@ def doubt(where: object, words: str, cure: str) -> Fault:
 
 # ---------------------------------------------------------------- reading
 def read_lines(vote: Vote, files: Sequence[CameFile], columns: Columns | None, arguments: Arguments) -> list[FileLines]:
-    """The lines of the files, with what debvote says of them."""
     lists = [lines_in(file.data, file.name) if columns is None else lines_of_table(file.data, file.name, columns) for file in files]
     what = "it has empty lines alone" if columns is None else "it has no row of a ballot"
     empty = [file for file, lines in zip(files, lists) if all(line.is_empty for line in lines)]
@@ -114,7 +110,6 @@ def read_lines(vote: Vote, files: Sequence[CameFile], columns: Columns | None, a
 
 # ---------------------------------------------------------------- the plan, and what speaks against it
 def plan_of(book: Book, vote: Vote, files: Sequence[FileLines], arguments: Arguments) -> Plan:
-    """Which lines would be entered now."""
     history = History(book.acts())
     openness = history.openness()
     if openness.call != vote.call:
@@ -145,7 +140,6 @@ def orders_missing(plan: Plan) -> Iterator[Fault]:
 
 
 def pairs_that_differ(file: FileLines) -> Iterator[tuple[JudgedLine, JudgedLine]]:
-    """Two ballots of one elector that differ, one above the other."""
     above: dict[str, list[JudgedLine]] = collections.defaultdict(list)
     for line in file.lines:
         if line.is_ballot:
@@ -217,7 +211,6 @@ def has_few_ballots(lines: Sequence[JudgedLine]) -> bool:
 
 
 def cure_of(file: FileLines, refused: JudgedLine, arguments: Arguments) -> str:
-    """What to do, by what the file looks like."""
     if arguments.csv:
         return "look whether --name and --ranks name the right columns, the ranks in the order of the options"
     head = file.came.data.removeprefix(MARK).lstrip().split(b"\n", 1)[0].decode("utf-8", "replace")
@@ -302,7 +295,6 @@ def look(election: Election, vote: Vote, files: Sequence[FileLines], arguments: 
 def report(
     election: Election, vote: Vote, plan: Plan, numbers: Sequence[int], replies: Sequence[str], *, is_entered: bool = True
 ) -> Iterator[str]:
-    """What is printed about the lines, those that were entered and those that were not."""
     if numbers:
         what = "what is added" if is_entered else "what would be added"
         yield from in_time.notes(election, plan.openness, what)
@@ -315,7 +307,6 @@ def report(
 
 
 def repeated_words(file: FileLines) -> Iterator[str]:
-    """The lines of a file that came before, in words."""
     if not file.repeated:
         return
     ignored = "is ignored, since it came before" if len(file.repeated) == 1 else "are ignored, since they came before"

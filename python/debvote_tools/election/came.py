@@ -106,7 +106,6 @@ def bytes_in(file: BinaryIO) -> bytes:
 
 
 def demand_lines(file: CameFile, *, is_table: bool) -> None:
-    """Stops at what is no file of ballots."""
     if not file.data:
         raise Fault(file.name, "it is empty", "write a ballot a line into it", Status.DOUBT, NOTHING_ADDED)
     if len(file.data) > BALLOTS_LIMIT:

@@ -80,7 +80,6 @@ def lines_of_table(data: bytes, file_name: str, columns: Columns) -> list[Line]:
 
 
 def indices_of(table: Table, file_name: str, columns: Columns) -> list[int]:
-    """The index of the column of names, and that of each rank."""
     heads, indices = table.heads, []
     for column in (columns.name, *columns.ranks):
         if heads.count(head_form(column)) != 1:

@@ -100,7 +100,6 @@ def draft_in(folder: pathlib.Path) -> DraftPoll:
 
 
 def parsed_toml(data: bytes, file: pathlib.Path) -> dict[str, Any]:
-    """The keys of a poll and their values."""
     try:
         return tomllib.loads(data.removeprefix(b"\xef\xbb\xbf").decode("utf-8"))
     except UnicodeDecodeError as error:
@@ -260,7 +259,6 @@ def checked_poll(election: Election, *, deadline: str | None = None, address: st
 
 
 def faults_by_debvote(election: Election, poll_bytes: bytes) -> list[Fault]:
-    """What debvote finds wrong with the sealed form."""
     answer, file = election.debvote.run("explain", "--poll", "/dev/stdin", given=poll_bytes), election.path(POLL_FILE)
     if not answer.text:
         words = answer.faults.strip().removeprefix("debvote: ") or f"debvote ended with status {answer.status}"
@@ -271,12 +269,10 @@ def faults_by_debvote(election: Election, poll_bytes: bytes) -> list[Fault]:
 
 
 def lacks_codes(election: Election, history: History, poll: SealedPoll) -> bool:
-    """Whether the vote is secret, and electors have no codes yet."""
     return poll.secret and not history.has_codes_on_roll and not all(elector.code for elector in queries.electors(election.book))
 
 
 def tell_poll(poll: SealedPoll, sheet: Sheet) -> None:
-    """Prints what is voted on."""
     tell(f"Title: {poll.name}", *([f"  plain: {poll.title}"] if poll.name != poll.title else []), "Options:")
     texts = poll.explanations or [""] * len(poll.options)
     for number, (name, plain, text) in enumerate(zip(poll.names, poll.plain_names, [*texts, ""]), start=1):

@@ -52,7 +52,6 @@ class Election:
 
     @functools.cached_property
     def book(self) -> Book:
-        """The book, opened once a run."""
         if not self.path(NAME).is_file():
             raise no_book(self.folder)
         book = open_book(self.path(NAME))
@@ -64,7 +63,6 @@ class Election:
         return language_of(self.book.acts()[0].detail["language"])
 
     def history(self) -> History:
-        """The acts as they are now."""
         return History(self.book.acts())
 
     def sealed(self) -> Sealed:

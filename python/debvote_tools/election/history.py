@@ -34,7 +34,6 @@ class History:
         return [] if call is None else [act for act in self.named(*names) if act.number >= call.number]
 
     def act(self, number: int) -> DoneAct:
-        """The act of a number."""
         return self.acts[number - 1]
 
     @property
@@ -55,7 +54,6 @@ class History:
 
     @property
     def has_codes_on_roll(self) -> bool:
-        """Whether codes are on the roll in place of names."""
         return any(act.detail.get("on_roll") for act in self.named("codes"))
 
     @property
@@ -72,7 +70,6 @@ class History:
 
     @property
     def is_closed(self) -> bool:
-        """Whether the vote is closed now."""
         acts = self.since_call("close", "reopen")
         return bool(acts) and acts[-1].name == "close"
 

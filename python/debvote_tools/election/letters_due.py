@@ -61,7 +61,6 @@ class LettersDue:
 
     @property
     def waiting(self) -> list[SentLetter]:
-        """The letters that a server can take now."""
         return list(filter(can_be_sent, (*self.written, *self.new)))
 
     @property
@@ -163,7 +162,6 @@ class LettersDue:
         return letter.state in states and elector is not None and letter.address not in elector.addresses
 
     def closed(self) -> Plan:
-        """The letter of the close to each elector."""
         if not self.history.is_closed:
             cure = f"run {self.election.command('close')} first"
             raise Fault(self.kind, "the vote is not closed", cure, Status.DOUBT, "nothing was written")
@@ -173,7 +171,6 @@ class LettersDue:
         )
 
     def result(self) -> Plan:
-        """The result to each elector."""
         act = last_publication(self.history)
         if act is None or not self.history.is_closed:
             cure = f"run {self.election.command('publish')} first"
@@ -202,7 +199,6 @@ class LettersDue:
         return self.to_each(act.number, text_of)
 
     def demand_not_over(self) -> None:
-        """Stops if nobody can vote any more."""
         if self.composer.is_over:
             cure = f"see {self.election.command('status')}"
             raise Fault(self.kind, "the time to vote is over, so nobody is invited", cure, Status.DOUBT, "nothing was written")

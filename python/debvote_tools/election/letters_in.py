@@ -62,7 +62,6 @@ def keyring_of(election: Election) -> bytes | None:
 
 
 def new_of(election: Election, raws: Sequence[RawLetter]) -> tuple[list[RawLetter], list[ParsedLetter]]:
-    """The letters that did not come before."""
     known = letters.known_digests(election.book)
     # of the same bytes the first letter, but rather one that is not parted off
     chosen: dict[str, RawLetter] = {}
@@ -135,7 +134,6 @@ def kept_letters(election: Election, kept: Sequence[KeptLetter]) -> list[ParsedL
 
 
 def circumstances_of(election: Election, history: History, found: Sequence[tuple[ParsedLetter, KeptLetter]]) -> Circumstances:
-    """All that letters are judged by, as it is now."""
     call, sealed, electors = history.call, election.sealed(), queries.electors(election.book)
     assert call is not None
     by_number = {elector.number: elector.name for elector in electors}
@@ -174,7 +172,6 @@ class LettersPlan:
 
 
 def plan_of(election: Election, looked_at: Sequence[ParsedLetter] = ()) -> LettersPlan:
-    """What goes in now."""
     history = election.history()
     found = judged(election, history, letters.letters(election.book), looked_at)
     going_in = [letter for letter in found if letter.outcome is Outcome.GOES_IN]
@@ -196,7 +193,6 @@ def enter(election: Election, vote: Vote, plan: LettersPlan) -> contextlib.Abstr
 
 
 def new_envelope(letter: JudgedLetter, line: BallotLine) -> NewEnvelope:
-    """The envelope of a ballot that came in a letter."""
     return NewEnvelope(line.ballot.encode(), "", letter.source, letter.number, letter.time)
 
 

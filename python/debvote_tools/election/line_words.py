@@ -16,8 +16,6 @@ IS_CODE = " (it has 32 digits, as codes and aliases have: a ballot has the elect
 
 
 class LineWords:
-    """The words for the lines of one vote."""
-
     def __init__(self, vote: Vote) -> None:
         self.vote = vote
         # most ballots have one of a few orders
@@ -26,7 +24,6 @@ class LineWords:
     def report(
         self, lines: Sequence[JudgedLine], numbers: Iterable[int], replies: Sequence[str], *, is_entered: bool
     ) -> Iterator[str]:
-        """What is printed about lines that were entered, or that would be."""
         yield from frame_words(line.line for line in lines)
         for number, reply, line in zip(numbers, replies, lines):
             if line.line.came != line.as_entered:
@@ -53,12 +50,10 @@ class LineWords:
         return f"{shown_line(line.as_entered)}: {word}{line.finding.hint}{others}{code}"
 
     def ballot(self, ballot: str) -> str:
-        """A valid ballot in words."""
         voter, _, ranks = ballot.partition(" ")
         return f"{voter}: {self.ranks(ranks)}"
 
     def right_words(self) -> str:
-        """What a right line looks like."""
         name = "a code of the roll" if self.vote.has_codes else "an elector of the roll"
         ranks = f"{len(self.vote.option_names)} ranks with commas between, a rank or a hyphen for each option"
         return f"A right line in this poll: {self.vote.right_line} ({name}, a space, and {ranks})"

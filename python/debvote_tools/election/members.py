@@ -61,7 +61,6 @@ class Member(NamedTuple):
 
     @property
     def label(self) -> str:
-        """The name, and who it is."""
         return f"{self.name} ({shown_text(self.who)})" if self.who else self.name
 
     @property
@@ -100,7 +99,6 @@ def members_in(file: pathlib.Path) -> Members:
 
 
 def members_of(data: bytes, file: object = "members.csv") -> Members:
-    """The members of a list."""
     try:
         table = read_table(data, COLUMNS, file, skips_spaces=True)
     except BadTable as bad:
@@ -120,12 +118,10 @@ def members_of(data: bytes, file: object = "members.csv") -> Members:
 
 
 def bad_list(file: object, reason: object, cure: str, line: int | None = None) -> Fault:
-    """A fault of the list, or of a line of it."""
     return Fault(file if line is None else f"{file}:{line}", reason, f"{cure}, {AGAIN}", done=None)
 
 
 def faults_of_head(table: Table, file: object) -> list[Fault]:
-    """Which columns are missing, and which are there twice."""
     faults = []
     missing = [f"`{column}`" for column in REQUIRED if column not in table.heads]
     if missing:

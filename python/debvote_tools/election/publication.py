@@ -135,7 +135,6 @@ def detail_of(words: Words, checksums: Mapping[str, str], doubts: list[Doubt], *
 
 # ---------------------------------------------------------------- doubts
 def doubts_of(book: Book, history: History, poll: SealedPoll, casting: str | None) -> list[Doubt]:
-    """What there is to doubt before anything is counted."""
     found = [] if history.is_closed else [Doubt.of(Kind.NOT_CLOSED)]
     found += late_letters_in_time(book, history)
     names = dict(zip(poll.plain_names, poll.names))
@@ -163,7 +162,6 @@ def late_letters_in_time(book: Book, history: History) -> list[Doubt]:
 
 # ---------------------------------------------------------------- acts
 def chronicle_of(book: Book, history: History, *, is_secret: bool) -> Chronicle:
-    """What the page tells of the course of the election."""
     acts: list[Act] = []
     for before, act in zip([None, *history.acts], history.acts):
         if before is not None and act.time < before.time:

@@ -68,7 +68,6 @@ class Vote:
 
     @property
     def right_line(self) -> str:
-        """A line that is right in this vote: of an elector of the roll, with a rank for each option."""
         return f"{'CODE' if self.has_codes else self.roll[0]} {','.join(str(rank + 1) for rank in range(len(self.option_names)))}"
 
     def read(self, lines: Sequence[Line]) -> list[JudgedLine]:
