@@ -1,6 +1,5 @@
 """What is told of letters: what goes in, what waits and why, and a letter line by line."""
 
-import datetime
 from collections.abc import Iterator, Sequence
 
 from debvote_tools.election.line_words import IS_CODE, LineWords
@@ -12,15 +11,12 @@ from debvote_tools.letters.sources import PassedOver
 from debvote_tools.terminal_text import shown_line, shown_text
 
 
-def time_words(time: datetime.datetime | None) -> str:
-    return "at a time that is not known" if time is None else act_time(time)
-
-
 def who_and_when(letter: JudgedLetter) -> str:
     """A letter by its number, its sender, and when it arrived."""
     parsed = letter.parsed
     number = f"letter {letter.number}" if letter.number else shown_text(parsed.where)
-    return f"{number}, from {shown_text(parsed.shown_sender) or 'nobody'}, {time_words(parsed.arrived)}"
+    time = "at a time that is not known" if parsed.arrived is None else act_time(parsed.arrived)
+    return f"{number}, from {shown_text(parsed.shown_sender) or 'nobody'}, {time}"
 
 
 def going_in(letter: JudgedLetter, words: LineWords, *, is_late: bool) -> Iterator[str]:

@@ -100,7 +100,7 @@ def judged(
     if not kept and not looked_at:
         return []
     vote = vote_of(election, history)
-    circumstances = circumstances_of(election, history, list(zip(found, kept)))
+    circumstances = circumstances_of(election, history, by_key)
     no_codes_expected = election.sealed().counted.secret and not vote.has_codes
     letters_now = judge_all([*found, *looked_at], circumstances, vote)
     for letter in letters_now:
@@ -133,7 +133,7 @@ def kept_letters(election: Election, kept: Sequence[KeptLetter]) -> list[ParsedL
     return found
 
 
-def circumstances_of(election: Election, history: History, found: Sequence[tuple[ParsedLetter, KeptLetter]]) -> Circumstances:
+def circumstances_of(election: Election, history: History, by_key: Mapping[str, KeptLetter]) -> Circumstances:
     call, sealed, electors = history.call, election.sealed(), queries.electors(election.book)
     assert call is not None
     by_number = {elector.number: elector.name for elector in electors}
@@ -156,7 +156,7 @@ def circumstances_of(election: Election, history: History, found: Sequence[tuple
         our_letters={elector.name: ids.get(elector.number, []) for elector in electors},
         ballots=ballots,
         keys={elector.name: elector.key for elector in electors} if keyring_of(election) is not None else None,
-        decisions={letter.key: Decision(kept.state) for letter, kept in found if kept.state != letters.WAITS},
+        decisions={key: Decision(kept.state) for key, kept in by_key.items() if kept.state != letters.WAITS},
     )
 
 
