@@ -65,28 +65,12 @@ class DraftPoll:
     """
 
     values: Mapping[str, Any]
+    # title and options as people read them, the default last; empty where it is no text
+    title: str
+    names: Sequence[str]
     texts: Mapping[int, str]
-    faults: tuple[Fault, ...] = ()
-    folder: pathlib.Path = pathlib.Path()
-
-    @property
-    def options(self) -> list[Any]:
-        """The options without the default, as they are written."""
-        value = self.values.get("options")
-        return value if isinstance(value, list) else []
-
-    @property
-    def names(self) -> list[str]:
-        """The names of all options, the default last, as people read them; what is no text is empty."""
-        return [read_name(value) for value in (*self.options, self.values.get("default"))]
-
-    @property
-    def title(self) -> str:
-        return read_name(self.values.get("title"))
-
-
-def read_name(value: object) -> str:
-    return value.strip() if isinstance(value, str) else ""
+    faults: Sequence[Fault]
+    folder: pathlib.Path
 
 
 # ---------------------------------------------------------------- reading
@@ -94,9 +78,12 @@ def draft_in(folder: pathlib.Path) -> DraftPoll:
     """Reads the poll of a folder, and the texts beside it. Raises `Fault` if the poll can't be read at all, as `BadToml`."""
     file = folder / POLL_FILE
     values = parsed_toml(read_whole(file, POLL_LIMIT, "write it", THEN), file)
-    draft = DraftPoll(values, {}, (), folder)
-    texts, faults = texts_in(folder / TEXTS, len(draft.options))
-    return dataclasses.replace(draft, texts=texts, faults=(*faults_of_keys(values, file), *faults))
+    options = values["options"] if isinstance(values.get("options"), list) else []
+    title, *names = (
+        name.strip() if isinstance(name, str) else "" for name in (values.get("title"), *options, values.get("default"))
+    )
+    texts, faults = texts_in(folder / TEXTS, len(options))
+    return DraftPoll(values, title, names, texts, (*faults_of_keys(values, file), *faults), folder)
 
 
 def parsed_toml(data: bytes, file: pathlib.Path) -> dict[str, Any]:
@@ -220,13 +207,12 @@ def sealed_form(
 ) -> bytes:
     """The poll in plain form as it would be sealed, for debvote to say what is wrong with it: what is missing stays missing."""
     names, plain_names, title = draft.names, plain_options(draft.names, language), plain_title(draft.title, language)
-    options = [name if isinstance(value, str) else value for name, value in zip(plain_names, draft.options)]
     texts = [draft.texts.get(number, "") for number in range(1, len(names))]
     made = {key: value for key, value in draft.values.items() if key in DRAFT_KEYS and has_plain_form(value)}
-    for key, value in {"title": title, "default": plain_names[-1], "options": options}.items():
-        # a value of another type stays
-        if isinstance(made.get(key), type(value)):
-            made[key] = value
+    # a value of another type stays
+    made |= {key: name for key, name in {"title": title, "default": plain_names[-1]}.items() if isinstance(made.get(key), str)}
+    if isinstance(made.get("options"), list):
+        made["options"] = [name if isinstance(value, str) else value for name, value in zip(plain_names, made["options"])]
     further = {
         "deadline": deadline,
         "address": address,
