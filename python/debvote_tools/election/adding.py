@@ -19,14 +19,12 @@ from debvote_tools.book.book import Book, NewAct, Overtaken
 from debvote_tools.book.queries import NewEnvelope
 from debvote_tools.console import tell, tell_many
 from debvote_tools.election import acting, in_time
-from debvote_tools.election.vote import JudgedLine, Vote
-from debvote_tools.election.line_words import LineWords, summary
+from debvote_tools.election.vote import LATE_REPLY, JudgedLine, LineWords, Vote, summary
 from debvote_tools.election.came import NOTHING_ADDED, CameFile
 from debvote_tools.election.came_before import FileLines, sorted_out
 from debvote_tools.election.csv_ballots import Columns, lines_of_table
-from debvote_tools.election.election import Election
-from debvote_tools.election.entering import LATE_REPLY, entered, too_long
-from debvote_tools.election.history import History
+from debvote_tools.election.election import Election, History
+from debvote_tools.election.entering import entered, too_long
 from debvote_tools.election.reporting import count_of
 from debvote_tools.faults import Fault, Status, stop_at
 from debvote_tools.lines import MARK, lines_in

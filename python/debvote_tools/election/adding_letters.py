@@ -11,9 +11,8 @@ from debvote_tools.election.adding import Arguments
 from debvote_tools.election.came import NOTHING_ADDED, CameFile
 from debvote_tools.election.election import Election
 from debvote_tools.election.letters_in import LettersPlan
-from debvote_tools.election.line_words import LineWords
+from debvote_tools.election.vote import LineWords, Vote
 from debvote_tools.election.reporting import count_of
-from debvote_tools.election.vote import Vote
 from debvote_tools.faults import Fault, Status
 from debvote_tools.letters.judge import Outcome
 

@@ -6,8 +6,7 @@ from typing import Any
 from debvote_tools.book import queries
 from debvote_tools.book.acts import Detail
 from debvote_tools.call.data import CallData
-from debvote_tools.election.election import Election, Sealed
-from debvote_tools.election.history import History
+from debvote_tools.election.election import Election, History, Sealed
 
 
 def current_data(

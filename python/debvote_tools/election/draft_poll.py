@@ -11,8 +11,7 @@ from typing import Any
 
 from debvote_tools.book import queries
 from debvote_tools.console import tell, tell_as_it_is
-from debvote_tools.election.election import POLL_FILE, TEXTS, Election
-from debvote_tools.election.history import History
+from debvote_tools.election.election import POLL_FILE, TEXTS, Election, History
 from debvote_tools.election.reporting import count_of
 from debvote_tools.faults import Fault, Status, stop_at
 from debvote_tools.files import POLL_LIMIT, file_text, read_whole

@@ -12,13 +12,11 @@ from debvote_tools.book import lines_by_act, queries
 from debvote_tools.book.acts import ActName, Detail
 from debvote_tools.book.book import Book, NewAct, Overtaken
 from debvote_tools.console import OutputFailed
-from debvote_tools.election.vote import Vote
+from debvote_tools.election.vote import LATE_REPLY, Vote
 from debvote_tools.election.reporting import count_of
 from debvote_tools.faults import Fault, Status
 from debvote_tools.files import BALLOTS_LIMIT, LINES_LIMIT, uninterrupted
 from debvote_tools.lines import Line, name_in
-
-LATE_REPLY = "late"
 
 # in bytes; no ballot has half as many
 LONGEST_LINE = 500

@@ -8,8 +8,7 @@ from debvote_tools.arguments import option
 from debvote_tools.book import letters
 from debvote_tools.console import is_terminal, is_yes
 from debvote_tools.election import acting
-from debvote_tools.election.election import Election
-from debvote_tools.election.history import History
+from debvote_tools.election.election import Election, History
 from debvote_tools.election.reporting import act_time
 from debvote_tools.faults import Fault, Status
 

@@ -2,7 +2,7 @@
 
 from collections.abc import Iterator, Sequence
 
-from debvote_tools.election.line_words import IS_CODE, LineWords
+from debvote_tools.election.vote import IS_CODE, LineWords
 from debvote_tools.election.entering import Entered
 from debvote_tools.election.reporting import act_time, count_of
 from debvote_tools.letters.judge import JudgedLetter, Outcome

@@ -12,8 +12,7 @@ from debvote_tools.call.files import call_letter, extension_letter
 from debvote_tools.debvote import casting_words
 from debvote_tools.election import letters_in
 from debvote_tools.election.call_now import current_data
-from debvote_tools.election.election import Election
-from debvote_tools.election.history import History
+from debvote_tools.election.election import Election, History
 from debvote_tools.election.publication import Words, chronicle_of, closing_letter, last_publication
 from debvote_tools.election.vote import vote_of
 from debvote_tools.faults import Fault, Status

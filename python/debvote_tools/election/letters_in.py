@@ -18,9 +18,8 @@ from debvote_tools.book.letters import KeptLetter
 from debvote_tools.book.queries import NewEnvelope
 from debvote_tools.election.vote import Vote, vote_of
 from debvote_tools.election.came import NOTHING_ADDED, CameFile, safe
-from debvote_tools.election.election import KEYRING, Election
+from debvote_tools.election.election import KEYRING, Election, History
 from debvote_tools.election.entering import Entered, entered
-from debvote_tools.election.history import History
 from debvote_tools.faults import Fault, Status
 from debvote_tools.files import sha256_of
 from debvote_tools.letters.judge import Ballot, Circumstances, Decision, JudgedLetter, Outcome, judge_all

@@ -11,8 +11,7 @@ from debvote_tools.book import letters, lines_by_act, queries
 from debvote_tools.book.acts import Detail
 from debvote_tools.book.book import Book, DoneAct, as_text, from_text
 from debvote_tools.debvote import casting_words
-from debvote_tools.election.election import Election, Sealed
-from debvote_tools.election.history import History
+from debvote_tools.election.election import Election, History, Sealed
 from debvote_tools.faults import Fault
 from debvote_tools.files import sha256_of
 from debvote_tools.language import Language, language_of

@@ -15,8 +15,7 @@ from debvote_tools.election import acting
 from debvote_tools.election.call_now import current_data, until_of
 from debvote_tools.election.commands.codes import SLIPS, write_slips
 from debvote_tools.election.commands.roll import demand_read
-from debvote_tools.election.election import CALL, KEYRING, LETTERS, POLL, POLL_WITH_NAMES, PRIVATE, Election, Sealed
-from debvote_tools.election.history import History
+from debvote_tools.election.election import CALL, KEYRING, LETTERS, POLL, POLL_WITH_NAMES, PRIVATE, Election, History, Sealed
 from debvote_tools.election.made_files import OWN, PUBLIC, write_made
 from debvote_tools.election.draft_poll import checked_poll, lacks_codes, tell_poll
 from debvote_tools.election.reporting import act_time

@@ -10,8 +10,7 @@ from debvote_tools.book.acts import Detail
 from debvote_tools.book.book import DoneAct
 from debvote_tools.console import tell
 from debvote_tools.election import acting
-from debvote_tools.election.election import LETTERS, Election, Sealed
-from debvote_tools.election.history import History
+from debvote_tools.election.election import LETTERS, Election, History, Sealed
 from debvote_tools.election.made_files import OWN, write_made
 from debvote_tools.election.reporting import act_time, count_of
 from debvote_tools.election.in_time import Arrived, waiting_letters

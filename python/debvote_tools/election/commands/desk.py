@@ -13,11 +13,9 @@ from debvote_tools.book.book import Book, Overtaken
 from debvote_tools.book.queries import NewEnvelope
 from debvote_tools.console import is_yes, tell, typed
 from debvote_tools.election import acting, in_time
-from debvote_tools.election.vote import JudgedLine, Vote, vote_of
-from debvote_tools.election.line_words import LineWords, change_words, summary, would_words
-from debvote_tools.election.election import Election
+from debvote_tools.election.vote import JudgedLine, LineWords, Vote, change_words, summary, vote_of, would_words
+from debvote_tools.election.election import Election, History
 from debvote_tools.election.entering import electors_of, entered, too_long
-from debvote_tools.election.history import History
 from debvote_tools.election.reporting import listed
 from debvote_tools.faults import Fault, Status
 from debvote_tools.files import BALLOTS_LIMIT
