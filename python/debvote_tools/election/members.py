@@ -1,6 +1,5 @@
 """The list of members, a table as spreadsheets save it, and the roll that it becomes. It is read, and never written."""
 
-import collections
 import itertools
 import pathlib
 import re
@@ -10,7 +9,7 @@ from typing import NamedTuple, TypeVar
 
 from debvote_tools.addresses import ADDRESS, address_key
 from debvote_tools.book.queries import Elector
-from debvote_tools.election.csv_tables import BadTable, Row, Table, read_table
+from debvote_tools.election.csv_tables import Row, read_table
 from debvote_tools.faults import Fault, Status, stop_at
 from debvote_tools.files import TABLE_LIMIT, read_at_most
 from debvote_tools.language import ENGLISH
@@ -99,11 +98,15 @@ def members_in(file: pathlib.Path) -> Members:
 
 
 def members_of(data: bytes, file: object = "members.csv") -> Members:
-    try:
-        table = read_table(data, COLUMNS, file, skips_spaces=True)
-    except BadTable as bad:
-        raise bad_list(bad.file, bad.reason, bad.cure) from None
-    stop_at(faults_of_head(table, file))
+    table = read_table(data, COLUMNS, file, bad_list, skips_spaces=True)
+    head_faults = []
+    missing = [f"`{column}`" for column in REQUIRED if column not in table.heads]
+    if missing:
+        reason = f"the head line has no column {' and no column '.join(missing)}, it has {table.heads_in_words}; {BELONGS}"
+        head_faults.append((reason, "name the columns so"))
+    twice = [column for column in COLUMNS if table.heads.count(column) > 1]
+    head_faults += [(f"the head line has the column `{column}` twice", "name one of them otherwise") for column in twice]
+    stop_at([bad_list(file, *fault, table.head.line) for fault in head_faults])
     indices = {column: table.heads.index(column) for column in COLUMNS if column in table.heads}
     # up to the last column that has a head
     width = max(index for index, head in enumerate(table.heads, start=1) if head)
@@ -117,19 +120,8 @@ def members_of(data: bytes, file: object = "members.csv") -> Members:
     return Members(file, tuple(members), tuple(faults))
 
 
-def bad_list(file: object, reason: object, cure: str, line: int | None = None) -> Fault:
+def bad_list(file: object, reason: str, cure: str, line: int | None = None) -> Fault:
     return Fault(file if line is None else f"{file}:{line}", reason, f"{cure}, {AGAIN}", done=None)
-
-
-def faults_of_head(table: Table, file: object) -> list[Fault]:
-    faults = []
-    missing = [f"`{column}`" for column in REQUIRED if column not in table.heads]
-    if missing:
-        reason = f"the head line has no column {' and no column '.join(missing)}, it has {table.heads_in_words}; {BELONGS}"
-        faults.append((reason, "name the columns so"))
-    twice = [column for column in COLUMNS if table.heads.count(column) > 1]
-    faults += [(f"the head line has the column `{column}` twice", "name one of them otherwise") for column in twice]
-    return [bad_list(file, *fault, table.head.line) for fault in faults]
 
 
 def member_of(row: Row, indices: dict[str, int]) -> Member:
@@ -184,11 +176,9 @@ class Roll(NamedTuple):
     @property
     def shared_addresses(self) -> dict[str, list[Member]]:
         """The electors of each address that several have."""
-        by_address = collections.defaultdict(list)
-        for elector in self.electors:
-            for key in dict.fromkeys(map(address_key, elector.addresses)):
-                by_address[key].append(elector)
-        return {address: electors for address, electors in by_address.items() if len(electors) > 1}
+        pairs = [(key, elector) for elector in self.electors for key in dict.fromkeys(map(address_key, elector.addresses))]
+        groups = several(pairs, lambda pair: pair[0])
+        return {group[0][0]: [elector for _, elector in group] for group in groups}
 
     @property
     def alike_people(self) -> list[list[Member]]:
