@@ -14,7 +14,7 @@ from debvote_tools.election import letters_in
 from debvote_tools.election.call_now import current_data
 from debvote_tools.election.election import Election, History
 from debvote_tools.election.publication import Words, chronicle_of, closing_letter, last_publication
-from debvote_tools.election.vote import vote_of
+from debvote_tools.election.vote import Vote
 from debvote_tools.faults import Fault, Status
 from debvote_tools.letters.judge import JudgedLetter, Outcome
 from debvote_tools.letters_out.compose import Became, Came, Composer, Kind
@@ -232,7 +232,7 @@ def what_came(election: Election, history: History, *, is_over: bool) -> dict[in
     """Judges all letters and all lines as they are now: what came of each elector, in the order of its times. debvote is started twice."""
     envelopes, kept, electors = queries.envelopes(election.book), letters.letters(election.book), queries.electors(election.book)
     came: dict[int, list[Came]] = {elector.number: [] for elector in electors}
-    answers = vote_of(election, history).answers([envelope.line for envelope in envelopes])
+    answers = Vote(election, history).answers([envelope.line for envelope in envelopes])
     # the last valid line of each elector counts
     last = {one.elector: one.number for one in envelopes if one.struck is None and not one.is_late and answers[one.line] is None}
 

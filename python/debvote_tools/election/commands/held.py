@@ -12,7 +12,7 @@ from debvote_tools.book.lines_by_act import NOT_UNDONE
 from debvote_tools.book.queries import NewEnvelope
 from debvote_tools.console import tell
 from debvote_tools.election import acting, letter_words, letters_in
-from debvote_tools.election.vote import LineWords, vote_of
+from debvote_tools.election.vote import LineWords, Vote
 from debvote_tools.election.election import Election
 from debvote_tools.election.entering import entered
 from debvote_tools.faults import Fault, Status
@@ -35,7 +35,7 @@ class Arguments(acting.Arguments):
 
 def run(election: Election, arguments: Arguments) -> int:
     demand_words(arguments)
-    vote_of(election, election.history())
+    Vote(election, election.history())
     if arguments.enter is not None:
         enter(election, arguments, arguments.numbers[0], arguments.enter)
     elif arguments.set_aside or arguments.wait:
@@ -125,7 +125,7 @@ def enter(election: Election, arguments: Arguments, number: int, lines: str) -> 
     """The act that enters lines of a letter; it waits no longer once each elector who has a ballot in it has one entered."""
     book = acting.book_for_act(election, arguments)
     history = election.history()
-    vote = vote_of(election, history)
+    vote = Vote(election, history)
     [letter] = chosen_letters(all_letters(election), [number])
     ballots = chosen_ballots(letter, lines)
     demand_waits(letter, has_force=arguments.force)
