@@ -70,9 +70,7 @@ def are_all_letters(files: Mapping[str, CameFile | None]) -> bool:
 
 
 def read_files(election: Election, paths: Sequence[str], *, is_table: bool) -> dict[str, CameFile | None]:
-    """Reads what these paths name, standard input if there is none, each whole; a folder is None. Stops at what has neither ballots nor
-    letters; all that is wrong is said at once.
-    """
+    """What these paths name, or standard input, each read whole; a folder is None. Stops at what has neither ballots nor letters."""
     files: dict[str, CameFile | None] = {}
     faults = []
     for path in paths or [HYPHEN]:
@@ -128,9 +126,6 @@ def demand_lines(file: CameFile, *, is_table: bool) -> None:
         raise Fault(file.name, words, "name the file of the ballots", Status.DOUBT, NOTHING_ADDED)
 
 
-# ---------------------------------------------------------------- the lines that came in an earlier file, which are passed over
-# A line is known as it is entered. The k-th of equal lines in a file came before if k of them came in earlier files that no `undo` took
-# back: counted, refused, struck or late. So a form that is exported again with more rows adds the new ones.
 class Repeated(NamedTuple):
     """A line that came before. `change` says what has happened since, if it no longer counts: then `--again` takes it."""
 
@@ -151,7 +146,9 @@ class FileLines(NamedTuple):
 
 
 def sorted_out(book: Book, files: Sequence[FileLines], *, takes_again: bool, is_reopened: bool) -> tuple[FileLines, ...]:
-    """The files, with what is new in each. A file that goes in counts as an earlier one of those after it."""
+    """The files, with what is new in each. The k-th of equal lines in a file came before if k of them came in earlier files that no `undo`
+    took back: counted, refused, struck or late. A file that goes in counts as an earlier one of those after it.
+    """
     counts = lines_by_act.lines_that_came(book)
     is_known = any(line.as_entered in counts for file in files for line in file.lines)
     by_line = lines_by_act.came_in_files(book) if is_known else {}

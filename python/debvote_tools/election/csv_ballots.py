@@ -22,16 +22,13 @@ class Columns(NamedTuple):
 
 
 def columns_of(name: str, ranks: str, options: Sequence[str], roll: Collection[str], *, is_blank_unranked: bool = False) -> Columns:
-    """The columns that the command line names: one of names, and one of ranks for each option, the default among them. In a list with
-    commas, a head that has a comma is in quotation marks.
-
-    The head of the names must not be a name of the roll: the table would have no head line, and its first ballot would be lost.
-    """
+    """The columns that the command line names. A head that has a comma is in quotation marks."""
     try:
         heads = [head.strip() for head in next(csv.reader([ranks], strict=True, skipinitialspace=True), [])]
     except csv.Error as error:
         raise bad_columns("--ranks", str(error), "put a head that has a comma into quotation marks") from None
     columns = Columns(name.strip(), heads, is_blank_unranked)
+    # then the first ballot would be lost as the head line
     if head_form(name) in roll:
         reason = f"`{columns.name}` is an elector, so the table seems to have no head line"
         raise bad_columns("--name", reason, "write a head line above the rows, and name the column by its head")
@@ -54,11 +51,8 @@ def bad_table(where: object, reason: str, cure: str) -> Fault:
     return Fault(where, reason, cure, Status.BAD_BALLOTS, NOTHING_ADDED)
 
 
-# ---------------------------------------------------------------- the table
 def lines_of_table(data: bytes, file_name: str, columns: Columns) -> list[Line]:
-    """The lines that the rows of a table make. An empty cell stays so, and debvote refuses its line, unless the columns say that it is an
-    option that is not ranked. Each cell is repaired by itself, so that none becomes a part of another.
-    """
+    """The lines that the rows of a table make. Each cell is repaired by itself, so that none becomes a part of another."""
     table = read_table(data, [columns.name, *columns.ranks], file_name, bad_table)
     heads, width = table.heads, len(table.head.cells)
     indices, lines = [], []

@@ -43,10 +43,7 @@ def notes(election: Election, history: History, what: str) -> list[str]:
 
 
 def came_before_close(history: History, answer: str | None, not_done: str) -> bool | None:
-    """Whether what is entered came before the first close, by the option or by an answer at a terminal. None if that does not matter.
-
-    `not_done` says what has not been done if it stops here.
-    """
+    """Whether what is entered came before the first close, by the option or by an answer at a terminal. None if that does not matter."""
     if not history.is_reopened:
         if answer is not None and not history.is_closed:
             raise Fault(CAME_BEFORE_CLOSE, "the vote was never closed", "leave it out", Status.BAD_WORDS, not_done)
@@ -83,23 +80,14 @@ def waiting_letters(election: Election, history: History) -> dict[int, Arrived]:
     # where letters have to be signed, what was signed says which are copies, which the book may not have known when they came
     if not history.announced("signed"):
         kept = letters.undecided(kept)
-    return {
-        letter.number: Arrived.BEFORE_THE_CALL
-        if letter.arrived_before_call
-        else Arrived.LATE
-        if letter.arrived_late
-        else Arrived.IN_TIME
-        for letter in judged(election, history, kept)
-        if letter.waits
-    }
+    waiting = {letter.number: letter for letter in judged(election, history, kept) if letter.waits}
+    arrived = {number: Arrived.LATE if letter.arrived_late else Arrived.IN_TIME for number, letter in waiting.items()}
+    return arrived | {number: Arrived.BEFORE_THE_CALL for number, letter in waiting.items() if letter.arrived_before_call}
 
 
 # ---------------------------------------------------------------- the end of the vote
 def parse_until(text: str, zone: str | None) -> datetime.datetime:
-    """The time that `--until` and `--zone` name. Its offset is its own, that of the zone, or that of this computer.
-
-    Raises `Fault` if it has another form, if there is no such time, or if that clock shows it twice on that day.
-    """
+    """The time that `--until` and `--zone` name. Its offset is its own, that of the zone, or that of this computer."""
     parts = TIME.fullmatch(text.strip())
     if parts is None:
         raise bad_until("it has to be a time", HOW)

@@ -202,7 +202,6 @@ class LettersDue:
             cure = f"see {self.election.command('status')}"
             raise Fault(self.kind, "the time to vote is over, so nobody is invited", cure, Status.DOUBT, "nothing was written")
 
-    # ------------------------------------------------------------ letters
     def letter_to(self, elector: Elector, for_act: int, address: str | None = None, about: Sequence[About] = ()) -> SentLetter:
         """A letter that is not written yet."""
         address = address_in(elector.addresses) if address is None else address
@@ -281,7 +280,6 @@ def came_of_letter(letter: JudgedLetter, elector: Elector, kept: datetime.dateti
     return [Came(key, Became.SET_ASIDE if is_aside else Became.WAITS, time, because=letter.reason, near=letter.near)]
 
 
-# ---------------------------------------------------------------- receipts
 def about_now(about: Sequence[About], came: Sequence[Came]) -> list[Came]:
     """What a receipt is about, as it is now: a ballot may have been struck since it was written."""
     numbers = {key[:2] for key in about}

@@ -187,10 +187,7 @@ class Roll(NamedTuple):
 
 
 def roll_of(members: Members, known: Sequence[Elector], language: str, *, is_called: bool = False) -> Roll:
-    """The roll of a list; `known` are all electors of the book. The faults of the list are among those of the roll.
-
-    After the call the people are those of the sealed poll, and addresses and keys alone may change.
-    """
+    """The roll of a list; `known` are all electors of the book. After the call addresses and keys alone may change."""
     electors = with_proposals(with_known(members.rows, known), known, language)
     numbers = {elector.known.number for elector in electors if elector.known}
     gone = [elector for elector in known if elector.position is not None and elector.number not in numbers]
@@ -204,11 +201,9 @@ def roll_of(members: Members, known: Sequence[Elector], language: str, *, is_cal
     return Roll(tuple(electors), tuple(gone), tuple(faults))
 
 
-# ---------------------------------------------------------------- who is who
 def with_known(rows: Sequence[Member], known: Sequence[Elector]) -> list[Member]:
-    """The members, each with the elector who is the same person and with their name, unless the row has another.
-
-    Those of the last list come first. Where several would fit, none of them does.
+    """The members, each with the elector who is the same person, of the last list if possible, and with their name. If several would fit,
+    none of them does.
     """
     found: dict[int, Elector] = {}
     last = [elector for elector in known if elector.position is not None]
@@ -219,8 +214,9 @@ def with_known(rows: Sequence[Member], known: Sequence[Elector]) -> list[Member]
             fitting = rows_by_form.get(text, [])
             if text and len(fitting) == len(electors) == 1:
                 found[fitting[0].line] = electors[0]
-    named = ((row, found.get(row.line)) for row in rows)
-    return [row._replace(name=row.name or (elector.name if elector else ""), known=elector) for row, elector in named]
+    return [
+        row._replace(name=row.name or found[row.line].name, known=found[row.line]) if row.line in found else row for row in rows
+    ]
 
 
 def grouped(entries: Iterable[Entry], form: Callable[[Entry], Hashable]) -> dict[Hashable, list[Entry]]:
@@ -237,9 +233,7 @@ def several(entries: Iterable[Entry], form: Callable[[Entry], Hashable]) -> list
 
 
 def with_proposals(electors: Sequence[Member], known: Sequence[Elector], language: str) -> list[Member]:
-    """The electors, each with a name: from who it is, or else from what is before the @ of an address. Who can't get a name so keeps an
-    empty name.
-    """
+    """The electors, each with a name, made of `who` or of an address if possible."""
     bases = {}
     for elector in electors:
         mails = (address.partition("@")[0] for address in elector.addresses)
