@@ -191,11 +191,10 @@ class LettersDue:
             "because": words.because,
             "acts": told_acts(publication, InText(language)),
         }
-
-        def text_of(elector: Elector, letter: SentLetter) -> str:
-            return self.composer.text(self.kind, elector, has_ballot=elector.name in standing, **values)
-
-        return self.to_each(act.number, text_of)
+        return self.to_each(
+            act.number,
+            lambda elector, _: self.composer.text(self.kind, elector, has_ballot=elector.name in standing, **values),
+        )
 
     def demand_not_over(self) -> None:
         if self.composer.is_over:
