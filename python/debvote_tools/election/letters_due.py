@@ -1,7 +1,7 @@
 """Which letters of a kind are due, and what each says: those that were written before and wait for the server, and new ones."""
 
 import datetime
-from collections.abc import Callable, Iterable, Sequence
+from collections.abc import Callable, Sequence
 
 from debvote_tools.addresses import address_key
 from debvote_tools.book import letters, lines_by_act, queries, sent
