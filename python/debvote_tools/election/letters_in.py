@@ -3,7 +3,6 @@ that are plainly ballots.
 """
 
 import contextlib
-import dataclasses
 import pathlib
 from collections.abc import Collection, Iterator, Mapping, Sequence
 
@@ -54,11 +53,13 @@ def take_letters(election: Election, vote: Vote, files: Mapping[str, CameFile | 
         tell(f"{count_of(len(new), 'new letter')}; {len(raws) - len(new)} came before.")
         enter_letters(election, vote, is_agreed=arguments.yes)
         return
-    plan = plan_of(election, found)
-    tell_plan(vote, plan)
+    history = election.history()
+    all_letters = judged(election, history, letters.letters(election.book), found)
+    tell_letters(vote, all_letters, is_late=history.is_closed)
     keys = {letter.key for letter in found}
-    number = sum(letter.parsed.key in keys for letter in plan.letters)
-    would = letter_words.counts(plan.letters, len(plan.going_in)).replace("went in", "would go in")
+    number = sum(letter.parsed.key in keys for letter in all_letters)
+    going_in = sum(letter.outcome is Outcome.GOES_IN for letter in all_letters)
+    would = letter_words.counts(all_letters, going_in).replace("went in", "would go in")
     tell(f"{count_of(number, 'new letter')}: {would}", "Nothing was changed.")
 
 
@@ -103,71 +104,55 @@ def keep(election: Election, raws: Sequence[RawLetter], found: Sequence[ParsedLe
                 letters.keep_letter(act, safe(raw.where), raw.data, letter.identity, as_json(letter))
 
 
-@dataclasses.dataclass(frozen=True)
-class LettersPlan:
-    """Which letters go in, each with its ballot, and all others as they are now."""
-
-    decided_at: int = dataclasses.field(compare=False)
-    is_late: bool
-    going_in: tuple[tuple[int, str], ...]
-    letters: tuple[JudgedLetter, ...] = dataclasses.field(compare=False)
-
-
-def plan_of(election: Election, looked_at: Sequence[ParsedLetter] = ()) -> LettersPlan:
-    history = election.history()
-    found = judged(election, history, letters.letters(election.book), looked_at)
-    going_in = [letter for letter in found if letter.outcome is Outcome.GOES_IN]
-    pairs = tuple((letter.number, letter.ballots[0].ballot) for letter in going_in)
-    return LettersPlan(history.last.number, history.is_closed, pairs, tuple(found))
-
-
 def enter_letters(election: Election, vote: Vote, *, is_agreed: bool) -> None:
-    shown: LettersPlan | None = None
+    """Enters the ballots that go in. If another act changes which these are, the letters are shown and asked about anew."""
+    shown = None
     while True:
-        plan = plan_of(election)
+        history = election.history()
+        all_letters = judged(election, history, letters.letters(election.book))
+        going_in = [letter for letter in all_letters if letter.outcome is Outcome.GOES_IN]
+        ballots, is_late = [letter.ballots[0].ballot for letter in going_in], history.is_closed
+        plan = (is_late, ballots, [letter.number for letter in going_in])
         if plan != shown:
-            tell_plan(vote, plan)
-            if plan.going_in and not is_agreed and not agreed(plan):
+            tell_letters(vote, all_letters, is_late=is_late)
+            if going_in and not is_agreed and not agreed(count_of(len(going_in), "ballot")):
                 tell("Nothing was entered; the letters are kept, and wait.")
                 break
             shown = plan
-        if not plan.going_in:
-            tell(letter_words.counts(plan.letters, 0))
+        if not going_in:
+            tell(letter_words.counts(all_letters, 0))
             break
 
         def envelopes(act: NewAct) -> Iterator[NewEnvelope]:
-            for letter in plan.letters:
-                if letter.outcome is Outcome.GOES_IN:
-                    letters.decide(act, letter.number, letters.ENTERED)
-                    yield new_envelope(letter, letter.ballots[0])
+            for letter in going_in:
+                letters.decide(act, letter.number, letters.ENTERED)
+                yield new_envelope(letter, letter.ballots[0])
 
-        number = len(plan.going_in)
-        detail: Detail = {"letters": number, "lines": number}
+        detail: Detail = {"letters": len(going_in), "lines": len(going_in)}
         with contextlib.suppress(Overtaken):
-            with entered(election.book, vote, "add", detail, envelopes, decided_at=plan.decided_at, is_late=plan.is_late) as done:
-                tell(*letter_words.reply_words(LineWords(vote), done, [ballot for _, ballot in plan.going_in]))
-                tell(letter_words.counts(plan.letters, number))
+            with entered(election.book, vote, "add", detail, envelopes, decided_at=history.last.number, is_late=is_late) as done:
+                tell(*letter_words.reply_words(LineWords(vote), done, ballots))
+                tell(letter_words.counts(all_letters, len(going_in)))
             break
     undo = f"{election.command('undo')} takes back what was entered last"
     waiting = f"{election.command('held')}, which lists the letters that wait"
-    is_waiting = any(letter.outcome is Outcome.WAITS for letter in plan.letters)
+    is_waiting = any(letter.outcome is Outcome.WAITS for letter in all_letters)
     tell(f"Next: {waiting if is_waiting else election.command('status')}; {undo}")
 
 
-def agreed(plan: LettersPlan) -> bool:
+def agreed(ballots: str) -> bool:
     """Whether the secretary agrees to what goes in. Elsewhere than at a terminal it stops."""
     if not is_terminal():
-        words = f"{count_of(len(plan.going_in), 'ballot')} would go in"
         done = f"{NOTHING_ADDED}, and the letters are kept"
-        raise Fault(None, words, "agree with --yes, or run it at a terminal", Status.DOUBT, done)
-    return bool(is_yes(f"Enter {count_of(len(plan.going_in), 'ballot')}?"))
+        raise Fault(None, f"{ballots} would go in", "agree with --yes, or run it at a terminal", Status.DOUBT, done)
+    return bool(is_yes(f"Enter {ballots}?"))
 
 
-def tell_plan(vote: Vote, plan: LettersPlan) -> None:
+def tell_letters(vote: Vote, found: Sequence[JudgedLetter], *, is_late: bool) -> None:
     words = LineWords(vote)
-    for letter in plan.letters:
+    for letter in found:
         if letter.outcome is Outcome.GOES_IN:
-            tell(*letter_words.going_in(letter, words, is_late=plan.is_late))
+            tell(*letter_words.going_in(letter, words, is_late=is_late))
         elif letter.outcome is Outcome.WAITS:
             tell(*letter_words.waiting(letter))
 
@@ -201,16 +186,13 @@ def judged(
         if letter.parsed.key in by_key:
             letter.number, letter.source = by_key[letter.parsed.key].number, by_key[letter.parsed.key].source
         if no_codes_expected:
-            letter.code_lines = code_lines(letter.parsed)
+            letter.code_lines = tuple(n for n, line in enumerate(letter.parsed.shown_lines, start=1) if has_code(line))
     return letters_now
 
 
-def code_lines(letter: ParsedLetter) -> tuple[int, ...]:
-    """The lines of a letter, from 1, with what looks like a code or an alias."""
-    lines = enumerate(letter.shown_lines, start=1)
-    return tuple(
-        number for number, line in lines if looks_like_code(line) or CODE_WITHIN.search(line.lower().encode("utf-8", "replace"))
-    )
+def has_code(line: str) -> bool:
+    """Whether a line has what looks like a code or an alias."""
+    return looks_like_code(line) or CODE_WITHIN.search(line.lower().encode("utf-8", "replace")) is not None
 
 
 def kept_letters(election: Election, kept: Sequence[KeptLetter]) -> list[ParsedLetter]:
