@@ -69,8 +69,7 @@ def decide(act: NewAct, letter: int, state: str) -> None:
 def our_message_ids(book: Book) -> dict[int, list[str]]:
     """The Message-IDs of the letters that were written to each elector."""
     found: dict[int, list[str]] = {}
-    words = "SELECT elector, json_extract(detail, '$.message_id') FROM sent WHERE elector IS NOT NULL"
+    words = "SELECT elector, json_extract(detail, '$.message_id') AS id FROM sent WHERE state = 'written' AND id <> ''"
     for elector, message_id in book.rows(words):
-        if message_id:
-            found.setdefault(elector, []).append(message_id)
+        found.setdefault(elector, []).append(message_id)
     return found

@@ -9,7 +9,7 @@ from typing import NamedTuple
 
 from debvote_tools.book import lines_by_act
 from debvote_tools.book.book import Book
-from debvote_tools.book.lines_by_act import EnvelopeOfFile
+from debvote_tools.book.queries import Envelope
 from debvote_tools.election.vote import JudgedLine
 
 
@@ -77,7 +77,7 @@ class Earlier:
         matched = (self.envelope(nth, line) for nth, line in lines)
         self.matched = {envelope.number for envelope in matched if envelope is not None}
 
-    def envelope(self, nth: int, line: JudgedLine) -> EnvelopeOfFile | None:
+    def envelope(self, nth: int, line: JudgedLine) -> Envelope | None:
         """The envelope of a line that came before; None if it comes first now."""
         envelopes = self.by_line.get(line.as_entered, [])
         return envelopes[nth - 1] if nth <= len(envelopes) else None

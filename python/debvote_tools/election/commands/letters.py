@@ -138,7 +138,7 @@ def write(book: Book, due: LettersDue, place: pathlib.Path) -> int:
     with letter_files.in_place(files, place):
         if due.new:
             with book.act("letters out", {"kind": due.kind, "letters": len(due.new)}, seen=due.history.last.number) as act:
-                sent.note_written(act, due.new)
+                sent.note(act, due.new)
     return len(files.keys() - {letter_files.TO_PRINT})
 
 
@@ -147,8 +147,7 @@ def send_waiting(book: Book, due: LettersDue, letters: Sequence[SentLetter], ser
 
     def note(noted: Sequence[SentLetter]) -> None:
         with uninterrupted(), book.act("letter sent", {"kind": due.kind}) as act:
-            for letter in noted:
-                sent.note_state(act, letter)
+            sent.note(act, noted)
 
     tried: list[SentLetter] = []
     if not letters:

@@ -5,7 +5,7 @@ import dataclasses
 from debvote_tools.arguments import positional
 from debvote_tools.book import letters, queries
 from debvote_tools.book.queries import Elector, Envelope
-from debvote_tools.book.sent import sent_to
+from debvote_tools.book.sent import sent_letters
 from debvote_tools.console import tell
 from debvote_tools.election import acting, letter_words, letters_in
 from debvote_tools.election.vote import JudgedLine, Vote, vote_of
@@ -39,7 +39,7 @@ def run(election: Election, arguments: Arguments) -> int:
     for letter in letters_in.judged(election, history, letters.letters(election.book)):
         if elector.name in letter.electors:
             tell(*(f"  {line}" for line in letter_lines(letter)))
-    for sent in sent_to(election.book, elector.number):
+    for sent in sorted(sent_letters(election.book, elector=elector.number), key=lambda letter: letter.time):
         where = f"to {sent.address}" if sent.address else "to be printed"
         reply = f" ({shown_text(sent.reply)})" if sent.reply else ""
         tell(f"  {sent.kind.removesuffix('s')}, {act_time(sent.time)}, {where}: {sent.state}{reply}")
