@@ -89,11 +89,18 @@ class CallData:
 
     @property
     def example(self) -> str:
-        return example_ranks(len(self.poll.names))
+        """Ranks that show the order, and with four options or more one that is not ranked."""
+        count = len(self.poll.names)
+        return "1,2" if count == 2 else ",".join(["2", "1", *[UNRANKED] * (count - 3), "3"])
 
     @property
     def example_in_words(self) -> str:
         return ranks_in_words(self.example, self.option_names, self.language)
+
+    @property
+    def gaps(self) -> str:
+        """The text in place of the ranks, where an elector is to write them."""
+        return ",".join("_" * len(self.poll.names))
 
 
 def explanations_of(poll: SealedPoll) -> list[tuple[int, list[str]]]:
@@ -104,16 +111,6 @@ def explanations_of(poll: SealedPoll) -> list[tuple[int, list[str]]]:
 def paragraphs_of(text: str) -> list[str]:
     """The paragraphs of a text; an empty line ends each."""
     return [lines for lines in re.split(r"\n(?:[ \t]*\n)+", text.strip("\n")) if lines.strip()]
-
-
-def example_ranks(count: int) -> str:
-    """Ranks for a number of options that show the order, and with four options or more one that is not ranked."""
-    return "1,2" if count == 2 else ",".join(["2", "1", *[UNRANKED] * (count - 3), "3"])
-
-
-def gaps_of(count: int) -> str:
-    """The text in place of this number of ranks, where an elector is to write them."""
-    return ",".join("_" * count)
 
 
 def demand_mail_address(text: str, option: str = "--to") -> None:

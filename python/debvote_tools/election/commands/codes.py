@@ -5,8 +5,10 @@ import dataclasses
 from debvote_tools.arguments import flag
 from debvote_tools.book import queries
 from debvote_tools.book.acts import Detail
+from debvote_tools.call.data import CallData
 from debvote_tools.console import tell
 from debvote_tools.election import acting
+from debvote_tools.election.call_now import current_data
 from debvote_tools.election.commands.check import what_next
 from debvote_tools.election.commands.roll import demand_read
 from debvote_tools.election.election import POLL_FILE, PRIVATE, Election
@@ -18,7 +20,7 @@ from debvote_tools.faults import Fault, Status
 from debvote_tools.sealed_poll import SealedPoll
 from debvote_tools.secret.aliases import alias_of
 from debvote_tools.secret.codes import CodeRow, codes_csv, new_code
-from debvote_tools.secret.slips import Slip, SlipsData, slips
+from debvote_tools.secret.slips import slips
 
 HELP = "Make a secret code for each elector, for a secret vote; it comes before the call"
 
@@ -79,22 +81,13 @@ def make_codes(election: Election, arguments: Arguments) -> tuple[SealedPoll, in
 # ---------------------------------------------------------------- slips
 def write_slips(election: Election, history: History, poll: SealedPoll) -> None:
     """Makes the folder `private`, with what the call says if there is one. With codes on the roll the names are the codes."""
-    electors, is_on_roll = queries.electors(election.book), history.has_codes_on_roll
-    data = SlipsData(
-        language=election.language,
-        poll=poll,
-        slips=[Slip(elector.name, elector.who, elector.name if is_on_roll else elector.code) for elector in electors],
-        until=history.until,
-        to=history.announced("to"),
-        at=history.announced("at"),
-        has_codes_on_roll=is_on_roll,
-    )
-    files = {SLIPS: slips(data)}
-    if not is_on_roll:
-        files[CODES] = codes_csv(
-            CodeRow(elector.name, elector.who, " ".join(elector.addresses), elector.code, elector.alias) for elector in electors
-        )
-    write_made(election.path(PRIVATE), files, OWN)
+    is_on_roll = history.has_codes_on_roll
+    call = current_data(election, history) if history.call else CallData(election.language, poll, 0, has_codes_on_roll=is_on_roll)
+    rows = [
+        CodeRow(name, who, " ".join(addresses), name if is_on_roll else code, alias)
+        for _, name, _, who, addresses, _, code, alias in queries.electors(election.book)
+    ]
+    write_made(election.path(PRIVATE), {SLIPS: slips(call, rows), **({} if is_on_roll else {CODES: codes_csv(rows)})}, OWN)
 
 
 def report(election: Election, history: History, poll: SealedPoll) -> None:
