@@ -1,4 +1,4 @@
-"""`codes`: a secret code for each elector of a secret vote, and the slips on which they are handed out."""
+"""Make a secret code for each elector, for a secret vote; it comes before the call."""
 
 import dataclasses
 
@@ -16,13 +16,11 @@ from debvote_tools.election.history import History
 from debvote_tools.election.made_files import OWN, write_made
 from debvote_tools.election.poll_checks import checked_poll
 from debvote_tools.election.reporting import count_of
-from debvote_tools.faults import Fault, Status
+from debvote_tools.faults import Fault
 from debvote_tools.sealed_poll import SealedPoll
 from debvote_tools.secret.aliases import alias_of
 from debvote_tools.secret.codes import CodeRow, codes_csv, new_code
 from debvote_tools.secret.slips import slips
-
-HELP = "Make a secret code for each elector, for a secret vote; it comes before the call"
 
 SLIPS, CODES = "slips.html", "codes.csv"
 NOT_SECRET = "the vote is not secret, so it needs no codes"
@@ -33,7 +31,7 @@ class Arguments(acting.Arguments):
     on_roll: bool = flag("Put the codes on the roll in place of the names, so that nobody knows who votes under which")
 
 
-def run(election: Election, arguments: Arguments) -> int:
+def run(election: Election, arguments: Arguments) -> None:
     if election.history().call is None:
         poll, number = make_codes(election, arguments)
         tell(f"Made {count_of(number, 'code')}.")
@@ -41,10 +39,17 @@ def run(election: Election, arguments: Arguments) -> int:
         poll = election.sealed().counted
         if not poll.secret:
             raise Fault(None, NOT_SECRET, f"see {election.command('status')}")
-    history = election.history()
+    history, private = election.history(), election.path(PRIVATE)
     write_slips(election, history, poll)
-    report(election, history, poll)
-    return Status.DONE
+    when = "The call writes into them until when one can vote and where to, so print them after it."
+    tell(f"The slips: {private / SLIPS}. {when}")
+    if history.has_codes_on_roll:
+        tell("Nobody may have a list of who gets which code. Destroy the slips that are left over, and the file.")
+    else:
+        tell(f"The table of the codes: {private / CODES}. Nobody but you may see it.")
+        if without := [elector.name for elector in queries.electors(election.book) if not elector.code]:
+            tell(f"Without a code: {', '.join(without)}")
+    tell(f"Next: {what_next(election, history, poll)}")
 
 
 def make_codes(election: Election, arguments: Arguments) -> tuple[SealedPoll, int]:
@@ -78,7 +83,6 @@ def make_codes(election: Election, arguments: Arguments) -> tuple[SealedPoll, in
     return poll, len(without)
 
 
-# ---------------------------------------------------------------- slips
 def write_slips(election: Election, history: History, poll: SealedPoll) -> None:
     """Makes the folder `private`, with what the call says if there is one. With codes on the roll the names are the codes."""
     is_on_roll = history.has_codes_on_roll
@@ -88,17 +92,3 @@ def write_slips(election: Election, history: History, poll: SealedPoll) -> None:
         for _, name, _, who, addresses, _, code, alias in queries.electors(election.book)
     ]
     write_made(election.path(PRIVATE), {SLIPS: slips(call, rows), **({} if is_on_roll else {CODES: codes_csv(rows)})}, OWN)
-
-
-def report(election: Election, history: History, poll: SealedPoll) -> None:
-    private = election.path(PRIVATE)
-    when = "The call writes into them until when one can vote and where to, so print them after it."
-    tell(f"The slips: {private / SLIPS}. {when}")
-    if history.has_codes_on_roll:
-        tell("Nobody may have a list of who gets which code. Destroy the slips that are left over, and the file.")
-    else:
-        tell(f"The table of the codes: {private / CODES}. Nobody but you may see it.")
-        without = [elector.name for elector in queries.electors(election.book) if not elector.code]
-        if without:
-            tell(f"Without a code: {', '.join(without)}")
-    tell(f"Next: {what_next(election, history, poll)}")

@@ -1,4 +1,4 @@
-"""`count`: the result sheet."""
+"""Print the result sheet."""
 
 import dataclasses
 import shlex
@@ -14,8 +14,6 @@ from debvote_tools.faults import Fault, Status
 from debvote_tools.lines import ballot_file
 from debvote_tools.sealed_poll import SealedPoll
 from debvote_tools.sheet import Sheet, sheet_in
-
-HELP = "Print the result sheet"
 
 CASTING = (
     "NAME",

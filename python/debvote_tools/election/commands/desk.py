@@ -1,4 +1,4 @@
-"""`desk`: ballots entered by hand at a terminal, or line by line from a pipe; any number of desks at once."""
+"""Enter ballots by hand, and print the reply to each; several desks can run at once, each in its own terminal."""
 
 import contextlib
 import dataclasses
@@ -23,8 +23,6 @@ from debvote_tools.election.reporting import listed
 from debvote_tools.faults import Fault, Status
 from debvote_tools.files import BALLOTS_LIMIT
 from debvote_tools.lines import Line, lines_in, name_in
-
-HELP = "Enter ballots by hand, and print the reply to each; several desks can run at once, each in its own terminal"
 
 QUIT = b"q"
 
@@ -107,7 +105,7 @@ class Desk:
             tell(*self.words.report(lines, now.numbers, replies, is_entered=True))
 
 
-def run(election: Election, arguments: Arguments) -> int:
+def run(election: Election, arguments: Arguments) -> None:
     if sys.stdin is None:
         raise Fault("standard input", "it is closed", "run it at a terminal", Status.BAD_BALLOTS, NOTHING_CAST)
     election.sealed()
@@ -127,7 +125,6 @@ def run(election: Election, arguments: Arguments) -> int:
     except KeyboardInterrupt:
         tell("")
     tell(f"This desk has cast {summary(desk.replies)}.", f"Next: {election.command('status')}")
-    return Status.DONE
 
 
 # ---------------------------------------------------------------- from a pipe
@@ -151,28 +148,20 @@ def from_pipe(desk: Desk) -> None:
 
 
 def whole_lines() -> Iterator[bytes]:
-    """What each read of standard input brings, up to its last line end. A carriage return and a line feed are one end, also if two reads
-    part them.
-    """
-    waiting: list[bytes] = []
-    after_return = False
+    """The lines that each read of standard input ends. A carriage return and a line feed are one end, also if two reads part them."""
+    waiting, ended_with_return = bytearray(), False
     while data := os.read(sys.stdin.fileno(), READ):
-        end = max(data.rfind(b"\n"), data.rfind(b"\r")) + 1
-        if end == 0 and sum(map(len, waiting)) <= BALLOTS_LIMIT:
-            waiting.append(data)
-            continue
+        waiting += data.removeprefix(b"\n") if ended_with_return else data
+        ended_with_return = data.endswith(b"\r")
+        end = max(waiting.rfind(b"\n"), waiting.rfind(b"\r")) + 1
         # a line that is too long for debvote ends here
-        end = end or len(data)
-        came = b"".join([*waiting, data[:end]])
-        waiting = [data[end:]]
-        whole = came.removeprefix(b"\n") if after_return else came
-        after_return = came.endswith(b"\r")
-        if whole:
-            yield whole
-    rest = b"".join(waiting)
-    rest = rest.removeprefix(b"\n") if after_return else rest
-    if rest:
-        yield rest
+        if len(waiting) - end > BALLOTS_LIMIT:
+            end = len(waiting)
+        if end:
+            yield bytes(waiting[:end])
+            del waiting[:end]
+    if waiting:
+        yield bytes(waiting)
 
 
 # ---------------------------------------------------------------- at a terminal

@@ -1,4 +1,4 @@
-"""`reopen`: the vote is open again after a close, for what had come in time."""
+"""Open the vote again after a close, for ballots that had come in time; the page of the result tells it."""
 
 import dataclasses
 import datetime
@@ -16,15 +16,12 @@ from debvote_tools.election.commands.strike import without_code
 from debvote_tools.election.vote import vote_of
 from debvote_tools.election.election import Election
 from debvote_tools.election.entering import entered
-from debvote_tools.election.history import History
 from debvote_tools.election.reporting import act_time, count_of
 from debvote_tools.faults import Fault, Status, stop_at
 from debvote_tools.terminal_text import shown_line
 
 # of the number of an envelope
 MAX_DIGITS = 9
-
-HELP = "Open the vote again after a close, for ballots that had come in time; the page of the result tells it"
 
 
 @dataclasses.dataclass(frozen=True)
@@ -38,12 +35,16 @@ class Arguments(acting.Arguments):
     force: bool = flag("Enter them although their electors have later ballots in time")
 
 
-def run(election: Election, arguments: Arguments) -> int:
+def run(election: Election, arguments: Arguments) -> None:
     because = acting.demand_reason(arguments.because, "reopen")
     election.sealed()
     book = acting.book_for_act(election, arguments)
     history = election.history()
-    demand_closed(election, history)
+    if not history.is_closed:
+        raise Fault(None, "the vote is not closed", f"see {election.command('status')}")
+    if history.announced("codes_on_roll") and history.named("publish"):
+        words = "the result has the codes of the roll, so now everybody could vote for everybody"
+        raise Fault(None, words, "hold the vote anew, with new codes")
     vote = vote_of(election, history)
     offered = chosen(book, arguments.in_time, has_codes=vote.has_codes)
     older = faults_of_older(book, offered)
@@ -59,16 +60,6 @@ def run(election: Election, arguments: Arguments) -> int:
             tell(f"{number} entered, which was late as {envelope.number}: {without_code(envelope.line, has_codes=vote.has_codes)}")
     tell("Only what arrived before the first close goes in as in time: add and desk ask.")
     tell(f"Next: {election.command('add', 'FILE')}, then {election.command('close')}")
-    return Status.DONE
-
-
-def demand_closed(election: Election, history: History) -> None:
-    """Stops if the vote is open, or if codes of the roll are published with its result: then everybody could vote for everybody."""
-    if not history.is_closed:
-        raise Fault(None, "the vote is not closed", f"see {election.command('status')}")
-    if history.announced("codes_on_roll") and history.named("publish"):
-        words = "the result has the codes of the roll, so now everybody could vote for everybody"
-        raise Fault(None, words, "hold the vote anew, with new codes")
 
 
 def chosen(book: Book, in_time: list[int] | None, *, has_codes: bool) -> list[Envelope]:

@@ -1,4 +1,4 @@
-"""`show`: one elector, with the ballots that came, and what stands."""
+"""Show one elector: the ballots and letters that came, the current ballot, and what was sent."""
 
 import dataclasses
 
@@ -13,13 +13,10 @@ from debvote_tools.election.line_words import LineWords
 from debvote_tools.election.election import Election
 from debvote_tools.election.history import History
 from debvote_tools.election.reporting import act_time
-from debvote_tools.faults import Fault, Status
-from debvote_tools.letters.judge import JudgedLetter
+from debvote_tools.faults import Fault
 from debvote_tools.letters.reasons import for_secretary
 from debvote_tools.lines import Line
 from debvote_tools.terminal_text import shown_text
-
-HELP = "Show one elector: the ballots and letters that came, the current ballot, and what was sent"
 
 
 @dataclasses.dataclass(frozen=True)
@@ -27,7 +24,7 @@ class Arguments:
     name: str = positional("NAME", "The elector's name on the roll, or the real name")
 
 
-def run(election: Election, arguments: Arguments) -> int:
+def run(election: Election, arguments: Arguments) -> None:
     history = election.history()
     vote = vote_of(election, history)
     acting.tell_strangeness(election.book)
@@ -38,12 +35,13 @@ def run(election: Election, arguments: Arguments) -> int:
     tell_ballots(election, vote, history, elector)
     for letter in letters_in.judged(election, history, letters.letters(election.book)):
         if elector.name in letter.electors:
-            tell(*(f"  {line}" for line in letter_lines(letter)))
+            why = letter.outcome.value if letter.reason is None else for_secretary(letter.reason)
+            words = letter_words.waiting(letter) if letter.waits else [f"{letter_words.who_and_when(letter)}: {why}"]
+            tell(*(f"  {line}" for line in words))
     for sent in sorted(sent_letters(election.book, elector=elector.number), key=lambda letter: letter.time):
         where = f"to {sent.address}" if sent.address else "to be printed"
         reply = f" ({shown_text(sent.reply)})" if sent.reply else ""
         tell(f"  {sent.kind.removesuffix('s')}, {act_time(sent.time)}, {where}: {sent.state}{reply}")
-    return Status.DONE
 
 
 def elector_named(election: Election, vote: Vote, name: str) -> Elector:
@@ -81,12 +79,3 @@ def ballot_words(words: LineWords, history: History, envelope: Envelope, line: J
         marks.append(f"struck by {act.name} at {act_time(act.time)}{because}")
     marked = f" ({'; '.join(marks)})" if marks else ""
     return f"  envelope {envelope.number}, {act_time(envelope.time)}: {said}{marked}"
-
-
-def letter_lines(letter: JudgedLetter) -> list[str]:
-    """A letter, and what became of it."""
-    if letter.waits:
-        return list(letter_words.waiting(letter))
-    reason = letter.reason
-    why = letter.outcome.value if reason is None else for_secretary(reason)
-    return [f"{letter_words.who_and_when(letter)}: {why}"]
