@@ -1,7 +1,7 @@
 """How `add` takes letters: it keeps those that are new, and enters the ballots of those that are plainly ballots."""
 
 import contextlib
-from collections.abc import Mapping, Sequence
+from collections.abc import Mapping
 
 from debvote_tools.arguments import given
 from debvote_tools.book.book import Overtaken
@@ -11,52 +11,43 @@ from debvote_tools.election.adding import Arguments
 from debvote_tools.election.came import NOTHING_ADDED, CameFile
 from debvote_tools.election.election import Election
 from debvote_tools.election.letters_in import LettersPlan
-from debvote_tools.election.line_words import LineWords
+from debvote_tools.election.vote import LineWords, Vote
 from debvote_tools.election.reporting import count_of
-from debvote_tools.election.vote import Vote
 from debvote_tools.faults import Fault, Status
 from debvote_tools.letters.judge import Outcome
-from debvote_tools.letters.sources import PassedOver, RawLetter
 
 
 def take_letters(election: Election, vote: Vote, files: Mapping[str, CameFile | None], arguments: Arguments) -> None:
+    """Keeps the letters that are new, and enters the ballots that go in; or tells what would become of them."""
     if of_lines := given(arguments, "csv", "again", "force"):
         words = "it is about lines and tables, and these are letters"
         raise Fault(", ".join(of_lines), words, "leave it out", Status.BAD_WORDS, NOTHING_ADDED)
     raws, passed_over = letters_in.read(files)
-    if arguments.look:
-        look_at_letters(election, vote, raws, passed_over)
-    else:
-        add_letters(election, vote, raws, passed_over, arguments)
-
-
-def look_at_letters(election: Election, vote: Vote, raws: Sequence[RawLetter], passed_over: Sequence[PassedOver]) -> None:
-    """Tells what would become of letters. Nothing is kept."""
-    _, found = letters_in.new_of(election, raws)
-    plan = letters_in.plan_of(election, found)
+    if not arguments.look:
+        acting.book_for_act(election, arguments)
+    new, found = letters_in.new_of(election, raws)
+    if not arguments.look:
+        letters_in.keep(election.book, new, found)
     tell(*letter_words.passed_over_words(passed_over))
+    if not arguments.look:
+        tell(f"{count_of(len(new), 'new letter')}; {len(raws) - len(new)} came before.")
+        enter_letters(election, vote, is_agreed=arguments.yes)
+        return
+    plan = letters_in.plan_of(election, found)
     tell_plan(vote, plan)
     keys = {letter.key for letter in found}
-    new = [letter for letter in plan.letters if letter.parsed.key in keys]
+    number = sum(letter.parsed.key in keys for letter in plan.letters)
     would = letter_words.counts(plan.letters, len(plan.going_in)).replace("went in", "would go in")
-    tell(f"{count_of(len(new), 'new letter')}: {would}", "Nothing was changed.")
+    tell(f"{count_of(number, 'new letter')}: {would}", "Nothing was changed.")
 
 
-def add_letters(
-    election: Election, vote: Vote, raws: Sequence[RawLetter], passed_over: Sequence[PassedOver], arguments: Arguments
-) -> None:
-    """Keeps the letters that are new, and enters the ballots that go in."""
-    book = acting.book_for_act(election, arguments)
-    new, found = letters_in.new_of(election, raws)
-    letters_in.keep(book, new, found)
-    tell(*letter_words.passed_over_words(passed_over))
-    tell(f"{count_of(len(new), 'new letter')}; {len(raws) - len(new)} came before.")
+def enter_letters(election: Election, vote: Vote, *, is_agreed: bool) -> None:
     shown: LettersPlan | None = None
     while True:
         plan = letters_in.plan_of(election)
         if plan != shown:
             tell_plan(vote, plan)
-            if plan.going_in and not arguments.yes and not agreed(plan):
+            if plan.going_in and not is_agreed and not agreed(plan):
                 tell("Nothing was entered; the letters are kept, and wait.")
                 break
             shown = plan

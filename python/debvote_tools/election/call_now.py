@@ -1,38 +1,35 @@
 """What the call of an election says, by the book."""
 
 import datetime
+from typing import Any
 
 from debvote_tools.book import queries
 from debvote_tools.book.acts import Detail
 from debvote_tools.call.data import CallData
-from debvote_tools.election.election import Election, Sealed
-from debvote_tools.election.history import History
+from debvote_tools.election.election import Election, History, Sealed
 
 
-def current_data(election: Election, history: History | None = None, said: Detail | None = None) -> CallData:
-    """What the call says as it is now, and with what would be said by a further act."""
-    history, said = history or election.history(), said or {}
-    assert history.call is not None
-    detail = history.call.detail.copy()
-    detail.update({"to": said.get("to") or history.announced("to"), "at": said.get("at") or history.announced("at")})
-    return call_data(election, election.sealed(), detail, until_of(said) or history.until)
+def current_data(
+    election: Election, history: History | None = None, said: Detail | None = None, sealed: Sealed | None = None
+) -> CallData:
+    """What the page and the letter say as it is now, and with what an act would say or seal."""
+    now, saying, sealed = history or election.history(), said or {}, sealed or election.sealed()
 
+    def value_of(key: str) -> Any:
+        return saying.get(key) or now.announced(key)
 
-def call_data(election: Election, sealed: Sealed, detail: Detail, until: datetime.datetime | None) -> CallData:
-    """What the page and the letter say."""
-    electors = queries.electors(election.book)
     return CallData(
         language=election.language,
         poll=sealed.public,
-        quorum_votes=detail["quorum_votes"],
-        until=until,
-        to=detail.get("to"),
-        at=detail.get("at"),
-        real_names={elector.name: elector.who for elector in electors} if detail["names"] else None,
-        has_form=detail["form"],
-        is_signed=detail["signed"],
+        quorum_votes=value_of("quorum_votes"),
+        until=until_of(saying) or now.until,
+        to=value_of("to"),
+        at=value_of("at"),
+        real_names={elector.name: elector.who for elector in queries.electors(election.book)} if value_of("names") else None,
+        has_form=bool(value_of("form")),
+        is_signed=bool(value_of("signed")),
         has_aliases=sealed.is_aliased,
-        has_codes_on_roll=detail["codes_on_roll"],
+        has_codes_on_roll=bool(value_of("codes_on_roll")),
     )
 
 

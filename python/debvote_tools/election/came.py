@@ -21,8 +21,6 @@ HYPHEN, STANDARD_INPUT = "-", "standard input"
 
 NOTHING_ADDED = "nothing was added"
 
-UTF_16 = (codecs.BOM_UTF16_LE, codecs.BOM_UTF16_BE)
-
 # what is done with a file that may have letters in it
 CURES = {
     PACKED: "save it as plain text in UTF-8; if letters are packed in it, unpack it, and add the folder",
@@ -49,26 +47,22 @@ def safe(text: str) -> str:
     return os.fsencode(text).decode("utf-8", "backslashreplace")
 
 
-# ---------------------------------------------------------------- letters
-OF_OUTLOOK = (NotRead.OUTLOOK_LETTER, NotRead.OUTLOOK_MAILBOX)
-
-
 def is_letters(file: CameFile | None) -> bool:
     """Whether what came is a mailbox, a letter, or a folder of letters."""
-    return file is None or are_letters(file.data) or kind_not_read(file.data) in OF_OUTLOOK
+    of_outlook = (NotRead.OUTLOOK_LETTER, NotRead.OUTLOOK_MAILBOX)
+    return file is None or are_letters(file.data) or kind_not_read(file.data) in of_outlook
 
 
 def are_all_letters(files: Mapping[str, CameFile | None]) -> bool:
     """Whether all that came are letters. Stops if some are letters and some are not."""
-    kinds = {path: is_letters(file) for path, file in files.items()}
-    if len(set(kinds.values())) > 1:
-        letters = ", ".join(named(path) for path, has_letters in kinds.items() if has_letters)
+    with_letters = [path for path, file in files.items() if is_letters(file)]
+    if 0 < len(with_letters) < len(files):
+        names = ", ".join(STANDARD_INPUT if path == HYPHEN else path for path in with_letters)
         cure = "add the letters and the files of lines by commands of their own"
-        raise Fault(letters, "it has letters, and other files have none", cure, Status.BAD_WORDS, NOTHING_ADDED)
-    return all(kinds.values())
+        raise Fault(names, "it has letters, and other files have none", cure, Status.BAD_WORDS, NOTHING_ADDED)
+    return bool(with_letters)
 
 
-# ---------------------------------------------------------------- reading
 def read_files(election: Election, paths: Sequence[str], *, is_table: bool) -> dict[str, CameFile | None]:
     """Reads what these paths name, standard input if there is none, each whole; a folder is None. Stops at what has neither ballots nor
     letters; all that is wrong is said at once.
@@ -88,9 +82,13 @@ def read_files(election: Election, paths: Sequence[str], *, is_table: bool) -> d
 
 
 def read_file(election: Election, path: str) -> CameFile:
-    """Reads a file. It may be a pipe, so it is read once."""
+    """Reads a file, or standard input; at a terminal it says how to end it. It may be a pipe, so it is read once."""
     if path == HYPHEN:
-        return read_standard_input()
+        if sys.stdin is None:
+            raise Fault(STANDARD_INPUT, "it is closed", "name a file", Status.BAD_BALLOTS, NOTHING_ADDED)
+        if sys.stdin.isatty():
+            tell("Type the ballots, a line each; Ctrl-D on an empty line ends them.")
+        return CameFile(STANDARD_INPUT, bytes_in(sys.stdin.buffer))
     # no other handle may be opened on the book: to close it would end the locks of this process
     if os.path.exists(path) and os.path.samefile(path, election.book.path):
         raise Fault(path, "it is the book of this election", "name a file of ballots that came", Status.BAD_BALLOTS, NOTHING_ADDED)
@@ -101,36 +99,20 @@ def read_file(election: Election, path: str) -> CameFile:
         raise Fault(path, error.strerror, "name a file of ballots that you may read", Status.BAD_BALLOTS, NOTHING_ADDED) from None
 
 
-def read_standard_input() -> CameFile:
-    """Reads standard input; at a terminal it says how to end it."""
-    if sys.stdin is None:
-        raise Fault(STANDARD_INPUT, "it is closed", "name a file", Status.BAD_BALLOTS, NOTHING_ADDED)
-    if sys.stdin.isatty():
-        tell("Type the ballots, a line each; Ctrl-D on an empty line ends them.")
-    return CameFile(STANDARD_INPUT, bytes_in(sys.stdin.buffer))
-
-
 def bytes_in(file: BinaryIO) -> bytes:
     """All that a file has if it has letters; of another that is too long one byte more than the limit."""
     data = file.read(BALLOTS_LIMIT + 1)
     return data + file.read() if are_letters(data) else data
 
 
-def named(path: str) -> str:
-    """How messages name a file."""
-    return STANDARD_INPUT if path == HYPHEN else path
-
-
-# ---------------------------------------------------------------- whether it is a file of ballots
 def demand_lines(file: CameFile, *, is_table: bool) -> None:
-    """Stops at what is no file of ballots."""
     if not file.data:
         raise Fault(file.name, "it is empty", "write a ballot a line into it", Status.DOUBT, NOTHING_ADDED)
     if len(file.data) > BALLOTS_LIMIT:
         words = f"it is longer than {BALLOTS_LIMIT} bytes, which debvote takes at most"
         raise Fault(file.name, words, "add it in parts", Status.BAD_BALLOTS, NOTHING_ADDED)
     what = kind_of(file.data)
-    if not is_table and file.data.startswith(UTF_16):
+    if not is_table and file.data.startswith((codecs.BOM_UTF16_LE, codecs.BOM_UTF16_BE)):
         what = "a text in UTF-16"
     if what is not None:
         cure = "save it as CSV" if is_table else CURES.get(what, "save it as plain text in UTF-8")

@@ -4,13 +4,16 @@ A line is known as it is entered. The k-th of equal lines in a file came before 
 back: counted, refused, struck or late. So a form that is exported again with more rows adds the new ones.
 """
 
-from collections.abc import Iterable, Sequence
+import collections
+from collections.abc import Mapping, Sequence
 from typing import NamedTuple
 
 from debvote_tools.book import lines_by_act
 from debvote_tools.book.book import Book
 from debvote_tools.book.queries import Envelope
+from debvote_tools.election.came import CameFile
 from debvote_tools.election.vote import JudgedLine
+from debvote_tools.lines import Line
 
 
 class Repeated(NamedTuple):
@@ -20,78 +23,70 @@ class Repeated(NamedTuple):
     change: str | None
 
 
-class NewAndRepeated(NamedTuple):
-    """The lines of a file: those that go in, and those that came before, in the order in which they stand."""
+class FileLines(NamedTuple):
+    """A file and its lines, in the order in which they are entered; and which of them go in now, and which came before."""
 
-    new: tuple[JudgedLine, ...]
+    came: CameFile
+    lines: tuple[JudgedLine, ...]
+    empty: tuple[Line, ...]
+    new: tuple[JudgedLine, ...] = ()
     repeated: tuple[Repeated, ...] = ()
     # the envelopes of lines that go in again: from then on such a line is known by its new envelope
     again: tuple[int, ...] = ()
 
 
-def sorted_out(book: Book, files: Sequence[Sequence[JudgedLine]], *, takes_again: bool, is_reopened: bool) -> list[NewAndRepeated]:
-    """The lines of each file. A file that goes in counts as an earlier one of those after it."""
+def sorted_out(book: Book, files: Sequence[FileLines], *, takes_again: bool, is_reopened: bool) -> tuple[FileLines, ...]:
+    """The files, with what is new in each. A file that goes in counts as an earlier one of those after it."""
     counts = lines_by_act.lines_that_came(book)
-    if len(files) == 1 and not any(line.as_entered in counts for line in files[0]):
-        return [NewAndRepeated(tuple(files[0]))]
-    kth = [list(with_occurrence(lines)) for lines in files]
-    earlier = Earlier(book, (pair for lines in kth for pair in lines), is_reopened=is_reopened)
+    is_known = any(line.as_entered in counts for file in files for line in file.lines)
+    by_line = lines_by_act.came_in_files(book) if is_known else {}
+    with_envelopes = [envelopes_of(file.lines, by_line) for file in files]
+    # a later row of the same file is nothing that came since
+    own = {envelope.number for lines in with_envelopes for _, envelope, _ in lines if envelope is not None}
+    numbers = lines_by_act.last_numbers(book).items() if is_known else ()
+    last = {elector: (number, line) for elector, (number, line) in numbers if number not in own}
+    going_in: set[bytes] = set()
     found = []
-    for lines in kth:
+    for file, lines in zip(files, with_envelopes):
         new, repeated, again, came_first = [], [], [], []
-        for nth, line in lines:
-            is_new = nth > counts[line.as_entered]
-            change = None if is_new else earlier.change_since(nth, line)
-            if is_new:
+        for nth, envelope, line in lines:
+            change = None
+            if envelope is not None and line.as_entered not in going_in:
+                change = change_since(envelope, line, last, is_reopened=is_reopened)
+            if nth > counts[line.as_entered]:
                 new.append(line)
                 came_first.append(line.as_entered)
-            elif takes_again and change is not None:
+            elif takes_again and envelope is not None and change is not None:
                 new.append(line)
-                again.append(earlier.by_line[line.as_entered][nth - 1].number)
+                again.append(envelope.number)
             else:
                 repeated.append(Repeated(line, change))
         counts.update(came_first)
-        earlier.going_in.update(line.as_entered for line in new)
-        found.append(NewAndRepeated(tuple(new), tuple(repeated), tuple(again)))
+        going_in.update(line.as_entered for line in new)
+        found.append(file._replace(new=tuple(new), repeated=tuple(repeated), again=tuple(again)))
+    return tuple(found)
+
+
+def envelopes_of(
+    lines: Sequence[JudgedLine], by_line: Mapping[bytes, Sequence[Envelope]]
+) -> list[tuple[int, Envelope | None, JudgedLine]]:
+    """Each line with its number among those that are equal to it, and with its envelope if it came before."""
+    counts: collections.Counter[bytes] = collections.Counter()
+    found = []
+    for line in lines:
+        counts[line.as_entered] += 1
+        nth, envelopes = counts[line.as_entered], by_line.get(line.as_entered, ())
+        found.append((nth, envelopes[nth - 1] if nth <= len(envelopes) else None, line))
     return found
 
 
-def with_occurrence(lines: Iterable[JudgedLine]) -> Iterable[tuple[int, JudgedLine]]:
-    """Each line with its number among those that are equal to it."""
-    counts: dict[bytes, int] = {}
-    for line in lines:
-        counts[line.as_entered] = nth = counts.get(line.as_entered, 0) + 1
-        yield nth, line
-
-
-class Earlier:
-    """The envelopes of lines that came before."""
-
-    def __init__(self, book: Book, lines: Iterable[tuple[int, JudgedLine]], *, is_reopened: bool) -> None:
-        self.is_reopened = is_reopened
-        self.by_line = lines_by_act.came_in_files(book)
-        # the lines of the files before, which go in together with these
-        self.going_in: set[bytes] = set()
-        self.last = lines_by_act.last_numbers(book)
-        # the envelopes that the lines of the files are: a later row of the same file is nothing that came since
-        matched = (self.envelope(nth, line) for nth, line in lines)
-        self.matched = {envelope.number for envelope in matched if envelope is not None}
-
-    def envelope(self, nth: int, line: JudgedLine) -> Envelope | None:
-        """The envelope of a line that came before; None if it comes first now."""
-        envelopes = self.by_line.get(line.as_entered, [])
-        return envelopes[nth - 1] if nth <= len(envelopes) else None
-
-    def change_since(self, nth: int, line: JudgedLine) -> str | None:
-        """Why a line that came no longer counts: it was struck, its elector has sent another ballot, or it was late before a reopen."""
-        envelope = self.envelope(nth, line)
-        if envelope is None or line.as_entered in self.going_in:
-            return None
-        if envelope.is_struck:
-            return f"was struck (envelope {envelope.number})"
-        if envelope.is_late:
-            return f"was late (envelope {envelope.number})" if self.is_reopened else None
-        last, last_line = self.last.get(envelope.elector or 0, (0, b""))
-        if last <= envelope.number or last in self.matched or last_line == line.as_entered or not line.is_ballot:
-            return None
-        return f"{line.voter} has voted since (envelope {last})"
+def change_since(envelope: Envelope, line: JudgedLine, last: Mapping[int, tuple[int, bytes]], *, is_reopened: bool) -> str | None:
+    """Why a line that came no longer counts: it was struck, its elector has sent another ballot, or it was late before a reopen."""
+    if envelope.is_struck:
+        return f"was struck (envelope {envelope.number})"
+    if envelope.is_late:
+        return f"was late (envelope {envelope.number})" if is_reopened else None
+    number, text = last.get(envelope.elector or 0, (0, b""))
+    if number <= envelope.number or text == line.as_entered or not line.is_ballot:
+        return None
+    return f"{line.voter} has voted since (envelope {number})"

@@ -18,10 +18,8 @@ from debvote_tools.book.letters import KeptLetter
 from debvote_tools.book.queries import NewEnvelope
 from debvote_tools.election.vote import Vote, vote_of
 from debvote_tools.election.came import NOTHING_ADDED, CameFile, safe
-from debvote_tools.election.election import KEYRING, Election, is_signed
+from debvote_tools.election.election import KEYRING, Election, History
 from debvote_tools.election.entering import Entered, entered
-from debvote_tools.election.history import History
-from debvote_tools.election.in_time import openness_of
 from debvote_tools.faults import Fault, Status
 from debvote_tools.files import sha256_of
 from debvote_tools.letters.judge import Ballot, Circumstances, Decision, JudgedLetter, Outcome, judge_all
@@ -59,14 +57,10 @@ def parsed(election: Election, raws: Sequence[RawLetter]) -> list[ParsedLetter]:
 
 def keyring_of(election: Election) -> bytes | None:
     """The keyring that holds; None if letters need no signature."""
-    call = election.history().call
-    if call is None or not is_signed(election.book, call.number):
-        return None
-    return queries.sealed(election.book, KEYRING)
+    return queries.sealed(election.book, KEYRING) if election.history().announced("signed") else None
 
 
 def new_of(election: Election, raws: Sequence[RawLetter]) -> tuple[list[RawLetter], list[ParsedLetter]]:
-    """The letters that did not come before."""
     known = letters.known_digests(election.book)
     # of the same bytes the first letter, but rather one that is not parted off
     chosen: dict[str, RawLetter] = {}
@@ -96,15 +90,6 @@ def keep(book: Book, raws: Sequence[RawLetter], found: Sequence[ParsedLetter]) -
 
 
 # ---------------------------------------------------------------- how they are judged
-def waiting_now(election: Election, history: History) -> list[JudgedLetter]:
-    """The letters that wait for the secretary."""
-    kept = letters.letters(election.book)
-    # where letters have to be signed, what was signed says which are copies, which the book may not have known when they came
-    if keyring_of(election) is None:
-        kept = letters.undecided(kept)
-    return [letter for letter in judged(election, history, kept) if letter.waits]
-
-
 def judged(
     election: Election, history: History, kept: Sequence[KeptLetter], looked_at: Sequence[ParsedLetter] = ()
 ) -> list[JudgedLetter]:
@@ -114,7 +99,7 @@ def judged(
     if not kept and not looked_at:
         return []
     vote = vote_of(election, history)
-    circumstances = circumstances_of(election, history, list(zip(found, kept)))
+    circumstances = circumstances_of(election, history, by_key)
     no_codes_expected = election.sealed().counted.secret and not vote.has_codes
     letters_now = judge_all([*found, *looked_at], circumstances, vote)
     for letter in letters_now:
@@ -147,8 +132,7 @@ def kept_letters(election: Election, kept: Sequence[KeptLetter]) -> list[ParsedL
     return found
 
 
-def circumstances_of(election: Election, history: History, found: Sequence[tuple[ParsedLetter, KeptLetter]]) -> Circumstances:
-    """All that letters are judged by, as it is now."""
+def circumstances_of(election: Election, history: History, by_key: Mapping[str, KeptLetter]) -> Circumstances:
     call, sealed, electors = history.call, election.sealed(), queries.electors(election.book)
     assert call is not None
     by_number = {elector.number: elector.name for elector in electors}
@@ -171,7 +155,7 @@ def circumstances_of(election: Election, history: History, found: Sequence[tuple
         our_letters={elector.name: ids.get(elector.number, []) for elector in electors},
         ballots=ballots,
         keys={elector.name: elector.key for elector in electors} if keyring_of(election) is not None else None,
-        decisions={letter.key: Decision(kept.state) for letter, kept in found if kept.state != letters.WAITS},
+        decisions={key: Decision(kept.state) for key, kept in by_key.items() if kept.state != letters.WAITS},
     )
 
 
@@ -187,7 +171,6 @@ class LettersPlan:
 
 
 def plan_of(election: Election, looked_at: Sequence[ParsedLetter] = ()) -> LettersPlan:
-    """What goes in now."""
     history = election.history()
     found = judged(election, history, letters.letters(election.book), looked_at)
     going_in = [letter for letter in found if letter.outcome is Outcome.GOES_IN]
@@ -209,12 +192,10 @@ def enter(election: Election, vote: Vote, plan: LettersPlan) -> contextlib.Abstr
 
 
 def new_envelope(letter: JudgedLetter, line: BallotLine) -> NewEnvelope:
-    """The envelope of a ballot that came in a letter."""
     return NewEnvelope(line.ballot.encode(), "", letter.source, letter.number, letter.time)
 
 
 def is_late(history: History, letter: JudgedLetter) -> bool:
     """Whether what is entered of a letter now is late: the vote is closed, or was reopened for what had arrived before the first close."""
-    arrived, openness = letter.parsed.arrived, openness_of(history)
-    first_close = openness.first_close
-    return openness.is_late(arrived is not None and first_close is not None and arrived <= first_close)
+    arrived, closes = letter.parsed.arrived, history.closes
+    return history.is_late(arrived is not None and bool(closes) and arrived <= closes[0].time)

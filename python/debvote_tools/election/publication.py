@@ -3,7 +3,7 @@
 import dataclasses
 import datetime
 import json
-from collections.abc import Mapping
+from collections.abc import Iterator, Mapping
 from typing import Final
 
 from debvote_tools.ballots import in_normal_form
@@ -11,16 +11,15 @@ from debvote_tools.book import letters, lines_by_act, queries
 from debvote_tools.book.acts import Detail
 from debvote_tools.book.book import Book, DoneAct, as_text, from_text
 from debvote_tools.debvote import casting_words
-from debvote_tools.election import closing_letter
-from debvote_tools.election.election import Election, Sealed
-from debvote_tools.election.history import History
+from debvote_tools.election.election import Election, History, Sealed
 from debvote_tools.faults import Fault
 from debvote_tools.files import sha256_of
-from debvote_tools.language import language_of
+from debvote_tools.language import Language, language_of
 from debvote_tools.lines import ballot_file
 from debvote_tools.publish.doubts import Doubt, Kind
 from debvote_tools.publish.inputs import Act, CastingVote, Chronicle, Closed, Done, Publication, SecretVote
 from debvote_tools.publish.names import BALLOTS, PAGE, POLL
+from debvote_tools.rendering import render_letter
 from debvote_tools.sealed_poll import SealedPoll
 from debvote_tools.secret.aliases import aliased_ballots, sealed_checksum
 
@@ -81,7 +80,7 @@ def publication_of(election: Election, words: Words) -> Publication:
         casting=words.vote,
         chronicle=chronicle,
         late=None if sealed.counted.secret else late,
-        closed=closing_letter.letter(history, sealed.public, election.language) if history.closes else None,
+        closed=closing_letter(history, sealed.public, election.language) if history.closes else None,
         real_names={elector.name: elector.who for elector in electors} if has_names else {},
         about=words.about,
         because=words.because,
@@ -90,6 +89,13 @@ def publication_of(election: Election, words: Words) -> Publication:
         secret=secret,
         has_codes=history.has_codes_on_roll,
     )
+
+
+def closing_letter(history: History, poll: SealedPoll, language: Language) -> bytes:
+    """The letter of the last close; the poll is the public one. The time is in the zone in which the end was announced."""
+    close, zone = history.closes[-1], history.until.tzinfo if history.until else datetime.UTC
+    time = close.time.astimezone(zone)
+    return render_letter("debvote_tools.letters_out", "closing.txt", language, close=close, time=time, poll=poll).encode()
 
 
 def demand_as_closed(history: History, ballots: bytes) -> None:
@@ -128,7 +134,6 @@ def detail_of(words: Words, checksums: Mapping[str, str], doubts: list[Doubt], *
 
 # ---------------------------------------------------------------- doubts
 def doubts_of(book: Book, history: History, poll: SealedPoll, casting: str | None) -> list[Doubt]:
-    """What there is to doubt before anything is counted."""
     found = [] if history.is_closed else [Doubt.of(Kind.NOT_CLOSED)]
     found += late_letters_in_time(book, history)
     names = dict(zip(poll.plain_names, poll.names))
@@ -156,12 +161,11 @@ def late_letters_in_time(book: Book, history: History) -> list[Doubt]:
 
 # ---------------------------------------------------------------- acts
 def chronicle_of(book: Book, history: History, *, is_secret: bool) -> Chronicle:
-    """What the page tells of the course of the election."""
     acts: list[Act] = []
     for before, act in zip([None, *history.acts], history.acts):
         if before is not None and act.time < before.time:
             acts.append(Act(act.time, Done.CLOCK, {"before": before.time}))
-        acts += told_of(act, book, history, is_secret=is_secret)
+        acts += acts_of_page(act, book, history, is_secret=is_secret)
     # lines, rows and ballots of desks that came after the end, and count; what came in after a close had come before it, as its act says
     after_the_end = 0
     if history.until is not None:
@@ -171,34 +175,34 @@ def chronicle_of(book: Book, history: History, *, is_secret: bool) -> Chronicle:
     return Chronicle(tuple(acts), history.until, after_the_end)
 
 
-def told_of(act: DoneAct, book: Book, history: History, *, is_secret: bool) -> list[Act]:
-    """What is told of an act; nothing of most. In a secret vote the reasons of `strike` and `reopen` stay in the log."""
+def acts_of_page(act: DoneAct, book: Book, history: History, *, is_secret: bool) -> Iterator[Act]:
+    """What the page tells of an act; nothing of most. In a secret vote the reasons of `strike` and `reopen` stay in the log."""
     time, detail = act.time, act.detail
-    told: list[Act] = []
     until = {"until": from_text(detail["until"])} if detail.get("until") else {}
     reason = None if is_secret else detail.get("because")
     match act.name:
         case "call":
-            told = [Act(time, Done.CALLED_UNTIL if until else Done.CALLED, until)]
+            yield Act(time, Done.CALLED_UNTIL if until else Done.CALLED, until)
         case "take back":
-            told = [Act(time, Done.TAKEN_BACK)]
+            yield Act(time, Done.TAKEN_BACK)
         case "extend" if until:
-            told = [Act(time, Done.EXTENDED, until)]
+            yield Act(time, Done.EXTENDED, until)
         case "addresses":
-            told = [Act(time, Done.ROLL_CHANGED, {"number": detail["electors"]})]
+            yield Act(time, Done.ROLL_CHANGED, {"number": detail["electors"]})
         case "strike":
             done = Done.STRUCK_IN_SECRET if is_secret else Done.STRUCK
-            struck = queries.envelopes(book, "struck.act = ?", act.number)
-            told = [Act(time, done, {"envelope": envelope.number}, reason) for envelope in struck]
+            for envelope in queries.envelopes(book, "struck.act = ?", act.number):
+                yield Act(time, done, {"envelope": envelope.number}, reason)
         case "close":
-            told = [close_of(act, book, history)]
+            yield close_of(act, book, history)
         case "reopen":
-            told = [Act(time, Done.REOPENED, because=reason)]
+            yield Act(time, Done.REOPENED, because=reason)
         case "moved":
             noted, there = detail["noted"] and detail["noted"]["act"], detail["there"]["act"]
             done = Done.MOVED if noted else Done.MOVED_UNKNOWN
-            told = [Act(time, done, {"noted": noted, "there": there}, detail["because"])]
-    return [*told, Act(time, Done.KEYRING)] if detail.get("keyring") else told
+            yield Act(time, done, {"noted": noted, "there": there}, detail["because"])
+    if detail.get("keyring"):
+        yield Act(time, Done.KEYRING)
 
 
 def close_of(act: DoneAct, book: Book, history: History) -> Closed:

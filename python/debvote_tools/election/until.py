@@ -33,7 +33,6 @@ def parse_until(text: str, zone: str | None) -> datetime.datetime:
 
 
 def demand_future(time: datetime.datetime, now: datetime.datetime) -> None:
-    """Raises `Fault` if the time is over."""
     if time <= now:
         clock = minute_in_words(now, time.tzinfo)
         reason = f"{time_in_words(time)} is over: by the clock of this computer it is {clock}"

@@ -12,13 +12,12 @@ from debvote_tools.call.data import CallData, demand_mail_address, demand_web_ad
 from debvote_tools.call.files import call_files, extension_letter
 from debvote_tools.console import tell
 from debvote_tools.election import acting
-from debvote_tools.election.call_now import call_data, current_data, until_of
+from debvote_tools.election.call_now import current_data, until_of
 from debvote_tools.election.commands.codes import SLIPS, write_slips
 from debvote_tools.election.commands.roll import demand_read
-from debvote_tools.election.election import CALL, KEYRING, LETTERS, POLL, POLL_WITH_NAMES, PRIVATE, Election, Sealed
-from debvote_tools.election.history import History
+from debvote_tools.election.election import CALL, KEYRING, LETTERS, POLL, POLL_WITH_NAMES, PRIVATE, Election, History, Sealed
 from debvote_tools.election.made_files import OWN, PUBLIC, write_made
-from debvote_tools.election.poll_checks import checked_poll, lacks_codes, tell_poll
+from debvote_tools.election.draft_poll import checked_poll, lacks_codes, tell_poll
 from debvote_tools.election.reporting import act_time
 from debvote_tools.election.until import demand_future, parse_until
 from debvote_tools.faults import Fault, Status, stop_at
@@ -82,7 +81,7 @@ def call(election: Election, arguments: Arguments) -> None:
     said["form"], said["names"], said["codes_on_roll"] = arguments.form, arguments.names, history.has_codes_on_roll
     said["quorum_votes"], said["signed"] = sheet.quorum, arguments.keyring is not None
     keyring = keyring_in(election, arguments.keyring)
-    data = call_data(election, Sealed(public, poll), said, until_of(said))
+    data = current_data(election, history, said, Sealed(public, poll))
     with book.act("call", said, seen=history.last.number) as act:
         act.insert("sealed", name=POLL, data=public.as_bytes())
         if public != poll:

@@ -4,9 +4,8 @@ import dataclasses
 
 from debvote_tools.arguments import flag
 from debvote_tools.console import tell
-from debvote_tools.election.election import Election
-from debvote_tools.election.history import History
-from debvote_tools.election.poll_checks import checked_poll, lacks_codes, tell_poll
+from debvote_tools.election.election import Election, History
+from debvote_tools.election.draft_poll import checked_poll, lacks_codes, tell_poll
 from debvote_tools.election.reporting import quorum_words, wrapped
 from debvote_tools.sealed_poll import SealedPoll
 

@@ -8,14 +8,16 @@ from debvote_tools.arguments import flag
 from debvote_tools.book import queries
 from debvote_tools.book.acts import Detail
 from debvote_tools.console import tell
-from debvote_tools.election import acting, closing_letter
+from debvote_tools.election import acting
 from debvote_tools.election.election import LETTERS, Election, Sealed
 from debvote_tools.election.made_files import OWN, write_made
 from debvote_tools.election.reporting import act_time, count_of
-from debvote_tools.election.waiting import Arrived, waiting_letters
+from debvote_tools.election.in_time import Arrived, waiting_letters
+from debvote_tools.election.publication import closing_letter
 from debvote_tools.faults import Fault, stop_at
 from debvote_tools.files import sha256_of
 from debvote_tools.lines import ballot_file
+from debvote_tools.publish.names import CLOSED
 from debvote_tools.secret.aliases import aliased_ballots, seal_line, sealed_checksum
 
 
@@ -31,9 +33,9 @@ def run(election: Election, arguments: Arguments) -> None:
     if is_new:
         close(election, sealed, arguments)
     history = election.history()
-    act, letter = history.closes[-1], closing_letter.letter(history, sealed.public, election.language)
-    written = write_made(election.path(LETTERS), {closing_letter.NAME: letter}, OWN)
-    detail, lines, path = act.detail, count_of(act.detail["lines"], "line"), election.path(LETTERS) / closing_letter.NAME
+    act, letter = history.closes[-1], closing_letter(history, sealed.public, election.language)
+    written = write_made(election.path(LETTERS), {CLOSED: letter}, OWN)
+    detail, lines, path = act.detail, count_of(act.detail["lines"], "line"), election.path(LETTERS) / CLOSED
     if is_new:
         if detail["early"]:
             tell("Note: one could still vote by the time that was announced; the page of the result tells it.")

@@ -11,10 +11,9 @@ from debvote_tools.election import acting
 from debvote_tools.election.call_now import current_data
 from debvote_tools.election.commands.check import what_next
 from debvote_tools.election.commands.roll import demand_read
-from debvote_tools.election.election import POLL_FILE, PRIVATE, Election
-from debvote_tools.election.history import History
+from debvote_tools.election.election import POLL_FILE, PRIVATE, Election, History
 from debvote_tools.election.made_files import OWN, write_made
-from debvote_tools.election.poll_checks import checked_poll
+from debvote_tools.election.draft_poll import checked_poll
 from debvote_tools.election.reporting import count_of
 from debvote_tools.faults import Fault
 from debvote_tools.sealed_poll import SealedPoll

@@ -8,8 +8,7 @@ from debvote_tools.arguments import option
 from debvote_tools.book import queries
 from debvote_tools.console import tell_as_it_is, tell_aside
 from debvote_tools.debvote import casting_words
-from debvote_tools.election.election import Election, Sealed
-from debvote_tools.election.history import History
+from debvote_tools.election.election import Election, History, Sealed
 from debvote_tools.faults import Fault, Status
 from debvote_tools.lines import ballot_file
 from debvote_tools.sealed_poll import SealedPoll

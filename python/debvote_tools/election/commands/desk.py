@@ -13,12 +13,9 @@ from debvote_tools.book.book import Book, Overtaken
 from debvote_tools.book.queries import NewEnvelope
 from debvote_tools.console import is_yes, tell, typed
 from debvote_tools.election import acting, in_time
-from debvote_tools.election.vote import JudgedLine, Vote, vote_of
-from debvote_tools.election.line_words import LineWords, change_words, summary, would_words
-from debvote_tools.election.election import Election, is_signed
-from debvote_tools.election.entering import electors_of, entered, is_too_long, long_words
-from debvote_tools.election.history import History
-from debvote_tools.election.in_time import Openness, openness_of
+from debvote_tools.election.vote import JudgedLine, LineWords, Vote, change_words, summary, vote_of, would_words
+from debvote_tools.election.election import Election, History
+from debvote_tools.election.entering import electors_of, entered, too_long
 from debvote_tools.election.reporting import listed
 from debvote_tools.faults import Fault, Status
 from debvote_tools.files import BALLOTS_LIMIT
@@ -42,7 +39,7 @@ class Shown:
     """What a ballot was shown by, before the question, and at a pipe before it is cast."""
 
     decided_at: int = dataclasses.field(compare=False)
-    openness: Openness
+    openness: History
     # number of each envelope of the elector, and the act that struck it
     envelopes: tuple[tuple[int, int | None], ...] = ()
 
@@ -64,7 +61,7 @@ class Desk:
     def now(self, elector: int | None = None) -> Shown:
         """What a ballot of an elector is shown by now."""
         history = History(self.book.acts())
-        openness = openness_of(history)
+        openness = history.openness()
         if openness.call != self.vote.call:
             raise Fault(None, "the vote was called anew meanwhile", "start the desk again", Status.DOUBT, NOTHING_CAST)
         envelopes = queries.envelopes(self.book, "elector = ?", elector)
@@ -113,7 +110,7 @@ def run(election: Election, arguments: Arguments) -> None:
     desk = Desk(election, book, arguments.came_before_close)
     openness = desk.now().openness
     tell(*in_time.notes(election, openness, "what is cast"))
-    if is_signed(book, desk.vote.call):
+    if desk.vote.is_signed:
         words = "letters have to be signed in this vote, and a desk asks for no signature"
         tell(f"Note: {words}: enter what comes on paper, or is spoken.")
     try:
@@ -135,9 +132,9 @@ def from_pipe(desk: Desk) -> None:
         for line in desk.lines_of(data):
             if line.is_empty:
                 tell(f"{line.where}: it is empty, and was left out")
-            elif is_too_long(line):
+            elif why := too_long(line):
                 add = desk.election.command("add", "--force", "FILE")
-                tell(f"{line.where}: {long_words(line)}; it was not cast.", f"  To add it from a file: {add}")
+                tell(f"{line.where}: {why}; it was not cast.", f"  To add it from a file: {add}")
             else:
                 lines.append(line)
         read = desk.vote.read(lines)

@@ -12,8 +12,7 @@ from debvote_tools.book.lines_by_act import NOT_UNDONE
 from debvote_tools.book.queries import NewEnvelope
 from debvote_tools.console import tell
 from debvote_tools.election import acting, letter_words, letters_in
-from debvote_tools.election.vote import Vote, vote_of
-from debvote_tools.election.line_words import LineWords
+from debvote_tools.election.vote import LineWords, Vote, vote_of
 from debvote_tools.election.election import Election
 from debvote_tools.election.entering import entered
 from debvote_tools.election.reporting import count_of

@@ -9,10 +9,8 @@ from debvote_tools.book.book import Book
 from debvote_tools.call.data import is_mail_address
 from debvote_tools.console import is_terminal, is_yes, tell
 from debvote_tools.election import acting
-from debvote_tools.election.election import MEMBERS_FILE, Election
-from debvote_tools.election.electors import Roll, roll_of
-from debvote_tools.election.history import History
-from debvote_tools.election.members import Member, members_in
+from debvote_tools.election.election import MEMBERS_FILE, Election, History
+from debvote_tools.election.members import Member, Roll, members_in, roll_of
 from debvote_tools.election.reporting import count_of, listed
 from debvote_tools.faults import Fault, stop_at
 from debvote_tools.plain_names import alike

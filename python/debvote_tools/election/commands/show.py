@@ -8,10 +8,8 @@ from debvote_tools.book.queries import Elector, Envelope
 from debvote_tools.book.sent import sent_letters
 from debvote_tools.console import tell
 from debvote_tools.election import acting, letter_words, letters_in
-from debvote_tools.election.vote import JudgedLine, Vote, vote_of
-from debvote_tools.election.line_words import LineWords
-from debvote_tools.election.election import Election
-from debvote_tools.election.history import History
+from debvote_tools.election.vote import JudgedLine, LineWords, Vote, vote_of
+from debvote_tools.election.election import Election, History
 from debvote_tools.election.reporting import act_time
 from debvote_tools.faults import Fault
 from debvote_tools.letters.reasons import for_secretary

@@ -9,8 +9,7 @@ from debvote_tools.book.book import Book
 from debvote_tools.book.queries import Envelope
 from debvote_tools.console import tell
 from debvote_tools.election import acting
-from debvote_tools.election.vote import vote_of
-from debvote_tools.election.line_words import LineWords
+from debvote_tools.election.vote import LineWords, vote_of
 from debvote_tools.election.commands.undo import demand_open
 from debvote_tools.election.election import Election
 from debvote_tools.election.reporting import act_time

@@ -11,11 +11,9 @@ from debvote_tools.book.book import Book, DoneAct, Overtaken
 from debvote_tools.book.queries import Envelope
 from debvote_tools.console import is_terminal, is_yes, tell
 from debvote_tools.election import acting
-from debvote_tools.election.vote import Vote, vote_of
-from debvote_tools.election.line_words import LineWords, standing_words
-from debvote_tools.election.election import Election
+from debvote_tools.election.vote import LineWords, Vote, standing_words, vote_of
+from debvote_tools.election.election import Election, History
 from debvote_tools.election.entering import envelope_words
-from debvote_tools.election.history import History
 from debvote_tools.election.reporting import act_time, count_of
 from debvote_tools.faults import Fault
 from debvote_tools.letters_out.compose import Kind
