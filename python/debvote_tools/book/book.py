@@ -52,8 +52,6 @@ class Overtaken(Exception):
 
 @dataclasses.dataclass(frozen=True)
 class DoneAct:
-    """An act of the book."""
-
     number: int
     time: datetime.datetime
     name: ActName
@@ -183,7 +181,6 @@ class Book:
 
     # ------------------------------------------------------------ this machine's note
     def note(self) -> MachineNote:
-        """What this machine noted of the book."""
         return MachineNote(self.path.resolve(), self.acts()[0].digest)
 
     def note_seen(self) -> None:
@@ -208,7 +205,6 @@ class Book:
         return None
 
     def demand_noted(self) -> None:
-        """Stops if this is not the book that this machine knows."""
         why = self.strangeness()
         if why is not None:
             cure = (
@@ -355,7 +351,6 @@ def sqlite_faults(path: pathlib.Path) -> Iterator[None]:
 
 
 def damaged(path: pathlib.Path, how: str = "it has no first act") -> Fault:
-    """The fault of a book that can't be read."""
     cure = "put back the last copy that debvote-election backup made, and tell the maintainers"
     return Fault(path, f"the book is damaged ({how})", cure)
 
@@ -369,7 +364,6 @@ def has_our_id(file: pathlib.Path) -> bool:
 
 # ---------------------------------------------------------------- values
 def as_text(time: datetime.datetime) -> str:
-    """A time as the book has it."""
     return time.astimezone(datetime.UTC).strftime("%Y-%m-%dT%H:%M:%SZ")
 
 

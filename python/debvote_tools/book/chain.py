@@ -32,7 +32,6 @@ TABLES = {
 
 
 def row_as_json(table: str, columns: str) -> str:
-    """The expression for a row of a table as JSON."""
     parts = [f"sha256({name[:-1]})" if name.endswith("*") else name for name in columns.split()]
     return f"json_array('{table}', {', '.join(parts)})"
 

@@ -32,7 +32,6 @@ FROM letter ORDER BY letter
 
 
 def letters(book: Book) -> list[KeptLetter]:
-    """All letters that came, in the order of their numbers."""
     return [KeptLetter(*row) for row in book.rows(KEPT_LETTERS)]
 
 
@@ -62,12 +61,10 @@ def keep_letter(act: NewAct, where: str, data: bytes, identity: str, known: str)
 
 
 def decide(act: NewAct, letter: int, state: str) -> None:
-    """Notes what an act decided of a letter."""
     act.insert("letter_state", letter=letter, state=state)
 
 
 def our_message_ids(book: Book) -> dict[int, list[str]]:
-    """The Message-IDs of the letters that were written to each elector."""
     found: dict[int, list[str]] = {}
     words = "SELECT elector, json_extract(detail, '$.message_id') AS id FROM sent WHERE state = 'written' AND id <> ''"
     for elector, message_id in book.rows(words):

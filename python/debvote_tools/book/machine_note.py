@@ -18,8 +18,6 @@ from debvote_tools.files import locked, write_whole
 
 
 class Note(NamedTuple):
-    """An act of a book."""
-
     act: int
     digest: str
 

@@ -51,7 +51,6 @@ def new_elector(act: NewAct, name: str) -> Elector:
 
 
 def put_electors(act: NewAct, electors: Iterable[Elector]) -> None:
-    """Notes what electors are now."""
     rows = (
         (number, position, who, json.dumps(addresses, ensure_ascii=False), key, code, alias)
         for number, _, position, who, addresses, key, code, alias in electors
@@ -128,7 +127,6 @@ def late_lines(book: Book) -> list[bytes]:
 
 
 def has_come(book: Book, since: int) -> bool:
-    """Whether a ballot or a letter has come since an act."""
     return bool(book.rows("SELECT 1 FROM (SELECT act FROM envelope UNION ALL SELECT act FROM letter) WHERE act > ? LIMIT 1", since))
 
 
@@ -162,7 +160,6 @@ def last_envelope(book: Book) -> int:
 
 
 def elector_numbers(book: Book, names: Collection[str]) -> dict[str, int]:
-    """The numbers of the electors who have one of these names."""
     words = "SELECT name, elector FROM elector WHERE name IN (SELECT value FROM json_each(?))"
     return dict(book.rows(words, json.dumps(list(names))))
 

@@ -49,7 +49,6 @@ def sent_letters(book: Book, kind: str | None = None, elector: int | None = None
 
 
 def note(act: NewAct, letters: Iterable[SentLetter]) -> None:
-    """Notes the states of letters."""
     rows = ((letter.elector, letter.kind, letter.state, detail_of(letter)) for letter in letters)
     act.insert_all("sent", ["elector", "kind", "state", "detail"], rows)
 

@@ -65,7 +65,6 @@ class CallData:
 
     @functools.cached_property
     def mark(self) -> str:
-        """The mark of the poll, as the subject of a letter has it."""
         return f"[{self.poll.mark}]"
 
     @property
@@ -109,12 +108,10 @@ def explanations_of(poll: SealedPoll) -> list[tuple[int, list[str]]]:
 
 
 def paragraphs_of(text: str) -> list[str]:
-    """The paragraphs of a text; an empty line ends each."""
     return [lines for lines in re.split(r"\n(?:[ \t]*\n)+", text.strip("\n")) if lines.strip()]
 
 
 def demand_mail_address(text: str, option: str = "--to") -> None:
-    """Raises `Fault` unless the option is one plain mail address."""
     if not is_mail_address(text):
         reason = "it has to be one mail address, as secretary@example.org"
         raise Fault(option, reason, "write it anew", Status.BAD_WORDS)
@@ -126,7 +123,6 @@ def is_mail_address(text: str) -> bool:
 
 
 def demand_web_address(text: str) -> None:
-    """Raises `Fault` unless `--at` is the web address of a page."""
     if not is_web_address(text):
         reason = "it has to be the address of a page, as https://example.org/vote/, without a part after #"
         raise Fault("--at", reason, "write it as the browser shows it", Status.BAD_WORDS)

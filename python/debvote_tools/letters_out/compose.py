@@ -114,7 +114,6 @@ class Composer:
         return self.text(Kind.RECEIPTS, elector, came=came, is_refusing=is_refusing)
 
     def text(self, kind: Kind, elector: Elector, **values: object) -> str:
-        """The text of a letter, by the template of its kind."""
         call, options = self.call, len(self.call.poll.names)
         name = one_line(elector.who)[:200] or elector.name
         own = {"call": call, "elector": elector, "said_of": self.said_of}

@@ -44,7 +44,6 @@ def demand_words(arguments: Arguments) -> None:
 
 
 def take_lines(election: Election, vote: Vote, came_files: Sequence[CameFile], arguments: Arguments) -> None:
-    """Enters files of lines and tables, or looks at them."""
     columns = None
     if arguments.name is not None and arguments.ranks is not None:
         blank, names = arguments.blank_is_unranked, vote.names_on_roll

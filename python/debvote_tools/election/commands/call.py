@@ -7,7 +7,7 @@ from debvote_tools import times
 from debvote_tools.arguments import flag, option
 from debvote_tools.book import queries
 from debvote_tools.book.acts import Detail
-from debvote_tools.book.book import Book, NewAct
+from debvote_tools.book.book import NewAct
 from debvote_tools.call.data import CallData, demand_mail_address, demand_web_address
 from debvote_tools.call.files import call_files, extension_letter
 from debvote_tools.console import tell
@@ -62,7 +62,6 @@ def run(election: Election, arguments: Arguments) -> None:
 
 # ---------------------------------------------------------------- the acts
 def call(election: Election, arguments: Arguments) -> None:
-    """Seals the poll."""
     said = announced(arguments)
     book = acting.book_for_act(election, arguments)
     history = election.history()

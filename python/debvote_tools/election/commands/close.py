@@ -53,7 +53,6 @@ def run(election: Election, arguments: Arguments) -> None:
 
 
 def close(election: Election, sealed: Sealed, arguments: Arguments) -> None:
-    """The act. It stops at all that speaks against it."""
     book = acting.book_for_act(election, arguments)
     acting.demand_whole(book)
     history, now = election.history(), times.now()

@@ -67,5 +67,4 @@ def what_next(election: Election, history: History, sheet: Sheet, casting: str |
 
 
 def in_shell(names: Iterable[str]) -> str:
-    """Some names, each as it is typed in a shell."""
     return ", ".join(map(shlex.quote, names))

@@ -163,7 +163,6 @@ def whole_lines() -> Iterator[bytes]:
 
 # ---------------------------------------------------------------- at a terminal
 def at_terminal(desk: Desk) -> None:
-    """Asks for ballots until there are no more."""
     tell(*(f"  {number} {name}" for number, name in enumerate(desk.vote.option_names, start=1)))
     who = "the code" if desk.vote.has_codes else "the elector"
     tell(f"Type a ballot as {desk.vote.right_line} ({who}, then a rank for each option in this order); q ends.")

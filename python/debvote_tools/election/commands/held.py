@@ -38,7 +38,7 @@ def run(election: Election, arguments: Arguments) -> None:
     vote = vote_of(election, election.history())
     if arguments.enter is not None:
         enter(election, vote, arguments, arguments.enter)
-    elif chosen:
+    elif arguments.set_aside or arguments.wait:
         decide(election, arguments)
     found = all_letters(election)
     waiting = [letter for letter in found if letter.waits]
@@ -71,7 +71,6 @@ def demand_words(arguments: Arguments) -> list[str]:
 
 
 def all_letters(election: Election) -> list[JudgedLetter]:
-    """All letters that came, as they are judged now."""
     return letters_in.judged(election, election.history(), letters.letters(election.book))
 
 
@@ -83,7 +82,6 @@ def chosen_letters(found: Sequence[JudgedLetter], numbers: Sequence[int]) -> lis
     return [by_number[number] for number in dict.fromkeys(numbers)]
 
 
-# ---------------------------------------------------------------- acts
 def decide(election: Election, arguments: Arguments) -> None:
     """The act that sets letters aside, or has them wait again."""
     book = acting.book_for_act(election, arguments)

@@ -109,11 +109,17 @@ def demand_words(arguments: Arguments) -> None:
 
 
 def with_password(server: Server, arguments: Arguments) -> Server:
-    """The server with user and password, which is read from a file or asked at a terminal."""
     if arguments.user is None:
         return server
     if arguments.password_file is not None:
-        password = send.password_in(arguments.password_file)
+        try:
+            password = pathlib.Path(arguments.password_file).read_text("utf-8").rstrip("\r\n")
+        except (OSError, UnicodeDecodeError) as error:
+            words, cure = (
+                error.strerror if isinstance(error, OSError) else "it is no text in UTF-8",
+                "name the file that has the password",
+            )
+            raise Fault(arguments.password_file, words, cure, Status.BAD_WORDS, "nothing was sent") from None
     elif console.is_terminal():
         password = getpass.getpass(f"The password of {arguments.user} on {server.host}: ")
     else:
@@ -123,7 +129,6 @@ def with_password(server: Server, arguments: Arguments) -> Server:
 
 
 def sender_of(election: Election, arguments: Arguments) -> str:
-    """The address that sends the letters."""
     sender = arguments.sender or election.history().announced("to")
     if sender is None:
         cure = "write the address that sends the letters"
@@ -190,7 +195,6 @@ def send_waiting(book: Book, due: LettersDue, letters: Sequence[SentLetter], ser
 
 
 def show_progress(count: int, total: int) -> None:
-    """A progress bar, where somebody sees it."""
     if console.shows():
         done = BAR * count // total
         console.tell_as_it_is(f"\r[{'#' * done}{'.' * (BAR - done)}] {count} of {total}")

@@ -99,7 +99,6 @@ def alone(election: Election) -> Iterator[None]:
 
 
 def words_of(arguments: Arguments) -> Words:
-    """The words of the command line, looked through."""
     vote = None
     if arguments.casting is not None:
         today = times.now().astimezone().date()

@@ -14,7 +14,7 @@ from debvote_tools.console import is_terminal, tell, typed
 from debvote_tools.election import acting
 from debvote_tools.election.commands.strike import without_code
 from debvote_tools.election.vote import vote_of
-from debvote_tools.election.election import Election, History
+from debvote_tools.election.election import Election
 from debvote_tools.election.entering import entered
 from debvote_tools.election.reporting import act_time, count_of
 from debvote_tools.faults import Fault, Status, stop_at

@@ -42,7 +42,6 @@ def run(election: Election, arguments: Arguments) -> None:
 
 
 def read_roll(election: Election, history: History) -> Roll:
-    """The roll by the list as it is now. All that is wrong with it is said at once."""
     members, known = members_in(election.path(MEMBERS_FILE)), queries.all_electors(election.book)
     roll = roll_of(members, known, election.language.code, is_called=history.call is not None)
     stop_at(roll.faults)
@@ -78,7 +77,6 @@ def keep_electors(book: Book, roll: Roll, seen: int) -> None:
         queries.put_electors(act, (now for name, now in after.items() if before.get(name) != now))
 
 
-# ---------------------------------------------------------------- what is printed
 def report(roll: Roll, *, has_all: bool) -> None:
     electors = roll.electors
     shown = electors if has_all else electors[:MAX_SHOWN]
@@ -104,7 +102,6 @@ def names_of(electors: Sequence[Member]) -> str:
     return listed([elector.name for elector in electors], MAX_SHOWN)
 
 
-# ---------------------------------------------------------------- after the call
 def change_addresses(book: Book, roll: Roll, seen: int, *, is_agreed: bool) -> None:
     """The act after the call: new addresses and keys of the same people, each of them asked about."""
     changed = [elector for elector in roll.electors if elector.changes and (is_agreed or agreed(elector))]
@@ -119,7 +116,6 @@ def change_addresses(book: Book, roll: Roll, seen: int, *, is_agreed: bool) -> N
 
 
 def agreed(elector: Member) -> bool:
-    """Whether the secretary agrees to a change, which is shown."""
     question = f"{elector.label}: {changes_in_words(elector)}. Is that right?"
     if not is_terminal():
         raise Fault(None, question, "run it at a terminal, or with --yes")
@@ -127,5 +123,4 @@ def agreed(elector: Member) -> bool:
 
 
 def changes_in_words(elector: Member) -> str:
-    """What of an elector is another than it was."""
     return "; ".join(f"{what} {before or '(none)'} becomes {now or '(none)'}" for what, (before, now) in elector.changes.items())

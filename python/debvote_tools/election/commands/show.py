@@ -43,7 +43,6 @@ def run(election: Election, arguments: Arguments) -> None:
 
 
 def elector_named(election: Election, vote: Vote, name: str) -> Elector:
-    """The elector with this name on the roll, or with this real name."""
     electors = [elector for elector in queries.electors(election.book) if elector.name in vote.names_on_roll]
     found = [elector for elector in electors if elector.name == name.strip().lower()]
     found = found or [elector for elector in electors if elector.who and elector.who.casefold() == name.strip().casefold()]
@@ -58,7 +57,6 @@ def elector_named(election: Election, vote: Vote, name: str) -> Elector:
 
 
 def tell_ballots(election: Election, vote: Vote, history: History, elector: Elector) -> None:
-    """Shows the lines that came of an elector, and what stands."""
     envelopes, words = queries.envelopes(election.book, "elector = ?", elector.number), LineWords(vote)
     read = vote.read([Line("", "", envelope.line, envelope.line, envelope.line) for envelope in envelopes])
     counted = [envelope.line for envelope in envelopes if envelope.struck is None and not envelope.is_late]

@@ -124,9 +124,7 @@ def state_of(election: Election, history: History) -> tuple[State, list[Refused]
     return state, refused if has_codes else [line for line in refused if line.name not in voters]
 
 
-# ---------------------------------------------------------------- what is printed
 def tell_stage(election: Election, history: History) -> None:
-    """Says what is voted on, until when, and whether the election is called and closed."""
     if history.call is None:
         tell("Call for votes: not made yet", "Closed: not yet")
         return
