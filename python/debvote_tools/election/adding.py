@@ -19,9 +19,8 @@ from debvote_tools.book.book import Book, NewAct, Overtaken
 from debvote_tools.book.queries import NewEnvelope
 from debvote_tools.console import tell, tell_many
 from debvote_tools.election import acting, in_time
-from debvote_tools.election.vote import LATE_REPLY, JudgedLine, LineWords, Vote, summary
-from debvote_tools.election.came import NOTHING_ADDED, CameFile
-from debvote_tools.election.came_before import FileLines, sorted_out
+from debvote_tools.election.vote import JudgedLine, LATE_REPLY, LineWords, Vote, summary
+from debvote_tools.election.came import NOTHING_ADDED, CameFile, FileLines, sorted_out
 from debvote_tools.election.csv_ballots import Columns, lines_of_table
 from debvote_tools.election.election import Election, History
 from debvote_tools.election.entering import entered, too_long
@@ -60,11 +59,6 @@ class Arguments(in_time.Arguments):
         "Enter lines again that came before and no longer count, as they were struck or their electors have voted since"
     )
     force: bool = flag("Add them although few lines are ballots, one is very long, or an older ballot would replace a later one")
-
-    @property
-    def is_unsorted(self) -> bool:
-        """Whether nobody has said how the rows of a table are sorted."""
-        return self.csv and not self.oldest_first and not self.newest_first
 
 
 @dataclasses.dataclass(frozen=True)
@@ -118,31 +112,47 @@ def plan_of(book: Book, vote: Vote, files: Sequence[FileLines], arguments: Argum
 
 def demand_nothing_against(vote: Vote, plan: Plan, arguments: Arguments) -> None:
     """Stops at what a person has to look at first; all of it is said at once."""
-    faults = list(orders_missing(plan)) if arguments.is_unsorted else []
-    if plan.new_lines and vote.is_signed and not (arguments.force and acting.has_reason(arguments.because)):
-        words = "letters have to be signed in this vote, and nothing says who has sent a line of a file"
-        cure = "add the letters themselves; or, if you know by other means who has sent each line, give --force --because TEXT"
-        faults.append(doubt(plan.files[0].came.name, words, cure))
-    stop_at([*faults, *(() if arguments.force else doubts(vote, plan, arguments))])
+    stop_at(list(doubts(vote, plan, arguments)))
 
 
-def orders_missing(plan: Plan) -> Iterator[Fault]:
-    """Tables that have two ballots of one elector which differ, one of them new at least: nobody has said which one is newer."""
+def doubts(vote: Vote, plan: Plan, arguments: Arguments) -> Iterator[Fault]:
+    is_unsorted = arguments.csv and not arguments.oldest_first and not arguments.newest_first
     for file in plan.files:
-        new = {line.line.place for line in file.new}
-        pair = next((pair for pair in pairs_that_differ(file) if any(line.line.place in new for line in pair)), None)
-        if pair is not None:
+        if is_unsorted and (pair := of_unknown_order(file)):
             rows = " and ".join(map(place_in, pair))
             words = f"it has two ballots of {pair[0].voter} that differ ({rows}), and the last one that is entered counts"
             yield doubt(file.came.name, words, "say how its rows are sorted: --oldest-first or --newest-first")
+    if plan.new_lines and vote.is_signed and not (arguments.force and acting.has_reason(arguments.because)):
+        words = "letters have to be signed in this vote, and nothing says who has sent a line of a file"
+        cure = "add the letters themselves; or, if you know by other means who has sent each line, give --force --because TEXT"
+        yield doubt(plan.files[0].came.name, words, cure)
+    if arguments.force:
+        return
+    for file in plan.files:
+        long_lines = ((line.line.where, why) for line in file.new if (why := too_long(line.line)))
+        for where, why in itertools.islice(long_lines, 1):
+            yield doubt(where, why, f"take out what is no ballot, or {FORCE}")
+    yield from few_ballots(vote, [file for file in plan.files if file.new], arguments)
+    for file in plan.files:
+        if not is_unsorted and (pair := new_one_above(file)):
+            words = f"{place_in(pair[0])} has an older ballot of {pair[0].voter} than {place_in(pair[1])}, which came before"
+            yield doubt(file.came.name, f"{words}, and would replace it", f"take the older one out, or {FORCE}")
+    if plan.new_lines and arguments.blank_is_unranked and not vote.has_form:
+        words = "the call does not say that an empty cell is a hyphen, so an elector may have meant otherwise"
+        cure = f"ask the electors whose rows have empty cells; if they were told otherwise, {FORCE}"
+        yield doubt("--blank-is-unranked", words, cure)
 
 
-def pairs_that_differ(file: FileLines) -> Iterator[tuple[JudgedLine, JudgedLine]]:
+def of_unknown_order(file: FileLines) -> tuple[JudgedLine, JudgedLine] | None:
+    """Two ballots of one elector that differ, one of them new at least: nobody has said which one is newer."""
+    new = {line.line.place for line in file.new}
     above: dict[str, list[JudgedLine]] = collections.defaultdict(list)
-    for line in file.lines:
-        if line.is_ballot:
-            yield from ((other, line) for other in above[line.voter] if other.ranks != line.ranks)
-            above[line.voter].append(line)
+    for line in filter(lambda line: line.is_ballot, file.lines):
+        for other in above[line.voter]:
+            if other.ranks != line.ranks and not new.isdisjoint((other.line.place, line.line.place)):
+                return other, line
+        above[line.voter].append(line)
+    return None
 
 
 def new_one_above(file: FileLines) -> tuple[JudgedLine, JudgedLine] | None:
@@ -161,25 +171,6 @@ def place_in(line: JudgedLine) -> str:
     """Where a line is in its file, as `line 3` or `row 3`."""
     place = line.line.place.lstrip(": ")
     return f"line {place}" if place.isdigit() else place
-
-
-def doubts(vote: Vote, plan: Plan, arguments: Arguments) -> Iterator[Fault]:
-    """What stops without --force."""
-    for file in plan.files:
-        long_lines = ((line.line.where, why) for line in file.new if (why := too_long(line.line)))
-        for where, why in itertools.islice(long_lines, 1):
-            yield doubt(where, why, f"take out what is no ballot, or {FORCE}")
-    yield from few_ballots(vote, [file for file in plan.files if file.new], arguments)
-    for file in plan.files:
-        older = None if arguments.is_unsorted else new_one_above(file)
-        if older is not None:
-            places = [place_in(line) for line in older]
-            words = f"{places[0]} has an older ballot of {older[0].voter} than {places[1]}, which came before, and would replace it"
-            yield doubt(file.came.name, words, f"take the older one out, or {FORCE}")
-    if plan.new_lines and arguments.blank_is_unranked and not vote.has_form:
-        words = "the call does not say that an empty cell is a hyphen, so an elector may have meant otherwise"
-        cure = f"ask the electors whose rows have empty cells; if they were told otherwise, {FORCE}"
-        yield doubt("--blank-is-unranked", words, cure)
 
 
 # ---------------------------------------------------------------- a file that has other lines than ballots
@@ -239,16 +230,14 @@ def add(election: Election, book: Book, vote: Vote, files: Sequence[FileLines], 
             tell(*report(election, vote, plan, (), ()), "Nothing is new. Nothing was added.")
             return plan
         came_before_close = in_time.came_before_close(plan.openness, arguments.came_before_close, NOTHING_ADDED)
+        detail, is_late = detail_of(vote, plan, arguments, came_before_close), plan.openness.is_late(came_before_close)
+
+        def is_same() -> bool:
+            return plan_of(book, vote, files, arguments) == plan
+
         with contextlib.suppress(Overtaken):
             with entered(
-                book,
-                vote,
-                "add",
-                detail_of(vote, plan, arguments, came_before_close),
-                plan.envelopes,
-                decided_at=plan.decided_at,
-                is_late=plan.openness.is_late(came_before_close),
-                is_same=lambda: plan_of(book, vote, files, arguments) == plan,
+                book, vote, "add", detail, plan.envelopes, decided_at=plan.decided_at, is_late=is_late, is_same=is_same
             ) as done:
                 replies = done.replies()
                 tell_many(report(election, vote, plan, done.numbers, replies))

@@ -6,7 +6,7 @@ from collections.abc import Collection, Sequence
 from typing import NamedTuple
 
 from debvote_tools.ballots import UNRANKED
-from debvote_tools.election.csv_tables import BadTable, Table, head_form, read_table
+from debvote_tools.election.csv_tables import head_form, read_table
 from debvote_tools.election.came import NOTHING_ADDED
 from debvote_tools.faults import Fault, Status
 from debvote_tools.lines import BLANKS, Line
@@ -22,16 +22,13 @@ class Columns(NamedTuple):
 
 
 def columns_of(name: str, ranks: str, options: Sequence[str], roll: Collection[str], *, is_blank_unranked: bool = False) -> Columns:
-    """The columns that the command line names: one of names, and one of ranks for each option, the default among them. In a list with
-    commas, a head that has a comma is in quotation marks.
-
-    The head of the names must not be a name of the roll: the table would have no head line, and its first ballot would be lost.
-    """
+    """The columns that the command line names. A head that has a comma is in quotation marks."""
     try:
         heads = [head.strip() for head in next(csv.reader([ranks], strict=True, skipinitialspace=True), [])]
     except csv.Error as error:
         raise bad_columns("--ranks", str(error), "put a head that has a comma into quotation marks") from None
     columns = Columns(name.strip(), heads, is_blank_unranked)
+    # then the first ballot would be lost as the head line
     if head_form(name) in roll:
         reason = f"`{columns.name}` is an elector, so the table seems to have no head line"
         raise bad_columns("--name", reason, "write a head line above the rows, and name the column by its head")
@@ -50,23 +47,26 @@ def bad_columns(where: str, reason: str, cure: str) -> Fault:
     return Fault(where, reason, cure, Status.BAD_WORDS, NOTHING_ADDED)
 
 
-# ---------------------------------------------------------------- the table
+def bad_table(where: object, reason: str, cure: str) -> Fault:
+    return Fault(where, reason, cure, Status.BAD_BALLOTS, NOTHING_ADDED)
+
+
 def lines_of_table(data: bytes, file_name: str, columns: Columns) -> list[Line]:
-    """The lines that the rows of a table make. An empty cell stays so, and debvote refuses its line, unless the columns say that it is an
-    option that is not ranked. Each cell is repaired by itself, so that none becomes a part of another.
-    """
-    try:
-        table = read_table(data, [columns.name, *columns.ranks], file_name)
-    except BadTable as bad:
-        raise Fault(bad.file, bad.reason, bad.cure, Status.BAD_BALLOTS, NOTHING_ADDED) from None
-    indices, width = indices_of(table, file_name, columns), len(table.head.cells)
-    lines = []
+    """The lines that the rows of a table make. Each cell is repaired by itself, so that none becomes a part of another."""
+    table = read_table(data, [columns.name, *columns.ranks], file_name, bad_table)
+    heads, width = table.heads, len(table.head.cells)
+    indices, lines = [], []
+    for column in (columns.name, *columns.ranks):
+        if heads.count(head_form(column)) != 1:
+            what = "there is more than one column" if head_form(column) in heads else "there is no column"
+            raise bad_columns(file_name, f"{what} `{column}`; its heads are {table.heads_in_words}", "name each by its head")
+        indices.append(heads.index(head_form(column)))
     for row in table.rows:
         place = f": row {row.number}"
         if row.cells_after(width):
             reason = f"it has {len(row.cells)} cells, and the head line has {width}"
             cure = "put a cell that has the delimiter in it into quotation marks, and add the file again"
-            raise Fault(f"{file_name}{place}", reason, cure, Status.BAD_BALLOTS, NOTHING_ADDED)
+            raise bad_table(f"{file_name}{place}", reason, cure)
         if row.is_blank:
             lines.append(Line(file_name, place, b"", b"", b""))
             continue
@@ -77,16 +77,6 @@ def lines_of_table(data: bytes, file_name: str, columns: Columns) -> list[Line]:
         came = line_from(cells)
         lines.append(Line(file_name, place, came, re.sub(rb"[\r\n]+", b" ", came), line_from([elector.lower(), *ranks])))
     return lines
-
-
-def indices_of(table: Table, file_name: str, columns: Columns) -> list[int]:
-    heads, indices = table.heads, []
-    for column in (columns.name, *columns.ranks):
-        if heads.count(head_form(column)) != 1:
-            what = "there is more than one column" if head_form(column) in heads else "there is no column"
-            raise bad_columns(file_name, f"{what} `{column}`; its heads are {table.heads_in_words}", "name each by its head")
-        indices.append(heads.index(head_form(column)))
-    return indices
 
 
 def line_from(cells: Sequence[bytes]) -> bytes:

@@ -4,7 +4,7 @@ import codecs
 import csv
 import io
 import re
-from collections.abc import Collection
+from collections.abc import Callable, Collection
 from typing import NamedTuple
 
 from debvote_tools.faults import Fault
@@ -22,8 +22,8 @@ CELL_LIMIT = 67_108_864
 SAVE_AS = "save it anew as CSV in UTF-8"
 
 
-class BadTable(Fault):
-    """A file that can't be read as a table. The caller adds the status, and what is not done."""
+# the fault of a file that can't be read as a table, or of a line of it: the caller knows the status, and what is not done
+BadTable = Callable[[object, str, str], Fault]
 
 
 class Row(NamedTuple):
@@ -63,12 +63,14 @@ def head_form(head: str) -> str:
     return head.strip().casefold()
 
 
-def read_table(data: bytes, wanted_heads: Collection[str], file: object, *, skips_spaces: bool = False) -> Table:
+def read_table(
+    data: bytes, wanted_heads: Collection[str], file: object, bad_table: BadTable, *, skips_spaces: bool = False
+) -> Table:
     """The table of a file, with the delimiter by which most of the wanted heads are found in its first line that is not blank.
 
-    Spaces before a cell may be skipped: then quotation marks after them count as such. Raises `BadTable`.
+    Spaces before a cell may be skipped: then quotation marks after them count as such.
     """
-    text = decoded(data, file)
+    text = decoded(data, file, bad_table)
     head_line = next((line for line in re.split(r"[\r\n]+", text) if line.strip(' \t,;"')), "")
     wanted = {head_form(head) for head in wanted_heads}
 
@@ -93,27 +95,27 @@ def read_table(data: bytes, wanted_heads: Collection[str], file: object, *, skip
     except csv.Error as error:
         reason = f"the row that begins here is no row with a {DELIMITERS[delimiter]} between its cells ({error})"
         cure = "close each quotation mark, and put nothing between it and the delimiter"
-        raise BadTable(f"{file}:{line}", reason, cure) from None
+        raise bad_table(f"{file}:{line}", reason, cure) from None
     if head is None:
-        raise BadTable(file, "it is empty", "write the head line, and a line for each row")
+        raise bad_table(file, "it is empty", "write the head line, and a line for each row")
     return Table(head, rows)
 
 
-def decoded(data: bytes, file: object) -> str:
+def decoded(data: bytes, file: object, bad_table: BadTable) -> str:
     """The text of a file, by its mark; without one it is in UTF-8."""
     kind = kind_of(data)
     if kind is not None:
-        raise BadTable(file, f"it is {kind}, and no CSV", f"open it in the spreadsheet and {SAVE_AS}")
+        raise bad_table(file, f"it is {kind}, and no CSV", f"open it in the spreadsheet and {SAVE_AS}")
     mark = next((mark for mark in MARKS if data.startswith(mark)), b"")
     encoding = MARKS.get(mark, "utf-8")
     data = data.removeprefix(mark)
     if encoding == "utf-8" and b"\0" in data:
-        raise BadTable(file, "it is no text in UTF-8, and for one in UTF-16 its mark is missing", SAVE_AS)
+        raise bad_table(file, "it is no text in UTF-8, and for one in UTF-16 its mark is missing", SAVE_AS)
     try:
         return data.decode(encoding)
     except UnicodeDecodeError as error:
         if encoding != "utf-8":
-            raise BadTable(file, "it begins as a text in UTF-16 and is none to its end", SAVE_AS) from None
+            raise bad_table(file, "it begins as a text in UTF-16 and is none to its end", SAVE_AS) from None
         feeds = data.count(b"\n", 0, error.start)
         seen = shown_text(data.split(b"\n")[feeds].decode("cp1252", "replace"))
-        raise BadTable(f"{file}:{feeds + 1}", f"it is not in UTF-8, but perhaps in Latin-1: {seen}", SAVE_AS) from None
+        raise bad_table(f"{file}:{feeds + 1}", f"it is not in UTF-8, but perhaps in Latin-1: {seen}", SAVE_AS) from None

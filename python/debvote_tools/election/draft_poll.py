@@ -58,9 +58,8 @@ class BadToml(Fault):
 
 @dataclasses.dataclass(frozen=True)
 class DraftPoll:
-    """The poll as it is written: the values of its keys, of whatever type, and the texts of options by their numbers.
-
-    What is wrong with them by themselves is in `faults`; `faults_when_sealed` finds more, and debvote the rest in the sealed form.
+    """The poll as it is written: the values of its keys, of whatever type, and the texts of options by their numbers. `faults` has what is
+    wrong with each by itself.
     """
 
     values: Mapping[str, Any]

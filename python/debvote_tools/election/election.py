@@ -59,7 +59,6 @@ class History:
     def last(self) -> DoneAct:
         return self.acts[-1]
 
-    # ------------------------------------------------------------ the call
     @property
     def call(self) -> DoneAct | None:
         """The first call that was not taken back."""
@@ -81,7 +80,6 @@ class History:
         until = self.announced("until")
         return None if until is None else from_text(until)
 
-    # ------------------------------------------------------------ the close
     @property
     def closes(self) -> list[DoneAct]:
         """The closes since the call that holds: those of a call that was taken back are over."""

@@ -1,9 +1,11 @@
 """Whether what is entered now comes in time: whether the vote is open, until when, and what is asked after it was opened again."""
 
 import dataclasses
+import datetime
 import enum
+import re
+import zoneinfo
 
-from debvote_tools import times
 from debvote_tools.arguments import option
 from debvote_tools.book import letters
 from debvote_tools.console import is_terminal, is_yes
@@ -11,8 +13,13 @@ from debvote_tools.election import acting
 from debvote_tools.election.election import Election, History
 from debvote_tools.election.reporting import act_time
 from debvote_tools.faults import Fault, Status
+from debvote_tools.times import minute_in_words, now, offset_in_words, time_in_words
 
 CAME_BEFORE_CLOSE = "--came-before-close"
+
+# what --until takes: a date, a time of day, and an offset if the zone is not given otherwise
+TIME = re.compile(r"(\d{4}-\d\d-\d\d)[ T]+(\d\d:\d\d(?::\d\d)?)\s*(Z|UTC|[+-]\d\d:?\d\d)?", re.ASCII)
+HOW = 'write it as "2026-12-04 18:00", as "2026-12-04 18:00 +01:00", or with --zone Europe/Berlin'
 
 
 @dataclasses.dataclass(frozen=True)
@@ -28,18 +35,15 @@ def notes(election: Election, history: History, what: str) -> list[str]:
     """What is said before lines are entered after the end; `what` says what is done with them."""
     if history.is_closed:
         return [f"Note: the vote was closed at {act_time(history.closes[-1].time)}; {what} now is late."]
-    if history.until is not None and times.now() >= history.until:
-        over = f"one could vote until {times.time_in_words(history.until)}, and that is over"
+    if history.until is not None and now() >= history.until:
+        over = f"one could vote until {time_in_words(history.until)}, and that is over"
         counts = f"{what} counts as long as the vote is not closed, and the page of the result tells how many lines"
         return [f"Note: {over}; {counts}: {election.command('close')}"]
     return []
 
 
 def came_before_close(history: History, answer: str | None, not_done: str) -> bool | None:
-    """Whether what is entered came before the first close, by the option or by an answer at a terminal. None if that does not matter.
-
-    `not_done` says what has not been done if it stops here.
-    """
+    """Whether what is entered came before the first close, by the option or by an answer at a terminal. None if that does not matter."""
     if not history.is_reopened:
         if answer is not None and not history.is_closed:
             raise Fault(CAME_BEFORE_CLOSE, "the vote was never closed", "leave it out", Status.BAD_WORDS, not_done)
@@ -76,12 +80,56 @@ def waiting_letters(election: Election, history: History) -> dict[int, Arrived]:
     # where letters have to be signed, what was signed says which are copies, which the book may not have known when they came
     if not history.announced("signed"):
         kept = letters.undecided(kept)
-    return {
-        letter.number: Arrived.BEFORE_THE_CALL
-        if letter.arrived_before_call
-        else Arrived.LATE
-        if letter.arrived_late
-        else Arrived.IN_TIME
-        for letter in judged(election, history, kept)
-        if letter.waits
-    }
+    waiting = {letter.number: letter for letter in judged(election, history, kept) if letter.waits}
+    arrived = {number: Arrived.LATE if letter.arrived_late else Arrived.IN_TIME for number, letter in waiting.items()}
+    return arrived | {number: Arrived.BEFORE_THE_CALL for number, letter in waiting.items() if letter.arrived_before_call}
+
+
+# ---------------------------------------------------------------- the end of the vote
+def parse_until(text: str, zone: str | None) -> datetime.datetime:
+    """The time that `--until` and `--zone` name. Its offset is its own, that of the zone, or that of this computer."""
+    parts = TIME.fullmatch(text.strip())
+    if parts is None:
+        raise bad_until("it has to be a time", HOW)
+    date, clock, offset = parts.groups()
+    try:
+        plain = datetime.datetime.fromisoformat(f"{date} {clock}")
+        if offset is None:
+            return in_zone(plain, zone)
+        if zone is not None:
+            raise Fault("--zone", "the time has an offset already", "leave out one of the two", Status.BAD_WORDS)
+        return plain.replace(tzinfo=datetime.UTC if offset in ("Z", "UTC") else datetime.datetime.strptime(offset, "%z").tzinfo)
+    except (ValueError, OverflowError):
+        raise bad_until("there is no such day or time of day (a day goes from 00:00 to 23:59)", HOW) from None
+
+
+def demand_future(time: datetime.datetime, by: datetime.datetime) -> None:
+    if time <= by:
+        clock = minute_in_words(by, time.tzinfo)
+        reason = f"{time_in_words(time)} is over: by the clock of this computer it is {clock}"
+        raise bad_until(reason, "write a time that is to come")
+
+
+def in_zone(plain: datetime.datetime, name: str | None) -> datetime.datetime:
+    """The time of a clock in a zone, or of the clock of this computer. The clock has to show it just once."""
+    try:
+        zone = None if name is None else zoneinfo.ZoneInfo(name)
+    except (zoneinfo.ZoneInfoNotFoundError, ValueError, OSError):
+        cure = "write one as Europe/Berlin, or give the offset in the time, as +01:00"
+        raise Fault("--zone", "this computer knows no time zone of this name", cure, Status.BAD_WORDS) from None
+    folded = [plain.replace(fold=fold) for fold in (0, 1)]
+    first, second = (time.astimezone() if zone is None else time.replace(tzinfo=zone) for time in folded)
+    is_shown = any(time.astimezone(datetime.UTC).astimezone(zone).replace(tzinfo=None) == plain for time in (first, second))
+    where = "where this computer is" if name is None else f"in {name}"
+    if not is_shown:
+        raise bad_until(f"{where} there is no such time: on that day clocks are put forward over it", "write another time")
+    if first.utcoffset() != second.utcoffset():
+        offsets = [offset_in_words(time).removeprefix("UTC") or "UTC" for time in (first, second)]
+        both = " or ".join(f'"{plain:%Y-%m-%d %H:%M} {offset}"' for offset in offsets)
+        raise bad_until(f"{where} this time comes twice, since on that day clocks are put back", f"write {both}")
+    # a fixed offset in place of the zone: what is written down says the same on each computer
+    return datetime.datetime.fromisoformat(first.isoformat(timespec="seconds"))
+
+
+def bad_until(reason: str, cure: str) -> Fault:
+    return Fault("--until", reason, cure, Status.BAD_WORDS)

@@ -56,9 +56,8 @@ def in_place(files: Mapping[str, bytes], place: pathlib.Path) -> Iterator[None]:
     made, before = temporary_folder(place.parent), temporary_folder(place.parent)
     try:
         for name, data in files.items():
-            handle = os.open(made / name, os.O_WRONLY | os.O_CREAT | os.O_EXCL, 0o600)
-            with open(handle, "wb") as target:
-                target.write(data)
+            (made / name).touch(0o600)
+            (made / name).write_bytes(data)
         os.sync()
         has_before = place.is_dir()
         if has_before:

@@ -14,7 +14,7 @@ from debvote_tools.election import letters_in
 from debvote_tools.election.call_now import current_data
 from debvote_tools.election.election import Election, History
 from debvote_tools.election.publication import Words, chronicle_of, closing_letter, last_publication
-from debvote_tools.election.vote import vote_of
+from debvote_tools.election.vote import Vote
 from debvote_tools.faults import Fault, Status
 from debvote_tools.letters.judge import JudgedLetter, Outcome
 from debvote_tools.letters_out.compose import Became, Came, Composer, Kind
@@ -191,18 +191,16 @@ class LettersDue:
             "because": words.because,
             "acts": told_acts(publication, InText(language)),
         }
-
-        def text_of(elector: Elector, letter: SentLetter) -> str:
-            return self.composer.text(self.kind, elector, has_ballot=elector.name in standing, **values)
-
-        return self.to_each(act.number, text_of)
+        return self.to_each(
+            act.number,
+            lambda elector, _: self.composer.text(self.kind, elector, has_ballot=elector.name in standing, **values),
+        )
 
     def demand_not_over(self) -> None:
         if self.composer.is_over:
             cure = f"see {self.election.command('status')}"
             raise Fault(self.kind, "the time to vote is over, so nobody is invited", cure, Status.DOUBT, "nothing was written")
 
-    # ------------------------------------------------------------ letters
     def letter_to(self, elector: Elector, for_act: int, address: str | None = None, about: Sequence[About] = ()) -> SentLetter:
         """A letter that is not written yet."""
         address = address_in(elector.addresses) if address is None else address
@@ -232,7 +230,7 @@ def what_came(election: Election, history: History, *, is_over: bool) -> dict[in
     """Judges all letters and all lines as they are now: what came of each elector, in the order of its times. debvote is started twice."""
     envelopes, kept, electors = queries.envelopes(election.book), letters.letters(election.book), queries.electors(election.book)
     came: dict[int, list[Came]] = {elector.number: [] for elector in electors}
-    answers = vote_of(election, history).answers([envelope.line for envelope in envelopes])
+    answers = Vote(election, history).answers([envelope.line for envelope in envelopes])
     # the last valid line of each elector counts
     last = {one.elector: one.number for one in envelopes if one.struck is None and not one.is_late and answers[one.line] is None}
 
@@ -281,7 +279,6 @@ def came_of_letter(letter: JudgedLetter, elector: Elector, kept: datetime.dateti
     return [Came(key, Became.SET_ASIDE if is_aside else Became.WAITS, time, because=letter.reason, near=letter.near)]
 
 
-# ---------------------------------------------------------------- receipts
 def about_now(about: Sequence[About], came: Sequence[Came]) -> list[Came]:
     """What a receipt is about, as it is now: a ballot may have been struck since it was written."""
     numbers = {key[:2] for key in about}

@@ -16,7 +16,7 @@ from debvote_tools.book.acts import Detail
 from debvote_tools.book.book import Book, NewAct
 from debvote_tools.book.letters import KeptLetter
 from debvote_tools.book.queries import NewEnvelope
-from debvote_tools.election.vote import Vote, vote_of
+from debvote_tools.election.vote import Vote
 from debvote_tools.election.came import NOTHING_ADDED, CameFile, safe
 from debvote_tools.election.election import KEYRING, Election, History
 from debvote_tools.election.entering import Entered, entered
@@ -98,7 +98,7 @@ def judged(
     by_key = {letter.key: kept_letter for letter, kept_letter in zip(found, kept)}
     if not kept and not looked_at:
         return []
-    vote = vote_of(election, history)
+    vote = Vote(election, history)
     circumstances = circumstances_of(election, history, by_key)
     no_codes_expected = election.sealed().counted.secret and not vote.has_codes
     letters_now = judge_all([*found, *looked_at], circumstances, vote)

@@ -1,6 +1,5 @@
 """The list of members, a table as spreadsheets save it, and the roll that it becomes. It is read, and never written."""
 
-import collections
 import itertools
 import pathlib
 import re
@@ -10,7 +9,7 @@ from typing import NamedTuple, TypeVar
 
 from debvote_tools.addresses import ADDRESS, address_key
 from debvote_tools.book.queries import Elector
-from debvote_tools.election.csv_tables import BadTable, Row, Table, read_table
+from debvote_tools.election.csv_tables import Row, read_table
 from debvote_tools.faults import Fault, Status, stop_at
 from debvote_tools.files import TABLE_LIMIT, read_at_most
 from debvote_tools.language import ENGLISH
@@ -99,11 +98,15 @@ def members_in(file: pathlib.Path) -> Members:
 
 
 def members_of(data: bytes, file: object = "members.csv") -> Members:
-    try:
-        table = read_table(data, COLUMNS, file, skips_spaces=True)
-    except BadTable as bad:
-        raise bad_list(bad.file, bad.reason, bad.cure) from None
-    stop_at(faults_of_head(table, file))
+    table = read_table(data, COLUMNS, file, bad_list, skips_spaces=True)
+    head_faults = []
+    missing = [f"`{column}`" for column in REQUIRED if column not in table.heads]
+    if missing:
+        reason = f"the head line has no column {' and no column '.join(missing)}, it has {table.heads_in_words}; {BELONGS}"
+        head_faults.append((reason, "name the columns so"))
+    twice = [column for column in COLUMNS if table.heads.count(column) > 1]
+    head_faults += [(f"the head line has the column `{column}` twice", "name one of them otherwise") for column in twice]
+    stop_at([bad_list(file, *fault, table.head.line) for fault in head_faults])
     indices = {column: table.heads.index(column) for column in COLUMNS if column in table.heads}
     # up to the last column that has a head
     width = max(index for index, head in enumerate(table.heads, start=1) if head)
@@ -117,19 +120,8 @@ def members_of(data: bytes, file: object = "members.csv") -> Members:
     return Members(file, tuple(members), tuple(faults))
 
 
-def bad_list(file: object, reason: object, cure: str, line: int | None = None) -> Fault:
+def bad_list(file: object, reason: str, cure: str, line: int | None = None) -> Fault:
     return Fault(file if line is None else f"{file}:{line}", reason, f"{cure}, {AGAIN}", done=None)
-
-
-def faults_of_head(table: Table, file: object) -> list[Fault]:
-    faults = []
-    missing = [f"`{column}`" for column in REQUIRED if column not in table.heads]
-    if missing:
-        reason = f"the head line has no column {' and no column '.join(missing)}, it has {table.heads_in_words}; {BELONGS}"
-        faults.append((reason, "name the columns so"))
-    twice = [column for column in COLUMNS if table.heads.count(column) > 1]
-    faults += [(f"the head line has the column `{column}` twice", "name one of them otherwise") for column in twice]
-    return [bad_list(file, *fault, table.head.line) for fault in faults]
 
 
 def member_of(row: Row, indices: dict[str, int]) -> Member:
@@ -184,11 +176,9 @@ class Roll(NamedTuple):
     @property
     def shared_addresses(self) -> dict[str, list[Member]]:
         """The electors of each address that several have."""
-        by_address = collections.defaultdict(list)
-        for elector in self.electors:
-            for key in dict.fromkeys(map(address_key, elector.addresses)):
-                by_address[key].append(elector)
-        return {address: electors for address, electors in by_address.items() if len(electors) > 1}
+        pairs = [(key, elector) for elector in self.electors for key in dict.fromkeys(map(address_key, elector.addresses))]
+        groups = several(pairs, lambda pair: pair[0])
+        return {group[0][0]: [elector for _, elector in group] for group in groups}
 
     @property
     def alike_people(self) -> list[list[Member]]:
@@ -197,10 +187,7 @@ class Roll(NamedTuple):
 
 
 def roll_of(members: Members, known: Sequence[Elector], language: str, *, is_called: bool = False) -> Roll:
-    """The roll of a list; `known` are all electors of the book. The faults of the list are among those of the roll.
-
-    After the call the people are those of the sealed poll, and addresses and keys alone may change.
-    """
+    """The roll of a list; `known` are all electors of the book. After the call addresses and keys alone may change."""
     electors = with_proposals(with_known(members.rows, known), known, language)
     numbers = {elector.known.number for elector in electors if elector.known}
     gone = [elector for elector in known if elector.position is not None and elector.number not in numbers]
@@ -214,11 +201,9 @@ def roll_of(members: Members, known: Sequence[Elector], language: str, *, is_cal
     return Roll(tuple(electors), tuple(gone), tuple(faults))
 
 
-# ---------------------------------------------------------------- who is who
 def with_known(rows: Sequence[Member], known: Sequence[Elector]) -> list[Member]:
-    """The members, each with the elector who is the same person and with their name, unless the row has another.
-
-    Those of the last list come first. Where several would fit, none of them does.
+    """The members, each with the elector who is the same person, of the last list if possible, and with their name. If several would fit,
+    none of them does.
     """
     found: dict[int, Elector] = {}
     last = [elector for elector in known if elector.position is not None]
@@ -229,8 +214,9 @@ def with_known(rows: Sequence[Member], known: Sequence[Elector]) -> list[Member]
             fitting = rows_by_form.get(text, [])
             if text and len(fitting) == len(electors) == 1:
                 found[fitting[0].line] = electors[0]
-    named = ((row, found.get(row.line)) for row in rows)
-    return [row._replace(name=row.name or (elector.name if elector else ""), known=elector) for row, elector in named]
+    return [
+        row._replace(name=row.name or found[row.line].name, known=found[row.line]) if row.line in found else row for row in rows
+    ]
 
 
 def grouped(entries: Iterable[Entry], form: Callable[[Entry], Hashable]) -> dict[Hashable, list[Entry]]:
@@ -247,9 +233,7 @@ def several(entries: Iterable[Entry], form: Callable[[Entry], Hashable]) -> list
 
 
 def with_proposals(electors: Sequence[Member], known: Sequence[Elector], language: str) -> list[Member]:
-    """The electors, each with a name: from who it is, or else from what is before the @ of an address. Who can't get a name so keeps an
-    empty name.
-    """
+    """The electors, each with a name, made of `who` or of an address if possible."""
     bases = {}
     for elector in electors:
         mails = (address.partition("@")[0] for address in elector.addresses)

@@ -1,14 +1,12 @@
 """The vote, as debvote is asked about its lines, and what is printed about them."""
 
 import collections
-import dataclasses
 import functools
 import re
 from collections.abc import Iterable, Iterator, Sequence
 from typing import NamedTuple
 
 from debvote_tools.ballots import BallotWords
-from debvote_tools.book.book import DoneAct
 from debvote_tools.debvote import Debvote, Finding
 from debvote_tools.election.election import Election, History
 from debvote_tools.election.reporting import count_of
@@ -25,6 +23,8 @@ LATE_REPLY = "late"
 
 # what debvote adds to a finding if names on the roll are near
 OFFER = re.compile(r"; did you mean (.+)\?\Z")
+# the number that makes a name different from others
+NUMBER = re.compile(r"-\d+\Z")
 
 
 class JudgedLine(NamedTuple):
@@ -52,23 +52,18 @@ class JudgedLine(NamedTuple):
         return self.as_entered.partition(b" ")[2].decode("ascii")
 
 
-@dataclasses.dataclass(frozen=True)
 class Vote:
-    """The vote that lines are entered for: its poll as ballots are counted by it, and debvote."""
+    """The vote that lines are entered for, as it was called. Stops before the call."""
 
-    debvote: Debvote
-    # the act that called it
-    call: DoneAct
-    poll_bytes: bytes
-    # what people read as the names of all options, the default last
-    option_names: tuple[str, ...]
-    roll: tuple[str, ...]
-    # the roll has codes: none is printed that was not typed
-    has_codes: bool
-    # letters have to be signed
-    is_signed: bool
-    # the call says that an empty cell of a web form is a hyphen
-    has_form: bool
+    def __init__(self, election: Election, history: History) -> None:
+        self.call, poll, self.debvote = election.called(history), election.sealed().counted, election.debvote
+        # the names of all options as people read them, the default last
+        self.poll_bytes, self.option_names, self.roll = poll.as_bytes(), poll.names, poll.roll
+        # the roll has codes: none is printed that was not typed
+        self.has_codes = bool(history.announced("codes_on_roll"))
+        self.is_signed = bool(history.announced("signed"))
+        # the call says that an empty cell of a web form is a hyphen
+        self.has_form = bool(history.announced("form"))
 
     @functools.cached_property
     def names_on_roll(self) -> frozenset[str]:
@@ -118,14 +113,15 @@ class Vote:
     def other_names(self, finding: Finding) -> tuple[str, ...]:
         """All names that fit as well as the one that debvote offers, as `anna-meier-2` beside `anna-meier`."""
         offer = OFFER.search(finding.hint)
-        return () if offer is None else tuple(name for name in self.names_by_bare_name[bare_name(offer[1])] if name != offer[1])
+        alike = [] if offer is None else self.names_by_bare_name[NUMBER.sub("", offer[1])]
+        return tuple(name for name in alike if offer and name != offer[1])
 
     @functools.cached_property
     def names_by_bare_name(self) -> dict[str, list[str]]:
         """The names of the roll by what they are without their number."""
         by_bare_name: dict[str, list[str]] = collections.defaultdict(list)
         for name in self.roll:
-            by_bare_name[bare_name(name)].append(name)
+            by_bare_name[NUMBER.sub("", name)].append(name)
         return by_bare_name
 
     def replies(self, before: Sequence[bytes], new: Sequence[bytes]) -> list[str]:
@@ -140,18 +136,6 @@ class Vote:
     def standing(self, lines: Sequence[bytes]) -> dict[str, str]:
         """The ranks of the ballots that stand if these lines are all, by elector. Without lines debvote is not asked."""
         return self.debvote.standing(self.poll_bytes, ballot_file(lines)) if lines else {}
-
-
-def bare_name(name: str) -> str:
-    """A name without the number that makes it different from others."""
-    return re.sub(r"-\d+\Z", "", name)
-
-
-def vote_of(election: Election, history: History) -> Vote:
-    """The vote as it was called. Stops before the call."""
-    call, poll = election.called(history), election.sealed().counted
-    has_codes, is_signed, has_form = (bool(history.announced(key)) for key in ("codes_on_roll", "signed", "form"))
-    return Vote(election.debvote, call, poll.as_bytes(), poll.names, poll.roll, has_codes, is_signed, has_form)
 
 
 # ---------------------------------------------------------------- words

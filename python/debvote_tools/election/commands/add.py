@@ -7,7 +7,7 @@ from debvote_tools.arguments import given
 from debvote_tools.console import tell
 from debvote_tools.election import acting, adding, came
 from debvote_tools.election.adding import Arguments
-from debvote_tools.election.vote import Vote, vote_of
+from debvote_tools.election.vote import Vote
 from debvote_tools.election.came import HYPHEN, NOTHING_ADDED, CameFile
 from debvote_tools.election.csv_ballots import columns_of
 from debvote_tools.election.election import Election
@@ -16,7 +16,7 @@ from debvote_tools.faults import Fault, Status
 
 def run(election: Election, arguments: Arguments) -> None:
     demand_words(arguments)
-    vote = vote_of(election, election.history())
+    vote = Vote(election, election.history())
     found = came.read_files(election, arguments.files, is_table=arguments.csv)
     if came.are_all_letters(found):
         # what reads letters takes a while to be imported

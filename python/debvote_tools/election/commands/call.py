@@ -19,7 +19,7 @@ from debvote_tools.election.election import CALL, KEYRING, LETTERS, POLL, POLL_W
 from debvote_tools.election.made_files import OWN, PUBLIC, write_made
 from debvote_tools.election.draft_poll import checked_poll, lacks_codes, tell_poll
 from debvote_tools.election.reporting import act_time
-from debvote_tools.election.until import demand_future, parse_until
+from debvote_tools.election.in_time import demand_future, parse_until
 from debvote_tools.faults import Fault, Status, stop_at
 from debvote_tools.files import read_at_most
 from debvote_tools.letters.signatures import read_keyring

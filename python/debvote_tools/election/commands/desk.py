@@ -13,7 +13,7 @@ from debvote_tools.book.book import Book, Overtaken
 from debvote_tools.book.queries import NewEnvelope
 from debvote_tools.console import is_yes, tell, typed
 from debvote_tools.election import acting, in_time
-from debvote_tools.election.vote import JudgedLine, LineWords, Vote, change_words, summary, vote_of, would_words
+from debvote_tools.election.vote import JudgedLine, LineWords, Vote, change_words, summary, would_words
 from debvote_tools.election.election import Election, History
 from debvote_tools.election.entering import electors_of, entered, too_long
 from debvote_tools.election.reporting import listed
@@ -49,7 +49,7 @@ class Desk:
 
     def __init__(self, election: Election, book: Book, answer: str | None) -> None:
         self.election, self.book = election, book
-        self.vote = vote_of(election, election.history())
+        self.vote = Vote(election, election.history())
         self.words = LineWords(self.vote)
         # what --came-before-close says, and what was said of the ballots of this desk
         self.answer = answer

@@ -12,7 +12,7 @@ from debvote_tools.book.lines_by_act import NOT_UNDONE
 from debvote_tools.book.queries import NewEnvelope
 from debvote_tools.console import tell
 from debvote_tools.election import acting, letter_words, letters_in
-from debvote_tools.election.vote import LineWords, Vote, vote_of
+from debvote_tools.election.vote import LineWords, Vote
 from debvote_tools.election.election import Election
 from debvote_tools.election.entering import entered
 from debvote_tools.election.reporting import count_of
@@ -35,7 +35,7 @@ class Arguments(acting.Arguments):
 def run(election: Election, arguments: Arguments) -> None:
     chosen = demand_words(arguments)
     # stops before the call
-    vote = vote_of(election, election.history())
+    vote = Vote(election, election.history())
     if arguments.enter is not None:
         enter(election, vote, arguments, arguments.enter)
     elif arguments.set_aside or arguments.wait:

@@ -13,7 +13,7 @@ from debvote_tools.book.queries import Envelope, NewEnvelope
 from debvote_tools.console import is_terminal, tell, typed
 from debvote_tools.election import acting
 from debvote_tools.election.commands.strike import without_code
-from debvote_tools.election.vote import vote_of
+from debvote_tools.election.vote import Vote
 from debvote_tools.election.election import Election
 from debvote_tools.election.entering import entered
 from debvote_tools.election.reporting import act_time, count_of
@@ -45,7 +45,7 @@ def run(election: Election, arguments: Arguments) -> None:
     if history.announced("codes_on_roll") and history.named("publish"):
         words = "the result has the codes of the roll, so now everybody could vote for everybody"
         raise Fault(None, words, "hold the vote anew, with new codes")
-    vote = vote_of(election, history)
+    vote = Vote(election, history)
     offered = chosen(book, arguments.in_time, has_codes=vote.has_codes)
     older = faults_of_older(book, offered)
     if not arguments.force:

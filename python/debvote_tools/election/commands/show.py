@@ -8,7 +8,7 @@ from debvote_tools.book.queries import Elector, Envelope
 from debvote_tools.book.sent import sent_letters
 from debvote_tools.console import tell
 from debvote_tools.election import acting, letter_words, letters_in
-from debvote_tools.election.vote import JudgedLine, LineWords, Vote, vote_of
+from debvote_tools.election.vote import JudgedLine, LineWords, Vote
 from debvote_tools.election.election import Election, History
 from debvote_tools.election.reporting import act_time
 from debvote_tools.faults import Fault
@@ -24,7 +24,7 @@ class Arguments:
 
 def run(election: Election, arguments: Arguments) -> None:
     history = election.history()
-    vote = vote_of(election, history)
+    vote = Vote(election, history)
     acting.tell_strangeness(election.book)
     elector = elector_named(election, vote, arguments.name)
     who = f": {shown_text(elector.who)} {', '.join(map(shown_text, elector.addresses))}".rstrip(": ")

@@ -9,7 +9,7 @@ from debvote_tools.book.book import Book
 from debvote_tools.book.queries import Envelope
 from debvote_tools.console import tell
 from debvote_tools.election import acting
-from debvote_tools.election.vote import LineWords, vote_of
+from debvote_tools.election.vote import LineWords, Vote
 from debvote_tools.election.commands.undo import demand_open
 from debvote_tools.election.election import Election
 from debvote_tools.election.reporting import act_time
@@ -28,7 +28,7 @@ class Arguments(acting.Arguments):
 
 def run(election: Election, arguments: Arguments) -> None:
     because = acting.demand_reason(arguments.because, "strike")
-    vote = vote_of(election, election.history())
+    vote = Vote(election, election.history())
     book = acting.book_for_act(election, arguments)
     with book.act("strike", {"envelope": arguments.number, "because": because}) as act:
         envelope = demand_envelope(election, book, arguments.number)

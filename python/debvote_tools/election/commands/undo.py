@@ -11,7 +11,7 @@ from debvote_tools.book.book import Book, DoneAct, Overtaken
 from debvote_tools.book.queries import Envelope
 from debvote_tools.console import is_terminal, is_yes, tell
 from debvote_tools.election import acting
-from debvote_tools.election.vote import LineWords, Vote, standing_words, vote_of
+from debvote_tools.election.vote import LineWords, Vote, standing_words
 from debvote_tools.election.election import Election, History
 from debvote_tools.election.entering import envelope_words
 from debvote_tools.election.reporting import act_time, count_of
@@ -51,7 +51,7 @@ class UndoPlan:
 
 
 def run(election: Election, arguments: Arguments) -> None:
-    words = LineWords(vote_of(election, election.history()))
+    words = LineWords(Vote(election, election.history()))
     book = acting.book_for_act(election, arguments)
     is_asked = is_terminal() and not arguments.yes
     undone = undo(election, book, words, is_asked=is_asked)
