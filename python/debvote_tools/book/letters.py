@@ -35,10 +35,6 @@ def letters(book: Book) -> list[KeptLetter]:
     return [KeptLetter(*row) for row in book.rows(KEPT_LETTERS)]
 
 
-def have_come(book: Book) -> bool:
-    return bool(book.rows("SELECT EXISTS (SELECT 1 FROM letter)")[0][0])
-
-
 def known_digests(book: Book) -> set[tuple[str, bool]]:
     """The digests of the letters that came, each with whether it was parted off."""
     words = "SELECT json_extract(known, '$.digest'), json_extract(known, '$.is_parted_off') FROM letter"

@@ -19,7 +19,7 @@ from debvote_tools.book.book import Book, NewAct, Overtaken
 from debvote_tools.book.queries import NewEnvelope
 from debvote_tools.console import tell, tell_many
 from debvote_tools.election import acting, in_time
-from debvote_tools.election.vote import JudgedLine, LATE_REPLY, LineWords, Vote, summary
+from debvote_tools.election.vote import LATE_REPLY, JudgedLine, LineWords, Vote, summary
 from debvote_tools.election.came import NOTHING_ADDED, CameFile, FileLines, sorted_out
 from debvote_tools.election.csv_ballots import Columns, lines_of_table
 from debvote_tools.election.election import Election, History

@@ -6,11 +6,9 @@ import os
 import sys
 from collections.abc import Iterator
 
-from debvote_tools.book import lines_by_act
-from debvote_tools.book import queries
+from debvote_tools.book import lines_by_act, queries
 from debvote_tools.book.acts import Detail
 from debvote_tools.book.book import Book, Overtaken
-from debvote_tools.book.queries import NewEnvelope
 from debvote_tools.console import is_yes, tell, typed
 from debvote_tools.election import acting, in_time
 from debvote_tools.election.vote import JudgedLine, LineWords, Vote, change_words, summary, would_words
@@ -91,7 +89,7 @@ class Desk:
             self.vote,
             "desk",
             detail,
-            lambda _: [NewEnvelope(line.as_entered, line.line.place) for line in lines],
+            lambda _: [queries.NewEnvelope(line.as_entered, line.line.place) for line in lines],
             decided_at=shown.decided_at,
             is_late=shown.openness.is_late(self.came_before_close),
             is_same=lambda: self.now(elector) == shown,

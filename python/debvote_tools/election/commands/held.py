@@ -5,11 +5,9 @@ import dataclasses
 from collections.abc import Iterator, Sequence
 
 from debvote_tools.arguments import flag, given, option, positional
-from debvote_tools.book import letters, queries
+from debvote_tools.book import letters, lines_by_act, queries
 from debvote_tools.book.acts import ActName, Detail
 from debvote_tools.book.book import NewAct
-from debvote_tools.book.lines_by_act import NOT_UNDONE
-from debvote_tools.book.queries import NewEnvelope
 from debvote_tools.console import tell
 from debvote_tools.election import acting, letter_words, letters_in
 from debvote_tools.election.vote import LineWords, Vote
@@ -87,10 +85,9 @@ def decide(election: Election, arguments: Arguments) -> None:
     book = acting.book_for_act(election, arguments)
     decided_at = book.last_number()
     chosen = chosen_letters(all_letters(election), arguments.numbers)
-    for letter in chosen:
-        if letter.outcome is Outcome.ENTERED:
-            cure = "strike takes an envelope out, undo the last act"
-            raise Fault(f"letter {letter.number}", "its ballot was entered", cure)
+    if entered_before := [letter.number for letter in chosen if letter.outcome is Outcome.ENTERED]:
+        cure = "strike takes an envelope out, undo the last act"
+        raise Fault(f"letter {entered_before[0]}", "its ballot was entered", cure)
     state: ActName = letters.SET_ASIDE if arguments.set_aside else letters.PUT_BACK
     with book.act(state, {"letters": arguments.numbers}, seen=decided_at) as act:
         for letter in chosen:
@@ -102,13 +99,19 @@ def enter(election: Election, vote: Vote, arguments: Arguments, lines: str) -> N
     book = acting.book_for_act(election, arguments)
     history = election.history()
     [letter] = chosen_letters(all_letters(election), arguments.numbers)
-    ballots = chosen_ballots(letter, lines)
-    demand_waits(letter, has_force=arguments.force)
+    ballots, name = chosen_ballots(letter, lines), f"letter {letter.number}"
+    if letter.outcome is Outcome.ENTERED:
+        raise Fault(name, "it was entered", "nothing is to be done")
+    if letter.has_voted_since and not arguments.force:
+        raise Fault(name, "its elector has voted since", "if this one has to count all the same, repeat it with --force")
+    if letter.outcome is Outcome.COPY:
+        cure = "if its ballot has to be entered once more, have it wait with --wait first"
+        raise Fault(name, "it is a copy of another letter", cure)
     # a ballot of the letter that was struck was entered, too
-    before = queries.envelopes(book, f"letter = ? AND envelope.{NOT_UNDONE}", letter.number)
+    before = queries.envelopes(book, f"letter = ? AND envelope.{lines_by_act.NOT_UNDONE}", letter.number)
     done = {name_in(envelope.line).decode("ascii") for envelope in before} | {line.elector for line in ballots}
 
-    def envelopes(act: NewAct) -> Iterator[NewEnvelope]:
+    def envelopes(act: NewAct) -> Iterator[queries.NewEnvelope]:
         yield from (letters_in.new_envelope(letter, line) for line in ballots)
         if all(line.elector in done for line in letter.ballots):
             letters.decide(act, letter.number, letters.ENTERED)
@@ -131,15 +134,3 @@ def chosen_ballots(letter: JudgedLetter, lines: str) -> list[BallotLine]:
     if count > 1:
         raise Fault("--enter", f"{count} of these lines are of {twice}", "name the one that counts")
     return found
-
-
-def demand_waits(letter: JudgedLetter, *, has_force: bool) -> None:
-    """Stops at a letter that does not wait, and if its elector has voted since."""
-    if letter.outcome is Outcome.ENTERED:
-        raise Fault(f"letter {letter.number}", "it was entered", "nothing is to be done")
-    if letter.has_voted_since and not has_force:
-        cure = "if this one has to count all the same, repeat it with --force"
-        raise Fault(f"letter {letter.number}", "its elector has voted since", cure)
-    if letter.outcome is Outcome.COPY:
-        cure = "if its ballot has to be entered once more, have it wait with --wait first"
-        raise Fault(f"letter {letter.number}", "it is a copy of another letter", cure)

@@ -5,11 +5,9 @@ import datetime
 from collections.abc import Sequence
 
 from debvote_tools.arguments import flag, option
-from debvote_tools.book import lines_by_act
-from debvote_tools.book import queries
+from debvote_tools.book import lines_by_act, queries
 from debvote_tools.book.acts import Detail
 from debvote_tools.book.book import Book
-from debvote_tools.book.queries import Envelope, NewEnvelope
 from debvote_tools.console import is_terminal, tell, typed
 from debvote_tools.election import acting
 from debvote_tools.election.commands.strike import without_code
@@ -53,7 +51,7 @@ def run(election: Election, arguments: Arguments) -> None:
     detail: Detail = {"because": because, "in_time": [envelope.number for envelope in offered]}
     if older:
         detail["force"] = True
-    again = [NewEnvelope(late.line, late.place, late.source, late.letter, late.time) for late in offered]
+    again = [queries.NewEnvelope(late.line, late.place, late.source, late.letter, late.time) for late in offered]
     with entered(book, vote, "reopen", detail, lambda _: again, decided_at=history.last.number, is_late=False) as now:
         tell(f"The vote is open again; the close at {act_time(history.closes[-1].time)} stays in the log, and the page tells it.")
         for number, envelope in zip(now.numbers, offered):
@@ -62,7 +60,7 @@ def run(election: Election, arguments: Arguments) -> None:
     tell(f"Next: {election.command('add', 'FILE')}, then {election.command('close')}")
 
 
-def chosen(book: Book, in_time: list[int] | None, *, has_codes: bool) -> list[Envelope]:
+def chosen(book: Book, in_time: list[int] | None, *, has_codes: bool) -> list[queries.Envelope]:
     """The late envelopes that had come in time, as the secretary says, in the order of their times."""
     late = {envelope.number: envelope for envelope in queries.envelopes(book, queries.LATE)}
     entered_before = lines_by_act.entered_anew(book)
@@ -79,7 +77,7 @@ def chosen(book: Book, in_time: list[int] | None, *, has_codes: bool) -> list[En
     return sorted((late[number] for number in set(numbers)), key=order)
 
 
-def asked(late: Sequence[Envelope], *, has_codes: bool) -> list[int]:
+def asked(late: Sequence[queries.Envelope], *, has_codes: bool) -> list[int]:
     """The numbers that are typed at a terminal, where the late envelopes are listed; none if there are none."""
     if not late:
         return []
@@ -94,12 +92,12 @@ def asked(late: Sequence[Envelope], *, has_codes: bool) -> list[int]:
     return list(map(int, numbers))
 
 
-def order(envelope: Envelope) -> tuple[datetime.datetime, int]:
+def order(envelope: queries.Envelope) -> tuple[datetime.datetime, int]:
     """What decides which of two ballots is the later one: their times, and within a second the numbers of their envelopes."""
     return envelope.time, envelope.number
 
 
-def faults_of_older(book: Book, offered: Sequence[Envelope]) -> list[Fault]:
+def faults_of_older(book: Book, offered: Sequence[queries.Envelope]) -> list[Fault]:
     """A fault for each envelope that would replace a later ballot of its elector, since the last one that is entered counts."""
     last = {late.elector: late for late in offered if late.elector is not None}
     faults = []

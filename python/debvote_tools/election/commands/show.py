@@ -3,9 +3,7 @@
 import dataclasses
 
 from debvote_tools.arguments import positional
-from debvote_tools.book import letters, queries
-from debvote_tools.book.queries import Elector, Envelope
-from debvote_tools.book.sent import sent_letters
+from debvote_tools.book import letters, queries, sent
 from debvote_tools.console import tell
 from debvote_tools.election import acting, letter_words, letters_in
 from debvote_tools.election.vote import JudgedLine, LineWords, Vote
@@ -30,19 +28,24 @@ def run(election: Election, arguments: Arguments) -> None:
     who = f": {shown_text(elector.who)} {', '.join(map(shown_text, elector.addresses))}".rstrip(": ")
     # of a code nobody knows whose it is
     tell(elector.name if vote.has_codes else f"{elector.name}{who}")
-    tell_ballots(election, vote, history, elector)
+    envelopes, words = queries.envelopes(election.book, "elector = ?", elector.number), LineWords(vote)
+    read = vote.read([Line("", "", envelope.line, envelope.line, envelope.line) for envelope in envelopes])
+    tell(*(ballot_words(words, history, envelope, line) for envelope, line in zip(envelopes, read)))
+    counted = [envelope.line for envelope in envelopes if not envelope.is_struck and not envelope.is_late]
+    ranks = vote.standing(counted).get(elector.name)
+    tell(f"The current ballot: {'none' if ranks is None else words.ranks(ranks)}")
     for letter in letters_in.judged(election, history, letters.letters(election.book)):
         if elector.name in letter.electors:
             why = letter.outcome.value if letter.reason is None else for_secretary(letter.reason)
-            words = letter_words.waiting(letter) if letter.waits else [f"{letter_words.who_and_when(letter)}: {why}"]
-            tell(*(f"  {line}" for line in words))
-    for sent in sorted(sent_letters(election.book, elector=elector.number), key=lambda letter: letter.time):
-        where = f"to {sent.address}" if sent.address else "to be printed"
-        reply = f" ({shown_text(sent.reply)})" if sent.reply else ""
-        tell(f"  {sent.kind.removesuffix('s')}, {act_time(sent.time)}, {where}: {sent.state}{reply}")
+            lines = letter_words.waiting(letter) if letter.waits else [f"{letter_words.who_and_when(letter)}: {why}"]
+            tell(*(f"  {line}" for line in lines))
+    for out in sorted(sent.sent_letters(election.book, elector=elector.number), key=lambda letter: letter.time):
+        where = f"to {out.address}" if out.address else "to be printed"
+        reply = f" ({shown_text(out.reply)})" if out.reply else ""
+        tell(f"  {out.kind.removesuffix('s')}, {act_time(out.time)}, {where}: {out.state}{reply}")
 
 
-def elector_named(election: Election, vote: Vote, name: str) -> Elector:
+def elector_named(election: Election, vote: Vote, name: str) -> queries.Elector:
     electors = [elector for elector in queries.electors(election.book) if elector.name in vote.names_on_roll]
     found = [elector for elector in electors if elector.name == name.strip().lower()]
     found = found or [elector for elector in electors if elector.who and elector.who.casefold() == name.strip().casefold()]
@@ -56,16 +59,7 @@ def elector_named(election: Election, vote: Vote, name: str) -> Elector:
     raise Fault("show", f"no {what} on the roll is `{shown_text(name)}`", cure, done=None)
 
 
-def tell_ballots(election: Election, vote: Vote, history: History, elector: Elector) -> None:
-    envelopes, words = queries.envelopes(election.book, "elector = ?", elector.number), LineWords(vote)
-    read = vote.read([Line("", "", envelope.line, envelope.line, envelope.line) for envelope in envelopes])
-    counted = [envelope.line for envelope in envelopes if envelope.struck is None and not envelope.is_late]
-    ranks = vote.standing(counted).get(elector.name)
-    tell(*(ballot_words(words, history, envelope, line) for envelope, line in zip(envelopes, read)))
-    tell(f"The current ballot: {'none' if ranks is None else words.ranks(ranks)}")
-
-
-def ballot_words(words: LineWords, history: History, envelope: Envelope, line: JudgedLine) -> str:
+def ballot_words(words: LineWords, history: History, envelope: queries.Envelope, line: JudgedLine) -> str:
     """A ballot that came: its envelope, its time, what it says, and whether it counts."""
     said = words.ranks(line.ranks) if line.is_ballot else words.of(line)
     marks = ["late"] if envelope.is_late else []

@@ -6,7 +6,6 @@ import re
 from debvote_tools.arguments import positional
 from debvote_tools.book import letters, lines_by_act, queries
 from debvote_tools.book.book import Book
-from debvote_tools.book.queries import Envelope
 from debvote_tools.console import tell
 from debvote_tools.election import acting
 from debvote_tools.election.vote import LineWords, Vote
@@ -47,7 +46,7 @@ def run(election: Election, arguments: Arguments) -> None:
     tell("A strike cannot be undone: if it was a mistake, enter the line again.", f"Next: {election.command('status')}")
 
 
-def demand_envelope(election: Election, book: Book, number: int) -> Envelope:
+def demand_envelope(election: Election, book: Book, number: int) -> queries.Envelope:
     """The envelope of a number. Stops if there is none, if it is struck, or if the vote is closed."""
     history = election.history()
     demand_open(election, history)

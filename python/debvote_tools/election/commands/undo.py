@@ -5,10 +5,8 @@ import dataclasses
 from collections.abc import Iterator
 
 from debvote_tools.arguments import flag
-from debvote_tools.book import letters, lines_by_act, queries
-from debvote_tools.book.sent import sent_letters
+from debvote_tools.book import letters, lines_by_act, queries, sent
 from debvote_tools.book.book import Book, DoneAct, Overtaken
-from debvote_tools.book.queries import Envelope
 from debvote_tools.console import is_terminal, is_yes, tell
 from debvote_tools.election import acting
 from debvote_tools.election.vote import LineWords, Vote, standing_words
@@ -31,7 +29,7 @@ class UndoPlan:
     decided_at: int = dataclasses.field(compare=False)
     act: DoneAct
     # those of the act that are not struck yet
-    envelopes: tuple[Envelope, ...]
+    envelopes: tuple[queries.Envelope, ...]
     # the ballots that stand now and then, of the electors whose envelopes they are
     before: dict[str, str]
     after: dict[str, str]
@@ -92,7 +90,7 @@ def what_is_taken_back(election: Election, book: Book, vote: Vote) -> UndoPlan:
         lines_without = lines_by_act.lines_of_electors(book, electors, without=number)
     before, after = vote.standing(lines), vote.standing(lines_without)
     told = {("envelope", envelope.number, False) for envelope in envelopes}
-    receipts = [letter.elector for letter in sent_letters(book, Kind.RECEIPTS) if told & set(letter.about)]
+    receipts = [letter.elector for letter in sent.sent_letters(book, Kind.RECEIPTS) if told & set(letter.about)]
     names = [elector.name for elector in queries.electors(book) if elector.number in receipts]
     return UndoPlan(history.last.number, history.act(number), envelopes, before, after, tuple(names))
 
