@@ -13,7 +13,7 @@ from support import ELECTORS
 
 sys.path.insert(0, str(support.ROOT / "python"))
 
-from debvote_tools.call.page import SENTENCES as CALL_SENTENCES  # noqa: E402
+from debvote_tools.call.files import SENTENCES as CALL_SENTENCES  # noqa: E402
 from debvote_tools.language import language_of  # noqa: E402
 from debvote_tools.publish.scripts import COUNT_AGAIN, FIND, FIND_IN_OPEN, FIND_IN_SECRET  # noqa: E402
 

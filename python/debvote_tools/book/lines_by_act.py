@@ -1,11 +1,11 @@
 """What is asked of the book about lines that were entered: by which act, what stood after one, what came in files before."""
 
 import collections
+import json
 from collections.abc import Collection
-from typing import NamedTuple
 
 from debvote_tools.book.book import Book
-from debvote_tools.book.queries import ENVELOPES, IN_TIME, lines
+from debvote_tools.book.queries import ENVELOPES, IN_TIME, Envelope, envelopes, lines
 
 # the acts that no `undo` took back
 NOT_UNDONE = "act NOT IN (SELECT json_extract(detail, '$.act') FROM act WHERE name = 'undo')"
@@ -19,9 +19,6 @@ CAME_IN_FILES = (
     f"source IS NOT NULL AND letter IS NULL AND envelope.{NOT_UNDONE} AND envelope NOT IN ({ANEW_IN_TIME} UNION {ANEW_BY_ADD})"
 )
 
-# of more electors all lines are read
-MOST_ELECTORS = 200
-
 
 def last_entering_act(book: Book) -> int | None:
     """The last act that entered lines and that no `undo` took back; None if there is none."""
@@ -30,29 +27,19 @@ def last_entering_act(book: Book) -> int | None:
 
 
 def lines_after(book: Book, act: int, electors: Collection[int] | None = None, *, without: int = 0) -> list[bytes]:
-    """The line of each envelope that was in time and not struck when an act was done, in their order, without those of one act. If electors
-    are named, those of others may be missing.
+    """The line of each envelope that was in time and not struck when an act was done, in their order, without those of one act: of all
+    electors, or of some.
     """
-    condition = "late = 0 AND (struck.act IS NULL OR struck.act > ?) AND envelope.act <= ? AND envelope.act <> ?"
-    values = [act, act, without]
-    if electors is not None and len(electors) <= MOST_ELECTORS:
-        condition += f" AND elector IN ({', '.join('?' * len(electors))})"
-        values += electors
-    return lines(book, condition, *values)
+    condition = "late = 0 AND (struck.act IS NULL OR struck.act > ?1) AND envelope.act <= ?1 AND envelope.act <> ?2"
+    if electors is None:
+        return lines(book, condition, act, without)
+    condition += " AND elector IN (SELECT value FROM json_each(?3))"
+    return lines(book, condition, act, without, json.dumps(list(electors)))
 
 
 def lines_of_electors(book: Book, electors: Collection[int], *, without: int = 0) -> list[bytes]:
     """The same of some electors, as the book is now."""
     return lines_after(book, book.last_number(), electors, without=without)
-
-
-class EnvelopeOfFile(NamedTuple):
-    """An envelope that came in a file of lines or a table."""
-
-    number: int
-    elector: int | None
-    is_struck: int
-    is_late: int
 
 
 def entered_anew(book: Book) -> set[int]:
@@ -65,15 +52,11 @@ def lines_that_came(book: Book) -> collections.Counter[bytes]:
     return collections.Counter(dict(book.rows(f"SELECT line, count(*) FROM envelope WHERE {CAME_IN_FILES} GROUP BY line")))
 
 
-def came_in_files(book: Book) -> dict[bytes, list[EnvelopeOfFile]]:
+def came_in_files(book: Book) -> dict[bytes, list[Envelope]]:
     """The envelopes that came in files and that no `undo` took back, by their line; those that are struck or late come last."""
-    words = f"""
-    SELECT line, envelope, elector, struck.act IS NOT NULL, late FROM {ENVELOPES}
-    WHERE {CAME_IN_FILES} ORDER BY late OR struck.act IS NOT NULL, envelope
-    """
-    by_line: dict[bytes, list[EnvelopeOfFile]] = {}
-    for line, *envelope in book.rows(words):
-        by_line.setdefault(line, []).append(EnvelopeOfFile(*envelope))
+    by_line: dict[bytes, list[Envelope]] = {}
+    for envelope in sorted(envelopes(book, CAME_IN_FILES), key=lambda envelope: envelope.is_late or envelope.is_struck):
+        by_line.setdefault(envelope.line, []).append(envelope)
     return by_line
 
 

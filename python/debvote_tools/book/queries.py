@@ -1,7 +1,6 @@
-"""What is asked of the book, by subject."""
+"""What is asked of the book about electors, what is sealed, envelopes and sources."""
 
 import datetime
-import itertools
 import json
 from collections.abc import Collection, Iterable
 from typing import NamedTuple
@@ -9,13 +8,9 @@ from typing import NamedTuple
 from debvote_tools.book.book import Book, NewAct, as_text, from_text
 
 
-# more names than a query takes are looked for among all
-MOST_NAMES = 200
-
-
 # ---------------------------------------------------------------- electors
 class Elector(NamedTuple):
-    """An elector as the book has them now. `position` is the place in the list of members; None if they are no longer on it."""
+    """An elector as the book has them now. `position` is that in the list of members; None if they are no longer on it."""
 
     number: int
     name: str
@@ -37,10 +32,7 @@ ORDER BY position
 
 def all_electors(book: Book) -> list[Elector]:
     """All electors that the book knows, those who are no longer on the list first."""
-    return [
-        Elector(number, name, position, who, tuple(json.loads(mail)), key, code, alias)
-        for number, name, position, who, mail, key, code, alias in book.rows(ELECTORS)
-    ]
+    return [Elector(*row)._replace(addresses=tuple(json.loads(row[4]))) for row in book.rows(ELECTORS)]
 
 
 def electors(book: Book) -> list[Elector]:
@@ -59,10 +51,9 @@ def new_elector(act: NewAct, name: str) -> Elector:
 
 
 def put_electors(act: NewAct, electors: Iterable[Elector]) -> None:
-    """Notes what electors are now."""
     rows = (
-        (one.number, one.position, one.who, json.dumps(one.addresses, ensure_ascii=False), one.key, one.code, one.alias)
-        for one in electors
+        (number, position, who, json.dumps(addresses, ensure_ascii=False), key, code, alias)
+        for number, _, position, who, addresses, key, code, alias in electors
     )
     act.insert_all("elector_state", ["elector", "position", "who", "mail", "key", "code", "alias"], rows)
 
@@ -96,6 +87,10 @@ class Envelope(NamedTuple):
     # the act that struck it
     struck: int | None
 
+    @property
+    def is_struck(self) -> bool:
+        return self.struck is not None
+
 
 # the envelopes, each with the act that struck it, and conditions on them
 ENVELOPES = "envelope LEFT JOIN struck USING (envelope)"
@@ -108,10 +103,7 @@ ENVELOPE_COLUMNS = "envelope, envelope.act, elector, line, source, letter, place
 def envelopes(book: Book, condition: str = "1", *values: object) -> list[Envelope]:
     """The envelopes that meet a condition, in their order."""
     rows = book.rows(f"SELECT {ENVELOPE_COLUMNS} FROM {ENVELOPES} WHERE {condition} ORDER BY envelope", *values)
-    return [
-        Envelope(number, act, elector, line, source, letter, place, from_text(time), bool(late), struck)
-        for number, act, elector, line, source, letter, place, time, late, struck in rows
-    ]
+    return [Envelope._make([*row[:7], from_text(row[7]), bool(row[8]), row[9]]) for row in rows]
 
 
 def lines(book: Book, condition: str, *values: object) -> list[bytes]:
@@ -135,9 +127,7 @@ def late_lines(book: Book) -> list[bytes]:
 
 
 def has_come(book: Book, since: int) -> bool:
-    """Whether a ballot or a letter has come since an act."""
-    words = "SELECT EXISTS (SELECT 1 FROM envelope WHERE act > ?) OR EXISTS (SELECT 1 FROM letter WHERE act > ?)"
-    return bool(book.rows(words, since, since)[0][0])
+    return bool(book.rows("SELECT 1 FROM (SELECT act FROM envelope UNION ALL SELECT act FROM letter) WHERE act > ? LIMIT 1", since))
 
 
 def strike_envelopes(act: NewAct, numbers: Iterable[int]) -> None:
@@ -156,15 +146,12 @@ class NewEnvelope(NamedTuple):
 
 def add_envelopes(act: NewAct, new: Iterable[NewEnvelope], electors: Iterable[int | None], *, is_late: bool) -> None:
     """Enters lines, each with the elector with whose name it begins."""
-    for (source, letter, time), group in itertools.groupby(zip(electors, new), key=shared):
-        rows = ((elector, envelope.line, envelope.place) for elector, envelope in group)
-        same = {"source": source, "letter": letter, "time": as_text(time or act.time), "late": int(is_late)}
-        act.insert_all("envelope", ["elector", "line", "place"], rows, **same)
-
-
-def shared(pair: tuple[int | None, NewEnvelope]) -> tuple[int | None, int | None, datetime.datetime | None]:
-    """What a line has in common with others of its file."""
-    return pair[1].source, pair[1].letter, pair[1].time
+    now = as_text(act.time)
+    rows = (
+        (elector, line, place, source, letter, as_text(time) if time else now, int(is_late))
+        for elector, (line, place, source, letter, time) in zip(electors, new)
+    )
+    act.insert_all("envelope", ["elector", "line", "place", "source", "letter", "time", "late"], rows)
 
 
 def last_envelope(book: Book) -> int:
@@ -173,10 +160,8 @@ def last_envelope(book: Book) -> int:
 
 
 def elector_numbers(book: Book, names: Collection[str]) -> dict[str, int]:
-    """The numbers of the electors who have one of these names; of very many names those of all electors."""
-    if len(names) > MOST_NAMES:
-        return dict(book.rows("SELECT name, elector FROM elector"))
-    return dict(book.rows(f"SELECT name, elector FROM elector WHERE name IN ({', '.join('?' * len(names))})", *names))
+    words = "SELECT name, elector FROM elector WHERE name IN (SELECT value FROM json_each(?))"
+    return dict(book.rows(words, json.dumps(list(names))))
 
 
 # ---------------------------------------------------------------- sources

@@ -65,7 +65,6 @@ class CallData:
 
     @functools.cached_property
     def mark(self) -> str:
-        """The mark of the poll, as the subject of a letter has it."""
         return f"[{self.poll.mark}]"
 
     @property
@@ -89,11 +88,18 @@ class CallData:
 
     @property
     def example(self) -> str:
-        return example_ranks(len(self.poll.names))
+        """Ranks that show the order, and with four options or more one that is not ranked."""
+        count = len(self.poll.names)
+        return "1,2" if count == 2 else ",".join(["2", "1", *[UNRANKED] * (count - 3), "3"])
 
     @property
     def example_in_words(self) -> str:
         return ranks_in_words(self.example, self.option_names, self.language)
+
+    @property
+    def gaps(self) -> str:
+        """The text in place of the ranks, where an elector is to write them."""
+        return ",".join("_" * len(self.poll.names))
 
 
 def explanations_of(poll: SealedPoll) -> list[tuple[int, list[str]]]:
@@ -102,22 +108,10 @@ def explanations_of(poll: SealedPoll) -> list[tuple[int, list[str]]]:
 
 
 def paragraphs_of(text: str) -> list[str]:
-    """The paragraphs of a text; an empty line ends each."""
     return [lines for lines in re.split(r"\n(?:[ \t]*\n)+", text.strip("\n")) if lines.strip()]
 
 
-def example_ranks(count: int) -> str:
-    """Ranks for a number of options that show the order, and with four options or more one that is not ranked."""
-    return "1,2" if count == 2 else ",".join(["2", "1", *[UNRANKED] * (count - 3), "3"])
-
-
-def gaps_of(count: int) -> str:
-    """The text in place of this number of ranks, where an elector is to write them."""
-    return ",".join("_" * count)
-
-
 def demand_mail_address(text: str, option: str = "--to") -> None:
-    """Raises `Fault` unless the option is one plain mail address."""
     if not is_mail_address(text):
         reason = "it has to be one mail address, as secretary@example.org"
         raise Fault(option, reason, "write it anew", Status.BAD_WORDS)
@@ -129,7 +123,6 @@ def is_mail_address(text: str) -> bool:
 
 
 def demand_web_address(text: str) -> None:
-    """Raises `Fault` unless `--at` is the web address of a page."""
     if not is_web_address(text):
         reason = "it has to be the address of a page, as https://example.org/vote/, without a part after #"
         raise Fault("--at", reason, "write it as the browser shows it", Status.BAD_WORDS)

@@ -32,7 +32,7 @@ def book_for_act(election: Election, arguments: Arguments) -> Book:
     if arguments.moved:
         book.accept(demand_reason(arguments.because, "--moved"))
     else:
-        book.demand_noted(book.note())
+        book.demand_noted()
     return book
 
 
@@ -48,7 +48,7 @@ def demand_whole(book: Book) -> None:
 def tell_strangeness(book: Book) -> None:
     """Says why this may not be the book that this machine worked on last."""
     try:
-        why = book.strangeness(book.note().read())
+        why = book.strangeness()
     except Fault as fault:
         why = str(fault.reason)
     if why is not None:

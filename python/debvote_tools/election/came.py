@@ -11,7 +11,7 @@ from typing import BinaryIO, NamedTuple
 
 from debvote_tools.book import lines_by_act
 from debvote_tools.book.book import Book
-from debvote_tools.book.lines_by_act import EnvelopeOfFile
+from debvote_tools.book.queries import Envelope
 from debvote_tools.console import tell
 from debvote_tools.election.election import Election
 from debvote_tools.election.vote import JudgedLine
@@ -180,8 +180,8 @@ def sorted_out(book: Book, files: Sequence[FileLines], *, takes_again: bool, is_
 
 
 def envelopes_of(
-    lines: Sequence[JudgedLine], by_line: Mapping[bytes, Sequence[EnvelopeOfFile]]
-) -> list[tuple[int, EnvelopeOfFile | None, JudgedLine]]:
+    lines: Sequence[JudgedLine], by_line: Mapping[bytes, Sequence[Envelope]]
+) -> list[tuple[int, Envelope | None, JudgedLine]]:
     """Each line with its number among those that are equal to it, and with its envelope if it came before."""
     counts: collections.Counter[bytes] = collections.Counter()
     found = []
@@ -192,9 +192,7 @@ def envelopes_of(
     return found
 
 
-def change_since(
-    envelope: EnvelopeOfFile, line: JudgedLine, last: Mapping[int, tuple[int, bytes]], *, is_reopened: bool
-) -> str | None:
+def change_since(envelope: Envelope, line: JudgedLine, last: Mapping[int, tuple[int, bytes]], *, is_reopened: bool) -> str | None:
     """Why a line that came no longer counts: it was struck, its elector has sent another ballot, or it was late before a reopen."""
     if envelope.is_struck:
         return f"was struck (envelope {envelope.number})"

@@ -14,7 +14,7 @@ from collections.abc import Iterator, Sequence
 
 from debvote_tools.book.queries import Elector
 from debvote_tools.book.sent import About
-from debvote_tools.call.data import CallData, gaps_of
+from debvote_tools.call.data import CallData
 from debvote_tools.language import Language
 from debvote_tools.letters.readings import BALLOT, NAMED, Near, repaired
 from debvote_tools.letters.reasons import Because, for_elector
@@ -114,10 +114,9 @@ class Composer:
         return self.text(Kind.RECEIPTS, elector, came=came, is_refusing=is_refusing)
 
     def text(self, kind: Kind, elector: Elector, **values: object) -> str:
-        """The text of a letter, by the template of its kind."""
         call, options = self.call, len(self.call.poll.names)
         name = one_line(elector.who)[:200] or elector.name
-        own = {"call": call, "elector": elector, "gaps": gaps_of(options), "said_of": self.said_of}
+        own = {"call": call, "elector": elector, "said_of": self.said_of}
         greeting = call.language.say("Dear {name},", name=name)
         text = render_letter(PACKAGE, f"{kind}.txt", call.language, **own, greeting=greeting, **values)
         return without_ballots(text, options)

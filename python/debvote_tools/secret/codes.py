@@ -47,7 +47,7 @@ def looks_like_code(text: str) -> bool:
 
 
 def codes_csv(rows: Iterable[CodeRow]) -> bytes:
-    """The table of the codes, for a spreadsheet or a mail merge. Electors give their names, so no cell is run as a formula."""
+    """The table of the codes, for a spreadsheet or a mail merge. Electors give their names, so each cell is made harmless."""
     text = io.StringIO()
     table = csv.writer(text, lineterminator="\n")
     table.writerow(field.name for field in dataclasses.fields(CodeRow))

@@ -1,4 +1,4 @@
-"""`count`: the result sheet."""
+"""Print the result sheet."""
 
 import dataclasses
 import shlex
@@ -13,8 +13,6 @@ from debvote_tools.faults import Fault, Status
 from debvote_tools.lines import ballot_file
 from debvote_tools.sealed_poll import SealedPoll
 from debvote_tools.sheet import Sheet, sheet_in
-
-HELP = "Print the result sheet"
 
 CASTING = (
     "NAME",
@@ -69,5 +67,4 @@ def what_next(election: Election, history: History, sheet: Sheet, casting: str |
 
 
 def in_shell(names: Iterable[str]) -> str:
-    """Some names, each as it is typed in a shell."""
     return ", ".join(map(shlex.quote, names))

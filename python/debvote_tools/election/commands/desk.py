@@ -1,4 +1,4 @@
-"""`desk`: ballots entered by hand at a terminal, or line by line from a pipe; any number of desks at once."""
+"""Enter ballots by hand, and print the reply to each; several desks can run at once, each in its own terminal."""
 
 import contextlib
 import dataclasses
@@ -6,11 +6,9 @@ import os
 import sys
 from collections.abc import Iterator
 
-from debvote_tools.book import lines_by_act
-from debvote_tools.book import queries
+from debvote_tools.book import lines_by_act, queries
 from debvote_tools.book.acts import Detail
 from debvote_tools.book.book import Book, Overtaken
-from debvote_tools.book.queries import NewEnvelope
 from debvote_tools.console import is_yes, tell, typed
 from debvote_tools.election import acting, in_time
 from debvote_tools.election.vote import JudgedLine, LineWords, Vote, change_words, summary, would_words
@@ -20,8 +18,6 @@ from debvote_tools.election.reporting import listed
 from debvote_tools.faults import Fault, Status
 from debvote_tools.files import BALLOTS_LIMIT
 from debvote_tools.lines import Line, lines_in, name_in
-
-HELP = "Enter ballots by hand, and print the reply to each; several desks can run at once, each in its own terminal"
 
 QUIT = b"q"
 
@@ -93,7 +89,7 @@ class Desk:
             self.vote,
             "desk",
             detail,
-            lambda _: [NewEnvelope(line.as_entered, line.line.place) for line in lines],
+            lambda _: [queries.NewEnvelope(line.as_entered, line.line.place) for line in lines],
             decided_at=shown.decided_at,
             is_late=shown.openness.is_late(self.came_before_close),
             is_same=lambda: self.now(elector) == shown,
@@ -104,7 +100,7 @@ class Desk:
             tell(*self.words.report(lines, now.numbers, replies, is_entered=True))
 
 
-def run(election: Election, arguments: Arguments) -> int:
+def run(election: Election, arguments: Arguments) -> None:
     if sys.stdin is None:
         raise Fault("standard input", "it is closed", "run it at a terminal", Status.BAD_BALLOTS, NOTHING_CAST)
     election.sealed()
@@ -124,7 +120,6 @@ def run(election: Election, arguments: Arguments) -> int:
     except KeyboardInterrupt:
         tell("")
     tell(f"This desk has cast {summary(desk.replies)}.", f"Next: {election.command('status')}")
-    return Status.DONE
 
 
 # ---------------------------------------------------------------- from a pipe
@@ -148,33 +143,24 @@ def from_pipe(desk: Desk) -> None:
 
 
 def whole_lines() -> Iterator[bytes]:
-    """What each read of standard input brings, up to its last line end. A carriage return and a line feed are one end, also if two reads
-    part them.
-    """
-    waiting: list[bytes] = []
-    after_return = False
+    """The lines that each read of standard input ends. A carriage return and a line feed are one end, also if two reads part them."""
+    waiting, ended_with_return = bytearray(), False
     while data := os.read(sys.stdin.fileno(), READ):
-        end = max(data.rfind(b"\n"), data.rfind(b"\r")) + 1
-        if end == 0 and sum(map(len, waiting)) <= BALLOTS_LIMIT:
-            waiting.append(data)
-            continue
+        waiting += data.removeprefix(b"\n") if ended_with_return else data
+        ended_with_return = data.endswith(b"\r")
+        end = max(waiting.rfind(b"\n"), waiting.rfind(b"\r")) + 1
         # a line that is too long for debvote ends here
-        end = end or len(data)
-        came = b"".join([*waiting, data[:end]])
-        waiting = [data[end:]]
-        whole = came.removeprefix(b"\n") if after_return else came
-        after_return = came.endswith(b"\r")
-        if whole:
-            yield whole
-    rest = b"".join(waiting)
-    rest = rest.removeprefix(b"\n") if after_return else rest
-    if rest:
-        yield rest
+        if len(waiting) - end > BALLOTS_LIMIT:
+            end = len(waiting)
+        if end:
+            yield bytes(waiting[:end])
+            del waiting[:end]
+    if waiting:
+        yield bytes(waiting)
 
 
 # ---------------------------------------------------------------- at a terminal
 def at_terminal(desk: Desk) -> None:
-    """Asks for ballots until there are no more."""
     tell(*(f"  {number} {name}" for number, name in enumerate(desk.vote.option_names, start=1)))
     who = "the code" if desk.vote.has_codes else "the elector"
     tell(f"Type a ballot as {desk.vote.right_line} ({who}, then a rank for each option in this order); q ends.")

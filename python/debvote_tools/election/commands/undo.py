@@ -1,22 +1,20 @@
-"""`undo`: takes back the last act that entered lines."""
+"""Take back the last act that entered lines; once more, and the one before."""
 
+import contextlib
 import dataclasses
+from collections.abc import Iterator
 
 from debvote_tools.arguments import flag
-from debvote_tools.book import letters, lines_by_act, queries
-from debvote_tools.book.sent import sent_letters
+from debvote_tools.book import letters, lines_by_act, queries, sent
 from debvote_tools.book.book import Book, DoneAct, Overtaken
-from debvote_tools.book.queries import Envelope
 from debvote_tools.console import is_terminal, is_yes, tell
 from debvote_tools.election import acting
 from debvote_tools.election.vote import LineWords, Vote, standing_words
 from debvote_tools.election.election import Election, History
 from debvote_tools.election.entering import envelope_words
 from debvote_tools.election.reporting import act_time, count_of
-from debvote_tools.faults import Fault, Status
+from debvote_tools.faults import Fault
 from debvote_tools.letters_out.compose import Kind
-
-HELP = "Take back the last act that entered lines; once more, and the one before"
 
 
 @dataclasses.dataclass(frozen=True)
@@ -31,7 +29,7 @@ class UndoPlan:
     decided_at: int = dataclasses.field(compare=False)
     act: DoneAct
     # those of the act that are not struck yet
-    envelopes: tuple[Envelope, ...]
+    envelopes: tuple[queries.Envelope, ...]
     # the ballots that stand now and then, of the electors whose envelopes they are
     before: dict[str, str]
     after: dict[str, str]
@@ -50,35 +48,31 @@ class UndoPlan:
         return f"{count_of(len(numbers), 'line')} (act {self.act.number}: {self.act.name}{files}, {which})"
 
 
-def run(election: Election, arguments: Arguments) -> int:
-    vote = Vote(election, election.history())
+def run(election: Election, arguments: Arguments) -> None:
+    words = LineWords(Vote(election, election.history()))
     book = acting.book_for_act(election, arguments)
-    words = LineWords(vote)
     is_asked = is_terminal() and not arguments.yes
     undone = undo(election, book, words, is_asked=is_asked)
-    ballots = [] if is_asked else standing_words(words, undone.before, undone.after, "no ballot is left")
-    tell(f"Took back {undone.what}.", *ballots, *waiting_words(undone), *receipt_words(undone))
+    tell(f"Took back {undone.what}.", *consequences(words, undone, None if is_asked else "no ballot is left"))
     tell(f"Next: {election.command('status')}; once more {election.command('undo')} takes back the act before")
-    return Status.DONE
 
 
-# ---------------------------------------------------------------- the act
 def undo(election: Election, book: Book, words: LineWords, *, is_asked: bool) -> UndoPlan:
-    """Takes back the last act. If another act changes what was shown, it is shown and asked anew."""
+    """The act that takes back the last one. If another act changes what was shown, it is shown and asked anew."""
     agreed: UndoPlan | None = None
     while True:
         found = what_is_taken_back(election, book, words.vote)
         if is_asked and found != agreed:
-            ask(words, found)
+            tell(*consequences(words, found, "no ballot would be left"))
+            if not is_yes(f"Take back {found.what}?"):
+                raise Fault("undo", "you did not say yes", "run the command again when you want to take it back")
             agreed = found
-        try:
+        with contextlib.suppress(Overtaken):
             with book.act("undo", {"act": found.act.number}, seen=found.decided_at) as act:
                 queries.strike_envelopes(act, (envelope.number for envelope in found.envelopes))
                 for letter in found.letters:
                     letters.decide(act, letter, letters.TAKEN_BACK)
             return found
-        except Overtaken:
-            continue
 
 
 def what_is_taken_back(election: Election, book: Book, vote: Vote) -> UndoPlan:
@@ -96,7 +90,7 @@ def what_is_taken_back(election: Election, book: Book, vote: Vote) -> UndoPlan:
         lines_without = lines_by_act.lines_of_electors(book, electors, without=number)
     before, after = vote.standing(lines), vote.standing(lines_without)
     told = {("envelope", envelope.number, False) for envelope in envelopes}
-    receipts = [letter.elector for letter in sent_letters(book, Kind.RECEIPTS) if told & set(letter.about)]
+    receipts = [letter.elector for letter in sent.sent_letters(book, Kind.RECEIPTS) if told & set(letter.about)]
     names = [elector.name for elector in queries.electors(book) if elector.number in receipts]
     return UndoPlan(history.last.number, history.act(number), envelopes, before, after, tuple(names))
 
@@ -108,22 +102,12 @@ def demand_open(election: Election, history: History) -> None:
         raise Fault(None, words, cure)
 
 
-# ---------------------------------------------------------------- what is printed
-def ask(words: LineWords, found: UndoPlan) -> None:
-    """Shows what would be taken back, and asks. Stops unless the answer is yes."""
-    tell(*standing_words(words, found.before, found.after, "no ballot would be left"), *waiting_words(found), *receipt_words(found))
-    if not is_yes(f"Take back {found.what}?"):
-        raise Fault("undo", "you did not say yes", "run the command again when you want to take it back")
-
-
-def waiting_words(found: UndoPlan) -> list[str]:
-    """The letters whose ballots are taken back: they wait again."""
-    if not found.letters:
-        return []
-    verb = "waits" if len(found.letters) == 1 else "wait"
-    return [f"{count_of(len(found.letters), 'letter')} then {verb} as taken back: {', '.join(map(str, found.letters))}"]
-
-
-def receipt_words(found: UndoPlan) -> list[str]:
-    """Whose receipts say that a ballot counts which no longer does."""
-    return [f"These have receipts that no longer hold: {', '.join(found.receipts)}"] if found.receipts else []
+def consequences(words: LineWords, found: UndoPlan, none: str | None) -> Iterator[str]:
+    """The ballots that change, where `none` says that none is left; the letters that wait again; the receipts that no longer hold."""
+    if none is not None:
+        yield from standing_words(words, found.before, found.after, none)
+    if found.letters:
+        verb = "waits" if len(found.letters) == 1 else "wait"
+        yield f"{count_of(len(found.letters), 'letter')} then {verb} as taken back: {', '.join(map(str, found.letters))}"
+    if found.receipts:
+        yield f"These have receipts that no longer hold: {', '.join(found.receipts)}"
