@@ -21,8 +21,9 @@ class Detail(TypedDict, total=False):
     electors: int
     codes: int
     on_roll: bool
-    # call, extend and announce; times and addresses as the command line names them
+    # call, extend and announce; times, the zone of --until and addresses as the command line names them
     until: str
+    zone: str
     to: str
     at: str
     form: bool

@@ -16,7 +16,8 @@ from debvote_tools.times import minute_in_words, now, offset_in_words, time_in_w
 CAME_BEFORE_CLOSE = "--came-before-close"
 
 # what --until takes: a date, a time of day, and an offset if the zone is not given otherwise
-TIME = re.compile(r"(\d{4}-\d\d-\d\d)[ T]+(\d\d:\d\d(?::\d\d)?)\s*(Z|UTC|[+-]\d\d:?\d\d)?", re.ASCII)
+OFFSET = re.compile(r"Z|UTC|[+-]\d\d:?\d\d", re.ASCII)
+TIME = re.compile(rf"(\d{{4}}-\d\d-\d\d)[ T]+(\d\d:\d\d(?::\d\d)?)\s*({OFFSET.pattern})?", re.ASCII)
 HOW = 'write it as "2026-12-04 18:00", as "2026-12-04 18:00 +01:00", or with --zone Europe/Berlin'
 
 
@@ -58,19 +59,25 @@ def came_before_close(history: History, answer: str | None, not_done: str) -> bo
     return said
 
 
-def parse_until(text: str, zone: str | None) -> datetime.datetime:
-    """The time that `--until` and `--zone` name. Its offset is its own, that of the zone, or that of this computer."""
+def parse_until(text: str, zone: str | None, earlier_zone: str | None = None) -> tuple[datetime.datetime, str | None]:
+    """The time that `--until` names, and its zone as it was typed: its own offset, `--zone`, or the zone of the end before; None if it is
+    that of this computer.
+    """
     parts = TIME.fullmatch(text.strip())
     if parts is None:
         raise bad_until("it has to be a time", HOW)
     date, clock, offset = parts.groups()
+    if offset is not None and zone is not None:
+        raise Fault("--zone", "the time has an offset already", "leave out one of the two", Status.BAD_WORDS)
+    named = next((place for place in (offset, zone, earlier_zone) if place is not None), None)
     try:
         plain = datetime.datetime.fromisoformat(f"{date} {clock}")
-        if offset is None:
-            return in_zone(plain, zone)
-        if zone is not None:
-            raise Fault("--zone", "the time has an offset already", "leave out one of the two", Status.BAD_WORDS)
-        return plain.replace(tzinfo=datetime.UTC if offset in ("Z", "UTC") else datetime.datetime.strptime(offset, "%z").tzinfo)
+        if zone is None and named is not None and OFFSET.fullmatch(named):
+            return (
+                plain.replace(tzinfo=datetime.UTC if named in ("Z", "UTC") else datetime.datetime.strptime(named, "%z").tzinfo),
+                named,
+            )
+        return in_zone(plain, named), named
     except (ValueError, OverflowError):
         raise bad_until("there is no such day or time of day (a day goes from 00:00 to 23:59)", HOW) from None
 

@@ -143,20 +143,27 @@ def doubts_of(book: Book, history: History, poll: SealedPoll, casting: str | Non
 
 
 def late_letters_in_time(book: Book, history: History) -> list[Doubt]:
-    """A doubt for each letter that arrived before the end and the first close, and whose ballots are late alone."""
-    entered_letters = queries.envelopes(book, f"{queries.NOT_STRUCK} AND letter IS NOT NULL")
-    numbers = {envelope.letter for envelope in entered_letters} - {one.letter for one in entered_letters if not one.is_late}
-    if not numbers or not history.closes:
+    """A doubt for each letter that arrived before the end and the first close, and whose ballot is late and was not entered again."""
+    counting = {envelope.line: envelope.number for envelope in queries.envelopes(book, queries.IN_TIME)}
+    late = [
+        envelope
+        for envelope in queries.envelopes(book, f"{queries.LATE} AND letter IS NOT NULL")
+        if counting.get(envelope.line, 0) < envelope.number
+    ]
+    if not late or not history.closes:
         return []
     last = min(time for time in (history.closes[0].time, history.until) if time is not None)
     # the zone in which the end was announced
     zone = history.until.tzinfo if history.until else datetime.UTC
+    numbers = {envelope.letter for envelope in late}
     arrivals = {kept.number: json.loads(kept.known)["arrived"] for kept in letters.letters(book) if kept.number in numbers}
-    return [
-        Doubt.of(Kind.LATE_LETTER, letter=number, arrival=from_text(arrived).astimezone(zone).isoformat())
-        for number, arrived in arrivals.items()
-        if arrived is not None and from_text(arrived) <= last
-    ]
+    found = []
+    for number, arrived in arrivals.items():
+        if arrived is not None and from_text(arrived) <= last:
+            envelopes = " ".join(str(envelope.number) for envelope in late if envelope.letter == number)
+            arrival = from_text(arrived).astimezone(zone).isoformat()
+            found.append(Doubt.of(Kind.LATE_LETTER, letter=number, arrival=arrival, envelopes=envelopes))
+    return found
 
 
 # ---------------------------------------------------------------- acts

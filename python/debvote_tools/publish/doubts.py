@@ -58,8 +58,8 @@ FOR_SECRETARY = {
     Kind.MOSTLY_REFUSED: "more than half of the lines are refused, {refused} of {lines}; debvote explain says why",
     Kind.NOT_CLOSED: "the vote is not closed; close it first",
     Kind.LATE_LETTER: (
-        "the ballot of letter {letter} is late, and the letter arrived at {arrival}, before the end and the close; reopen the vote "
-        "for it"
+        "the ballot of letter {letter} is late, and the letter arrived at {arrival}, before the end and the close; to count it run "
+        "debvote-election reopen --in-time {envelopes} --because TEXT"
     ),
     Kind.OTHER_CASTING_VOTE: (
         "an earlier publication has a casting vote for {option}; there is one casting vote, so find out which one was given"

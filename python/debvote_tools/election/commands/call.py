@@ -37,7 +37,9 @@ KEYRING_LIMIT = 134_217_728
 @dataclasses.dataclass(frozen=True)
 class Arguments(acting.Arguments):
     until: str | None = option("TIME", 'The end of the vote, as "2026-12-04 18:00"; a later time in a second call extends it')
-    zone: str | None = option("ZONE", "The time zone of --until, as Europe/Berlin; that of this computer if it is not given")
+    zone: str | None = option(
+        "ZONE", "The time zone of --until, as Europe/Berlin; if it is not given that of the end before, or of this computer"
+    )
     to: str | None = option("ADDRESS", "The mail address to which ballots are sent")
     at: str | None = option("URL", "The web address of the page: of the call, and later of the result")
     form: bool = flag("Say that in a web form an empty cell counts as a hyphen, as add --blank-is-unranked takes it")
@@ -62,7 +64,7 @@ def run(election: Election, arguments: Arguments) -> None:
 
 # ---------------------------------------------------------------- the acts
 def call(election: Election, arguments: Arguments) -> None:
-    said = announced(arguments)
+    said = announced(arguments, None)
     book = acting.book_for_act(election, arguments)
     history = election.history()
     demand_read(election, history)
@@ -91,7 +93,8 @@ def call(election: Election, arguments: Arguments) -> None:
 
 def call_again(election: Election, arguments: Arguments) -> None:
     """Extends the vote, or adds what the call did not say yet. No end counts after a close, nor one before that which electors know."""
-    said = announced(arguments)
+    history = election.history()
+    said = announced(arguments, history.announced("zone"))
     is_act = bool(said) or arguments.keyring is not None
     book = acting.book_for_act(election, arguments) if is_act else election.book
     history = election.history()
@@ -144,13 +147,15 @@ def seal(act: NewAct, data: CallData, keyring: bytes | None) -> None:
 
 
 # ---------------------------------------------------------------- the words of the command line
-def announced(arguments: Arguments) -> Detail:
-    """What the act keeps of them, looked through."""
+def announced(arguments: Arguments, earlier_zone: str | None) -> Detail:
+    """What the act keeps of them, looked through. An extension is in the zone of the end before, unless it names another."""
     said: Detail = {}
     if arguments.until is not None:
-        until = parse_until(arguments.until, arguments.zone)
+        until, zone = parse_until(arguments.until, arguments.zone, earlier_zone)
         demand_future(until, times.now())
         said["until"] = until.isoformat()
+        if zone is not None:
+            said["zone"] = zone
     if arguments.to is not None:
         demand_mail_address(arguments.to)
         said["to"] = arguments.to

@@ -101,7 +101,11 @@ def enter(election: Election, vote: Vote, arguments: Arguments, lines: str) -> N
     [letter] = chosen_letters(all_letters(election), arguments.numbers)
     ballots, name = chosen_ballots(letter, lines), f"letter {letter.number}"
     if letter.outcome is Outcome.ENTERED:
-        raise Fault(name, "it was entered", "nothing is to be done")
+        late = queries.envelopes(book, f"letter = ? AND {queries.LATE}", letter.number)
+        numbers = [str(envelope.number) for envelope in late]
+        reopen = election.command("reopen", "--in-time", *numbers, "--because", "TEXT")
+        how = f"if it came in time, {'' if history.is_closed else 'close again and '}run {reopen}"
+        raise Fault(name, "it was entered" + (", and is late" if late else ""), how if late else "nothing is to be done")
     if letter.has_voted_since and not arguments.force:
         raise Fault(name, "its elector has voted since", "if this one has to count all the same, repeat it with --force")
     if letter.outcome is Outcome.COPY:

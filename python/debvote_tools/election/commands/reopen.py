@@ -56,6 +56,10 @@ def run(election: Election, arguments: Arguments) -> None:
         tell(f"The vote is open again; the close at {act_time(history.closes[-1].time)} stays in the log, and the page tells it.")
         for number, envelope in zip(now.numbers, offered):
             tell(f"{number} entered, which was late as {envelope.number}: {without_code(envelope.line, has_codes=vote.has_codes)}")
+    if left := late_lines_left(book):
+        words = f"envelopes {', '.join(map(str, left))} stay late"
+        cure = f"if one had come before the first close, close again and run {election.command('reopen', '--in-time', 'NUMBER', '--because', 'TEXT')}"
+        tell(f"Note: {words}; {cure}")
     tell("Only what arrived before the first close goes in as in time: add and desk ask.")
     tell(f"Next: {election.command('add', 'FILE')}, then {election.command('close')}")
 
@@ -63,9 +67,9 @@ def run(election: Election, arguments: Arguments) -> None:
 def chosen(book: Book, in_time: list[int] | None, *, has_codes: bool) -> list[queries.Envelope]:
     """The late envelopes that had come in time, as the secretary says, in the order of their times."""
     late = {envelope.number: envelope for envelope in queries.envelopes(book, queries.LATE)}
-    entered_before = lines_by_act.entered_anew(book)
     if in_time is None and is_terminal():
-        in_time = asked([envelope for number, envelope in late.items() if number not in entered_before], has_codes=has_codes)
+        in_time = asked([late[number] for number in late_lines_left(book)], has_codes=has_codes)
+    entered_before = lines_by_act.entered_anew(book)
     numbers = in_time or []
     if unknown := [str(number) for number in numbers if number not in late]:
         words = f"envelope {', '.join(unknown)} is not one of the late lines"
@@ -75,6 +79,12 @@ def chosen(book: Book, in_time: list[int] | None, *, has_codes: bool) -> list[qu
         words = f"envelope {', '.join(again)} was entered as in time by an earlier reopen"
         raise Fault("--in-time", words, "leave it out")
     return sorted((late[number] for number in set(numbers)), key=order)
+
+
+def late_lines_left(book: Book) -> list[int]:
+    """The late envelopes that no reopen entered as in time."""
+    entered_before = lines_by_act.entered_anew(book)
+    return [envelope.number for envelope in queries.envelopes(book, queries.LATE) if envelope.number not in entered_before]
 
 
 def asked(late: Sequence[queries.Envelope], *, has_codes: bool) -> list[int]:
