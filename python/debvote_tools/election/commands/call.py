@@ -221,10 +221,11 @@ def report(election: Election, data: CallData) -> None:
     if data.until is not None:
         tell(f"Until when: {times.time_in_words(data.until)}")
     if data.is_extended:
-        tell(f"Made {election.path(LETTERS) / EXTENSION}: send it to all electors.")
+        tell(f"Made {election.path(LETTERS) / EXTENSION}: tell it to all electors.")
     missing = [words for words, value in (("until when (--until)", data.until), ("where to (--to)", data.to)) if value is None]
     if missing:
         tell(f"The call does not say {' nor '.join(missing)}.")
     tell("The poll is sealed: poll.toml and texts/ of this folder are no longer read; members.csv only for addresses, by roll.")
-    where = f"put {folder} on the web site, or send {folder / 'call.txt'} to each elector"
-    tell(f"Next: {where}; enter the ballots that come with: {election.command('add', 'FILE')} or {election.command('desk')}")
+    write = f"send {folder / 'call.txt'} to all electors" if data.has_codes_on_roll else election.command("letters", "call")
+    enter = f"{election.command('add', 'FILE')} or {election.command('desk')}"
+    tell(f"Next: put {folder} on the web site, and write to the electors: {write}; enter the ballots that come: {enter}")

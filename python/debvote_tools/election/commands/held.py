@@ -49,9 +49,13 @@ def run(election: Election, arguments: Arguments) -> None:
         if aside := [str(letter.number) for letter in found if letter.outcome is Outcome.SET_ASIDE]:
             tell(f"Set aside: {', '.join(aside)}")
     if waiting:
-        show = f"{election.command('held', str(waiting[0].number))} shows one"
+        numbers = [letter.number for letter in waiting]
+        shown = [] if chosen else [number for number in arguments.numbers if number in numbers]
+        command = election.command("held", str((shown or numbers)[0]))
         tell(f"{count_of(len(waiting), 'letter waits', 'letters wait')}.")
-        tell(f"Next: {show}; --enter LINE enters a line of it, --set-aside says that it is dealt with")
+        tell(
+            f"Next: {command} {'with' if shown else 'shows one;'} --enter LINE enters a line of it, --set-aside says that it is dealt with"
+        )
     else:
         tell("No letter waits.", f"Next: {election.command('status')}")
 

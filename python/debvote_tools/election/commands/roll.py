@@ -33,8 +33,9 @@ def run(election: Election, arguments: Arguments) -> None:
         raise Fault(None, "codes are on the roll, and nobody knows whose they are", "for another roll begin anew in another folder")
     roll = read_roll(election, history)
     if history.call is not None:
-        change_addresses(book, roll, history.last.number, is_agreed=arguments.yes)
-        tell(f"Next: {election.command('status')}")
+        is_changed = change_addresses(book, roll, history.last.number, is_agreed=arguments.yes)
+        write = f"{election.command('letters', 'call')}, for the new addresses" if is_changed and not history.closes else ""
+        tell(f"Next: {write or election.command('status')}")
     else:
         keep_electors(book, roll, history.last.number)
         report(roll, has_all=arguments.all)
@@ -102,17 +103,18 @@ def names_of(electors: Sequence[Member]) -> str:
     return listed([elector.name for elector in electors], MAX_SHOWN)
 
 
-def change_addresses(book: Book, roll: Roll, seen: int, *, is_agreed: bool) -> None:
-    """The act after the call: new addresses and keys of the same people, each of them asked about."""
+def change_addresses(book: Book, roll: Roll, seen: int, *, is_agreed: bool) -> bool:
+    """The act after the call: new addresses and keys of the same people, each of them asked about. Returns whether there were any."""
     changed = [elector for elector in roll.electors if elector.changes and (is_agreed or agreed(elector))]
     if not changed:
         tell("Nothing was changed.")
-        return
+        return False
     with book.act("addresses", {"electors": len(changed)}, seen=seen) as act:
         pairs = ((elector, elector.known) for elector in changed if elector.known)
         queries.put_electors(act, (known._replace(addresses=now.addresses, key=now.key) for now, known in pairs))
     tell(*(f"{elector.name}: {changes_in_words(elector)}" for elector in changed))
     tell(f"{count_of(len(changed), 'elector')} changed; the page of the result tells how many.")
+    return True
 
 
 def agreed(elector: Member) -> bool:
