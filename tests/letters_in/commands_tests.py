@@ -232,6 +232,12 @@ class Held(LettersTest):
         self.assert_fault(self.election("held", "1", "--enter", "5"), 9, "it was entered")
         self.assert_fault(self.election("held", "1", "--set-aside"), 9, "was entered")
 
+    def test_no_line_of_a_letter_that_a_program_wrote_is_near_to_a_ballot(self) -> None:
+        for number, sender in ((3, "mailer-daemon@mail.example"), (4, "eve@club.example")):
+            self.add(letter("eve", "We could not deliver this:\n\neve 1,2\n", sender=sender, number=number))
+            shown = self.done("held", number).output
+            self.assertEqual("eve 1,2`" in shown, number == 4, shown)
+
     def test_a_line_is_entered_once(self) -> None:
         for lines in ("5,5", "5, 5"):
             self.assert_fault(self.election("held", "1", "--enter", lines), 9, "2 of these lines are of ada")
