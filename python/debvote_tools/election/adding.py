@@ -1,9 +1,4 @@
-"""How `add` takes files of lines and tables: it reads them, stops at what a person has to look at, and enters the lines that are new.
-
-1. `read_lines` reads the files, and asks debvote about each line.
-2. `plan_of` decides by the book which lines are new. It takes no time, so it is done again if another act came between.
-3. `add` enters them, and prints the replies.
-"""
+"""How `add` takes files of lines and tables: it reads them, stops at what a person has to look at, and enters the lines that are new."""
 
 import collections
 import contextlib
@@ -84,7 +79,6 @@ def doubt(where: object, words: str, cure: str) -> Fault:
     return Fault(where, words, cure, Status.DOUBT, NOTHING_ADDED)
 
 
-# ---------------------------------------------------------------- reading
 def read_lines(vote: Vote, files: Sequence[CameFile], columns: Columns | None, arguments: Arguments) -> list[FileLines]:
     lists = [lines_in(file.data, file.name) if columns is None else lines_of_table(file.data, file.name, columns) for file in files]
     what = "it has empty lines alone" if columns is None else "it has no row of a ballot"
@@ -102,6 +96,7 @@ def read_lines(vote: Vote, files: Sequence[CameFile], columns: Columns | None, a
 
 # ---------------------------------------------------------------- the plan, and what speaks against it
 def plan_of(book: Book, vote: Vote, files: Sequence[FileLines], arguments: Arguments) -> Plan:
+    """Which lines are new by the book. It takes no time, so it is done again if another act came between."""
     history = History(book.acts())
     openness = history.openness()
     if openness.call != vote.call:
@@ -173,7 +168,6 @@ def place_in(line: JudgedLine) -> str:
     return f"line {place}" if place.isdigit() else place
 
 
-# ---------------------------------------------------------------- a file that has other lines than ballots
 def few_ballots(vote: Vote, files: Sequence[FileLines], arguments: Arguments) -> Iterator[Fault]:
     """A fault for each file of which fewer than half of the lines are ballots; if none has so few, all of them together are looked at. If
     some are ballots, it tells the first of the others.
@@ -308,7 +302,6 @@ def repeated_words(file: FileLines) -> Iterator[str]:
 
 
 def duplicate_words(file: FileLines) -> Iterator[str]:
-    """The electors of whom a file has several new ballots, in words."""
     by_name: dict[str, list[str]] = collections.defaultdict(list)
     for line in file.new:
         if line.is_ballot:

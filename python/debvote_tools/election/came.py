@@ -37,8 +37,6 @@ POLL_KEY = re.compile(rb"(?m)^[ \t]*\"?(%b)\"?[ \t]*=" % "|".join(REQUIRED).enco
 
 
 class CameFile(NamedTuple):
-    """A file as it came: its name as the user gave it, and its bytes."""
-
     name: str
     data: bytes
 

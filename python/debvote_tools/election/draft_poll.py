@@ -71,7 +71,6 @@ class DraftPoll:
     folder: pathlib.Path
 
 
-# ---------------------------------------------------------------- reading
 def draft_in(folder: pathlib.Path) -> DraftPoll:
     """Reads the poll of a folder, and the texts beside it. Raises `Fault` if the poll can't be read at all, as `BadToml`."""
     file = folder / POLL_FILE
@@ -113,7 +112,6 @@ def faults_of_keys(values: Mapping[str, Any], file: object) -> list[Fault]:
 
 
 def stranger(key: str, value: object) -> tuple[str, str]:
-    """Why a key is refused, and the cure."""
     shown = shown_text(key)
     if key in SET_ELSEWHERE:
         return f"the key `{shown}` is not written here: {SET_ELSEWHERE[key]}", "take it out"
@@ -199,7 +197,6 @@ def as_repaired(text: str, language: str) -> str:
     return " ".join(plain.split())
 
 
-# ---------------------------------------------------------------- sealing
 def sealed_form(
     draft: DraftPoll, roll: Sequence[str], language: str, *, deadline: str | None = None, address: str | None = None
 ) -> bytes:

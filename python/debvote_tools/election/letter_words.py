@@ -7,12 +7,10 @@ from debvote_tools.election.entering import Entered
 from debvote_tools.election.reporting import act_time, count_of
 from debvote_tools.letters.judge import JudgedLetter, Outcome
 from debvote_tools.letters.reasons import for_secretary
-from debvote_tools.letters.sources import PassedOver
 from debvote_tools.terminal_text import shown_line, shown_text
 
 
 def who_and_when(letter: JudgedLetter) -> str:
-    """A letter by its number, its sender, and when it arrived."""
     parsed = letter.parsed
     number = f"letter {letter.number}" if letter.number else shown_text(parsed.where)
     time = "at a time that is not known" if parsed.arrived is None else act_time(parsed.arrived)
@@ -49,7 +47,6 @@ def waiting(letter: JudgedLetter) -> Iterator[str]:
 
 
 def code_words(letter: JudgedLetter) -> Iterator[str]:
-    """The lines of a letter that have what looks like a code."""
     yield from (f"  line {number}{IS_CODE}" for number in letter.code_lines)
 
 
@@ -59,11 +56,6 @@ def near_words(letter: JudgedLetter) -> Iterator[str]:
     for near in letter.near:
         within = ", within other words" if near.is_within else ""
         yield f"line {near.number}, `{shown_text(near.ballot)}`{within}: {near.answer or 'a ballot, but not alone on its line'}"
-
-
-def passed_over_words(passed_over: Sequence[PassedOver]) -> Iterator[str]:
-    for one in passed_over:
-        yield f"{shown_text(one.where)}: {one.why.what}, and is passed over; {one.why.cure}"
 
 
 def whole(letter: JudgedLetter) -> Iterator[str]:

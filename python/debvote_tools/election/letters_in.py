@@ -31,11 +31,11 @@ from debvote_tools.letters.signatures import find_gpgv, verified
 from debvote_tools.letters.sources import PassedOver, RawLetter, letters_of_file, letters_of_folder
 from debvote_tools.lines import CODE_WITHIN
 from debvote_tools.secret.codes import looks_like_code
+from debvote_tools.terminal_text import shown_text
 
 SLOW = Reason.SLOW_SIGNATURE()
 
 
-# ---------------------------------------------------------------- adding
 def take_letters(election: Election, vote: Vote, files: Mapping[str, CameFile | None], arguments: Arguments) -> None:
     """Keeps the letters that are new, and enters the ballots that go in; or tells what would become of them."""
     if of_lines := given(arguments, "csv", "again", "force"):
@@ -48,7 +48,7 @@ def take_letters(election: Election, vote: Vote, files: Mapping[str, CameFile | 
     found = parsed(election, new)
     if not arguments.look:
         keep(election, new, found)
-    tell(*letter_words.passed_over_words(passed_over))
+    tell(*(f"{shown_text(one.where)}: {one.why.what}, and is passed over; {one.why.cure}" for one in passed_over))
     if not arguments.look:
         tell(f"{count_of(len(new), 'new letter')}; {len(raws) - len(new)} came before.")
         enter_letters(election, vote, is_agreed=arguments.yes)
@@ -93,7 +93,6 @@ def is_new(digest: str, is_parted_off: bool, known: Collection[tuple[str, bool]]
 
 
 def keep(election: Election, raws: Sequence[RawLetter], found: Sequence[ParsedLetter]) -> None:
-    """The act that keeps letters as they came."""
     if not raws:
         return
     with election.book.act("letters", {"letters": len(raws)}) as act:

@@ -52,7 +52,6 @@ def last_publication(history: History) -> DoneAct | None:
 
 
 def publication_of(election: Election, words: Words) -> Publication:
-    """What is published, by the book as it is now."""
     with election.book.snapshot():
         history, sealed, book = election.history(), election.sealed(), election.book
         ballots, late = (ballot_file(lines(book)) for lines in (queries.lines_in_time, queries.late_lines))
@@ -132,7 +131,6 @@ def detail_of(words: Words, checksums: Mapping[str, str], doubts: list[Doubt], *
     }
 
 
-# ---------------------------------------------------------------- doubts
 def doubts_of(book: Book, history: History, poll: SealedPoll, casting: str | None) -> list[Doubt]:
     found = [] if history.is_closed else [Doubt.of(Kind.NOT_CLOSED)]
     found += late_letters_in_time(book, history)

@@ -199,7 +199,6 @@ def frame_words(lines: Iterable[Line]) -> Iterator[str]:
 
 
 def change_words(line: JudgedLine) -> Iterator[str]:
-    """What was changed of a line, before and after."""
     before = line.line.without_frame
     if before != line.as_entered:
         how = ", ".join(differences(before, line.as_entered))
@@ -214,7 +213,6 @@ def would_words(line: JudgedLine) -> str:
 
 
 def summary(replies: Sequence[str]) -> str:
-    """How many lines there were, and with which replies."""
     counts = collections.Counter(replies)
     listed = ", ".join(f"{number} {reply}" for reply, number in counts.items())
     return count_of(len(replies), "line") + (f" ({listed})" if listed else "")
