@@ -1,7 +1,6 @@
 """List the letters that wait; show one, enter its ballot, or set letters aside."""
 
 import collections
-import dataclasses
 from collections.abc import Iterator, Sequence
 
 from debvote_tools.arguments import flag, given, option, positional
@@ -21,7 +20,6 @@ from debvote_tools.lines import name_in
 from debvote_tools.terminal_text import shown_text
 
 
-@dataclasses.dataclass(frozen=True)
 class Arguments(acting.Arguments):
     numbers: list[int] = positional("NUMBER", "The numbers of letters", type=int, nargs="*")
     enter: str | None = option("LINE,..", "Enter these lines of the letter, by their numbers as held NUMBER shows them")

@@ -29,7 +29,6 @@ MOST = 20
 BAR = 40
 
 
-@dataclasses.dataclass(frozen=True)
 class Arguments(acting.Arguments):
     kind: str = positional("KIND", "call, receipts, reminders, closed or result", choices=[*map(str, Kind)])
     send: bool = flag("Send them to a mail server, and go on where a run was cut off")

@@ -1,6 +1,5 @@
 """Open the vote again after a close, for ballots that had come in time; the page of the result tells it."""
 
-import dataclasses
 import datetime
 from collections.abc import Sequence
 
@@ -22,7 +21,6 @@ from debvote_tools.terminal_text import shown_line
 MAX_DIGITS = 9
 
 
-@dataclasses.dataclass(frozen=True)
 class Arguments(acting.Arguments):
     in_time: list[int] | None = option(
         "NUMBER",

@@ -1,6 +1,5 @@
 """Take one envelope out of the ballots, before the close; the page of the result says how many, and why."""
 
-import dataclasses
 import re
 
 from debvote_tools.arguments import positional
@@ -20,7 +19,6 @@ from debvote_tools.terminal_text import shown_line
 LIKE_A_CODE = re.compile(rb"[0-9a-fA-F]{16,}")
 
 
-@dataclasses.dataclass(frozen=True)
 class Arguments(acting.Arguments):
     number: int = positional("NUMBER", "The number of the envelope, as add, desk and show print it", type=int)
 

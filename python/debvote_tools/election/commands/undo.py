@@ -17,7 +17,6 @@ from debvote_tools.faults import Fault
 from debvote_tools.letters_out.compose import Kind
 
 
-@dataclasses.dataclass(frozen=True)
 class Arguments(acting.Arguments):
     yes: bool = flag("Take it back without a question")
 
