@@ -34,17 +34,16 @@ class State(NamedTuple):
 
     stage: Stage
     electors: int
-    # those in time that are not struck: valid and refused ones
+    # the lines in time that are not struck, and of them the valid and the refused ones; those that are late
     lines: int
     valid: int
     refused: int
-    # those that were entered while the vote was closed
     late: int
     voters: int
     # letters that wait for the secretary
     waiting: int
     without_ballot: list[str] | None
-    # the last act of the book, and its digest
+    # the last one of the book
     act: int
     digest: str
 
