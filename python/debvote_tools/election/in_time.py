@@ -1,12 +1,10 @@
 """Whether what is entered now comes in time: whether the vote is open, until when, and what is asked after it was opened again."""
 
 import datetime
-import enum
 import re
 import zoneinfo
 
 from debvote_tools.arguments import option
-from debvote_tools.book import letters
 from debvote_tools.console import is_terminal, is_yes
 from debvote_tools.election import acting
 from debvote_tools.election.election import Election, History
@@ -58,32 +56,6 @@ def came_before_close(history: History, answer: str | None, not_done: str) -> bo
     return said
 
 
-# ---------------------------------------------------------------- letters that wait
-class Arrived(enum.Enum):
-    """When a letter arrived, as far as that is known, whatever it waits for."""
-
-    BEFORE_THE_CALL = enum.auto()
-    IN_TIME = enum.auto()
-    # after the end or the first close
-    LATE = enum.auto()
-
-
-def waiting_letters(election: Election, history: History) -> dict[int, Arrived]:
-    """The letters that wait for the secretary, by their numbers: when each arrived."""
-    kept = letters.letters(election.book)
-    if not kept:
-        return {}
-    from debvote_tools.election.letters_in import judged
-
-    # where letters have to be signed, what was signed says which are copies, which the book may not have known when they came
-    if not history.announced("signed"):
-        kept = letters.undecided(kept)
-    waiting = {letter.number: letter for letter in judged(election, history, kept) if letter.waits}
-    arrived = {number: Arrived.LATE if letter.arrived_late else Arrived.IN_TIME for number, letter in waiting.items()}
-    return arrived | {number: Arrived.BEFORE_THE_CALL for number, letter in waiting.items() if letter.arrived_before_call}
-
-
-# ---------------------------------------------------------------- the end of the vote
 def parse_until(text: str, zone: str | None) -> datetime.datetime:
     """The time that `--until` and `--zone` name. Its offset is its own, that of the zone, or that of this computer."""
     parts = TIME.fullmatch(text.strip())

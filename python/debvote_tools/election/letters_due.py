@@ -1,7 +1,7 @@
 """Which letters of a kind are due, and what each says: those that were written before and wait for the server, and new ones."""
 
 import datetime
-from collections.abc import Callable, Iterable, Sequence
+from collections.abc import Callable, Sequence
 
 from debvote_tools.addresses import address_key
 from debvote_tools.book import letters, queries, sent
@@ -106,18 +106,17 @@ class LettersDue:
         last = max((letter.for_act for letter in self.letters), default=0)
         of_last = [letter for letter in self.letters if letter.for_act == last and letter.elector in silent]
         # to the address of now
-        good = [letter for letter in of_last if letter.address == address_in(silent[letter.elector].addresses)]
+        good = {letter for letter in of_last if letter.address == address_in(silent[letter.elector].addresses)}
         goes_on = self.is_sending and any(can_be_sent(letter) and self.time - letter.time < LASTING for letter in good)
+        written = [letter for letter in of_last if letter.state == BEGUN or (goes_on and letter in good)]
 
         def text_of(elector: Elector, letter: SentLetter) -> str:
             waits = [one for one in came[elector.number] if one.became in (Became.WAITS, Became.ELSEWHERE)]
             return self.composer.reminder(elector, waits)
 
-        if goes_on:
-            return last, [], [letter for letter in of_last if letter.state == BEGUN or letter in good], text_of
-        for_act = self.history.last.number + 1
-        cut_off = [letter for letter in of_last if letter.state == BEGUN]
-        return for_act, [self.letter_to(elector, for_act) for elector in silent.values()], cut_off, text_of
+        for_act = last if goes_on else self.history.last.number + 1
+        new = [] if goes_on else [self.letter_to(elector, for_act) for elector in silent.values()]
+        return for_act, new, written, text_of
 
     def receipts(self) -> Plan:
         """A letter to each elector about all that came since the last one, also to an address that they had before."""

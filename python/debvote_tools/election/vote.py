@@ -7,7 +7,7 @@ from collections.abc import Iterable, Iterator, Sequence
 from typing import NamedTuple
 
 from debvote_tools.ballots import BallotWords
-from debvote_tools.debvote import Debvote, Finding
+from debvote_tools.debvote import Finding
 from debvote_tools.election.election import Election, History
 from debvote_tools.election.reporting import count_of
 from debvote_tools.faults import other_format

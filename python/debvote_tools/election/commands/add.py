@@ -20,7 +20,7 @@ def run(election: Election, arguments: Arguments) -> None:
     found = came.read_files(election, arguments.files, is_table=arguments.csv)
     if came.are_all_letters(found):
         # what reads letters takes a while to be imported
-        from debvote_tools.election.adding_letters import take_letters
+        from debvote_tools.election.letters_in import take_letters
 
         take_letters(election, vote, found, arguments)
     else:

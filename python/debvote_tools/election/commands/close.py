@@ -11,7 +11,7 @@ from debvote_tools.election import acting
 from debvote_tools.election.election import LETTERS, Election, Sealed
 from debvote_tools.election.made_files import OWN, write_made
 from debvote_tools.election.reporting import act_time, count_of
-from debvote_tools.election.in_time import Arrived, waiting_letters
+from debvote_tools.election.waiting import Arrived, waiting_letters
 from debvote_tools.election.publication import closing_letter
 from debvote_tools.faults import Fault, stop_at
 from debvote_tools.files import sha256_of

@@ -12,7 +12,7 @@ from debvote_tools.debvote import Finding, Findings, Totals
 from debvote_tools.election import acting
 from debvote_tools.election.election import Election, History, Stage
 from debvote_tools.election.reporting import act_time, count_of, quorum_words, wrapped
-from debvote_tools.election.in_time import waiting_letters
+from debvote_tools.election.waiting import waiting_letters
 from debvote_tools.lines import ballot_file
 from debvote_tools.terminal_text import shown_line
 
