@@ -1,8 +1,6 @@
 """What commands ask of the book first: that this machine knows it, that it is whole, and that nobody writes another."""
 
-import dataclasses
-
-from debvote_tools.arguments import flag, option
+from debvote_tools.arguments import Options, flag, option
 from debvote_tools.book.book import Book
 from debvote_tools.console import tell
 from debvote_tools.election.election import Election
@@ -13,8 +11,7 @@ from debvote_tools.terminal_text import LINE_ENDS, number_of, odd_sign
 LONGEST_REASON = 2_000
 
 
-@dataclasses.dataclass(frozen=True)
-class Arguments:
+class Arguments(Options):
     """The options of each command that writes an act."""
 
     moved: bool = flag("Go on although the election was moved here, or an older copy was restored; the result page says so")

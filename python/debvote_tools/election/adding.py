@@ -33,7 +33,6 @@ MAX_REFUSED, MAX_REPEATED = 10, 20
 MEMBERS_HEADS = {"who", "mail"}
 
 
-@dataclasses.dataclass(frozen=True)
 class Arguments(in_time.Arguments):
     files: list[str] = positional(
         "FILE",

@@ -9,7 +9,7 @@ import sys
 from collections.abc import Mapping, Sequence
 from typing import BinaryIO, NamedTuple
 
-from debvote_tools.book import lines_by_act
+from debvote_tools.book import queries
 from debvote_tools.book.book import Book
 from debvote_tools.book.queries import Envelope
 from debvote_tools.console import tell
@@ -147,13 +147,13 @@ def sorted_out(book: Book, files: Sequence[FileLines], *, takes_again: bool, is_
     """The files, with what is new in each. The k-th of equal lines in a file came before if k of them came in earlier files that no `undo`
     took back: counted, refused, struck or late. A file that goes in counts as an earlier one of those after it.
     """
-    counts = lines_by_act.lines_that_came(book)
+    counts = queries.lines_that_came(book)
     is_known = any(line.as_entered in counts for file in files for line in file.lines)
-    by_line = lines_by_act.came_in_files(book) if is_known else {}
+    by_line = queries.came_in_files(book) if is_known else {}
     with_envelopes = [envelopes_of(file.lines, by_line) for file in files]
     # a later row of the same file is nothing that came since
     own = {envelope.number for lines in with_envelopes for _, envelope, _ in lines if envelope is not None}
-    numbers = lines_by_act.last_numbers(book).items() if is_known else ()
+    numbers = queries.last_numbers(book).items() if is_known else ()
     last = {elector: (number, line) for elector, (number, line) in numbers if number not in own}
     going_in: set[bytes] = set()
     found = []

@@ -1,6 +1,5 @@
 """Whether what is entered now comes in time: whether the vote is open, until when, and what is asked after it was opened again."""
 
-import dataclasses
 import datetime
 import re
 import zoneinfo
@@ -20,7 +19,6 @@ TIME = re.compile(r"(\d{4}-\d\d-\d\d)[ T]+(\d\d:\d\d(?::\d\d)?)\s*(Z|UTC|[+-]\d\
 HOW = 'write it as "2026-12-04 18:00", as "2026-12-04 18:00 +01:00", or with --zone Europe/Berlin'
 
 
-@dataclasses.dataclass(frozen=True)
 class Arguments(acting.Arguments):
     """The options of a command that enters lines."""
 

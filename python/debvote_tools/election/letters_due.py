@@ -4,7 +4,7 @@ import datetime
 from collections.abc import Callable, Sequence
 
 from debvote_tools.addresses import address_key
-from debvote_tools.book import letters, lines_by_act, queries, sent
+from debvote_tools.book import letters, queries, sent
 from debvote_tools.book.queries import Elector, Envelope
 from debvote_tools.book.sent import BEGUN, POSTPONED, REFUSED, TAKEN, WRITTEN, About, SentLetter
 from debvote_tools.call.data import is_mail_address
@@ -177,7 +177,7 @@ class LettersDue:
             reason = "the letter has to say where the result is published"
             raise Fault("--at", reason, "give its address with --at URL", Status.BAD_WORDS, "nothing was written")
         language, sealed, words = self.election.language, self.election.sealed(), Words(**act.detail["words"])
-        poll, ballots = sealed.counted.as_bytes(), ballot_file(lines_by_act.lines_after(self.election.book, act.number))
+        poll, ballots = sealed.counted.as_bytes(), ballot_file(queries.lines_after(self.election.book, act.number))
         sheet = sheet_in(self.election.debvote.answer("count", poll, ballots, *casting_words(words.casting)).text)
         standing = self.election.debvote.standing(poll, ballots)
         chronicle = chronicle_of(self.election.book, History(self.history.acts[: act.number]), is_secret=sealed.is_aliased)

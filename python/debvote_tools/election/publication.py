@@ -7,7 +7,7 @@ from collections.abc import Iterator, Mapping
 from typing import Final
 
 from debvote_tools.ballots import in_normal_form
-from debvote_tools.book import letters, lines_by_act, queries
+from debvote_tools.book import letters, queries
 from debvote_tools.book.acts import Detail
 from debvote_tools.book.book import Book, DoneAct, as_text, from_text
 from debvote_tools.debvote import casting_words
@@ -115,7 +115,7 @@ def shown_by_comparison(
     earlier = history.named(ACT)
     if not earlier or earlier[-1].detail["checksums"][BALLOTS] == sha256_of(ballots):
         return []
-    lines = lines_by_act.lines_after(election.book, earlier[-1].number)
+    lines = queries.lines_after(election.book, earlier[-1].number)
     before = election.debvote.standing(sealed.counted.as_bytes(), ballot_file(lines))
     then, now = ({name: in_normal_form(ranks) for name, ranks in votes.items()} for votes in (before, standing))
     return [name for name in sealed.counted.roll if then.get(name) != now.get(name)]

@@ -1,6 +1,5 @@
 """Make the call for votes, a page and a letter; the poll never changes again."""
 
-import dataclasses
 import pathlib
 
 from debvote_tools import times
@@ -34,7 +33,6 @@ FILES = ("index.html", "call.txt", "poll.toml", "SHA256SUMS")
 KEYRING_LIMIT = 134_217_728
 
 
-@dataclasses.dataclass(frozen=True)
 class Arguments(acting.Arguments):
     until: str | None = option("TIME", 'The end of the vote, as "2026-12-04 18:00"; a later time in a second call extends it')
     zone: str | None = option("ZONE", "The time zone of --until, as Europe/Berlin; that of this computer if it is not given")

@@ -1,7 +1,6 @@
 """End the vote: lines that are entered later are late."""
 
 import collections
-import dataclasses
 
 from debvote_tools import times
 from debvote_tools.arguments import flag
@@ -21,7 +20,6 @@ from debvote_tools.publish.names import CLOSED
 from debvote_tools.secret.aliases import aliased_ballots, seal_line, sealed_checksum
 
 
-@dataclasses.dataclass(frozen=True)
 class Arguments(acting.Arguments):
     early: bool = flag("Close before the end of the vote; the result page says so")
     force: bool = flag("With --because: close although letters wait that arrived in time; the result page says how many")

@@ -1,7 +1,5 @@
 """Make a secret code for each elector, for a secret vote; it comes before the call."""
 
-import dataclasses
-
 from debvote_tools.arguments import flag
 from debvote_tools.book import queries
 from debvote_tools.book.acts import Detail
@@ -25,7 +23,6 @@ SLIPS, CODES = "slips.html", "codes.csv"
 NOT_SECRET = "the vote is not secret, so it needs no codes"
 
 
-@dataclasses.dataclass(frozen=True)
 class Arguments(acting.Arguments):
     on_roll: bool = flag("Put the codes on the roll in place of the names, so that nobody knows who votes under which")
 

@@ -1,10 +1,9 @@
 """Print the result sheet."""
 
-import dataclasses
 import shlex
 from collections.abc import Iterable
 
-from debvote_tools.arguments import option
+from debvote_tools.arguments import Options, option
 from debvote_tools.book import queries
 from debvote_tools.console import tell_as_it_is, tell_aside
 from debvote_tools.debvote import casting_words
@@ -20,8 +19,7 @@ CASTING = (
 )
 
 
-@dataclasses.dataclass(frozen=True)
-class Arguments:
+class Arguments(Options):
     casting: str | None = option(*CASTING)
 
 

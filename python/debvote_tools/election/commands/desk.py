@@ -6,7 +6,7 @@ import os
 import sys
 from collections.abc import Iterator
 
-from debvote_tools.book import lines_by_act, queries
+from debvote_tools.book import queries
 from debvote_tools.book.acts import Detail
 from debvote_tools.book.book import Book, Overtaken
 from debvote_tools.console import is_yes, tell, typed
@@ -20,14 +20,10 @@ from debvote_tools.files import BALLOTS_LIMIT
 from debvote_tools.lines import Line, lines_in, name_in
 
 QUIT = b"q"
-
 NOTHING_CAST = "nothing was cast"
 
-# in bytes; what one read of a pipe brings at most
-READ = 65_536
-
-# how many names are listed that a typed name may begin
-MAX_NAMES = 5
+# how many bytes one read of a pipe brings at most, and how many names are listed that a typed name may begin
+READ, MAX_NAMES = 65_536, 5
 
 Arguments = in_time.Arguments
 
@@ -38,8 +34,8 @@ class Shown:
 
     decided_at: int = dataclasses.field(compare=False)
     openness: History
-    # number of each envelope of the elector, and the act that struck it
-    envelopes: tuple[tuple[int, int | None], ...] = ()
+    # those of the elector
+    envelopes: list[queries.Envelope]
 
 
 class Desk:
@@ -62,8 +58,7 @@ class Desk:
         openness = history.openness()
         if openness.call != self.vote.call:
             raise Fault(None, "the vote was called anew meanwhile", "start the desk again", Status.DOUBT, NOTHING_CAST)
-        envelopes = queries.envelopes(self.book, "elector = ?", elector)
-        return Shown(history.last.number, openness, tuple((envelope.number, envelope.struck) for envelope in envelopes))
+        return Shown(history.last.number, openness, queries.envelopes(self.book, "elector = ?", elector))
 
     def ask_if_reopened(self, elector: int | None = None) -> Shown:
         """The same. After the vote was opened again it is asked once whether what is cast came before the first close."""
@@ -103,9 +98,7 @@ class Desk:
 def run(election: Election, arguments: Arguments) -> None:
     if sys.stdin is None:
         raise Fault("standard input", "it is closed", "run it at a terminal", Status.BAD_BALLOTS, NOTHING_CAST)
-    election.sealed()
-    book = acting.book_for_act(election, arguments)
-    desk = Desk(election, book, arguments.came_before_close)
+    desk = Desk(election, acting.book_for_act(election, arguments), arguments.came_before_close)
     openness = desk.now().openness
     tell(*in_time.notes(election, openness, "what is cast"))
     if desk.vote.is_signed:
@@ -223,7 +216,7 @@ def show(desk: Desk, line: JudgedLine, shown: Shown, elector: int | None) -> str
     if shown.openness.is_late(desk.came_before_close):
         tell("It is late, and will not count.")
     elif elector is not None:
-        earlier = desk.vote.standing(lines_by_act.lines_of_electors(desk.book, {elector})).get(line.voter)
+        earlier = desk.vote.standing(queries.lines_of_electors(desk.book, {elector})).get(line.voter)
         if earlier is not None:
             tell(f"{line.voter} has a ballot: {desk.words.ranks(earlier)}. It will be replaced.")
     return "Cast it?"

@@ -1,7 +1,6 @@
 """Make the folder of the result for a web site; without options, make the last one again."""
 
 import contextlib
-import dataclasses
 import pathlib
 from collections.abc import Iterator
 
@@ -25,7 +24,6 @@ from debvote_tools.publish.inputs import Publication
 from debvote_tools.publish.texts import text_in
 
 
-@dataclasses.dataclass(frozen=True)
 class Arguments(acting.Arguments):
     casting: str | None = option(*count.CASTING)
     cast_by: str | None = option("NAME", "Whose the casting vote was; the page says it in your name")

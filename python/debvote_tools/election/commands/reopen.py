@@ -1,11 +1,10 @@
 """Open the vote again after a close, for ballots that had come in time; the page of the result tells it."""
 
-import dataclasses
 import datetime
 from collections.abc import Sequence
 
 from debvote_tools.arguments import flag, option
-from debvote_tools.book import lines_by_act, queries
+from debvote_tools.book import queries
 from debvote_tools.book.acts import Detail
 from debvote_tools.book.book import Book
 from debvote_tools.console import is_terminal, tell, typed
@@ -22,7 +21,6 @@ from debvote_tools.terminal_text import shown_line
 MAX_DIGITS = 9
 
 
-@dataclasses.dataclass(frozen=True)
 class Arguments(acting.Arguments):
     in_time: list[int] | None = option(
         "NUMBER",
@@ -63,7 +61,7 @@ def run(election: Election, arguments: Arguments) -> None:
 def chosen(book: Book, in_time: list[int] | None, *, has_codes: bool) -> list[queries.Envelope]:
     """The late envelopes that had come in time, as the secretary says, in the order of their times."""
     late = {envelope.number: envelope for envelope in queries.envelopes(book, queries.LATE)}
-    entered_before = lines_by_act.entered_anew(book)
+    entered_before = queries.entered_anew(book)
     if in_time is None and is_terminal():
         in_time = asked([envelope for number, envelope in late.items() if number not in entered_before], has_codes=has_codes)
     numbers = in_time or []

@@ -1,8 +1,6 @@
 """Show one elector: the ballots and letters that came, the current ballot, and what was sent."""
 
-import dataclasses
-
-from debvote_tools.arguments import positional
+from debvote_tools.arguments import Options, positional
 from debvote_tools.book import letters, queries, sent
 from debvote_tools.console import tell
 from debvote_tools.election import acting, letter_words, letters_in
@@ -15,8 +13,7 @@ from debvote_tools.lines import Line
 from debvote_tools.terminal_text import shown_text
 
 
-@dataclasses.dataclass(frozen=True)
-class Arguments:
+class Arguments(Options):
     name: str = positional("NAME", "The elector's name on the roll, or the real name")
 
 

@@ -1,12 +1,11 @@
 """Say how far the election is: lines, ballots, who has none yet, what was refused."""
 
-import dataclasses
 import json
 import re
 from typing import NamedTuple
 
 from debvote_tools import times
-from debvote_tools.arguments import flag
+from debvote_tools.arguments import Options, flag
 from debvote_tools.book import queries
 from debvote_tools.console import shows, tell
 from debvote_tools.debvote import Finding, Findings, Totals
@@ -26,8 +25,7 @@ FIRST_WORD = re.compile(rb"(?:\xef\xbb\xbf)?[\s\"']*([A-Za-z0-9.-]{1,32})(?=[\s\
 NO_FINDINGS = Findings([], Totals(lines=0, valid=0, refused=0, late=0, voters=0, electors=0))
 
 
-@dataclasses.dataclass(frozen=True)
-class Arguments:
+class Arguments(Options):
     json: bool = flag("Print the numbers as JSON, for programs")
 
 
@@ -36,17 +34,16 @@ class State(NamedTuple):
 
     stage: Stage
     electors: int
-    # those in time that are not struck: valid and refused ones
+    # the lines in time that are not struck, and of them the valid and the refused ones; those that are late
     lines: int
     valid: int
     refused: int
-    # those that were entered while the vote was closed
     late: int
     voters: int
     # letters that wait for the secretary
     waiting: int
     without_ballot: list[str] | None
-    # the last act of the book, and its digest
+    # the last one of the book
     act: int
     digest: str
 

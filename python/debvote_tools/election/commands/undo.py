@@ -5,7 +5,7 @@ import dataclasses
 from collections.abc import Iterator
 
 from debvote_tools.arguments import flag
-from debvote_tools.book import letters, lines_by_act, queries, sent
+from debvote_tools.book import letters, queries, sent
 from debvote_tools.book.book import Book, DoneAct, Overtaken
 from debvote_tools.console import is_terminal, is_yes, tell
 from debvote_tools.election import acting
@@ -17,7 +17,6 @@ from debvote_tools.faults import Fault
 from debvote_tools.letters_out.compose import Kind
 
 
-@dataclasses.dataclass(frozen=True)
 class Arguments(acting.Arguments):
     yes: bool = flag("Take it back without a question")
 
@@ -80,14 +79,14 @@ def what_is_taken_back(election: Election, book: Book, vote: Vote) -> UndoPlan:
     with book.snapshot():
         history = History(book.acts())
         demand_open(election, history)
-        number = lines_by_act.last_entering_act(book)
+        number = queries.last_entering_act(book)
         if number is None:
             words = "nothing was entered that could be taken back"
             raise Fault("undo", words, f"see {election.command('status')}")
         envelopes = tuple(queries.envelopes(book, f"envelope.act = ? AND {queries.NOT_STRUCK}", number))
         electors = {envelope.elector for envelope in envelopes if envelope.elector is not None}
-        lines = lines_by_act.lines_of_electors(book, electors)
-        lines_without = lines_by_act.lines_of_electors(book, electors, without=number)
+        lines = queries.lines_of_electors(book, electors)
+        lines_without = queries.lines_of_electors(book, electors, without=number)
     before, after = vote.standing(lines), vote.standing(lines_without)
     told = {("envelope", envelope.number, False) for envelope in envelopes}
     receipts = [letter.elector for letter in sent.sent_letters(book, Kind.RECEIPTS) if told & set(letter.about)]
