@@ -14,7 +14,7 @@ from debvote_tools.book.book import Book, NewAct, Overtaken
 from debvote_tools.book.queries import NewEnvelope
 from debvote_tools.console import tell, tell_many
 from debvote_tools.election import acting, in_time
-from debvote_tools.election.vote import LATE_REPLY, JudgedLine, LineWords, Vote, summary
+from debvote_tools.election.vote import LATE_REPLY, JudgedLine, Vote, summary
 from debvote_tools.election.came import NOTHING_ADDED, CameFile, FileLines, sorted_out
 from debvote_tools.election.csv_ballots import Columns, lines_of_table
 from debvote_tools.election.election import Election, History
@@ -175,12 +175,11 @@ def few_ballots(vote: Vote, files: Sequence[FileLines], arguments: Arguments) ->
     few = [file for file in files if has_few_ballots(file.lines)]
     if not few and len(files) > 1 and has_few_ballots(all_lines):
         few = [files[0]._replace(lines=all_lines)]
-    words = LineWords(vote)
     for file in few:
         refused = [line for line in file.lines if not line.is_ballot]
         count = len(file.lines) - len(refused)
         if count:
-            tell(*(f"{line.line.where}: no ballot: {words.of(line)}" for line in refused[:MAX_REFUSED]))
+            tell(*(f"{line.line.where}: no ballot: {vote.in_words(line)}" for line in refused[:MAX_REFUSED]))
         if count and len(refused) > MAX_REFUSED:
             tell(f"and {len(refused) - MAX_REFUSED} more lines that are no ballots")
         reason = f"debvote takes {f'{count} alone' if count else 'none'} of the {len(file.lines)} lines as a ballot"
@@ -281,7 +280,7 @@ def report(
     for file in plan.files:
         yield from (f"{line.where}: it is empty, and was left out" for line in file.empty)
         yield from repeated_words(file)
-    yield from LineWords(vote).report(plan.new_lines, numbers, replies, is_entered=is_entered)
+    yield from vote.report(plan.new_lines, numbers, replies, is_entered=is_entered)
     for file in plan.files:
         yield from duplicate_words(file)
 

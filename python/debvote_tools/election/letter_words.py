@@ -2,7 +2,7 @@
 
 from collections.abc import Iterator, Sequence
 
-from debvote_tools.election.vote import IS_CODE, LineWords
+from debvote_tools.election.vote import IS_CODE, Vote
 from debvote_tools.election.entering import Entered
 from debvote_tools.election.reporting import act_time, count_of
 from debvote_tools.letters.judge import JudgedLetter, Outcome
@@ -17,13 +17,13 @@ def who_and_when(letter: JudgedLetter) -> str:
     return f"{number}, from {shown_text(parsed.shown_sender) or 'nobody'}, {time}"
 
 
-def going_in(letter: JudgedLetter, words: LineWords, *, is_late: bool) -> Iterator[str]:
+def going_in(letter: JudgedLetter, vote: Vote, *, is_late: bool) -> Iterator[str]:
     ballot = letter.ballots[0]
     yield f"{who_and_when(letter)}: goes in{', and is late' if is_late else ''}"
     written = letter.parsed.shown_lines[ballot.number - 1]
     if written.strip() != ballot.ballot:
         yield f"  `{shown_line(written.encode())}` is read as `{ballot.ballot}`"
-    yield f"  {words.ballot(ballot.ballot)}"
+    yield f"  {vote.ballot_in_words(ballot.ballot)}"
     if letter.other_words:
         yield f"  other words: {letter.other_words}"
     if letter.shared_with:
@@ -31,9 +31,9 @@ def going_in(letter: JudgedLetter, words: LineWords, *, is_late: bool) -> Iterat
     yield from code_words(letter)
 
 
-def reply_words(words: LineWords, done: Entered, ballots: Sequence[str]) -> Iterator[str]:
+def reply_words(vote: Vote, done: Entered, ballots: Sequence[str]) -> Iterator[str]:
     for number, reply, ballot in zip(done.numbers, done.replies(), ballots):
-        yield f"{number} {reply}  {words.ballot(ballot)}"
+        yield f"{number} {reply}  {vote.ballot_in_words(ballot)}"
 
 
 def waiting(letter: JudgedLetter) -> Iterator[str]:

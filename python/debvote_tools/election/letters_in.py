@@ -20,7 +20,7 @@ from debvote_tools.election.came import NOTHING_ADDED, CameFile, safe
 from debvote_tools.election.election import KEYRING, Election, History
 from debvote_tools.election.entering import entered
 from debvote_tools.election.reporting import count_of
-from debvote_tools.election.vote import LineWords, Vote
+from debvote_tools.election.vote import Vote
 from debvote_tools.faults import Fault, Status
 from debvote_tools.files import sha256_of
 from debvote_tools.letters.judge import Ballot, Circumstances, Decision, JudgedLetter, Outcome, judge_all
@@ -130,7 +130,7 @@ def enter_letters(election: Election, vote: Vote, *, is_agreed: bool) -> None:
         detail: Detail = {"letters": len(going_in), "lines": len(going_in)}
         with contextlib.suppress(Overtaken):
             with entered(election.book, vote, "add", detail, envelopes, decided_at=history.last.number, is_late=is_late) as done:
-                tell(*letter_words.reply_words(LineWords(vote), done, ballots))
+                tell(*letter_words.reply_words(vote, done, ballots))
                 tell(letter_words.counts(all_letters, len(going_in)))
             break
     undo = f"{election.command('undo')} takes back what was entered last"
@@ -148,10 +148,9 @@ def agreed(ballots: str) -> bool:
 
 
 def tell_letters(vote: Vote, found: Sequence[JudgedLetter], *, is_late: bool) -> None:
-    words = LineWords(vote)
     for letter in found:
         if letter.outcome is Outcome.GOES_IN:
-            tell(*letter_words.going_in(letter, words, is_late=is_late))
+            tell(*letter_words.going_in(letter, vote, is_late=is_late))
         elif letter.outcome is Outcome.WAITS:
             tell(*letter_words.waiting(letter))
 
