@@ -197,19 +197,14 @@ def cure_of(file: FileLines, refused: JudgedLine, arguments: Arguments) -> str:
     head = file.came.data.removeprefix(MARK).lstrip().split(b"\n", 1)[0].decode("utf-8", "replace")
     if MEMBERS_HEADS <= {cell.strip(' \t\r"').casefold() for cell in re.split("[,;\t]", head)}:
         return "it looks like the list of members, so name the file of the ballots"
-    if looks_like_table(file.lines):
+    shapeless = sum(line.finding is not None and line.finding.word == "bad shape" for line in file.lines)
+    counts = ({line.line.unframed.count(delimiter) for line in file.lines} for delimiter in (b",", b";", b"\t"))
+    # most have no shape of a ballot, and all the same number of delimiters
+    if shapeless * 2 > len(file.lines) and any(len(count) == 1 and count != {0} for count in counts):
         return "it looks like a table, which is added with --csv --name COLUMN --ranks COLUMN,COLUMN,.."
     why = "" if refused.finding is None else f" ({refused.finding.word}: {refused.finding.hint})"
     which = "whose first line is" if refused is file.lines[0] else "which has the line"
     return f"look at the file, {which} `{shown_line(refused.as_entered)}`{why}"
-
-
-def looks_like_table(lines: Sequence[JudgedLine]) -> bool:
-    """Whether all lines have as many delimiters, and most have no shape of a ballot."""
-    if sum(line.finding is not None and line.finding.word == "bad shape" for line in lines) * 2 <= len(lines):
-        return False
-    counts = ({line.line.unframed.count(delimiter) for line in lines} for delimiter in (b",", b";", b"\t"))
-    return any(len(count) == 1 and count != {0} for count in counts)
 
 
 # ---------------------------------------------------------------- adding
@@ -291,10 +286,9 @@ def repeated_words(file: FileLines) -> Iterator[str]:
     ignored = "is ignored, since it came before" if len(file.repeated) == 1 else "are ignored, since they came before"
     new = f"{len(file.new)} {'is' if len(file.new) == 1 else 'are'} new"
     yield f"{file.came.name}: {count_of(len(file.repeated), 'line')} {ignored}; {new}"
-    changed = [repeated for repeated in file.repeated if repeated.change is not None]
-    for repeated in changed[:MAX_REPEATED]:
-        line = repeated.line
-        yield f"  {line.line.where}: `{shown_line(line.as_entered)}` came before, and {repeated.change}; --again enters it again"
+    changed = [(line, change) for line, change in file.repeated if change is not None]
+    for line, change in changed[:MAX_REPEATED]:
+        yield f"  {line.line.where}: `{shown_line(line.as_entered)}` came before, and {change}; --again enters it again"
     if len(changed) > MAX_REPEATED:
         yield f"  and {len(changed) - MAX_REPEATED} more that --again enters again"
 
