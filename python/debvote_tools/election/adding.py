@@ -270,8 +270,7 @@ def report(
     election: Election, vote: Vote, plan: Plan, numbers: Sequence[int], replies: Sequence[str], *, is_entered: bool = True
 ) -> Iterator[str]:
     if numbers:
-        what = "what is added" if is_entered else "what would be added"
-        yield from in_time.notes(election, plan.openness, what)
+        yield from in_time.notes(election, plan.openness, "what is added" if is_entered else "what would be added")
     for file in plan.files:
         yield from (f"{line.where}: it is empty, and was left out" for line in file.empty)
         yield from repeated_words(file)

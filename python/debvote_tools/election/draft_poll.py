@@ -139,8 +139,7 @@ def texts_in(folder: pathlib.Path, option_count: int) -> tuple[dict[int, str], l
     except FileNotFoundError:
         return {}, []
     except OSError as error:
-        cure = "put a folder there with a text for each option"
-        return {}, [Fault(folder, error.strerror, cure, Status.BAD_WORDS, None)]
+        return {}, [Fault(folder, error.strerror, "put a folder there with a text for each option", Status.BAD_WORDS, None)]
     for file in files:
         number = TEXT_NAME.fullmatch(file.name)
         try:

@@ -174,8 +174,7 @@ class Roll(NamedTuple):
     def shared_addresses(self) -> dict[str, list[Member]]:
         """The electors of each address that several have."""
         pairs = [(key, elector) for elector in self.electors for key in dict.fromkeys(map(address_key, elector.addresses))]
-        groups = several(pairs, lambda pair: pair[0])
-        return {group[0][0]: [elector for _, elector in group] for group in groups}
+        return {group[0][0]: [elector for _, elector in group] for group in several(pairs, lambda pair: pair[0])}
 
     @property
     def alike_people(self) -> list[list[Member]]:
