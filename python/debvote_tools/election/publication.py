@@ -1,15 +1,16 @@
-"""What is published of an election, from its book."""
+"""What is published of an election, from its book: the call, the letter of the close, and the result."""
 
 import dataclasses
 import datetime
 import json
 from collections.abc import Iterator, Mapping
-from typing import Final
+from typing import Any, Final
 
 from debvote_tools.ballots import in_normal_form
 from debvote_tools.book import letters, queries
 from debvote_tools.book.acts import Detail
 from debvote_tools.book.book import Book, DoneAct, as_text, from_text
+from debvote_tools.call.data import CallData
 from debvote_tools.debvote import casting_words
 from debvote_tools.election.election import Election, History, Sealed
 from debvote_tools.faults import Fault
@@ -43,6 +44,35 @@ class Words:
         if self.casting is None:
             return None
         return CastingVote(self.casting, self.cast_by, datetime.date.fromisoformat(self.cast_on) if self.cast_on else None)
+
+
+def current_data(
+    election: Election, history: History | None = None, said: Detail | None = None, sealed: Sealed | None = None
+) -> CallData:
+    """What the page and the letter say as it is now, and with what an act would say or seal."""
+    now, saying, sealed = history or election.history(), said or {}, sealed or election.sealed()
+
+    def value_of(key: str) -> Any:
+        return saying.get(key) or now.announced(key)
+
+    return CallData(
+        language=election.language,
+        poll=sealed.public,
+        quorum_votes=value_of("quorum_votes"),
+        until=until_of(saying) or now.until,
+        to=value_of("to"),
+        at=value_of("at"),
+        real_names={elector.name: elector.who for elector in queries.electors(election.book)} if value_of("names") else None,
+        has_form=bool(value_of("form")),
+        is_signed=bool(value_of("signed")),
+        has_aliases=sealed.is_aliased,
+        has_codes_on_roll=bool(value_of("codes_on_roll")),
+    )
+
+
+def until_of(said: Detail) -> datetime.datetime | None:
+    """The end that the command line names."""
+    return datetime.datetime.fromisoformat(said["until"]) if "until" in said else None
 
 
 def last_publication(history: History) -> DoneAct | None:
