@@ -4,7 +4,7 @@ import dataclasses
 import datetime
 import json
 from collections.abc import Iterator, Mapping
-from typing import Any, Final
+from typing import Any
 
 from debvote_tools.ballots import in_normal_form
 from debvote_tools.book import letters, queries
@@ -23,8 +23,6 @@ from debvote_tools.publish.names import BALLOTS, PAGE, POLL
 from debvote_tools.rendering import render_letter
 from debvote_tools.sealed_poll import SealedPoll
 from debvote_tools.secret.aliases import aliased_ballots, sealed_checksum
-
-ACT: Final = "publish"
 
 
 @dataclasses.dataclass(frozen=True)
@@ -78,7 +76,7 @@ def until_of(said: Detail) -> datetime.datetime | None:
 def last_publication(history: History) -> DoneAct | None:
     """The last publication since the last close."""
     close = history.closes[-1].number if history.closes else 0
-    return next((act for act in reversed(history.named(ACT)) if act.number > close), None)
+    return next((act for act in reversed(history.named("publish")) if act.number > close), None)
 
 
 def publication_of(election: Election, words: Words) -> Publication:
@@ -142,7 +140,7 @@ def shown_by_comparison(
     election: Election, sealed: Sealed, history: History, standing: Mapping[str, str], ballots: bytes
 ) -> list[str]:
     """The electors of a secret vote whose ballots differ from those of the last publication: a comparison shows theirs alone."""
-    earlier = history.named(ACT)
+    earlier = history.named("publish")
     if not earlier or earlier[-1].detail["checksums"][BALLOTS] == sha256_of(ballots):
         return []
     lines = queries.lines_after(election.book, earlier[-1].number)
@@ -165,7 +163,7 @@ def doubts_of(book: Book, history: History, poll: SealedPoll, casting: str | Non
     found = [] if history.is_closed else [Doubt.of(Kind.NOT_CLOSED)]
     found += late_letters_in_time(book, history)
     names = dict(zip(poll.plain_names, poll.names))
-    earlier = dict.fromkeys(act.detail["casting"] for act in history.named(ACT))
+    earlier = dict.fromkeys(act.detail["casting"] for act in history.named("publish"))
     others = [option for option in earlier if option is not None and casting not in (None, option)]
     return found + [Doubt.of(Kind.OTHER_CASTING_VOTE, option=names[option]) for option in others]
 
