@@ -184,7 +184,7 @@ def judged(
         if letter.parsed.key in by_key:
             letter.number, letter.source = by_key[letter.parsed.key].number, by_key[letter.parsed.key].source
         if no_codes_expected:
-            letter.code_lines = tuple(n for n, line in enumerate(letter.parsed.shown_lines, start=1) if has_code(line))
+            letter.code_lines = tuple(number for number, line in enumerate(letter.parsed.shown_lines, start=1) if has_code(line))
     return letters_now
 
 
@@ -202,7 +202,7 @@ def kept_letters(election: Election, kept: Sequence[KeptLetter]) -> list[ParsedL
     old = [index for index, letter in enumerate(kept) if letter.act < sealed or found[index].why_unsigned == SLOW]
     sources = {index: letters.source_of(election.book, kept[index].source) for index in old}
     raws = [RawLetter(found[index].where, data, found[index].is_parted_off) for index, data in sources.items()]
-    for index, letter in zip(old, parsed(election, raws) if raws else []):
+    for index, letter in zip(old, parsed(election, raws)):
         found[index] = letter
     return found
 
