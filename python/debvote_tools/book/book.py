@@ -4,18 +4,15 @@ An act adds rows, in one transaction, and is told only after its commit. Trigger
 """
 
 import contextlib
-import dataclasses
 import datetime
 import fcntl
-import functools
 import itertools
 import json
 import os
 import pathlib
 import sqlite3
-import urllib.parse
 from collections.abc import Iterable, Iterator, Sequence
-from typing import Any, Final
+from typing import Any, Final, NamedTuple
 
 from debvote_tools import times
 from debvote_tools.book import chain
@@ -50,22 +47,20 @@ class Overtaken(Exception):
     """Another act came between: what this one was decided by may have changed."""
 
 
-@dataclasses.dataclass(frozen=True)
-class DoneAct:
+class DoneAct(NamedTuple):
     number: int
     time: datetime.datetime
     name: ActName
     detail_as_json: str
     digest: str
 
-    @functools.cached_property
+    @property
     def detail(self) -> Detail:
         found: Detail = json.loads(self.detail_as_json)
         return found
 
 
-@dataclasses.dataclass
-class NewAct:
+class NewAct(NamedTuple):
     """An act while it is written. Its rows are in the book when it is committed, all or none."""
 
     connection: sqlite3.Connection
@@ -321,9 +316,8 @@ def open_book(path: pathlib.Path) -> Book:
 
 
 def connected(path: pathlib.Path, mode: str) -> sqlite3.Connection:
-    connection = sqlite3.connect(
-        f"file:{urllib.parse.quote(str(path.absolute()))}?mode={mode}", uri=True, isolation_level=None, timeout=PATIENCE
-    )
+    address = f"{path.absolute().as_uri()}?mode={mode}"
+    connection = sqlite3.connect(address, uri=True, isolation_level=None, timeout=PATIENCE)
     for setting in SETTINGS if mode == "rw" else ("trusted_schema = OFF",):
         connection.execute(f"PRAGMA {setting}")
     chain.prepare(connection)

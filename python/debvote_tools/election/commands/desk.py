@@ -1,10 +1,10 @@
 """Enter ballots by hand, and print the reply to each; several desks can run at once, each in its own terminal."""
 
 import contextlib
-import dataclasses
 import os
 import sys
 from collections.abc import Iterator
+from typing import NamedTuple
 
 from debvote_tools.book import queries
 from debvote_tools.book.acts import Detail
@@ -28,11 +28,10 @@ READ, MAX_NAMES = 65_536, 5
 Arguments = in_time.Arguments
 
 
-@dataclasses.dataclass(frozen=True)
-class Shown:
+class Shown(NamedTuple):
     """What a ballot was shown by, before the question, and at a pipe before it is cast."""
 
-    decided_at: int = dataclasses.field(compare=False)
+    decided_at: int
     openness: History
     # those of the elector
     envelopes: list[queries.Envelope]
@@ -87,7 +86,7 @@ class Desk:
             lambda _: [queries.NewEnvelope(line.as_entered, line.line.place) for line in lines],
             decided_at=shown.decided_at,
             is_late=shown.openness.is_late(self.came_before_close),
-            is_same=lambda: self.now(elector) == shown,
+            is_same=lambda: self.now(elector)[1:] == shown[1:],
             done="what was to be told is cast",
         ) as now:
             replies = now.replies()
