@@ -194,18 +194,15 @@ class Book:
         if digest is None:
             return f"it ends with act {self.last_number()}, and this computer saw act {noted.act} already: it is an older copy"
         if digest != noted.digest:
-            return (
-                f"its act {noted.act} is not the one that this computer saw: somebody went on from a copy, or wrote the book anew"
-            )
+            how = "somebody went on from a copy, or wrote the book anew"
+            return f"its act {noted.act} is not the one that this computer saw: {how}"
         return None
 
     def demand_noted(self) -> None:
         why = self.strangeness()
         if why is not None:
-            cure = (
-                "find out how that came; if it is the right book, as after a move to this computer or folder, give the command "
-                "--moved --because TEXT, and the page tells it"
-            )
+            right = "if it is the right book, as after a move to this computer or folder"
+            cure = f"find out how that came; {right}, give the command --moved --because TEXT, and the page tells it"
             raise Fault(self.path, why, cure)
 
     def accept(self, because: str) -> None:

@@ -153,7 +153,6 @@ def reads_as_ballot(line: str, options: int) -> bool:
 
 # ---------------------------------------------------------------- what is wrong with a line
 def fault_of_line(answer: str, language: Language) -> str:
-    """What is wrong with a line that was entered, by what debvote says of it."""
     count = RANK_COUNT.match(answer)
     if count is None:
         return language.say("It is not written as a ballot is.")

@@ -159,7 +159,6 @@ def announced(arguments: Arguments) -> Detail:
 
 
 def demand_no_change(election: Election, history: History, arguments: Arguments) -> None:
-    """Stops at words that would change what was called."""
     changed = [f"--{name}" for name in ("form", "names") if getattr(arguments, name) and not history.announced(name)]
     if arguments.to not in (None, history.announced("to")):
         changed.append("--to")

@@ -63,9 +63,8 @@ class Desk:
         """The same. After the vote was opened again it is asked once whether what is cast came before the first close."""
         shown = self.now(elector)
         if shown.openness.is_reopened and self.came_before_close is None:
-            self.came_before_close = in_time.came_before_close(
-                shown.openness, self.answer, "what was told is cast, and nothing else"
-            )
+            done = "what was told is cast, and nothing else"
+            self.came_before_close = in_time.came_before_close(shown.openness, self.answer, done)
         return shown
 
     def lines_of(self, data: bytes) -> list[Line]:

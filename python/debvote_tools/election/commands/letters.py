@@ -92,7 +92,6 @@ def report_sent(election: Election, due: LettersDue, tried: Sequence[SentLetter]
 
 # ---------------------------------------------------------------- the words of the command line
 def demand_words(arguments: Arguments) -> None:
-    """Stops if the options do not go together."""
     alone = {"--server": arguments.server, "--user": arguments.user, "--again": arguments.again}
     given = ", ".join(name for name, value in alone.items() if value)
     if arguments.send and arguments.server is None:
@@ -143,7 +142,6 @@ def announce(election: Election, book: Book, address: str) -> None:
 
 
 def chosen_again(due: LettersDue, names: Sequence[str]) -> list[SentLetter]:
-    """The letters of these electors that a run was cut off in."""
     by_name = {due.elector(letter).name: letter for letter in due.cut_off}
     if unknown := [shown_text(name) for name in names if name not in by_name]:
         words = f"no run was cut off in the letter to {', '.join(unknown)}"

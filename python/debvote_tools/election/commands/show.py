@@ -57,7 +57,6 @@ def elector_named(election: Election, vote: Vote, name: str) -> queries.Elector:
 
 
 def ballot_words(words: LineWords, history: History, envelope: queries.Envelope, line: JudgedLine) -> str:
-    """A ballot that came: its envelope, its time, what it says, and whether it counts."""
     said = words.ranks(line.ranks) if line.is_ballot else words.of(line)
     marks = ["late"] if envelope.is_late else []
     if envelope.struck is not None:

@@ -49,8 +49,6 @@ class State(NamedTuple):
 
 
 class Refused(NamedTuple):
-    """A line that debvote refuses, in its envelope."""
-
     envelope: int
     line: bytes
     finding: Finding
