@@ -291,9 +291,8 @@ def open_book(path: pathlib.Path) -> Book:
     with sqlite_faults(path):
         connection = connected(path, "ro" if is_read_only else "rw")
         try:
-            [(found,)] = connection.execute("PRAGMA application_id")
-            [(version,)] = connection.execute("PRAGMA user_version")
-            connection.execute("SELECT 1 FROM sqlite_schema").fetchone()
+            words = "SELECT application_id, user_version FROM pragma_application_id, pragma_user_version"
+            [(found, version)] = connection.execute(words)
         except sqlite3.Error as error:
             if is_read_only and "unable to open" in str(error) or "readonly" in str(error):
                 words = "a command was cut off in its act, and in a folder that can't be written the act can't be taken back"

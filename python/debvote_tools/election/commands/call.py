@@ -75,8 +75,8 @@ def call(election: Election, arguments: Arguments) -> None:
     public = poll
     if poll.secret and not history.has_codes_on_roll:
         public = aliased_poll(poll, queries.public_names(queries.electors(book)))
-    said["form"], said["names"], said["codes_on_roll"] = arguments.form, arguments.names, history.has_codes_on_roll
-    said["quorum_votes"], said["signed"] = sheet.quorum, arguments.keyring is not None
+    said.update({"form": arguments.form, "names": arguments.names, "codes_on_roll": history.has_codes_on_roll})
+    said.update({"quorum_votes": sheet.quorum, "signed": arguments.keyring is not None})
     keyring = keyring_in(election, arguments.keyring)
     data = current_data(election, history, said, Sealed(public, poll))
     with book.act("call", said, seen=history.last.number) as act:

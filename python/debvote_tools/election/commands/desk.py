@@ -22,8 +22,10 @@ from debvote_tools.lines import Line, lines_in, name_in
 QUIT = b"q"
 NOTHING_CAST = "nothing was cast"
 
-# how many bytes one read of a pipe brings at most, and how many names are listed that a typed name may begin
-READ, MAX_NAMES = 65_536, 5
+# in bytes; what one read of a pipe brings at most
+READ = 65_536
+# how many names are listed that a typed name may begin
+MAX_NAMES = 5
 
 Arguments = in_time.Arguments
 

@@ -23,8 +23,10 @@ from debvote_tools.letters_out.compose import Kind
 from debvote_tools.letters_out.send import Server
 from debvote_tools.terminal_text import shown_text
 
-# how many electors without an address are named, and how many characters the progress bar has
-MOST, BAR = 20, 40
+# how many electors without an address are named
+MOST = 20
+# in characters
+BAR = 40
 
 
 class Arguments(acting.Arguments):
