@@ -60,8 +60,7 @@ def demand_reason(because: str | None, option: str, *, has_paragraphs: bool = Fa
     """The reason that an option needs: one line of plain text, or several."""
     text = (because or "").strip()
     if not text:
-        cure = 'write it: --because "TEXT"'
-        raise Fault(option, "it needs a reason, which the log keeps", cure, Status.BAD_WORDS)
+        raise Fault(option, "it needs a reason, which the log keeps", 'write it: --because "TEXT"', Status.BAD_WORDS)
     odd = odd_sign(text, allowed="\t\n") if has_paragraphs else odd_sign(text, refused=LINE_ENDS)
     if odd is not None:
         words = f"the text has the character {number_of(odd)}, which no plain text has"

@@ -37,8 +37,6 @@ POLL_KEY = re.compile(rb"(?m)^[ \t]*\"?(%b)\"?[ \t]*=" % "|".join(REQUIRED).enco
 
 
 class CameFile(NamedTuple):
-    """A file as it came: its name as the user gave it, and its bytes."""
-
     name: str
     data: bytes
 
@@ -126,13 +124,6 @@ def demand_lines(file: CameFile, *, is_table: bool) -> None:
         raise Fault(file.name, words, "name the file of the ballots", Status.DOUBT, NOTHING_ADDED)
 
 
-class Repeated(NamedTuple):
-    """A line that came before. `change` says what has happened since, if it no longer counts: then `--again` takes it."""
-
-    line: JudgedLine
-    change: str | None
-
-
 class FileLines(NamedTuple):
     """A file and its lines, in the order in which they are entered; and which of them go in now, and which came before."""
 
@@ -140,7 +131,8 @@ class FileLines(NamedTuple):
     lines: tuple[JudgedLine, ...]
     empty: tuple[Line, ...]
     new: tuple[JudgedLine, ...] = ()
-    repeated: tuple[Repeated, ...] = ()
+    # each with what has happened since, if it no longer counts: then `--again` takes it
+    repeated: tuple[tuple[JudgedLine, str | None], ...] = ()
     # the envelopes of lines that go in again: from then on such a line is known by its new envelope
     again: tuple[int, ...] = ()
 
@@ -172,7 +164,7 @@ def sorted_out(book: Book, files: Sequence[FileLines], *, takes_again: bool, is_
                 new.append(line)
                 again.append(envelope.number)
             else:
-                repeated.append(Repeated(line, change))
+                repeated.append((line, change))
         counts.update(came_first)
         going_in.update(line.as_entered for line in new)
         found.append(file._replace(new=tuple(new), repeated=tuple(repeated), again=tuple(again)))

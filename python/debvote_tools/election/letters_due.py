@@ -11,9 +11,8 @@ from debvote_tools.call.data import is_mail_address
 from debvote_tools.call.files import call_letter, extension_letter
 from debvote_tools.debvote import casting_words
 from debvote_tools.election import letters_in
-from debvote_tools.election.call_now import current_data
+from debvote_tools.election.publication import Words, chronicle_of, closing_letter, current_data, last_publication
 from debvote_tools.election.election import Election, History
-from debvote_tools.election.publication import Words, chronicle_of, closing_letter, last_publication
 from debvote_tools.election.vote import Vote
 from debvote_tools.faults import Fault, Status
 from debvote_tools.letters.judge import JudgedLetter, Outcome

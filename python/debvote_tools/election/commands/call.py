@@ -11,7 +11,7 @@ from debvote_tools.call.data import CallData, demand_mail_address, demand_web_ad
 from debvote_tools.call.files import call_files, extension_letter
 from debvote_tools.console import tell
 from debvote_tools.election import acting
-from debvote_tools.election.call_now import current_data, until_of
+from debvote_tools.election.publication import current_data, until_of
 from debvote_tools.election.commands.codes import SLIPS, write_slips
 from debvote_tools.election.commands.roll import demand_read
 from debvote_tools.election.election import CALL, KEYRING, LETTERS, POLL, POLL_WITH_NAMES, PRIVATE, Election, History, Sealed

@@ -6,7 +6,7 @@ from debvote_tools.book.acts import Detail
 from debvote_tools.call.data import CallData
 from debvote_tools.console import tell
 from debvote_tools.election import acting
-from debvote_tools.election.call_now import current_data
+from debvote_tools.election.publication import current_data
 from debvote_tools.election.commands.check import what_next
 from debvote_tools.election.commands.roll import demand_read
 from debvote_tools.election.election import POLL_FILE, PRIVATE, Election, History

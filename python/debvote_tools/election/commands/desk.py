@@ -11,7 +11,7 @@ from debvote_tools.book.acts import Detail
 from debvote_tools.book.book import Book, Overtaken
 from debvote_tools.console import is_yes, tell, typed
 from debvote_tools.election import acting, in_time
-from debvote_tools.election.vote import JudgedLine, LineWords, Vote, change_words, summary, would_words
+from debvote_tools.election.vote import JudgedLine, Vote, change_words, summary, would_words
 from debvote_tools.election.election import Election, History
 from debvote_tools.election.entering import electors_of, entered, too_long
 from debvote_tools.election.reporting import listed
@@ -45,7 +45,6 @@ class Desk:
     def __init__(self, election: Election, book: Book, answer: str | None) -> None:
         self.election, self.book = election, book
         self.vote = Vote(election, election.history())
-        self.words = LineWords(self.vote)
         # what --came-before-close says, and what was said of the ballots of this desk
         self.answer = answer
         self.came_before_close: bool | None = None
@@ -92,7 +91,7 @@ class Desk:
         ) as now:
             replies = now.replies()
             self.replies += replies
-            tell(*self.words.report(lines, now.numbers, replies, is_entered=True))
+            tell(*self.vote.report(lines, now.numbers, replies, is_entered=True))
 
 
 def run(election: Election, arguments: Arguments) -> None:
@@ -210,13 +209,13 @@ def show(desk: Desk, line: JudgedLine, shown: Shown, elector: int | None) -> str
     """Shows what a ballot would be, in words, or why debvote would refuse it. Returns the question whether to cast it."""
     tell(*change_words(line))
     if not line.is_ballot:
-        tell(f"It would be refused: {would_words(line)}", desk.words.right_words())
+        tell(f"It would be refused: {would_words(line)}", desk.vote.right_words())
         return "It would not count. Cast it anyway?"
-    tell(desk.words.of(line))
+    tell(desk.vote.in_words(line))
     if shown.openness.is_late(desk.came_before_close):
         tell("It is late, and will not count.")
     elif elector is not None:
         earlier = desk.vote.standing(queries.lines_of_electors(desk.book, {elector})).get(line.voter)
         if earlier is not None:
-            tell(f"{line.voter} has a ballot: {desk.words.ranks(earlier)}. It will be replaced.")
+            tell(f"{line.voter} has a ballot: {desk.vote.ranks_in_words(earlier)}. It will be replaced.")
     return "Cast it?"

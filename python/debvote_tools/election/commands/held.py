@@ -9,7 +9,7 @@ from debvote_tools.book.acts import ActName, Detail
 from debvote_tools.book.book import NewAct
 from debvote_tools.console import tell
 from debvote_tools.election import acting, letter_words, letters_in
-from debvote_tools.election.vote import LineWords, Vote
+from debvote_tools.election.vote import Vote
 from debvote_tools.election.election import Election
 from debvote_tools.election.entering import entered
 from debvote_tools.election.reporting import count_of
@@ -116,7 +116,7 @@ def enter(election: Election, vote: Vote, arguments: Arguments, lines: str) -> N
     detail: Detail = {"letter": letter.number, "lines": [line.number for line in ballots]}
     is_late = letters_in.is_late(history, letter)
     with entered(book, vote, "enter", detail, envelopes, decided_at=history.last.number, is_late=is_late) as now:
-        tell(*letter_words.reply_words(LineWords(vote), now, [line.ballot for line in ballots]))
+        tell(*letter_words.reply_words(vote, now, [line.ballot for line in ballots]))
 
 
 def chosen_ballots(letter: JudgedLetter, lines: str) -> list[BallotLine]:

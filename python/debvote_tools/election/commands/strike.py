@@ -7,7 +7,7 @@ from debvote_tools.book import letters, queries
 from debvote_tools.book.book import Book
 from debvote_tools.console import tell
 from debvote_tools.election import acting
-from debvote_tools.election.vote import LineWords, Vote
+from debvote_tools.election.vote import Vote
 from debvote_tools.election.commands.undo import demand_open
 from debvote_tools.election.election import Election
 from debvote_tools.election.reporting import act_time
@@ -40,7 +40,7 @@ def run(election: Election, arguments: Arguments) -> None:
         elector = name_in(envelope.line).decode("ascii")
         ranks = vote.standing(queries.lines_after(book, act.number, {envelope.elector})).get(elector)
         whose = "that code" if vote.has_codes else elector
-        tell(f"The current ballot of {whose}: {'none' if ranks is None else LineWords(vote).ranks(ranks)}")
+        tell(f"The current ballot of {whose}: {'none' if ranks is None else vote.ranks_in_words(ranks)}")
     tell("A strike cannot be undone: if it was a mistake, enter the line again.", f"Next: {election.command('status')}")
 
 

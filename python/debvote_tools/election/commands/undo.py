@@ -9,7 +9,7 @@ from debvote_tools.book import letters, queries, sent
 from debvote_tools.book.book import Book, DoneAct, Overtaken
 from debvote_tools.console import is_terminal, is_yes, tell
 from debvote_tools.election import acting
-from debvote_tools.election.vote import LineWords, Vote, standing_words
+from debvote_tools.election.vote import Vote, standing_words
 from debvote_tools.election.election import Election, History
 from debvote_tools.election.entering import envelope_words
 from debvote_tools.election.reporting import act_time, count_of
@@ -47,21 +47,21 @@ class UndoPlan(NamedTuple):
 
 
 def run(election: Election, arguments: Arguments) -> None:
-    words = LineWords(Vote(election, election.history()))
+    vote = Vote(election, election.history())
     book = acting.book_for_act(election, arguments)
     is_asked = is_terminal() and not arguments.yes
-    undone = undo(election, book, words, is_asked=is_asked)
-    tell(f"Took back {undone.what}.", *consequences(words, undone, None if is_asked else "no ballot is left"))
+    undone = undo(election, book, vote, is_asked=is_asked)
+    tell(f"Took back {undone.what}.", *consequences(vote, undone, None if is_asked else "no ballot is left"))
     tell(f"Next: {election.command('status')}; once more {election.command('undo')} takes back the act before")
 
 
-def undo(election: Election, book: Book, words: LineWords, *, is_asked: bool) -> UndoPlan:
+def undo(election: Election, book: Book, vote: Vote, *, is_asked: bool) -> UndoPlan:
     """The act that takes back the last one. If another act changes what was shown, it is shown and asked anew."""
     agreed: tuple[object, ...] = ()
     while True:
-        found = what_is_taken_back(election, book, words.vote)
+        found = what_is_taken_back(election, book, vote)
         if is_asked and found[1:] != agreed:
-            tell(*consequences(words, found, "no ballot would be left"))
+            tell(*consequences(vote, found, "no ballot would be left"))
             if not is_yes(f"Take back {found.what}?"):
                 raise Fault("undo", "you did not say yes", "run the command again when you want to take it back")
             agreed = found[1:]
@@ -100,10 +100,10 @@ def demand_open(election: Election, history: History) -> None:
         raise Fault(None, words, cure)
 
 
-def consequences(words: LineWords, found: UndoPlan, none: str | None) -> Iterator[str]:
+def consequences(vote: Vote, found: UndoPlan, none: str | None) -> Iterator[str]:
     """The ballots that change, where `none` says that none is left; the letters that wait again; the receipts that no longer hold."""
     if none is not None:
-        yield from standing_words(words, found.before, found.after, none)
+        yield from standing_words(vote, found.before, found.after, none)
     if found.letters:
         verb = "waits" if len(found.letters) == 1 else "wait"
         yield f"{count_of(len(found.letters), 'letter')} then {verb} as taken back: {', '.join(map(str, found.letters))}"
