@@ -1,6 +1,6 @@
 """The book: one SQLite database that has everything an election knows. This package alone knows SQL, but for conditions on envelopes.
 
-An act adds rows, in one transaction, and is told only after its commit. Triggers refuse whatever would change or remove a row.
+An act adds rows, in one transaction, and is reported only after its commit. Triggers refuse whatever would change or remove a row.
 """
 
 import contextlib

@@ -28,7 +28,7 @@ class UndoPlan(NamedTuple):
     act: DoneAct
     # those of the act that are not struck yet
     envelopes: tuple[queries.Envelope, ...]
-    # the ballots that stand now and then, of the electors whose envelopes they are
+    # the current ballots now and then, of the electors whose envelopes they are
     before: dict[str, str]
     after: dict[str, str]
     # the electors whose receipts tell of one of these ballots
@@ -87,8 +87,8 @@ def what_is_taken_back(election: Election, book: Book, vote: Vote) -> UndoPlan:
         lines = queries.lines_of_electors(book, electors)
         lines_without = queries.lines_of_electors(book, electors, without=number)
     before, after = vote.standing(lines), vote.standing(lines_without)
-    told = {("envelope", envelope.number, False) for envelope in envelopes}
-    receipts = [letter.elector for letter in sent.sent_letters(book, Kind.RECEIPTS) if told & set(letter.about)]
+    about = {("envelope", envelope.number, False) for envelope in envelopes}
+    receipts = [letter.elector for letter in sent.sent_letters(book, Kind.RECEIPTS) if about & set(letter.about)]
     names = [elector.name for elector in queries.electors(book) if elector.number in receipts]
     return UndoPlan(history.last.number, history.act(number), envelopes, before, after, tuple(names))
 
