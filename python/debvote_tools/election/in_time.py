@@ -2,7 +2,6 @@
 
 import datetime
 import re
-import zoneinfo
 
 from debvote_tools.arguments import option
 from debvote_tools.console import is_terminal, is_yes
@@ -82,6 +81,9 @@ def demand_future(time: datetime.datetime, by: datetime.datetime) -> None:
 
 def in_zone(plain: datetime.datetime, name: str | None) -> datetime.datetime:
     """The time of a clock in a zone, or of the clock of this computer. The clock has to show it just once."""
+    # it takes a while to be imported, and a desk needs no zones
+    import zoneinfo
+
     try:
         zone = None if name is None else zoneinfo.ZoneInfo(name)
     except (zoneinfo.ZoneInfoNotFoundError, ValueError, OSError):

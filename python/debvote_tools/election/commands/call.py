@@ -75,8 +75,8 @@ def call(election: Election, arguments: Arguments) -> None:
     public = poll
     if poll.secret and not history.has_codes_on_roll:
         public = aliased_poll(poll, queries.public_names(queries.electors(book)))
-    said["form"], said["names"], said["codes_on_roll"] = arguments.form, arguments.names, history.has_codes_on_roll
-    said["quorum_votes"], said["signed"] = sheet.quorum, arguments.keyring is not None
+    said.update({"form": arguments.form, "names": arguments.names, "codes_on_roll": history.has_codes_on_roll})
+    said.update({"quorum_votes": sheet.quorum, "signed": arguments.keyring is not None})
     keyring = keyring_in(election, arguments.keyring)
     data = current_data(election, history, said, Sealed(public, poll))
     with book.act("call", said, seen=history.last.number) as act:
@@ -159,7 +159,6 @@ def announced(arguments: Arguments) -> Detail:
 
 
 def demand_no_change(election: Election, history: History, arguments: Arguments) -> None:
-    """Stops at words that would change what was called."""
     changed = [f"--{name}" for name in ("form", "names") if getattr(arguments, name) and not history.announced(name)]
     if arguments.to not in (None, history.announced("to")):
         changed.append("--to")

@@ -87,4 +87,7 @@ def write_slips(election: Election, history: History, poll: SealedPoll) -> None:
         CodeRow(name, who, " ".join(addresses), name if is_on_roll else code, alias)
         for _, name, _, who, addresses, _, code, alias in queries.electors(election.book)
     ]
-    write_made(election.path(PRIVATE), {SLIPS: slips(call, rows), **({} if is_on_roll else {CODES: codes_csv(rows)})}, OWN)
+    files = {SLIPS: slips(call, rows)}
+    if not is_on_roll:
+        files[CODES] = codes_csv(rows)
+    write_made(election.path(PRIVATE), files, OWN)

@@ -43,7 +43,6 @@ def demand_countable(election: Election, history: History, sealed: Sealed) -> No
 
 
 def demand_option(poll: SealedPoll, casting: str | None) -> None:
-    """Stops if a casting vote is for no option of the poll, and says which names there are."""
     if casting is not None and casting not in poll.plain_names:
         where = f"--casting={shlex.quote(casting)}"
         cure = f"give one of these, exactly as it stands here: {in_shell(poll.plain_names)}"

@@ -1,10 +1,10 @@
 """Enter ballots by hand, and print the reply to each; several desks can run at once, each in its own terminal."""
 
 import contextlib
-import dataclasses
 import os
 import sys
 from collections.abc import Iterator
+from typing import NamedTuple
 
 from debvote_tools.book import queries
 from debvote_tools.book.acts import Detail
@@ -22,17 +22,18 @@ from debvote_tools.lines import Line, lines_in, name_in
 QUIT = b"q"
 NOTHING_CAST = "nothing was cast"
 
-# how many bytes one read of a pipe brings at most, and how many names are listed that a typed name may begin
-READ, MAX_NAMES = 65_536, 5
+# in bytes; what one read of a pipe brings at most
+READ = 65_536
+# how many names are listed that a typed name may begin
+MAX_NAMES = 5
 
 Arguments = in_time.Arguments
 
 
-@dataclasses.dataclass(frozen=True)
-class Shown:
+class Shown(NamedTuple):
     """What a ballot was shown by, before the question, and at a pipe before it is cast."""
 
-    decided_at: int = dataclasses.field(compare=False)
+    decided_at: int
     openness: History
     # those of the elector
     envelopes: list[queries.Envelope]
@@ -63,9 +64,8 @@ class Desk:
         """The same. After the vote was opened again it is asked once whether what is cast came before the first close."""
         shown = self.now(elector)
         if shown.openness.is_reopened and self.came_before_close is None:
-            self.came_before_close = in_time.came_before_close(
-                shown.openness, self.answer, "what was told is cast, and nothing else"
-            )
+            done = "what was told is cast, and nothing else"
+            self.came_before_close = in_time.came_before_close(shown.openness, self.answer, done)
         return shown
 
     def lines_of(self, data: bytes) -> list[Line]:
@@ -86,7 +86,7 @@ class Desk:
             lambda _: [queries.NewEnvelope(line.as_entered, line.line.place) for line in lines],
             decided_at=shown.decided_at,
             is_late=shown.openness.is_late(self.came_before_close),
-            is_same=lambda: self.now(elector) == shown,
+            is_same=lambda: self.now(elector)[1:] == shown[1:],
             done="what was to be told is cast",
         ) as now:
             replies = now.replies()

@@ -23,8 +23,10 @@ from debvote_tools.letters_out.compose import Kind
 from debvote_tools.letters_out.send import Server
 from debvote_tools.terminal_text import shown_text
 
-# how many electors without an address are named, and how many characters the progress bar has
-MOST, BAR = 20, 40
+# how many electors without an address are named
+MOST = 20
+# in characters
+BAR = 40
 
 
 class Arguments(acting.Arguments):
@@ -92,7 +94,6 @@ def report_sent(election: Election, due: LettersDue, tried: Sequence[SentLetter]
 
 # ---------------------------------------------------------------- the words of the command line
 def demand_words(arguments: Arguments) -> None:
-    """Stops if the options do not go together."""
     alone = {"--server": arguments.server, "--user": arguments.user, "--again": arguments.again}
     given = ", ".join(name for name, value in alone.items() if value)
     if arguments.send and arguments.server is None:
@@ -143,7 +144,6 @@ def announce(election: Election, book: Book, address: str) -> None:
 
 
 def chosen_again(due: LettersDue, names: Sequence[str]) -> list[SentLetter]:
-    """The letters of these electors that a run was cut off in."""
     by_name = {due.elector(letter).name: letter for letter in due.cut_off}
     if unknown := [shown_text(name) for name in names if name not in by_name]:
         words = f"no run was cut off in the letter to {', '.join(unknown)}"

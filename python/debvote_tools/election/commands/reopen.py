@@ -1,6 +1,6 @@
 """Open the vote again after a close, for ballots that had come in time; the page of the result tells it."""
 
-import datetime
+import operator
 from collections.abc import Sequence
 
 from debvote_tools.arguments import flag, option
@@ -19,6 +19,9 @@ from debvote_tools.terminal_text import shown_line
 
 # of the number of an envelope
 MAX_DIGITS = 9
+
+# of two ballots the later one has the later time, and within a second the greater number
+ORDER = operator.attrgetter("time", "number")
 
 
 class Arguments(acting.Arguments):
@@ -72,7 +75,7 @@ def chosen(book: Book, in_time: list[int] | None, *, has_codes: bool) -> list[qu
     if again := [str(number) for number in numbers if number in entered_before]:
         words = f"envelope {', '.join(again)} was entered as in time by an earlier reopen"
         raise Fault("--in-time", words, "leave it out")
-    return sorted((late[number] for number in set(numbers)), key=order)
+    return sorted((late[number] for number in set(numbers)), key=ORDER)
 
 
 def asked(late: Sequence[queries.Envelope], *, has_codes: bool) -> list[int]:
@@ -84,15 +87,9 @@ def asked(late: Sequence[queries.Envelope], *, has_codes: bool) -> list[int]:
     answer = typed("Which of them had come before the first close? Their numbers, or Enter for none: ") or b""
     numbers = answer.replace(b",", b" ").split()
     if wrong := next((number for number in numbers if not number.isdigit() or len(number) > MAX_DIGITS), None):
-        raise Fault(
-            None, f"{shown_line(wrong)} is not the number of an envelope", "run it again, and type numbers with spaces between"
-        )
+        cure = "run it again, and type numbers with spaces between"
+        raise Fault(None, f"{shown_line(wrong)} is not the number of an envelope", cure)
     return list(map(int, numbers))
-
-
-def order(envelope: queries.Envelope) -> tuple[datetime.datetime, int]:
-    """What decides which of two ballots is the later one: their times, and within a second the numbers of their envelopes."""
-    return envelope.time, envelope.number
 
 
 def faults_of_older(book: Book, offered: Sequence[queries.Envelope]) -> list[Fault]:
@@ -100,11 +97,9 @@ def faults_of_older(book: Book, offered: Sequence[queries.Envelope]) -> list[Fau
     last = {late.elector: late for late in offered if late.elector is not None}
     faults = []
     for elector, late in last.items():
-        newest = max(queries.envelopes(book, f"elector = ? AND {queries.IN_TIME}", elector), key=order, default=late)
-        if order(newest) > order(late):
-            words = (
-                f"envelope {late.number} would replace envelope {newest.number}, a later one of the same elector that is in time"
-            )
+        newest = max(queries.envelopes(book, f"elector = ? AND {queries.IN_TIME}", elector), key=ORDER, default=late)
+        if ORDER(newest) > ORDER(late):
+            later = f"envelope {newest.number}, a later one of the same elector that is in time"
             cure = "leave it out; or if it has to count all the same, repeat it with --force"
-            faults.append(Fault("--in-time", words, cure))
+            faults.append(Fault("--in-time", f"envelope {late.number} would replace {later}", cure))
     return faults

@@ -57,7 +57,6 @@ def elector_named(election: Election, vote: Vote, name: str) -> queries.Elector:
 
 
 def ballot_words(vote: Vote, history: History, envelope: queries.Envelope, line: JudgedLine) -> str:
-    """A ballot that came: its envelope, its time, what it says, and whether it counts."""
     said = vote.ranks_in_words(line.ranks) if line.is_ballot else vote.in_words(line)
     marks = ["late"] if envelope.is_late else []
     if envelope.struck is not None:

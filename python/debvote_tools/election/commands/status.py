@@ -49,8 +49,6 @@ class State(NamedTuple):
 
 
 class Refused(NamedTuple):
-    """A line that debvote refuses, in its envelope."""
-
     envelope: int
     line: bytes
     finding: Finding
@@ -87,7 +85,7 @@ def run(election: Election, arguments: Arguments) -> None:
 
 
 def state_of(election: Election, history: History) -> tuple[State, list[Refused]]:
-    """The numbers of an election, and the lines that debvote refuses, but for those of electors whose ballot stands.
+    """The numbers of an election, and the lines that debvote refuses, but for those of electors who have a ballot.
 
     With codes on the roll these are all refused lines.
     """
@@ -101,7 +99,7 @@ def state_of(election: Election, history: History) -> tuple[State, list[Refused]
         waiting = len(waiting_letters(election, history))
     refused = [Refused(*lines[finding.envelope - 1], finding) for finding in findings.refused]
     refused_numbers = {line.envelope for line in refused}
-    # who has a line that debvote does not refuse has a ballot that stands
+    # who has a line that debvote does not refuse has a ballot
     names = {line.partition(b" ")[0] for number, line in lines if number not in refused_numbers}
     voters = {name.decode("ascii") for name in names}
     totals, has_codes = findings.totals, history.has_codes_on_roll

@@ -1,8 +1,8 @@
 """Take back the last act that entered lines; once more, and the one before."""
 
 import contextlib
-import dataclasses
 from collections.abc import Iterator
+from typing import NamedTuple
 
 from debvote_tools.arguments import flag
 from debvote_tools.book import letters, queries, sent
@@ -21,15 +21,14 @@ class Arguments(acting.Arguments):
     yes: bool = flag("Take it back without a question")
 
 
-@dataclasses.dataclass(frozen=True)
-class UndoPlan:
+class UndoPlan(NamedTuple):
     """What an `undo` takes back, or would, and what it changes."""
 
-    decided_at: int = dataclasses.field(compare=False)
+    decided_at: int
     act: DoneAct
     # those of the act that are not struck yet
     envelopes: tuple[queries.Envelope, ...]
-    # the ballots that stand now and then, of the electors whose envelopes they are
+    # the current ballots now and then, of the electors whose envelopes they are
     before: dict[str, str]
     after: dict[str, str]
     # the electors whose receipts tell of one of these ballots
@@ -58,14 +57,14 @@ def run(election: Election, arguments: Arguments) -> None:
 
 def undo(election: Election, book: Book, vote: Vote, *, is_asked: bool) -> UndoPlan:
     """The act that takes back the last one. If another act changes what was shown, it is shown and asked anew."""
-    agreed: UndoPlan | None = None
+    agreed: tuple[object, ...] = ()
     while True:
         found = what_is_taken_back(election, book, vote)
-        if is_asked and found != agreed:
+        if is_asked and found[1:] != agreed:
             tell(*consequences(vote, found, "no ballot would be left"))
             if not is_yes(f"Take back {found.what}?"):
                 raise Fault("undo", "you did not say yes", "run the command again when you want to take it back")
-            agreed = found
+            agreed = found[1:]
         with contextlib.suppress(Overtaken):
             with book.act("undo", {"act": found.act.number}, seen=found.decided_at) as act:
                 queries.strike_envelopes(act, (envelope.number for envelope in found.envelopes))
@@ -88,8 +87,8 @@ def what_is_taken_back(election: Election, book: Book, vote: Vote) -> UndoPlan:
         lines = queries.lines_of_electors(book, electors)
         lines_without = queries.lines_of_electors(book, electors, without=number)
     before, after = vote.standing(lines), vote.standing(lines_without)
-    told = {("envelope", envelope.number, False) for envelope in envelopes}
-    receipts = [letter.elector for letter in sent.sent_letters(book, Kind.RECEIPTS) if told & set(letter.about)]
+    about = {("envelope", envelope.number, False) for envelope in envelopes}
+    receipts = [letter.elector for letter in sent.sent_letters(book, Kind.RECEIPTS) if about & set(letter.about)]
     names = [elector.name for elector in queries.electors(book) if elector.number in receipts]
     return UndoPlan(history.last.number, history.act(number), envelopes, before, after, tuple(names))
 
