@@ -214,7 +214,7 @@ class Table(unittest.TestCase):
     def test_each_elector_has_a_row(self) -> None:
         rows = [CodeRow(name, f'{name.title()} "\u00c9", jr.', "", CODES[name], ALIASES[name]) for name in ROLL]
         found = list(csv.DictReader(io.StringIO(codes_csv(iter(rows)).decode())))
-        self.assertEqual(found, [dataclasses.asdict(row) for row in rows])
+        self.assertEqual(found, [row._asdict() for row in rows])
         self.assertEqual(codes_csv([]), b"name,who,mail,code,alias\n")
 
     def test_a_spreadsheet_runs_no_cell(self) -> None:

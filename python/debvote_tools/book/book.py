@@ -1,21 +1,18 @@
 """The book: one SQLite database that has everything an election knows. This package alone knows SQL, but for conditions on envelopes.
 
-An act adds rows, in one transaction, and is told only after its commit. Triggers refuse whatever would change or remove a row.
+An act adds rows, in one transaction, and is reported only after its commit. Triggers refuse whatever would change or remove a row.
 """
 
 import contextlib
-import dataclasses
 import datetime
 import fcntl
-import functools
 import itertools
 import json
 import os
 import pathlib
 import sqlite3
-import urllib.parse
 from collections.abc import Iterable, Iterator, Sequence
-from typing import Any, Final
+from typing import Any, Final, NamedTuple
 
 from debvote_tools import times
 from debvote_tools.book import chain
@@ -50,22 +47,20 @@ class Overtaken(Exception):
     """Another act came between: what this one was decided by may have changed."""
 
 
-@dataclasses.dataclass(frozen=True)
-class DoneAct:
+class DoneAct(NamedTuple):
     number: int
     time: datetime.datetime
     name: ActName
     detail_as_json: str
     digest: str
 
-    @functools.cached_property
+    @property
     def detail(self) -> Detail:
         found: Detail = json.loads(self.detail_as_json)
         return found
 
 
-@dataclasses.dataclass
-class NewAct:
+class NewAct(NamedTuple):
     """An act while it is written. Its rows are in the book when it is committed, all or none."""
 
     connection: sqlite3.Connection
@@ -199,18 +194,15 @@ class Book:
         if digest is None:
             return f"it ends with act {self.last_number()}, and this computer saw act {noted.act} already: it is an older copy"
         if digest != noted.digest:
-            return (
-                f"its act {noted.act} is not the one that this computer saw: somebody went on from a copy, or wrote the book anew"
-            )
+            how = "somebody went on from a copy, or wrote the book anew"
+            return f"its act {noted.act} is not the one that this computer saw: {how}"
         return None
 
     def demand_noted(self) -> None:
         why = self.strangeness()
         if why is not None:
-            cure = (
-                "find out how that came; if it is the right book, as after a move to this computer or folder, give the command "
-                "--moved --because TEXT, and the page tells it"
-            )
+            right = "if it is the right book, as after a move to this computer or folder"
+            cure = f"find out how that came; {right}, give the command --moved --because TEXT, and the page tells it"
             raise Fault(self.path, why, cure)
 
     def accept(self, because: str) -> None:
@@ -299,9 +291,8 @@ def open_book(path: pathlib.Path) -> Book:
     with sqlite_faults(path):
         connection = connected(path, "ro" if is_read_only else "rw")
         try:
-            [(found,)] = connection.execute("PRAGMA application_id")
-            [(version,)] = connection.execute("PRAGMA user_version")
-            connection.execute("SELECT 1 FROM sqlite_schema").fetchone()
+            words = "SELECT application_id, user_version FROM pragma_application_id, pragma_user_version"
+            [(found, version)] = connection.execute(words)
         except sqlite3.Error as error:
             if is_read_only and "unable to open" in str(error) or "readonly" in str(error):
                 words = "a command was cut off in its act, and in a folder that can't be written the act can't be taken back"
@@ -321,9 +312,8 @@ def open_book(path: pathlib.Path) -> Book:
 
 
 def connected(path: pathlib.Path, mode: str) -> sqlite3.Connection:
-    connection = sqlite3.connect(
-        f"file:{urllib.parse.quote(str(path.absolute()))}?mode={mode}", uri=True, isolation_level=None, timeout=PATIENCE
-    )
+    address = f"{path.absolute().as_uri()}?mode={mode}"
+    connection = sqlite3.connect(address, uri=True, isolation_level=None, timeout=PATIENCE)
     for setting in SETTINGS if mode == "rw" else ("trusted_schema = OFF",):
         connection.execute(f"PRAGMA {setting}")
     chain.prepare(connection)

@@ -50,7 +50,6 @@ class CallData:
 
     @property
     def is_open(self) -> bool:
-        """Whether ballots are published under names."""
         return not (self.has_aliases or self.has_codes_on_roll)
 
     @property
@@ -60,7 +59,6 @@ class CallData:
 
     @property
     def roll(self) -> tuple[str, ...]:
-        """The names on the roll, if the call may show them."""
         return self.poll.roll if self.is_open else ()
 
     @functools.cached_property

@@ -1,9 +1,4 @@
-"""How `add` takes files of lines and tables: it reads them, stops at what a person has to look at, and enters the lines that are new.
-
-1. `read_lines` reads the files, and asks debvote about each line.
-2. `plan_of` decides by the book which lines are new. It takes no time, so it is done again if another act came between.
-3. `add` enters them, and prints the replies.
-"""
+"""How `add` takes files of lines and tables: it reads them, stops at what a person has to look at, and enters the lines that are new."""
 
 import collections
 import contextlib
@@ -19,7 +14,7 @@ from debvote_tools.book.book import Book, NewAct, Overtaken
 from debvote_tools.book.queries import NewEnvelope
 from debvote_tools.console import tell, tell_many
 from debvote_tools.election import acting, in_time
-from debvote_tools.election.vote import LATE_REPLY, JudgedLine, LineWords, Vote, summary
+from debvote_tools.election.vote import LATE_REPLY, JudgedLine, Vote, summary
 from debvote_tools.election.came import NOTHING_ADDED, CameFile, FileLines, sorted_out
 from debvote_tools.election.csv_ballots import Columns, lines_of_table
 from debvote_tools.election.election import Election, History
@@ -38,7 +33,6 @@ MAX_REFUSED, MAX_REPEATED = 10, 20
 MEMBERS_HEADS = {"who", "mail"}
 
 
-@dataclasses.dataclass(frozen=True)
 class Arguments(in_time.Arguments):
     files: list[str] = positional(
         "FILE",
@@ -84,7 +78,6 @@ def doubt(where: object, words: str, cure: str) -> Fault:
     return Fault(where, words, cure, Status.DOUBT, NOTHING_ADDED)
 
 
-# ---------------------------------------------------------------- reading
 def read_lines(vote: Vote, files: Sequence[CameFile], columns: Columns | None, arguments: Arguments) -> list[FileLines]:
     lists = [lines_in(file.data, file.name) if columns is None else lines_of_table(file.data, file.name, columns) for file in files]
     what = "it has empty lines alone" if columns is None else "it has no row of a ballot"
@@ -102,6 +95,7 @@ def read_lines(vote: Vote, files: Sequence[CameFile], columns: Columns | None, a
 
 # ---------------------------------------------------------------- the plan, and what speaks against it
 def plan_of(book: Book, vote: Vote, files: Sequence[FileLines], arguments: Arguments) -> Plan:
+    """Which lines are new by the book. It takes no time, so it is done again if another act came between."""
     history = History(book.acts())
     openness = history.openness()
     if openness.call != vote.call:
@@ -173,7 +167,6 @@ def place_in(line: JudgedLine) -> str:
     return f"line {place}" if place.isdigit() else place
 
 
-# ---------------------------------------------------------------- a file that has other lines than ballots
 def few_ballots(vote: Vote, files: Sequence[FileLines], arguments: Arguments) -> Iterator[Fault]:
     """A fault for each file of which fewer than half of the lines are ballots; if none has so few, all of them together are looked at. If
     some are ballots, it tells the first of the others.
@@ -182,12 +175,11 @@ def few_ballots(vote: Vote, files: Sequence[FileLines], arguments: Arguments) ->
     few = [file for file in files if has_few_ballots(file.lines)]
     if not few and len(files) > 1 and has_few_ballots(all_lines):
         few = [files[0]._replace(lines=all_lines)]
-    words = LineWords(vote)
     for file in few:
         refused = [line for line in file.lines if not line.is_ballot]
         count = len(file.lines) - len(refused)
         if count:
-            tell(*(f"{line.line.where}: no ballot: {words.of(line)}" for line in refused[:MAX_REFUSED]))
+            tell(*(f"{line.line.where}: no ballot: {vote.in_words(line)}" for line in refused[:MAX_REFUSED]))
         if count and len(refused) > MAX_REFUSED:
             tell(f"and {len(refused) - MAX_REFUSED} more lines that are no ballots")
         reason = f"debvote takes {f'{count} alone' if count else 'none'} of the {len(file.lines)} lines as a ballot"
@@ -205,19 +197,14 @@ def cure_of(file: FileLines, refused: JudgedLine, arguments: Arguments) -> str:
     head = file.came.data.removeprefix(MARK).lstrip().split(b"\n", 1)[0].decode("utf-8", "replace")
     if MEMBERS_HEADS <= {cell.strip(' \t\r"').casefold() for cell in re.split("[,;\t]", head)}:
         return "it looks like the list of members, so name the file of the ballots"
-    if looks_like_table(file.lines):
+    shapeless = sum(line.finding is not None and line.finding.word == "bad shape" for line in file.lines)
+    counts = ({line.line.unframed.count(delimiter) for line in file.lines} for delimiter in (b",", b";", b"\t"))
+    # most have no shape of a ballot, and all the same number of delimiters
+    if shapeless * 2 > len(file.lines) and any(len(count) == 1 and count != {0} for count in counts):
         return "it looks like a table, which is added with --csv --name COLUMN --ranks COLUMN,COLUMN,.."
     why = "" if refused.finding is None else f" ({refused.finding.word}: {refused.finding.hint})"
     which = "whose first line is" if refused is file.lines[0] else "which has the line"
     return f"look at the file, {which} `{shown_line(refused.as_entered)}`{why}"
-
-
-def looks_like_table(lines: Sequence[JudgedLine]) -> bool:
-    """Whether all lines have as many delimiters, and most have no shape of a ballot."""
-    if sum(line.finding is not None and line.finding.word == "bad shape" for line in lines) * 2 <= len(lines):
-        return False
-    counts = ({line.line.unframed.count(delimiter) for line in lines} for delimiter in (b",", b";", b"\t"))
-    return any(len(count) == 1 and count != {0} for count in counts)
 
 
 # ---------------------------------------------------------------- adding
@@ -283,12 +270,11 @@ def report(
     election: Election, vote: Vote, plan: Plan, numbers: Sequence[int], replies: Sequence[str], *, is_entered: bool = True
 ) -> Iterator[str]:
     if numbers:
-        what = "what is added" if is_entered else "what would be added"
-        yield from in_time.notes(election, plan.openness, what)
+        yield from in_time.notes(election, plan.openness, "what is added" if is_entered else "what would be added")
     for file in plan.files:
         yield from (f"{line.where}: it is empty, and was left out" for line in file.empty)
         yield from repeated_words(file)
-    yield from LineWords(vote).report(plan.new_lines, numbers, replies, is_entered=is_entered)
+    yield from vote.report(plan.new_lines, numbers, replies, is_entered=is_entered)
     for file in plan.files:
         yield from duplicate_words(file)
 
@@ -299,16 +285,14 @@ def repeated_words(file: FileLines) -> Iterator[str]:
     ignored = "is ignored, since it came before" if len(file.repeated) == 1 else "are ignored, since they came before"
     new = f"{len(file.new)} {'is' if len(file.new) == 1 else 'are'} new"
     yield f"{file.came.name}: {count_of(len(file.repeated), 'line')} {ignored}; {new}"
-    changed = [repeated for repeated in file.repeated if repeated.change is not None]
-    for repeated in changed[:MAX_REPEATED]:
-        line = repeated.line
-        yield f"  {line.line.where}: `{shown_line(line.as_entered)}` came before, and {repeated.change}; --again enters it again"
+    changed = [(line, change) for line, change in file.repeated if change is not None]
+    for line, change in changed[:MAX_REPEATED]:
+        yield f"  {line.line.where}: `{shown_line(line.as_entered)}` came before, and {change}; --again enters it again"
     if len(changed) > MAX_REPEATED:
         yield f"  and {len(changed) - MAX_REPEATED} more that --again enters again"
 
 
 def duplicate_words(file: FileLines) -> Iterator[str]:
-    """The electors of whom a file has several new ballots, in words."""
     by_name: dict[str, list[str]] = collections.defaultdict(list)
     for line in file.new:
         if line.is_ballot:

@@ -9,7 +9,7 @@ import sys
 from collections.abc import Mapping, Sequence
 from typing import BinaryIO, NamedTuple
 
-from debvote_tools.book import lines_by_act
+from debvote_tools.book import queries
 from debvote_tools.book.book import Book
 from debvote_tools.book.queries import Envelope
 from debvote_tools.console import tell
@@ -37,8 +37,6 @@ POLL_KEY = re.compile(rb"(?m)^[ \t]*\"?(%b)\"?[ \t]*=" % "|".join(REQUIRED).enco
 
 
 class CameFile(NamedTuple):
-    """A file as it came: its name as the user gave it, and its bytes."""
-
     name: str
     data: bytes
 
@@ -126,13 +124,6 @@ def demand_lines(file: CameFile, *, is_table: bool) -> None:
         raise Fault(file.name, words, "name the file of the ballots", Status.DOUBT, NOTHING_ADDED)
 
 
-class Repeated(NamedTuple):
-    """A line that came before. `change` says what has happened since, if it no longer counts: then `--again` takes it."""
-
-    line: JudgedLine
-    change: str | None
-
-
 class FileLines(NamedTuple):
     """A file and its lines, in the order in which they are entered; and which of them go in now, and which came before."""
 
@@ -140,7 +131,8 @@ class FileLines(NamedTuple):
     lines: tuple[JudgedLine, ...]
     empty: tuple[Line, ...]
     new: tuple[JudgedLine, ...] = ()
-    repeated: tuple[Repeated, ...] = ()
+    # each with what has happened since, if it no longer counts: then `--again` takes it
+    repeated: tuple[tuple[JudgedLine, str | None], ...] = ()
     # the envelopes of lines that go in again: from then on such a line is known by its new envelope
     again: tuple[int, ...] = ()
 
@@ -149,13 +141,13 @@ def sorted_out(book: Book, files: Sequence[FileLines], *, takes_again: bool, is_
     """The files, with what is new in each. The k-th of equal lines in a file came before if k of them came in earlier files that no `undo`
     took back: counted, refused, struck or late. A file that goes in counts as an earlier one of those after it.
     """
-    counts = lines_by_act.lines_that_came(book)
+    counts = queries.lines_that_came(book)
     is_known = any(line.as_entered in counts for file in files for line in file.lines)
-    by_line = lines_by_act.came_in_files(book) if is_known else {}
+    by_line = queries.came_in_files(book) if is_known else {}
     with_envelopes = [envelopes_of(file.lines, by_line) for file in files]
     # a later row of the same file is nothing that came since
     own = {envelope.number for lines in with_envelopes for _, envelope, _ in lines if envelope is not None}
-    numbers = lines_by_act.last_numbers(book).items() if is_known else ()
+    numbers = queries.last_numbers(book).items() if is_known else ()
     last = {elector: (number, line) for elector, (number, line) in numbers if number not in own}
     going_in: set[bytes] = set()
     found = []
@@ -172,7 +164,7 @@ def sorted_out(book: Book, files: Sequence[FileLines], *, takes_again: bool, is_
                 new.append(line)
                 again.append(envelope.number)
             else:
-                repeated.append(Repeated(line, change))
+                repeated.append((line, change))
         counts.update(came_first)
         going_in.update(line.as_entered for line in new)
         found.append(file._replace(new=tuple(new), repeated=tuple(repeated), again=tuple(again)))

@@ -69,12 +69,10 @@ def main(program_folder: pathlib.Path, words: Sequence[str] | None = None) -> in
         # a command that changes nothing ends quietly if nobody reads on
         is_quiet = fault.is_closed_pipe and namespace.command in QUIET
         return 128 + signal.SIGPIPE if is_quiet else console.failed(PROGRAM, fault.words, fault.status)
-    except Several as several:
-        for one in several.faults:
-            console.failed(PROGRAM, one.words, one.status)
-        return several.status
     except Fault as fault:
-        return console.failed(PROGRAM, fault.words, fault.status)
+        for one in fault.faults if isinstance(fault, Several) else (fault,):
+            console.failed(PROGRAM, one.words, one.status)
+        return fault.status
     except Overtaken:
         words = "another command changed the election meanwhile, and nothing was changed by this one; run it again"
         return console.failed(PROGRAM, words, Status.DOUBT)

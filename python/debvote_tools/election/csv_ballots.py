@@ -13,10 +13,9 @@ from debvote_tools.lines import BLANKS, Line
 
 
 class Columns(NamedTuple):
-    """The heads of the columns that are read: that of the names, and that of each rank in the order of the options."""
+    """The heads of the columns that are read: that of the names, then that of each rank in the order of the options."""
 
-    name: str
-    ranks: list[str]
+    heads: list[str]
     # whether an empty cell is an option that is not ranked
     is_blank_unranked: bool = False
 
@@ -24,23 +23,22 @@ class Columns(NamedTuple):
 def columns_of(name: str, ranks: str, options: Sequence[str], roll: Collection[str], *, is_blank_unranked: bool = False) -> Columns:
     """The columns that the command line names. A head that has a comma is in quotation marks."""
     try:
-        heads = [head.strip() for head in next(csv.reader([ranks], strict=True, skipinitialspace=True), [])]
+        heads = [head.strip() for head in (name, *next(csv.reader([ranks], strict=True, skipinitialspace=True), []))]
     except csv.Error as error:
         raise bad_columns("--ranks", str(error), "put a head that has a comma into quotation marks") from None
-    columns = Columns(name.strip(), heads, is_blank_unranked)
     # then the first ballot would be lost as the head line
     if head_form(name) in roll:
-        reason = f"`{columns.name}` is an elector, so the table seems to have no head line"
+        reason = f"`{heads[0]}` is an elector, so the table seems to have no head line"
         raise bad_columns("--name", reason, "write a head line above the rows, and name the column by its head")
-    if len(heads) != len(options):
+    if len(heads) != 1 + len(options):
         listed = ", ".join(f"{number} {option}" for number, option in enumerate(options, start=1))
-        reason = f"it names {len(heads)} columns, and the poll has {len(options)} options, the default among them: {listed}"
+        reason = f"it names {len(heads) - 1} columns, and the poll has {len(options)} options, the default among them: {listed}"
         raise bad_columns("--ranks", reason, "name a column for each, in this order")
-    forms = [head_form(head) for head in (columns.name, *heads)]
-    for head in (columns.name, *heads):
-        if forms.count(head_form(head)) > 1:
+    forms = [head_form(head) for head in heads]
+    for head, form in zip(heads, forms):
+        if forms.count(form) > 1:
             raise bad_columns("--name, --ranks", f"the column `{head}` is named twice", "name each once")
-    return columns
+    return Columns(heads, is_blank_unranked)
 
 
 def bad_columns(where: str, reason: str, cure: str) -> Fault:
@@ -53,10 +51,10 @@ def bad_table(where: object, reason: str, cure: str) -> Fault:
 
 def lines_of_table(data: bytes, file_name: str, columns: Columns) -> list[Line]:
     """The lines that the rows of a table make. Each cell is repaired by itself, so that none becomes a part of another."""
-    table = read_table(data, [columns.name, *columns.ranks], file_name, bad_table)
+    table = read_table(data, columns.heads, file_name, bad_table)
     heads, width = table.heads, len(table.head.cells)
     indices, lines = [], []
-    for column in (columns.name, *columns.ranks):
+    for column in columns.heads:
         if heads.count(head_form(column)) != 1:
             what = "there is more than one column" if head_form(column) in heads else "there is no column"
             raise bad_columns(file_name, f"{what} `{column}`; its heads are {table.heads_in_words}", "name each by its head")

@@ -13,9 +13,6 @@ from debvote_tools.terminal_text import shown_text
 
 DELIMITERS = {",": "comma", ";": "semicolon", "\t": "tab"}
 
-# the mark that a text begins with, and how it is written
-MARKS = {codecs.BOM_UTF8: "utf-8", codecs.BOM_UTF16_LE: "utf-16-le", codecs.BOM_UTF16_BE: "utf-16-be"}
-
 # longer than a file that is read, so that a cell has no limit of its own
 CELL_LIMIT = 67_108_864
 
@@ -106,16 +103,14 @@ def decoded(data: bytes, file: object, bad_table: BadTable) -> str:
     kind = kind_of(data)
     if kind is not None:
         raise bad_table(file, f"it is {kind}, and no CSV", f"open it in the spreadsheet and {SAVE_AS}")
-    mark = next((mark for mark in MARKS if data.startswith(mark)), b"")
-    encoding = MARKS.get(mark, "utf-8")
-    data = data.removeprefix(mark)
-    if encoding == "utf-8" and b"\0" in data:
+    is_utf_16 = data.startswith((codecs.BOM_UTF16_LE, codecs.BOM_UTF16_BE))
+    if b"\0" in data and not is_utf_16:
         raise bad_table(file, "it is no text in UTF-8, and for one in UTF-16 its mark is missing", SAVE_AS)
     try:
-        return data.decode(encoding)
+        return data.decode("utf-16" if is_utf_16 else "utf-8-sig")
     except UnicodeDecodeError as error:
-        if encoding != "utf-8":
+        if is_utf_16:
             raise bad_table(file, "it begins as a text in UTF-16 and is none to its end", SAVE_AS) from None
-        feeds = data.count(b"\n", 0, error.start)
-        seen = shown_text(data.split(b"\n")[feeds].decode("cp1252", "replace"))
+        feeds = error.object.count(b"\n", 0, error.start)
+        seen = shown_text(error.object.split(b"\n")[feeds].decode("cp1252", "replace"))
         raise bad_table(f"{file}:{feeds + 1}", f"it is not in UTF-8, but perhaps in Latin-1: {seen}", SAVE_AS) from None

@@ -52,10 +52,6 @@ FOLDINGS, LONGEST_REAL_NAME = ("en", "de"), 200
 BRACKETS = "([{<"
 
 
-class BadToml(Fault):
-    """The poll can't be read as TOML. What debvote says of the same bytes names line and column."""
-
-
 @dataclasses.dataclass(frozen=True)
 class DraftPoll:
     """The poll as it is written: the values of its keys, of whatever type, and the texts of options by their numbers. `faults` has what is
@@ -71,9 +67,8 @@ class DraftPoll:
     folder: pathlib.Path
 
 
-# ---------------------------------------------------------------- reading
 def draft_in(folder: pathlib.Path) -> DraftPoll:
-    """Reads the poll of a folder, and the texts beside it. Raises `Fault` if the poll can't be read at all, as `BadToml`."""
+    """Reads the poll of a folder, and the texts beside it. Raises `Fault` if the poll can't be read at all."""
     file = folder / POLL_FILE
     values = parsed_toml(read_whole(file, POLL_LIMIT, "write it", THEN), file)
     options = values["options"] if isinstance(values.get("options"), list) else []
@@ -94,7 +89,7 @@ def parsed_toml(data: bytes, file: pathlib.Path) -> dict[str, Any]:
         why = "lists are nested too deep"
     except ValueError as error:
         why = str(error)
-    raise BadToml(file, f"it can't be read as TOML 1.0: {why}", f"put it right with an editor{THEN}", Status.BAD_POLL, None)
+    raise bad_poll(file, f"it can't be read as TOML 1.0: {why}", "put it right with an editor")
 
 
 def bad_poll(file: object, reason: str, cure: str) -> Fault:
@@ -113,7 +108,6 @@ def faults_of_keys(values: Mapping[str, Any], file: object) -> list[Fault]:
 
 
 def stranger(key: str, value: object) -> tuple[str, str]:
-    """Why a key is refused, and the cure."""
     shown = shown_text(key)
     if key in SET_ELSEWHERE:
         return f"the key `{shown}` is not written here: {SET_ELSEWHERE[key]}", "take it out"
@@ -141,8 +135,7 @@ def texts_in(folder: pathlib.Path, option_count: int) -> tuple[dict[int, str], l
     except FileNotFoundError:
         return {}, []
     except OSError as error:
-        cure = "put a folder there with a text for each option"
-        return {}, [Fault(folder, error.strerror, cure, Status.BAD_WORDS, None)]
+        return {}, [Fault(folder, error.strerror, "put a folder there with a text for each option", Status.BAD_WORDS, None)]
     for file in files:
         number = TEXT_NAME.fullmatch(file.name)
         try:
@@ -199,7 +192,6 @@ def as_repaired(text: str, language: str) -> str:
     return " ".join(plain.split())
 
 
-# ---------------------------------------------------------------- sealing
 def sealed_form(
     draft: DraftPoll, roll: Sequence[str], language: str, *, deadline: str | None = None, address: str | None = None
 ) -> bytes:
@@ -228,8 +220,10 @@ def checked_poll(election: Election, *, deadline: str | None = None, address: st
     """The poll as it would be sealed, and its sheet without ballots. All that is wrong with it is said at once."""
     try:
         draft = draft_in(election.folder)
-    except BadToml:
-        tell_as_it_is(election.debvote.run("explain", "--poll", POLL_FILE).text)
+    except Fault as fault:
+        if fault.status == Status.BAD_POLL:
+            # of what is no TOML debvote names line and column
+            tell_as_it_is(election.debvote.run("explain", "--poll", POLL_FILE).text)
         raise
     electors, language = queries.electors(election.book), election.language.code
     roll = [elector.name for elector in electors]

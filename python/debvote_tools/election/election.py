@@ -174,7 +174,6 @@ class Election:
         return history.call
 
     def command(self, *words: str) -> str:
-        """A command on this election, as a user types it."""
         folder = [] if self.folder == pathlib.Path() else ["--folder", str(self.folder)]
         return shlex.join(["debvote-election", *words[:1], *folder, *words[1:]])
 

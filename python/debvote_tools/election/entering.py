@@ -8,7 +8,7 @@ import contextlib
 from collections.abc import Callable, Collection, Iterable, Iterator, Sequence
 from typing import NamedTuple
 
-from debvote_tools.book import lines_by_act, queries
+from debvote_tools.book import queries
 from debvote_tools.book.acts import ActName, Detail
 from debvote_tools.book.book import Book, NewAct, Overtaken
 from debvote_tools.console import OutputFailed
@@ -66,7 +66,7 @@ def entered(
             if is_late:
                 return [LATE_REPLY] * len(numbers)
             # they depend on the lines of the same electors alone
-            before = lines_by_act.lines_after(book, act.number - 1, frozenset(filter(None, electors)))
+            before = queries.lines_after(book, act.number - 1, frozenset(filter(None, electors)))
             try:
                 return vote.replies(before, lines)
             except Fault as fault:
@@ -92,7 +92,7 @@ def demand_room(book: Book, new: Sequence[queries.NewEnvelope]) -> None:
     # the file of the book is longer than all lines in it, so they are counted only if there may be too many
     if queries.last_envelope(book) + len(new) <= LINES_LIMIT and book.size() + added <= BALLOTS_LIMIT:
         return
-    line_count, size = lines_by_act.size_in_time(book)
+    line_count, size = queries.size_in_time(book)
     if line_count + len(new) > LINES_LIMIT or size + added > BALLOTS_LIMIT:
         words = f"with it there would be {count_of(line_count + len(new), 'line')} and {size + added} bytes of ballots"
         cure = f"debvote takes {LINES_LIMIT} lines and {BALLOTS_LIMIT} bytes at most: add less of it"

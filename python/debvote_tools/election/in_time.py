@@ -1,9 +1,7 @@
 """Whether what is entered now comes in time: whether the vote is open, until when, and what is asked after it was opened again."""
 
-import dataclasses
 import datetime
 import re
-import zoneinfo
 
 from debvote_tools.arguments import option
 from debvote_tools.console import is_terminal, is_yes
@@ -21,7 +19,6 @@ TIME = re.compile(rf"(\d{{4}}-\d\d-\d\d)[ T]+(\d\d:\d\d(?::\d\d)?)\s*({OFFSET.pa
 HOW = 'write it as "2026-12-04 18:00", as "2026-12-04 18:00 +01:00", or with --zone Europe/Berlin'
 
 
-@dataclasses.dataclass(frozen=True)
 class Arguments(acting.Arguments):
     """The options of a command that enters lines."""
 
@@ -91,6 +88,9 @@ def demand_future(time: datetime.datetime, by: datetime.datetime) -> None:
 
 def in_zone(plain: datetime.datetime, name: str | None) -> datetime.datetime:
     """The time of a clock in a zone, or of the clock of this computer. The clock has to show it just once."""
+    # it takes a while to be imported, and a desk needs no zones
+    import zoneinfo
+
     try:
         zone = None if name is None else zoneinfo.ZoneInfo(name)
     except (zoneinfo.ZoneInfoNotFoundError, ValueError, OSError):

@@ -78,7 +78,6 @@ def in_place(files: Mapping[str, bytes], place: pathlib.Path) -> Iterator[None]:
 
 
 def make_own(folder: pathlib.Path) -> None:
-    """Makes a folder and the one above it, for its owner alone."""
     for one in (folder.parent, folder):
         one.mkdir(mode=0o700, exist_ok=True)
         one.chmod(0o700)

@@ -4,16 +4,15 @@ import datetime
 from collections.abc import Callable, Sequence
 
 from debvote_tools.addresses import address_key
-from debvote_tools.book import letters, lines_by_act, queries, sent
+from debvote_tools.book import letters, queries, sent
 from debvote_tools.book.queries import Elector, Envelope
 from debvote_tools.book.sent import BEGUN, POSTPONED, REFUSED, TAKEN, WRITTEN, About, SentLetter
 from debvote_tools.call.data import is_mail_address
 from debvote_tools.call.files import call_letter, extension_letter
 from debvote_tools.debvote import casting_words
 from debvote_tools.election import letters_in
-from debvote_tools.election.call_now import current_data
+from debvote_tools.election.publication import Words, chronicle_of, closing_letter, current_data, last_publication
 from debvote_tools.election.election import Election, History
-from debvote_tools.election.publication import Words, chronicle_of, closing_letter, last_publication
 from debvote_tools.election.vote import Vote
 from debvote_tools.faults import Fault, Status
 from debvote_tools.letters.judge import JudgedLetter, Outcome
@@ -177,7 +176,7 @@ class LettersDue:
             reason = "the letter has to say where the result is published"
             raise Fault("--at", reason, "give its address with --at URL", Status.BAD_WORDS, "nothing was written")
         language, sealed, words = self.election.language, self.election.sealed(), Words(**act.detail["words"])
-        poll, ballots = sealed.counted.as_bytes(), ballot_file(lines_by_act.lines_after(self.election.book, act.number))
+        poll, ballots = sealed.counted.as_bytes(), ballot_file(queries.lines_after(self.election.book, act.number))
         sheet = sheet_in(self.election.debvote.answer("count", poll, ballots, *casting_words(words.casting)).text)
         standing = self.election.debvote.standing(poll, ballots)
         chronicle = chronicle_of(self.election.book, History(self.history.acts[: act.number]), is_secret=sealed.is_aliased)

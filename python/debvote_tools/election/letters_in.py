@@ -20,7 +20,7 @@ from debvote_tools.election.came import NOTHING_ADDED, CameFile, safe
 from debvote_tools.election.election import KEYRING, Election, History
 from debvote_tools.election.entering import entered
 from debvote_tools.election.reporting import count_of
-from debvote_tools.election.vote import LineWords, Vote
+from debvote_tools.election.vote import Vote
 from debvote_tools.faults import Fault, Status
 from debvote_tools.files import sha256_of
 from debvote_tools.letters.circumstances import Ballot, Circumstances, Decision
@@ -32,11 +32,11 @@ from debvote_tools.letters.signatures import find_gpgv, verified
 from debvote_tools.letters.sources import PassedOver, RawLetter, letters_of_file, letters_of_folder
 from debvote_tools.lines import CODE_WITHIN
 from debvote_tools.secret.codes import looks_like_code
+from debvote_tools.terminal_text import shown_text
 
 SLOW = Reason.SLOW_SIGNATURE()
 
 
-# ---------------------------------------------------------------- adding
 def take_letters(election: Election, vote: Vote, files: Mapping[str, CameFile | None], arguments: Arguments) -> None:
     """Keeps the letters that are new, and enters the ballots that go in; or tells what would become of them."""
     if of_lines := given(arguments, "csv", "again", "force"):
@@ -49,7 +49,7 @@ def take_letters(election: Election, vote: Vote, files: Mapping[str, CameFile | 
     found = parsed(election, new)
     if not arguments.look:
         keep(election, new, found)
-    tell(*letter_words.passed_over_words(passed_over))
+    tell(*(f"{shown_text(one.where)}: {one.why.what}, and is passed over; {one.why.cure}" for one in passed_over))
     if not arguments.look:
         tell(f"{count_of(len(new), 'new letter')}; {len(raws) - len(new)} came before.")
         enter_letters(election, vote, is_agreed=arguments.yes)
@@ -94,7 +94,6 @@ def is_new(digest: str, is_parted_off: bool, known: Collection[tuple[str, bool]]
 
 
 def keep(election: Election, raws: Sequence[RawLetter], found: Sequence[ParsedLetter]) -> None:
-    """The act that keeps letters as they came."""
     if not raws:
         return
     with election.book.act("letters", {"letters": len(raws)}) as act:
@@ -132,7 +131,7 @@ def enter_letters(election: Election, vote: Vote, *, is_agreed: bool) -> None:
         detail: Detail = {"letters": len(going_in), "lines": len(going_in)}
         with contextlib.suppress(Overtaken):
             with entered(election.book, vote, "add", detail, envelopes, decided_at=history.last.number, is_late=is_late) as done:
-                tell(*letter_words.reply_words(LineWords(vote), done, ballots))
+                tell(*letter_words.reply_words(vote, done, ballots))
                 tell(letter_words.counts(all_letters, len(going_in)))
             break
     undo = f"{election.command('undo')} takes back what was entered last"
@@ -150,10 +149,9 @@ def agreed(ballots: str) -> bool:
 
 
 def tell_letters(vote: Vote, found: Sequence[JudgedLetter], *, is_late: bool) -> None:
-    words = LineWords(vote)
     for letter in found:
         if letter.outcome is Outcome.GOES_IN:
-            tell(*letter_words.going_in(letter, words, is_late=is_late))
+            tell(*letter_words.going_in(letter, vote, is_late=is_late))
         elif letter.outcome is Outcome.WAITS:
             tell(*letter_words.waiting(letter))
 
@@ -187,7 +185,7 @@ def judged(
         if letter.parsed.key in by_key:
             letter.number, letter.source = by_key[letter.parsed.key].number, by_key[letter.parsed.key].source
         if no_codes_expected:
-            letter.code_lines = tuple(n for n, line in enumerate(letter.parsed.shown_lines, start=1) if has_code(line))
+            letter.code_lines = tuple(number for number, line in enumerate(letter.parsed.shown_lines, start=1) if has_code(line))
     return letters_now
 
 
@@ -205,7 +203,7 @@ def kept_letters(election: Election, kept: Sequence[KeptLetter]) -> list[ParsedL
     old = [index for index, letter in enumerate(kept) if letter.act < sealed or found[index].why_unsigned == SLOW]
     sources = {index: letters.source_of(election.book, kept[index].source) for index in old}
     raws = [RawLetter(found[index].where, data, found[index].is_parted_off) for index, data in sources.items()]
-    for index, letter in zip(old, parsed(election, raws) if raws else []):
+    for index, letter in zip(old, parsed(election, raws)):
         found[index] = letter
     return found
 

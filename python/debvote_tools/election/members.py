@@ -67,11 +67,10 @@ class Member(NamedTuple):
         """What is not as the book has it of an elector on the roll: before, and now."""
         if self.known is None or self.is_new:
             return {}
-        before, now = ", ".join(self.known.addresses), ", ".join(self.addresses)
-        pairs = {"name": (self.known.name, self.name), "who": (self.known.who, self.who)}
-        if address_key(before) != address_key(now):
-            pairs["address"] = before, now
-        pairs["key"] = self.known.key, self.key
+        known, before, now = self.known, ", ".join(self.known.addresses), ", ".join(self.addresses)
+        # without the case of letters an address is the same
+        address = (before, now) if address_key(before) != address_key(now) else ("", "")
+        pairs = {"name": (known.name, self.name), "who": (known.who, self.who), "address": address, "key": (known.key, self.key)}
         return {what: pair for what, pair in pairs.items() if pair[0] != pair[1]}
 
 
@@ -134,7 +133,6 @@ def member_of(row: Row, indices: dict[str, int]) -> Member:
 
 
 def faults_of_row(row: Row, member: Member, width: int) -> Iterator[tuple[str, str]]:
-    """What is wrong with a row, each with its cure."""
     if beyond := row.cells_after(width):
         reason = f"`{shown_text(beyond[0])}` is after the last column of the head line"
         yield reason, "put a cell that has the delimiter in it into quotation marks"
@@ -154,7 +152,6 @@ def faults_of_row(row: Row, member: Member, width: int) -> Iterator[tuple[str, s
         yield f"`{shown_text(member.key)}` is no fingerprint of a key", cure
 
 
-# ---------------------------------------------------------------- the roll
 Entry = TypeVar("Entry")
 
 # by what a member is the same person as an elector: first by the name, then by `who`
@@ -177,8 +174,7 @@ class Roll(NamedTuple):
     def shared_addresses(self) -> dict[str, list[Member]]:
         """The electors of each address that several have."""
         pairs = [(key, elector) for elector in self.electors for key in dict.fromkeys(map(address_key, elector.addresses))]
-        groups = several(pairs, lambda pair: pair[0])
-        return {group[0][0]: [elector for _, elector in group] for group in groups}
+        return {group[0][0]: [elector for _, elector in group] for group in several(pairs, lambda pair: pair[0])}
 
     @property
     def alike_people(self) -> list[list[Member]]:
@@ -220,7 +216,6 @@ def with_known(rows: Sequence[Member], known: Sequence[Elector]) -> list[Member]
 
 
 def grouped(entries: Iterable[Entry], form: Callable[[Entry], Hashable]) -> dict[Hashable, list[Entry]]:
-    """The entries by a form of theirs, in their order."""
     groups: dict[Hashable, list[Entry]] = {}
     for entry in entries:
         groups.setdefault(form(entry), []).append(entry)

@@ -1,15 +1,16 @@
-"""What is published of an election, from its book."""
+"""What is published of an election, from its book: the call, the letter of the close, and the result."""
 
 import dataclasses
 import datetime
 import json
 from collections.abc import Iterator, Mapping
-from typing import Final
+from typing import Any
 
 from debvote_tools.ballots import in_normal_form
-from debvote_tools.book import letters, lines_by_act, queries
+from debvote_tools.book import letters, queries
 from debvote_tools.book.acts import Detail
 from debvote_tools.book.book import Book, DoneAct, as_text, from_text
+from debvote_tools.call.data import CallData
 from debvote_tools.debvote import casting_words
 from debvote_tools.election.election import Election, History, Sealed
 from debvote_tools.faults import Fault
@@ -22,8 +23,6 @@ from debvote_tools.publish.names import BALLOTS, PAGE, POLL
 from debvote_tools.rendering import render_letter
 from debvote_tools.sealed_poll import SealedPoll
 from debvote_tools.secret.aliases import aliased_ballots, sealed_checksum
-
-ACT: Final = "publish"
 
 
 @dataclasses.dataclass(frozen=True)
@@ -45,14 +44,42 @@ class Words:
         return CastingVote(self.casting, self.cast_by, datetime.date.fromisoformat(self.cast_on) if self.cast_on else None)
 
 
+def current_data(
+    election: Election, history: History | None = None, said: Detail | None = None, sealed: Sealed | None = None
+) -> CallData:
+    """What the page and the letter say as it is now, and with what an act would say or seal."""
+    now, saying, sealed = history or election.history(), said or {}, sealed or election.sealed()
+
+    def value_of(key: str) -> Any:
+        return saying.get(key) or now.announced(key)
+
+    return CallData(
+        language=election.language,
+        poll=sealed.public,
+        quorum_votes=value_of("quorum_votes"),
+        until=until_of(saying) or now.until,
+        to=value_of("to"),
+        at=value_of("at"),
+        real_names={elector.name: elector.who for elector in queries.electors(election.book)} if value_of("names") else None,
+        has_form=bool(value_of("form")),
+        is_signed=bool(value_of("signed")),
+        has_aliases=sealed.is_aliased,
+        has_codes_on_roll=bool(value_of("codes_on_roll")),
+    )
+
+
+def until_of(said: Detail) -> datetime.datetime | None:
+    """The end that the command line names."""
+    return datetime.datetime.fromisoformat(said["until"]) if "until" in said else None
+
+
 def last_publication(history: History) -> DoneAct | None:
     """The last publication since the last close."""
     close = history.closes[-1].number if history.closes else 0
-    return next((act for act in reversed(history.named(ACT)) if act.number > close), None)
+    return next((act for act in reversed(history.named("publish")) if act.number > close), None)
 
 
 def publication_of(election: Election, words: Words) -> Publication:
-    """What is published, by the book as it is now."""
     with election.book.snapshot():
         history, sealed, book = election.history(), election.sealed(), election.book
         ballots, late = (ballot_file(lines(book)) for lines in (queries.lines_in_time, queries.late_lines))
@@ -113,10 +140,10 @@ def shown_by_comparison(
     election: Election, sealed: Sealed, history: History, standing: Mapping[str, str], ballots: bytes
 ) -> list[str]:
     """The electors of a secret vote whose ballots differ from those of the last publication: a comparison shows theirs alone."""
-    earlier = history.named(ACT)
+    earlier = history.named("publish")
     if not earlier or earlier[-1].detail["checksums"][BALLOTS] == sha256_of(ballots):
         return []
-    lines = lines_by_act.lines_after(election.book, earlier[-1].number)
+    lines = queries.lines_after(election.book, earlier[-1].number)
     before = election.debvote.standing(sealed.counted.as_bytes(), ballot_file(lines))
     then, now = ({name: in_normal_form(ranks) for name, ranks in votes.items()} for votes in (before, standing))
     return [name for name in sealed.counted.roll if then.get(name) != now.get(name)]
@@ -132,12 +159,11 @@ def detail_of(words: Words, checksums: Mapping[str, str], doubts: list[Doubt], *
     }
 
 
-# ---------------------------------------------------------------- doubts
 def doubts_of(book: Book, history: History, poll: SealedPoll, casting: str | None) -> list[Doubt]:
     found = [] if history.is_closed else [Doubt.of(Kind.NOT_CLOSED)]
     found += late_letters_in_time(book, history)
     names = dict(zip(poll.plain_names, poll.names))
-    earlier = dict.fromkeys(act.detail["casting"] for act in history.named(ACT))
+    earlier = dict.fromkeys(act.detail["casting"] for act in history.named("publish"))
     others = [option for option in earlier if option is not None and casting not in (None, option)]
     return found + [Doubt.of(Kind.OTHER_CASTING_VOTE, option=names[option]) for option in others]
 

@@ -64,6 +64,8 @@ class Vote:
         self.is_signed = bool(history.announced("signed"))
         # the call says that an empty cell of a web form is a hyphen
         self.has_form = bool(history.announced("form"))
+        # most ballots have one of a few orders
+        self.ranks_in_words = functools.lru_cache(4096)(BallotWords(self.option_names).of)
 
     @functools.cached_property
     def names_on_roll(self) -> frozenset[str]:
@@ -137,14 +139,7 @@ class Vote:
         """The ranks of the ballots that stand if these lines are all, by elector. Without lines debvote is not asked."""
         return self.debvote.standing(self.poll_bytes, ballot_file(lines)) if lines else {}
 
-
-# ---------------------------------------------------------------- words
-class LineWords:
-    def __init__(self, vote: Vote) -> None:
-        self.vote = vote
-        # most ballots have one of a few orders
-        self.ranks = functools.lru_cache(4096)(BallotWords(vote.option_names).of)
-
+    # ------------------------------------------------------------ words
     def report(
         self, lines: Sequence[JudgedLine], numbers: Iterable[int], replies: Sequence[str], *, is_entered: bool
     ) -> Iterator[str]:
@@ -152,7 +147,7 @@ class LineWords:
         for number, reply, line in zip(numbers, replies, lines):
             if line.line.came != line.as_entered:
                 yield from change_words(line)
-            yield f"{number} {reply}  {self.of(line, reply)}"
+            yield f"{number} {reply}  {self.in_words(line, reply)}"
             finding, other = line.finding, line.finding_of_repaired
             if finding and other and (other.word, other.hint) != (finding.word, finding.hint):
                 goes = "it went in" if is_entered else "it would go in"
@@ -163,24 +158,24 @@ class LineWords:
         if LATE_REPLY in replies:
             yield f"{count_of(replies.count(LATE_REPLY), 'line')} came after the close, and late lines do not count."
 
-    def of(self, line: JudgedLine, reply: str = "") -> str:
+    def in_words(self, line: JudgedLine, reply: str = "") -> str:
         """A ballot in words, or the line and why debvote refuses it."""
         if line.finding is None:
-            return self.ballot(line.as_entered.decode("ascii"))
+            return self.ballot_in_words(line.as_entered.decode("ascii"))
         word = "" if line.finding.word == reply else f"{line.finding.word}: "
         # so that nobody takes one elector for another
         others = f" (or {ENGLISH.joined(list(line.other_names))})" if line.other_names else ""
-        code = IS_CODE if CODE_WITHIN.search(line.line.repaired) and not self.vote.has_codes else ""
+        code = IS_CODE if CODE_WITHIN.search(line.line.repaired) and not self.has_codes else ""
         return f"{shown_line(line.as_entered)}: {word}{line.finding.hint}{others}{code}"
 
-    def ballot(self, ballot: str) -> str:
+    def ballot_in_words(self, ballot: str) -> str:
         voter, _, ranks = ballot.partition(" ")
-        return f"{voter}: {self.ranks(ranks)}"
+        return f"{voter}: {self.ranks_in_words(ranks)}"
 
     def right_words(self) -> str:
-        name = "a code of the roll" if self.vote.has_codes else "an elector of the roll"
-        ranks = f"{len(self.vote.option_names)} ranks with commas between, a rank or a hyphen for each option"
-        return f"A right line in this poll: {self.vote.right_line} ({name}, a space, and {ranks})"
+        name = "a code of the roll" if self.has_codes else "an elector of the roll"
+        ranks = f"{len(self.option_names)} ranks with commas between, a rank or a hyphen for each option"
+        return f"A right line in this poll: {self.right_line} ({name}, a space, and {ranks})"
 
 
 def frame_words(lines: Iterable[Line]) -> Iterator[str]:
@@ -199,7 +194,6 @@ def frame_words(lines: Iterable[Line]) -> Iterator[str]:
 
 
 def change_words(line: JudgedLine) -> Iterator[str]:
-    """What was changed of a line, before and after."""
     before = line.line.without_frame
     if before != line.as_entered:
         how = ", ".join(differences(before, line.as_entered))
@@ -214,17 +208,16 @@ def would_words(line: JudgedLine) -> str:
 
 
 def summary(replies: Sequence[str]) -> str:
-    """How many lines there were, and with which replies."""
     counts = collections.Counter(replies)
     listed = ", ".join(f"{number} {reply}" for reply, number in counts.items())
     return count_of(len(replies), "line") + (f" ({listed})" if listed else "")
 
 
-def standing_words(words: LineWords, before: dict[str, str], after: dict[str, str], none: str) -> list[str]:
+def standing_words(vote: Vote, before: dict[str, str], after: dict[str, str], none: str) -> list[str]:
     """Whose ballot is another one afterwards, or is gone; `none` says that. In a vote with codes only how many."""
     changed = {name: after.get(name) for name, ranks in before.items() if after.get(name) != ranks}
-    if words.vote.has_codes:
+    if vote.has_codes:
         gone = sum(ranks is None for ranks in changed.values())
         earlier = len(changed) - gone
         return [f"  {count_of(gone, 'elector')}: {none}; {count_of(earlier, 'elector')}: an earlier ballot"] if changed else []
-    return [f"  {name}: {none if ranks is None else words.ranks(ranks) + ', as before'}" for name, ranks in changed.items()]
+    return [f"  {name}: {none if ranks is None else vote.ranks_in_words(ranks) + ', as before'}" for name, ranks in changed.items()]

@@ -75,21 +75,21 @@ def send_all(
     """
     mailer = Mailer(server, sender)
     mailer.connection()
-    told: list[SentLetter] = []
+    answered: list[SentLetter] = []
     try:
         for letter, data in letters:
-            note([*told, dataclasses.replace(letter, state=BEGUN, reply="")])
-            told = []
+            note([*answered, dataclasses.replace(letter, state=BEGUN, reply="")])
+            answered = []
             try:
                 tried = mailer.send(letter, data)
             except NotNow as why:
-                told = [dataclasses.replace(letter, state=POSTPONED, reply=str(why))]
+                answered = [dataclasses.replace(letter, state=POSTPONED, reply=str(why))]
                 raise server.stops(f"it takes no letters now: {why}", "run the command again") from None
-            told = [tried]
+            answered = [tried]
             yield tried
     finally:
-        if told:
-            note(told)
+        if answered:
+            note(answered)
         mailer.close()
 
 

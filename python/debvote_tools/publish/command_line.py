@@ -1,14 +1,13 @@
 """The command line of debvote-publish."""
 
 import argparse
-import dataclasses
 import pathlib
 import signal
 import sys
 from collections.abc import Sequence
 
 from debvote_tools import console
-from debvote_tools.arguments import add_arguments, arguments_of, option, positional
+from debvote_tools.arguments import Options, add_arguments, arguments_of, option, positional
 from debvote_tools.faults import Fault, Status
 from debvote_tools.language import ENGLISH, LANGUAGES, language_of
 from debvote_tools.publish import result_folder, two_files
@@ -17,8 +16,7 @@ from debvote_tools.publish.counting import Counted
 PROGRAM = "debvote-publish"
 
 
-@dataclasses.dataclass(frozen=True)
-class Arguments:
+class Arguments(Options):
     poll: str = option("FILE", "The poll file, in TOML", required=True)
     ballots: str = option("FILE", "The ballot file, one ballot a line: name 1,2,3", required=True)
     casting: str | None = option("NAME", "The exact name of the option that the casting vote chooses in a tie")

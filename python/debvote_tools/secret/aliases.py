@@ -23,7 +23,7 @@ def aliased_poll(poll: SealedPoll, aliases: Mapping[str, str]) -> SealedPoll:
 
 
 def aliased_ballots(standing: Mapping[str, str], aliases: Mapping[str, str]) -> bytes:
-    """The ballots that stand, in the order of the aliases, with their ranks in normal form.
+    """The current ballots, in the order of the aliases, with their ranks in normal form.
 
     `standing` has the ranks by name. Ranks such as 17,33,99 would be a mark by which a buyer of votes finds the ballot again.
     """

@@ -28,7 +28,6 @@ def run(election: Election, arguments: Arguments) -> None:
 
 
 def demand_words(arguments: Arguments) -> None:
-    """Stops if the options do not go together."""
     of_table = given(arguments, "name", "ranks", "blank_is_unranked", "oldest_first", "newest_first")
     if of_table and not arguments.csv:
         raise Fault(", ".join(of_table), "it is about a table", "write --csv with it", Status.BAD_WORDS, NOTHING_ADDED)

@@ -1,17 +1,15 @@
 """Write a copy of the book into a new file."""
 
-import dataclasses
 import pathlib
 
-from debvote_tools.arguments import positional
+from debvote_tools.arguments import Options, positional
 from debvote_tools.console import tell
 from debvote_tools.election import acting
 from debvote_tools.election.election import Election
 from debvote_tools.faults import Fault, Status
 
 
-@dataclasses.dataclass(frozen=True)
-class Arguments:
+class Arguments(Options):
     file: str = positional("FILE", "The file to make; best on another disk")
 
 

@@ -1,6 +1,5 @@
 """Make the call for votes, a page and a letter; the poll never changes again."""
 
-import dataclasses
 import pathlib
 
 from debvote_tools import times
@@ -12,7 +11,7 @@ from debvote_tools.call.data import CallData, demand_mail_address, demand_web_ad
 from debvote_tools.call.files import call_files, extension_letter
 from debvote_tools.console import tell
 from debvote_tools.election import acting
-from debvote_tools.election.call_now import current_data, until_of
+from debvote_tools.election.publication import current_data, until_of
 from debvote_tools.election.commands.codes import SLIPS, write_slips
 from debvote_tools.election.commands.roll import demand_read
 from debvote_tools.election.election import CALL, KEYRING, LETTERS, POLL, POLL_WITH_NAMES, PRIVATE, Election, History, Sealed
@@ -34,7 +33,6 @@ FILES = ("index.html", "call.txt", "poll.toml", "SHA256SUMS")
 KEYRING_LIMIT = 134_217_728
 
 
-@dataclasses.dataclass(frozen=True)
 class Arguments(acting.Arguments):
     until: str | None = option("TIME", 'The end of the vote, as "2026-12-04 18:00"; a later time in a second call extends it')
     zone: str | None = option(
@@ -79,8 +77,8 @@ def call(election: Election, arguments: Arguments) -> None:
     public = poll
     if poll.secret and not history.has_codes_on_roll:
         public = aliased_poll(poll, queries.public_names(queries.electors(book)))
-    said["form"], said["names"], said["codes_on_roll"] = arguments.form, arguments.names, history.has_codes_on_roll
-    said["quorum_votes"], said["signed"] = sheet.quorum, arguments.keyring is not None
+    said.update({"form": arguments.form, "names": arguments.names, "codes_on_roll": history.has_codes_on_roll})
+    said.update({"quorum_votes": sheet.quorum, "signed": arguments.keyring is not None})
     keyring = keyring_in(election, arguments.keyring)
     data = current_data(election, history, said, Sealed(public, poll))
     with book.act("call", said, seen=history.last.number) as act:
@@ -166,7 +164,6 @@ def announced(arguments: Arguments, earlier_zone: str | None) -> Detail:
 
 
 def demand_no_change(election: Election, history: History, arguments: Arguments) -> None:
-    """Stops at words that would change what was called."""
     changed = [f"--{name}" for name in ("form", "names") if getattr(arguments, name) and not history.announced(name)]
     if arguments.to not in (None, history.announced("to")):
         changed.append("--to")

@@ -1,8 +1,6 @@
 """Say all that is wrong with the poll, or what is voted on."""
 
-import dataclasses
-
-from debvote_tools.arguments import flag
+from debvote_tools.arguments import Options, flag
 from debvote_tools.console import tell
 from debvote_tools.election.election import Election, History
 from debvote_tools.election.draft_poll import checked_poll, lacks_codes, tell_poll
@@ -13,8 +11,7 @@ from debvote_tools.sealed_poll import SealedPoll
 MAX_SHOWN = 200
 
 
-@dataclasses.dataclass(frozen=True)
-class Arguments:
+class Arguments(Options):
     all: bool = flag("Print all names on the roll, however many there are")
 
 

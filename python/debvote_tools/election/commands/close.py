@@ -1,7 +1,6 @@
 """End the vote: lines that are entered later are late."""
 
 import collections
-import dataclasses
 
 from debvote_tools import times
 from debvote_tools.arguments import flag
@@ -21,7 +20,6 @@ from debvote_tools.publish.names import CLOSED
 from debvote_tools.secret.aliases import aliased_ballots, seal_line, sealed_checksum
 
 
-@dataclasses.dataclass(frozen=True)
 class Arguments(acting.Arguments):
     early: bool = flag("Close before the end of the vote; the result page says so")
     force: bool = flag("With --because: close although letters wait that arrived in time; the result page says how many")
@@ -33,9 +31,11 @@ def run(election: Election, arguments: Arguments) -> None:
     if is_new:
         close(election, sealed, arguments)
     history = election.history()
-    act, letter = history.closes[-1], closing_letter(history, sealed.public, election.language)
-    written = write_made(election.path(LETTERS), {CLOSED: letter}, OWN)
-    detail, lines, path = act.detail, count_of(act.detail["lines"], "line"), election.path(LETTERS) / CLOSED
+    folder, letter = election.path(LETTERS), closing_letter(history, sealed.public, election.language)
+    written = write_made(folder, {CLOSED: letter}, OWN)
+    act, path = history.closes[-1], folder / CLOSED
+    detail = act.detail
+    lines = count_of(detail["lines"], "line")
     if is_new:
         if detail["early"]:
             tell("Note: one could still vote by the time that was announced; the page of the result tells it.")

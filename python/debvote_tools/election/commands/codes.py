@@ -1,14 +1,12 @@
 """Make a secret code for each elector, for a secret vote; it comes before the call."""
 
-import dataclasses
-
 from debvote_tools.arguments import flag
 from debvote_tools.book import queries
 from debvote_tools.book.acts import Detail
 from debvote_tools.call.data import CallData
 from debvote_tools.console import tell
 from debvote_tools.election import acting
-from debvote_tools.election.call_now import current_data
+from debvote_tools.election.publication import current_data
 from debvote_tools.election.commands.check import what_next
 from debvote_tools.election.commands.roll import demand_read
 from debvote_tools.election.election import POLL_FILE, PRIVATE, Election, History
@@ -25,7 +23,6 @@ SLIPS, CODES = "slips.html", "codes.csv"
 NOT_SECRET = "the vote is not secret, so it needs no codes"
 
 
-@dataclasses.dataclass(frozen=True)
 class Arguments(acting.Arguments):
     on_roll: bool = flag("Put the codes on the roll in place of the names, so that nobody knows who votes under which")
 
@@ -90,4 +87,7 @@ def write_slips(election: Election, history: History, poll: SealedPoll) -> None:
         CodeRow(name, who, " ".join(addresses), name if is_on_roll else code, alias)
         for _, name, _, who, addresses, _, code, alias in queries.electors(election.book)
     ]
-    write_made(election.path(PRIVATE), {SLIPS: slips(call, rows), **({} if is_on_roll else {CODES: codes_csv(rows)})}, OWN)
+    files = {SLIPS: slips(call, rows)}
+    if not is_on_roll:
+        files[CODES] = codes_csv(rows)
+    write_made(election.path(PRIVATE), files, OWN)

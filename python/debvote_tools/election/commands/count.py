@@ -1,10 +1,9 @@
 """Print the result sheet."""
 
-import dataclasses
 import shlex
 from collections.abc import Iterable
 
-from debvote_tools.arguments import option
+from debvote_tools.arguments import Options, option
 from debvote_tools.book import queries
 from debvote_tools.console import tell_as_it_is, tell_aside
 from debvote_tools.debvote import casting_words
@@ -20,8 +19,7 @@ CASTING = (
 )
 
 
-@dataclasses.dataclass(frozen=True)
-class Arguments:
+class Arguments(Options):
     casting: str | None = option(*CASTING)
 
 
@@ -45,7 +43,6 @@ def demand_countable(election: Election, history: History, sealed: Sealed) -> No
 
 
 def demand_option(poll: SealedPoll, casting: str | None) -> None:
-    """Stops if a casting vote is for no option of the poll, and says which names there are."""
     if casting is not None and casting not in poll.plain_names:
         where = f"--casting={shlex.quote(casting)}"
         cure = f"give one of these, exactly as it stands here: {in_shell(poll.plain_names)}"

@@ -1,17 +1,17 @@
 """Enter ballots by hand, and print the reply to each; several desks can run at once, each in its own terminal."""
 
 import contextlib
-import dataclasses
 import os
 import sys
 from collections.abc import Iterator
+from typing import NamedTuple
 
-from debvote_tools.book import lines_by_act, queries
+from debvote_tools.book import queries
 from debvote_tools.book.acts import Detail
 from debvote_tools.book.book import Book, Overtaken
 from debvote_tools.console import is_yes, tell, typed
 from debvote_tools.election import acting, in_time
-from debvote_tools.election.vote import JudgedLine, LineWords, Vote, change_words, summary, would_words
+from debvote_tools.election.vote import JudgedLine, Vote, change_words, summary, would_words
 from debvote_tools.election.election import Election, History
 from debvote_tools.election.entering import electors_of, entered, too_long
 from debvote_tools.election.reporting import listed
@@ -20,26 +20,23 @@ from debvote_tools.files import BALLOTS_LIMIT
 from debvote_tools.lines import Line, lines_in, name_in
 
 QUIT = b"q"
-
 NOTHING_CAST = "nothing was cast"
 
 # in bytes; what one read of a pipe brings at most
 READ = 65_536
-
 # how many names are listed that a typed name may begin
 MAX_NAMES = 5
 
 Arguments = in_time.Arguments
 
 
-@dataclasses.dataclass(frozen=True)
-class Shown:
+class Shown(NamedTuple):
     """What a ballot was shown by, before the question, and at a pipe before it is cast."""
 
-    decided_at: int = dataclasses.field(compare=False)
+    decided_at: int
     openness: History
-    # number of each envelope of the elector, and the act that struck it
-    envelopes: tuple[tuple[int, int | None], ...] = ()
+    # those of the elector
+    envelopes: list[queries.Envelope]
 
 
 class Desk:
@@ -48,7 +45,6 @@ class Desk:
     def __init__(self, election: Election, book: Book, answer: str | None) -> None:
         self.election, self.book = election, book
         self.vote = Vote(election, election.history())
-        self.words = LineWords(self.vote)
         # what --came-before-close says, and what was said of the ballots of this desk
         self.answer = answer
         self.came_before_close: bool | None = None
@@ -62,16 +58,14 @@ class Desk:
         openness = history.openness()
         if openness.call != self.vote.call:
             raise Fault(None, "the vote was called anew meanwhile", "start the desk again", Status.DOUBT, NOTHING_CAST)
-        envelopes = queries.envelopes(self.book, "elector = ?", elector)
-        return Shown(history.last.number, openness, tuple((envelope.number, envelope.struck) for envelope in envelopes))
+        return Shown(history.last.number, openness, queries.envelopes(self.book, "elector = ?", elector))
 
     def ask_if_reopened(self, elector: int | None = None) -> Shown:
         """The same. After the vote was opened again it is asked once whether what is cast came before the first close."""
         shown = self.now(elector)
         if shown.openness.is_reopened and self.came_before_close is None:
-            self.came_before_close = in_time.came_before_close(
-                shown.openness, self.answer, "what was told is cast, and nothing else"
-            )
+            done = "what was told is cast, and nothing else"
+            self.came_before_close = in_time.came_before_close(shown.openness, self.answer, done)
         return shown
 
     def lines_of(self, data: bytes) -> list[Line]:
@@ -92,20 +86,18 @@ class Desk:
             lambda _: [queries.NewEnvelope(line.as_entered, line.line.place) for line in lines],
             decided_at=shown.decided_at,
             is_late=shown.openness.is_late(self.came_before_close),
-            is_same=lambda: self.now(elector) == shown,
+            is_same=lambda: self.now(elector)[1:] == shown[1:],
             done="what was to be told is cast",
         ) as now:
             replies = now.replies()
             self.replies += replies
-            tell(*self.words.report(lines, now.numbers, replies, is_entered=True))
+            tell(*self.vote.report(lines, now.numbers, replies, is_entered=True))
 
 
 def run(election: Election, arguments: Arguments) -> None:
     if sys.stdin is None:
         raise Fault("standard input", "it is closed", "run it at a terminal", Status.BAD_BALLOTS, NOTHING_CAST)
-    election.sealed()
-    book = acting.book_for_act(election, arguments)
-    desk = Desk(election, book, arguments.came_before_close)
+    desk = Desk(election, acting.book_for_act(election, arguments), arguments.came_before_close)
     openness = desk.now().openness
     tell(*in_time.notes(election, openness, "what is cast"))
     if desk.vote.is_signed:
@@ -217,13 +209,13 @@ def show(desk: Desk, line: JudgedLine, shown: Shown, elector: int | None) -> str
     """Shows what a ballot would be, in words, or why debvote would refuse it. Returns the question whether to cast it."""
     tell(*change_words(line))
     if not line.is_ballot:
-        tell(f"It would be refused: {would_words(line)}", desk.words.right_words())
+        tell(f"It would be refused: {would_words(line)}", desk.vote.right_words())
         return "It would not count. Cast it anyway?"
-    tell(desk.words.of(line))
+    tell(desk.vote.in_words(line))
     if shown.openness.is_late(desk.came_before_close):
         tell("It is late, and will not count.")
     elif elector is not None:
-        earlier = desk.vote.standing(lines_by_act.lines_of_electors(desk.book, {elector})).get(line.voter)
+        earlier = desk.vote.standing(queries.lines_of_electors(desk.book, {elector})).get(line.voter)
         if earlier is not None:
-            tell(f"{line.voter} has a ballot: {desk.words.ranks(earlier)}. It will be replaced.")
+            tell(f"{line.voter} has a ballot: {desk.vote.ranks_in_words(earlier)}. It will be replaced.")
     return "Cast it?"

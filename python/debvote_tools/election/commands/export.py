@@ -1,11 +1,10 @@
 """Write the poll, the ballots and all that came into a new folder, which only you can read."""
 
-import dataclasses
 import os
 import pathlib
 import re
 
-from debvote_tools.arguments import positional
+from debvote_tools.arguments import Options, positional
 from debvote_tools.book import queries
 from debvote_tools.console import tell
 from debvote_tools.election import acting
@@ -19,8 +18,7 @@ UNSAFE = re.compile(r"[^A-Za-z0-9._-]+")
 LONGEST_FILE_NAME = 100
 
 
-@dataclasses.dataclass(frozen=True)
-class Arguments:
+class Arguments(Options):
     target_folder: str = positional("FOLDER", "The folder to make")
 
 

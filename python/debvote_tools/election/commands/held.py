@@ -1,16 +1,15 @@
 """List the letters that wait; show one, enter its ballot, or set letters aside."""
 
 import collections
-import dataclasses
 from collections.abc import Iterator, Sequence
 
 from debvote_tools.arguments import flag, given, option, positional
-from debvote_tools.book import letters, lines_by_act, queries
+from debvote_tools.book import letters, queries
 from debvote_tools.book.acts import ActName, Detail
 from debvote_tools.book.book import NewAct
 from debvote_tools.console import tell
 from debvote_tools.election import acting, letter_words, letters_in
-from debvote_tools.election.vote import LineWords, Vote
+from debvote_tools.election.vote import Vote
 from debvote_tools.election.election import Election
 from debvote_tools.election.entering import entered
 from debvote_tools.election.reporting import count_of
@@ -21,7 +20,6 @@ from debvote_tools.lines import name_in
 from debvote_tools.terminal_text import shown_text
 
 
-@dataclasses.dataclass(frozen=True)
 class Arguments(acting.Arguments):
     numbers: list[int] = positional("NUMBER", "The numbers of letters", type=int, nargs="*")
     enter: str | None = option("LINE,..", "Enter these lines of the letter, by their numbers as held NUMBER shows them")
@@ -78,8 +76,7 @@ def all_letters(election: Election) -> list[JudgedLetter]:
 
 def chosen_letters(found: Sequence[JudgedLetter], numbers: Sequence[int]) -> list[JudgedLetter]:
     by_number = {letter.number: letter for letter in found}
-    unknown = [str(number) for number in numbers if number not in by_number]
-    if unknown:
+    if unknown := [str(number) for number in numbers if number not in by_number]:
         raise Fault(f"letter {', '.join(unknown)}", "there is none", "held lists the letters", Status.BAD_WORDS)
     return [by_number[number] for number in dict.fromkeys(numbers)]
 
@@ -116,7 +113,7 @@ def enter(election: Election, vote: Vote, arguments: Arguments, lines: str) -> N
         cure = "if its ballot has to be entered once more, have it wait with --wait first"
         raise Fault(name, "it is a copy of another letter", cure)
     # a ballot of the letter that was struck was entered, too
-    before = queries.envelopes(book, f"letter = ? AND envelope.{lines_by_act.NOT_UNDONE}", letter.number)
+    before = queries.envelopes(book, f"letter = ? AND envelope.{queries.NOT_UNDONE}", letter.number)
     done = {name_in(envelope.line).decode("ascii") for envelope in before} | {line.elector for line in ballots}
 
     def envelopes(act: NewAct) -> Iterator[queries.NewEnvelope]:
@@ -127,7 +124,7 @@ def enter(election: Election, vote: Vote, arguments: Arguments, lines: str) -> N
     detail: Detail = {"letter": letter.number, "lines": [line.number for line in ballots]}
     is_late = letters_in.is_late(history, letter)
     with entered(book, vote, "enter", detail, envelopes, decided_at=history.last.number, is_late=is_late) as now:
-        tell(*letter_words.reply_words(LineWords(vote), now, [line.ballot for line in ballots]))
+        tell(*letter_words.reply_words(vote, now, [line.ballot for line in ballots]))
 
 
 def chosen_ballots(letter: JudgedLetter, lines: str) -> list[BallotLine]:

@@ -29,7 +29,6 @@ MOST = 20
 BAR = 40
 
 
-@dataclasses.dataclass(frozen=True)
 class Arguments(acting.Arguments):
     kind: str = positional("KIND", "call, receipts, reminders, closed or result", choices=[*map(str, Kind)])
     send: bool = flag("Send them to a mail server, and go on where a run was cut off")
@@ -95,7 +94,6 @@ def report_sent(election: Election, due: LettersDue, tried: Sequence[SentLetter]
 
 # ---------------------------------------------------------------- the words of the command line
 def demand_words(arguments: Arguments) -> None:
-    """Stops if the options do not go together."""
     alone = {"--server": arguments.server, "--user": arguments.user, "--again": arguments.again}
     given = ", ".join(name for name, value in alone.items() if value)
     if arguments.send and arguments.server is None:
@@ -115,10 +113,8 @@ def with_password(server: Server, arguments: Arguments) -> Server:
         try:
             password = pathlib.Path(arguments.password_file).read_text("utf-8").rstrip("\r\n")
         except (OSError, UnicodeDecodeError) as error:
-            words, cure = (
-                error.strerror if isinstance(error, OSError) else "it is no text in UTF-8",
-                "name the file that has the password",
-            )
+            words = error.strerror if isinstance(error, OSError) else "it is no text in UTF-8"
+            cure = "name the file that has the password"
             raise Fault(arguments.password_file, words, cure, Status.BAD_WORDS, "nothing was sent") from None
     elif console.is_terminal():
         password = getpass.getpass(f"The password of {arguments.user} on {server.host}: ")
@@ -148,10 +144,8 @@ def announce(election: Election, book: Book, address: str) -> None:
 
 
 def chosen_again(due: LettersDue, names: Sequence[str]) -> list[SentLetter]:
-    """The letters of these electors that a run was cut off in."""
     by_name = {due.elector(letter).name: letter for letter in due.cut_off}
-    unknown = [shown_text(name) for name in names if name not in by_name]
-    if unknown:
+    if unknown := [shown_text(name) for name in names if name not in by_name]:
         words = f"no run was cut off in the letter to {', '.join(unknown)}"
         cure = f"it may be: {', '.join(by_name)}" if by_name else "leave it out"
         raise Fault("--again", words, cure, Status.BAD_WORDS, "nothing was sent")

@@ -1,18 +1,16 @@
 """List the acts of the election; with --check compute their digests anew."""
 
-import dataclasses
 import itertools
 import json
 
-from debvote_tools.arguments import flag
+from debvote_tools.arguments import Options, flag
 from debvote_tools.console import tell
 from debvote_tools.election import acting
 from debvote_tools.election.election import Election
 from debvote_tools.election.reporting import act_time, count_of
 
 
-@dataclasses.dataclass(frozen=True)
-class Arguments:
+class Arguments(Options):
     check: bool = flag("Compute the chain of digests anew over all that is in the book")
 
 

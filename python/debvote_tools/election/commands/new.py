@@ -1,12 +1,11 @@
 """Make the folder of an election, with a poll and a list of members to fill in."""
 
 import contextlib
-import dataclasses
 import os
 import pathlib
 import shlex
 
-from debvote_tools.arguments import option, positional
+from debvote_tools.arguments import Options, option, positional
 from debvote_tools.book import book
 from debvote_tools.console import tell
 from debvote_tools.election.draft_poll import NEW_POLL
@@ -17,8 +16,7 @@ from debvote_tools.files import uninterrupted, whole_folder, write_whole
 from debvote_tools.language import ENGLISH, LANGUAGES
 
 
-@dataclasses.dataclass(frozen=True)
-class Arguments:
+class Arguments(Options):
     language: str = option(
         "CODE",
         "The language of what electors read, pages and letters: de, en, es or fr; English if it is not given",

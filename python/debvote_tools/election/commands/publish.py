@@ -1,7 +1,6 @@
 """Make the folder of the result for a web site; without options, make the last one again."""
 
 import contextlib
-import dataclasses
 import pathlib
 from collections.abc import Iterator
 
@@ -13,7 +12,7 @@ from debvote_tools.debvote import casting_words
 from debvote_tools.election import acting
 from debvote_tools.election.commands import count
 from debvote_tools.election.election import RESULT, Election
-from debvote_tools.election.publication import ACT, Words, detail_of, last_publication, publication_of
+from debvote_tools.election.publication import Words, detail_of, last_publication, publication_of
 from debvote_tools.election.reporting import act_time
 from debvote_tools.faults import Fault, Status
 from debvote_tools.files import locked
@@ -25,7 +24,6 @@ from debvote_tools.publish.inputs import Publication
 from debvote_tools.publish.texts import text_in
 
 
-@dataclasses.dataclass(frozen=True)
 class Arguments(acting.Arguments):
     casting: str | None = option(*count.CASTING)
     cast_by: str | None = option("NAME", "Whose the casting vote was; the page says it in your name")
@@ -79,7 +77,7 @@ def publish(election: Election, arguments: Arguments, target_folder: pathlib.Pat
         is_new = before is None or before.detail != detail
         with alone(election):
             if is_new:
-                with book.act(ACT, detail, seen=history.last.number):
+                with book.act("publish", detail, seen=history.last.number):
                     pass
             elif book.last_number() != history.last.number:
                 raise Overtaken

@@ -1,11 +1,10 @@
 """Open the vote again after a close, for ballots that had come in time; the page of the result tells it."""
 
-import dataclasses
-import datetime
+import operator
 from collections.abc import Sequence
 
 from debvote_tools.arguments import flag, option
-from debvote_tools.book import lines_by_act, queries
+from debvote_tools.book import queries
 from debvote_tools.book.acts import Detail
 from debvote_tools.book.book import Book
 from debvote_tools.console import is_terminal, tell, typed
@@ -21,8 +20,10 @@ from debvote_tools.terminal_text import shown_line
 # of the number of an envelope
 MAX_DIGITS = 9
 
+# of two ballots the later one has the later time, and within a second the greater number
+ORDER = operator.attrgetter("time", "number")
 
-@dataclasses.dataclass(frozen=True)
+
 class Arguments(acting.Arguments):
     in_time: list[int] | None = option(
         "NUMBER",
@@ -69,7 +70,7 @@ def chosen(book: Book, in_time: list[int] | None, *, has_codes: bool) -> list[qu
     late = {envelope.number: envelope for envelope in queries.envelopes(book, queries.LATE)}
     if in_time is None and is_terminal():
         in_time = asked([late[number] for number in late_lines_left(book)], has_codes=has_codes)
-    entered_before = lines_by_act.entered_anew(book)
+    entered_before = queries.entered_anew(book)
     numbers = in_time or []
     if unknown := [str(number) for number in numbers if number not in late]:
         words = f"envelope {', '.join(unknown)} is not one of the late lines"
@@ -78,12 +79,12 @@ def chosen(book: Book, in_time: list[int] | None, *, has_codes: bool) -> list[qu
     if again := [str(number) for number in numbers if number in entered_before]:
         words = f"envelope {', '.join(again)} was entered as in time by an earlier reopen"
         raise Fault("--in-time", words, "leave it out")
-    return sorted((late[number] for number in set(numbers)), key=order)
+    return sorted((late[number] for number in set(numbers)), key=ORDER)
 
 
 def late_lines_left(book: Book) -> list[int]:
     """The late envelopes that no reopen entered as in time."""
-    entered_before = lines_by_act.entered_anew(book)
+    entered_before = queries.entered_anew(book)
     return [envelope.number for envelope in queries.envelopes(book, queries.LATE) if envelope.number not in entered_before]
 
 
@@ -96,15 +97,9 @@ def asked(late: Sequence[queries.Envelope], *, has_codes: bool) -> list[int]:
     answer = typed("Which of them had come before the first close? Their numbers, or Enter for none: ") or b""
     numbers = answer.replace(b",", b" ").split()
     if wrong := next((number for number in numbers if not number.isdigit() or len(number) > MAX_DIGITS), None):
-        raise Fault(
-            None, f"{shown_line(wrong)} is not the number of an envelope", "run it again, and type numbers with spaces between"
-        )
+        cure = "run it again, and type numbers with spaces between"
+        raise Fault(None, f"{shown_line(wrong)} is not the number of an envelope", cure)
     return list(map(int, numbers))
-
-
-def order(envelope: queries.Envelope) -> tuple[datetime.datetime, int]:
-    """What decides which of two ballots is the later one: their times, and within a second the numbers of their envelopes."""
-    return envelope.time, envelope.number
 
 
 def faults_of_older(book: Book, offered: Sequence[queries.Envelope]) -> list[Fault]:
@@ -112,11 +107,9 @@ def faults_of_older(book: Book, offered: Sequence[queries.Envelope]) -> list[Fau
     last = {late.elector: late for late in offered if late.elector is not None}
     faults = []
     for elector, late in last.items():
-        newest = max(queries.envelopes(book, f"elector = ? AND {queries.IN_TIME}", elector), key=order, default=late)
-        if order(newest) > order(late):
-            words = (
-                f"envelope {late.number} would replace envelope {newest.number}, a later one of the same elector that is in time"
-            )
+        newest = max(queries.envelopes(book, f"elector = ? AND {queries.IN_TIME}", elector), key=ORDER, default=late)
+        if ORDER(newest) > ORDER(late):
+            later = f"envelope {newest.number}, a later one of the same elector that is in time"
             cure = "leave it out; or if it has to count all the same, repeat it with --force"
-            faults.append(Fault("--in-time", words, cure))
+            faults.append(Fault("--in-time", f"envelope {late.number} would replace {later}", cure))
     return faults

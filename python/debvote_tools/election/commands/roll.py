@@ -1,6 +1,5 @@
 """Read the list of members, and give each elector a name."""
 
-import dataclasses
 from collections.abc import Sequence
 
 from debvote_tools.arguments import flag
@@ -20,7 +19,6 @@ from debvote_tools.terminal_text import shown_text
 MAX_SHOWN = 200
 
 
-@dataclasses.dataclass(frozen=True)
 class Arguments(acting.Arguments):
     all: bool = flag("Print all electors, however many there are")
     yes: bool = flag("After the call: take the new addresses and keys without a question")

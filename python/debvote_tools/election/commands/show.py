@@ -1,12 +1,10 @@
 """Show one elector: the ballots and letters that came, the current ballot, and what was sent."""
 
-import dataclasses
-
-from debvote_tools.arguments import positional
+from debvote_tools.arguments import Options, positional
 from debvote_tools.book import letters, queries, sent
 from debvote_tools.console import tell
 from debvote_tools.election import acting, letter_words, letters_in
-from debvote_tools.election.vote import JudgedLine, LineWords, Vote
+from debvote_tools.election.vote import JudgedLine, Vote
 from debvote_tools.election.election import Election, History
 from debvote_tools.election.reporting import act_time
 from debvote_tools.faults import Fault
@@ -15,8 +13,7 @@ from debvote_tools.lines import Line
 from debvote_tools.terminal_text import shown_text
 
 
-@dataclasses.dataclass(frozen=True)
-class Arguments:
+class Arguments(Options):
     name: str = positional("NAME", "The elector's name on the roll, or the real name")
 
 
@@ -28,12 +25,12 @@ def run(election: Election, arguments: Arguments) -> None:
     who = f": {shown_text(elector.who)} {', '.join(map(shown_text, elector.addresses))}".rstrip(": ")
     # of a code nobody knows whose it is
     tell(elector.name if vote.has_codes else f"{elector.name}{who}")
-    envelopes, words = queries.envelopes(election.book, "elector = ?", elector.number), LineWords(vote)
+    envelopes = queries.envelopes(election.book, "elector = ?", elector.number)
     read = vote.read([Line("", "", envelope.line, envelope.line, envelope.line) for envelope in envelopes])
-    tell(*(ballot_words(words, history, envelope, line) for envelope, line in zip(envelopes, read)))
+    tell(*(ballot_words(vote, history, envelope, line) for envelope, line in zip(envelopes, read)))
     counted = [envelope.line for envelope in envelopes if not envelope.is_struck and not envelope.is_late]
     ranks = vote.standing(counted).get(elector.name)
-    tell(f"The current ballot: {'none' if ranks is None else words.ranks(ranks)}")
+    tell(f"The current ballot: {'none' if ranks is None else vote.ranks_in_words(ranks)}")
     for letter in letters_in.judged(election, history, letters.letters(election.book)):
         if elector.name in letter.electors:
             why = letter.outcome.value if letter.reason is None else for_secretary(letter.reason)
@@ -59,9 +56,8 @@ def elector_named(election: Election, vote: Vote, name: str) -> queries.Elector:
     raise Fault("show", f"no {what} on the roll is `{shown_text(name)}`", cure, done=None)
 
 
-def ballot_words(words: LineWords, history: History, envelope: queries.Envelope, line: JudgedLine) -> str:
-    """A ballot that came: its envelope, its time, what it says, and whether it counts."""
-    said = words.ranks(line.ranks) if line.is_ballot else words.of(line)
+def ballot_words(vote: Vote, history: History, envelope: queries.Envelope, line: JudgedLine) -> str:
+    said = vote.ranks_in_words(line.ranks) if line.is_ballot else vote.in_words(line)
     marks = ["late"] if envelope.is_late else []
     if envelope.struck is not None:
         act = history.act(envelope.struck)

@@ -1,12 +1,11 @@
 """Say how far the election is: lines, ballots, who has none yet, what was refused."""
 
-import dataclasses
 import json
 import re
 from typing import NamedTuple
 
 from debvote_tools import times
-from debvote_tools.arguments import flag
+from debvote_tools.arguments import Options, flag
 from debvote_tools.book import queries
 from debvote_tools.console import shows, tell
 from debvote_tools.debvote import Finding, Findings, Totals
@@ -26,8 +25,7 @@ FIRST_WORD = re.compile(rb"(?:\xef\xbb\xbf)?[\s\"']*([A-Za-z0-9.-]{1,32})(?=[\s\
 NO_FINDINGS = Findings([], Totals(lines=0, valid=0, refused=0, late=0, voters=0, electors=0))
 
 
-@dataclasses.dataclass(frozen=True)
-class Arguments:
+class Arguments(Options):
     json: bool = flag("Print the numbers as JSON, for programs")
 
 
@@ -36,24 +34,21 @@ class State(NamedTuple):
 
     stage: Stage
     electors: int
-    # those in time that are not struck: valid and refused ones
+    # the lines in time that are not struck, and of them the valid and the refused ones; those that are late
     lines: int
     valid: int
     refused: int
-    # those that were entered while the vote was closed
     late: int
     voters: int
     # letters that wait for the secretary
     waiting: int
     without_ballot: list[str] | None
-    # the last act of the book, and its digest
+    # the last one of the book
     act: int
     digest: str
 
 
 class Refused(NamedTuple):
-    """A line that debvote refuses, in its envelope."""
-
     envelope: int
     line: bytes
     finding: Finding
@@ -90,7 +85,7 @@ def run(election: Election, arguments: Arguments) -> None:
 
 
 def state_of(election: Election, history: History) -> tuple[State, list[Refused]]:
-    """The numbers of an election, and the lines that debvote refuses, but for those of electors whose ballot stands.
+    """The numbers of an election, and the lines that debvote refuses, but for those of electors who have a ballot.
 
     With codes on the roll these are all refused lines.
     """
@@ -104,7 +99,7 @@ def state_of(election: Election, history: History) -> tuple[State, list[Refused]
         waiting = len(waiting_letters(election, history))
     refused = [Refused(*lines[finding.envelope - 1], finding) for finding in findings.refused]
     refused_numbers = {line.envelope for line in refused}
-    # who has a line that debvote does not refuse has a ballot that stands
+    # who has a line that debvote does not refuse has a ballot
     names = {line.partition(b" ")[0] for number, line in lines if number not in refused_numbers}
     voters = {name.decode("ascii") for name in names}
     totals, has_codes = findings.totals, history.has_codes_on_roll

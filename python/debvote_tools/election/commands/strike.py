@@ -1,14 +1,13 @@
 """Take one envelope out of the ballots, before the close; the page of the result says how many, and why."""
 
-import dataclasses
 import re
 
 from debvote_tools.arguments import positional
-from debvote_tools.book import letters, lines_by_act, queries
+from debvote_tools.book import letters, queries
 from debvote_tools.book.book import Book
 from debvote_tools.console import tell
 from debvote_tools.election import acting
-from debvote_tools.election.vote import LineWords, Vote
+from debvote_tools.election.vote import Vote
 from debvote_tools.election.commands.undo import demand_open
 from debvote_tools.election.election import Election
 from debvote_tools.election.reporting import act_time
@@ -20,7 +19,6 @@ from debvote_tools.terminal_text import shown_line
 LIKE_A_CODE = re.compile(rb"[0-9a-fA-F]{16,}")
 
 
-@dataclasses.dataclass(frozen=True)
 class Arguments(acting.Arguments):
     number: int = positional("NUMBER", "The number of the envelope, as add, desk and show print it", type=int)
 
@@ -40,9 +38,9 @@ def run(election: Election, arguments: Arguments) -> None:
     tell(f"Struck envelope {envelope.number}{late}: `{without_code(envelope.line, has_codes=vote.has_codes)}`, because: {because}")
     if envelope.elector is not None:
         elector = name_in(envelope.line).decode("ascii")
-        ranks = vote.standing(lines_by_act.lines_after(book, act.number, {envelope.elector})).get(elector)
+        ranks = vote.standing(queries.lines_after(book, act.number, {envelope.elector})).get(elector)
         whose = "that code" if vote.has_codes else elector
-        tell(f"The current ballot of {whose}: {'none' if ranks is None else LineWords(vote).ranks(ranks)}")
+        tell(f"The current ballot of {whose}: {'none' if ranks is None else vote.ranks_in_words(ranks)}")
     tell("A strike cannot be undone: if it was a mistake, enter the line again.", f"Next: {election.command('status')}")
 
 
