@@ -2,8 +2,7 @@
 
 import datetime
 
-from debvote_tools.language import ENGLISH, Language
-from debvote_tools.sentences import marked
+from debvote_tools.language import ENGLISH, Language, marked
 
 DAYS = (
     *(marked("Monday"), marked("Tuesday"), marked("Wednesday"), marked("Thursday")),

@@ -1,9 +1,8 @@
 """The page of the call, and what its script says."""
 
-from debvote_tools import pages
 from debvote_tools.call.data import OPTION, SUBJECT, CallData
-from debvote_tools.rendering import render_page
-from debvote_tools.sentences import marked
+from debvote_tools.language import marked
+from debvote_tools.rendering import render_page, resources
 
 # a word in braces is a place
 SENTENCES = {
@@ -46,6 +45,6 @@ def call_page(call: CallData) -> bytes:
     package, sentences = "debvote_tools.call", SENTENCES
     if not call.is_open:
         sentences = SENTENCES | {"type_name": TYPE_CODE if call.has_codes_on_roll else TYPE_NAME_IN_SECRET}
-    style = pages.FIELDS_STYLE + pages.GIVEN_STYLE + pages.resource(package, "ballot.css")
-    script, script_words = pages.resource(package, "ballot.js"), call.language.words(sentences)
+    style, script = resources(package, "fields.css", "given.css", "ballot.css"), resources(package, "ballot.js")
+    script_words = call.language.words(sentences)
     return render_page(package, "page.html", call.language, style=style, script=script, call=call, script_words=script_words)

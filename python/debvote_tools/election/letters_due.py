@@ -25,7 +25,6 @@ from debvote_tools.publish.done import told_acts
 from debvote_tools.publish.doubts import Doubt, sentences_of
 from debvote_tools.publish.inputs import Publication
 from debvote_tools.publish.result_letter import outcome_in_words
-from debvote_tools.rendering import InText
 from debvote_tools.secret.words import BY_PYTHON
 from debvote_tools.sheet import sheet_in
 from debvote_tools.times import now
@@ -256,6 +255,6 @@ def result_of(election: Election, history: History, act: DoneAct) -> tuple[dict[
         "checksums": act.detail["checksums"],
         "doubts": sentences_of(doubts, language, is_secret=sealed.is_aliased),
         "because": words.because,
-        "acts": told_acts(publication, InText(language)),
+        "acts": told_acts(publication, language),
     }
     return values, election.debvote.standing(poll, ballots)

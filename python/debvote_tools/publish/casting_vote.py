@@ -1,13 +1,15 @@
-"""Whose the casting vote was. No count can show it: name and date are the words of those who publish."""
+"""Whose the casting vote was. No count can show it: those who publish say name and date."""
 
 import datetime
 
 from debvote_tools.faults import Fault, Status
-from debvote_tools.language import Language
+from debvote_tools.language import Language, marked
 from debvote_tools.publish.inputs import CastingVote, Publication
 from debvote_tools.sheet import Sheet
 from debvote_tools.terminal_text import odd_sign
 from debvote_tools.times import date_in_words
+
+WHOSE = marked('The secretary says that the casting vote was that of "{name}", given on {date}. No count can show this.')
 
 # in characters
 LONGEST = 200
@@ -38,17 +40,12 @@ def refused(option: str, reason: str, cure: str) -> Fault:
 
 
 def told(vote: CastingVote, language: Language) -> str:
-    """What is said of a casting vote that decides, in plain text."""
+    """The sentence about a casting vote that decides, in plain text."""
     if vote.by is None or vote.on is None:
         return language.say("Those who publish this page do not say whose casting vote it was, or when it was given.")
-    return language.say(
-        'The secretary says that the casting vote was that of "{name}", given on {date}. No count can show this.',
-        name=vote.by,
-        date=date_in_words(vote.on, language),
-    )
+    return language.say(WHOSE, name=vote.by, date=date_in_words(vote.on, language))
 
 
 def told_if_it_decides(publication: Publication, sheet: Sheet) -> str:
-    """The same, or nothing where no casting vote decides."""
-    vote = publication.casting
-    return told(vote, publication.language) if sheet.is_by_casting and vote is not None else ""
+    """The same; empty if no casting vote decides."""
+    return told(publication.casting, publication.language) if sheet.is_by_casting and publication.casting else ""

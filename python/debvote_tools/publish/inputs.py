@@ -8,16 +8,25 @@ from collections.abc import Mapping
 from typing import Any
 
 from debvote_tools.debvote import casting_words
-from debvote_tools.language import ENGLISH, Language
+from debvote_tools.files import file_text, read_whole
+from debvote_tools.language import ENGLISH, Language, marked
 from debvote_tools.publish.doubts import Doubt
 from debvote_tools.sealed_poll import SealedPoll
-from debvote_tools.sentences import marked
 from debvote_tools.sheet import Sheet, sheet_in
+
+# in bytes
+TEXT_LIMIT = 65_536
+
+
+def text_in(file: str) -> str:
+    """The text of the file that --about was given."""
+    data = read_whole(file, TEXT_LIMIT, "give a file that you may read with --about")
+    return file_text(data, file, "write it, or leave --about out")
 
 
 @dataclasses.dataclass(frozen=True)
 class CastingVote:
-    """The plain name of the option that it chooses; whose it was, and the day on which it was given, where that is said."""
+    """The plain name of the option that it chooses; whose it was and on which day, if that is said."""
 
     option: str
     by: str | None = None
@@ -26,7 +35,7 @@ class CastingVote:
 
 # ---------------------------------------------------------------- acts
 class Done(enum.Enum):
-    """What can be done in an election, as it is said; two are said in a form for their numbers."""
+    """What can be done in an election, in words; `done.py` says two of them in a form for their numbers."""
 
     CALLED = marked("The call was made; it named no time until which one could vote.")
     CALLED_UNTIL = marked("The call was made; one could vote until {until}.")
@@ -52,7 +61,7 @@ class Done(enum.Enum):
 class Act:
     """Something that was done in an election, at a time by the clock of the secretary's computer.
 
-    `places` has what stands at the places of its sentence. `because` is None where no reason was given, or it is not published.
+    `places` fill its sentence. `because` is None if no reason was given, or it is not published.
     """
 
     time: datetime.datetime
@@ -65,8 +74,8 @@ class Act:
 class Closed(Act):
     """A close: the lines in time, and the checksum that it fixed.
 
-    `waiting` are the letters that had arrived in time and were left waiting, `after_end` those that had arrived after the end. `came` and
-    `struck` are the lines that came in or were struck since the close before, if there was one.
+    `waiting` letters had arrived in time and did not go in, `after_end` letters had arrived after the end. `came` and `struck` are the
+    numbers of lines that came in or were struck since the close before, if there was one.
     """
 
     done: Done = Done.CLOSED
@@ -80,7 +89,7 @@ class Closed(Act):
 
     @property
     def is_plain(self) -> bool:
-        """Whether nothing else is to be told of it."""
+        """Whether there is nothing else to say of it."""
         return not (self.is_early or self.waiting or self.after_end or self.because or self.came is not None)
 
 
@@ -89,8 +98,8 @@ class Closed(Act):
 class Chronicle:
     """What the book of an election says of its course."""
 
-    acts: tuple[Act, ...]
-    # the end as it is, with the offset in which it was announced; None if none was
+    acts: tuple[Act, ...] = ()
+    # the end as it is, with the offset in which it was announced
     until: datetime.datetime | None = None
     # lines that came after the end, and count since the vote was not closed
     after_the_end: int = 0
@@ -100,7 +109,7 @@ class Chronicle:
 class SecretVote:
     """What is known of a secret vote, and is not published as it is."""
 
-    # the codes beside the names, of which none gets into the folder
+    # the codes of the electors, of which none gets into the folder
     codes: frozenset[str]
     # the random line of the last close, if it made one
     seal: str | None
@@ -113,11 +122,6 @@ class SecretVote:
     @functools.cached_property
     def sheet(self) -> Sheet:
         return sheet_in(self.sheet_text)
-
-    @property
-    def uncounted(self) -> int:
-        """How many lines that came count for nothing."""
-        return self.sheet.refused + self.late
 
 
 @dataclasses.dataclass(frozen=True)
@@ -138,7 +142,7 @@ class Publication:
     late: bytes | None = None
     # the letter of the last close
     closed: bytes | None = None
-    # the real names by the names on the roll, where they are published
+    # by the names on the roll, if they are published
     real_names: Mapping[str, str] = dataclasses.field(default_factory=dict)
     # texts of those who publish
     about: str | None = None
@@ -151,13 +155,8 @@ class Publication:
     has_codes: bool = False
 
     @property
-    def is_secret(self) -> bool:
-        """Whether the ballots stand under aliases or codes."""
-        return self.poll.secret
-
-    @property
     def has_aliases(self) -> bool:
-        return self.is_secret and not self.has_codes
+        return self.poll.secret and not self.has_codes
 
     @property
     def seal(self) -> str:
@@ -167,4 +166,4 @@ class Publication:
     @property
     def casting_words(self) -> list[str]:
         """The words of the casting vote for debvote."""
-        return casting_words(None if self.casting is None else self.casting.option)
+        return casting_words(self.casting.option if self.casting else None)

@@ -7,14 +7,11 @@ import json
 from debvote_tools.sealed_poll import SealedPoll
 from debvote_tools.sheet import Sheet
 
-FORMAT = "debvote result 1"
-
 
 def result_json(sheet: Sheet, poll: SealedPoll, version: str) -> str:
     """The sheet as JSON, a key a line. A label is what people read as the name."""
-    winner = sheet.winner()
     document = {
-        "format": FORMAT,
+        "format": "debvote result 1",
         "program": version,
         "title": sheet.title,
         "label": poll.name,
@@ -41,10 +38,10 @@ def result_json(sheet: Sheet, poll: SealedPoll, version: str) -> str:
         "defeats": [{"over": a, "under": b, "votes": sheet.votes[a, b], "against": sheet.votes[b, a]} for a, b in sheet.defeats],
         "rounds": [{"set": step.options, "removed": [{"over": a, "under": b} for a, b in step.removed]} for step in sheet.rounds],
         "outcome": {
-            "winner": None if winner is None else winner.option,
+            "winner": sheet.winner,
             "is_by_casting_vote": sheet.is_by_casting,
-            "left": sheet.final_set(),
-            "casting_vote_outside": sheet.casting_outside(),
+            "left": sheet.left,
+            "casting_vote_outside": sheet.casting_outside,
         },
     }
     lines = [f"{json.dumps(key)}: {json.dumps(value, ensure_ascii=False)}" for key, value in document.items()]
@@ -58,15 +55,5 @@ def votes_csv(sheet: Sheet) -> str:
     writer.writerow(["option", "name", "ratio", "ended", *sheet.names])
     for a, name in sheet.names.items():
         votes = [sheet.votes.get((a, b), "") for b in sheet.names]
-        writer.writerow([a, name, sheet.ratios.get(a, ""), how_ended(sheet, a), *votes])
+        writer.writerow([a, name, sheet.ratios.get(a, ""), sheet.ended(a), *votes])
     return table.getvalue()
-
-
-def how_ended(sheet: Sheet, option: int) -> str:
-    """How it ended for an option, in a word: `won`, `left` in a tie, dropped for its `quorum` or its `majority`, or `lost`."""
-    if option in sheet.dropped:
-        return sheet.dropped[option]
-    winner = sheet.winner()
-    if winner is not None:
-        return "won" if option == winner.option else "lost"
-    return "left" if option in sheet.final_set() else "lost"

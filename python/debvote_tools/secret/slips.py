@@ -4,10 +4,9 @@ import dataclasses
 import datetime
 from collections.abc import Sequence
 
-from debvote_tools import pages
 from debvote_tools.call.data import example_ranks, gaps_of
 from debvote_tools.language import Language
-from debvote_tools.rendering import render_page
+from debvote_tools.rendering import render_page, resources
 from debvote_tools.sealed_poll import SealedPoll
 from debvote_tools.secret.words import BY_PYTHON
 
@@ -41,7 +40,7 @@ def slips(data: SlipsData) -> bytes:
         package,
         "slips.html",
         data.language,
-        style=pages.resource(package, "slips.css"),
+        style=resources(package, "slips.css"),
         slips=data,
         example=example_ranks(count),
         gaps=gaps_of(count),

@@ -21,8 +21,7 @@ from debvote_tools.language import LANGUAGES
 from debvote_tools.publish import result_folder
 from debvote_tools.publish.casting_vote import casting_vote_of
 from debvote_tools.publish.counting import Counted
-from debvote_tools.publish.inputs import Publication
-from debvote_tools.publish.texts import text_in
+from debvote_tools.publish.inputs import Publication, text_in
 
 HELP = "Make the folder of the result for a web site; without options, make the last one again"
 
@@ -155,7 +154,7 @@ def report(election: Election, counted: Counted, folder: pathlib.Path, *, is_new
     tell(counted.sheet.last_line, counted.verified)
     as_before = "" if is_new else ", as it was published before; nothing was changed in the book"
     tell(f"Made the folder {folder}{as_before}.")
-    if counted.sheet.winner() is not None:
+    if counted.sheet.winner is not None:
         tell(f"Next: put the folder {folder} on the web site as it is, then {election.command('letters', 'result')}")
         return
     chosen = election.command("publish", *casting_words("NAME"), "--cast-by", "WHO", "--cast-on", "DATE")
