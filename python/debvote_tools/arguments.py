@@ -34,7 +34,6 @@ def flag(help: str, **how: Any) -> Any:
 
 
 def add_arguments(parser: argparse.ArgumentParser, kind: type[Any]) -> None:
-    """Adds the options of a class to a parser."""
     fields = {field.name: dict(field.metadata) for field in dataclasses.fields(kind)}
     groups: dict[str, Any] = {}
     for owner in kind.__mro__:

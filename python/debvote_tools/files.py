@@ -13,14 +13,11 @@ from collections.abc import Iterator
 from debvote_tools.faults import Fault, Status
 from debvote_tools.terminal_text import number_of, odd_sign
 
-# in bytes; one more is read of a longer file, so that debvote says that it is too long
-POLL_LIMIT, BALLOTS_LIMIT = 1_048_576, 33_554_432
+# in bytes and in lines; of a longer file a byte more is read, so that debvote says that it is too long
+POLL_LIMIT, BALLOTS_LIMIT, LINES_LIMIT = 1_048_576, 33_554_432, 100_000
 
 # in bytes; ten thousand members or electors, with a letter about each, are shorter
 TABLE_LIMIT = 33_554_432
-
-# in lines
-LINES_LIMIT = 100_000
 
 # where a process has its open files by their numbers
 OWN_FILES = "/proc/self/fd"
@@ -30,11 +27,11 @@ TEMPORARY = ".debvote-"
 
 
 class Written(OSError):
-    """A file is written, and its name may not be on the disk yet."""
+    """A file is written, but its name may not be on the disk yet, and be gone after a power cut."""
 
 
 def sha256_of(data: bytes) -> str:
-    """The SHA-256 of some bytes, as `sha256sum` writes it."""
+    """As `sha256sum` writes it."""
     return hashlib.sha256(data).hexdigest()
 
 
@@ -107,12 +104,11 @@ def write_whole(file: pathlib.Path, data: bytes, mode: int) -> None:
     try:
         sync_folder(file.parent)
     except OSError as error:
-        # the file is there, and may be gone after a power cut
         raise Written(error.errno, error.strerror, str(file)) from None
 
 
 def temporary_folder(place: pathlib.Path) -> pathlib.Path:
-    """Makes a folder for what is moved to its place once it is whole, or was moved away from there. Raises OSError."""
+    """Makes a folder for files that are moved to this place once they are whole, or were moved away from it. Raises OSError."""
     return pathlib.Path(tempfile.mkdtemp(prefix=TEMPORARY, dir=place))
 
 
@@ -156,7 +152,7 @@ def locked(place: pathlib.Path, *, is_directory: bool = False) -> Iterator[None]
 
 @contextlib.contextmanager
 def in_memory(data: bytes) -> Iterator[str]:
-    """A file in memory, which other programs can read by this path as long as it lasts, and of which a kill leaves nothing."""
+    """A file in memory, which other programs can read by this path while it lasts; a kill leaves nothing of it."""
     if not os.path.isdir(OWN_FILES):
         words = "it is not there, and programs are given their input by it"
         raise Fault(OWN_FILES, words, "have /proc mounted, then run the command again", Status.BAD_OUTPUT)
@@ -175,7 +171,7 @@ def in_memory(data: bytes) -> Iterator[str]:
 
 @contextlib.contextmanager
 def uninterrupted() -> Iterator[None]:
-    """An interrupt waits until this is done, so that what is done is told too."""
+    """Interrupts wait until this is done, so that what is done is told too."""
     before = signal.pthread_sigmask(signal.SIG_BLOCK, {signal.SIGINT, signal.SIGTERM, signal.SIGHUP})
     try:
         yield

@@ -3,7 +3,6 @@
 import pathlib
 import re
 import tomllib
-from collections.abc import Mapping
 from typing import Any
 
 from debvote_tools.debvote import Debvote
@@ -12,7 +11,7 @@ from debvote_tools.files import BALLOTS_LIMIT, POLL_LIMIT, read_at_most, sha256_
 from debvote_tools.language import Language
 from debvote_tools.plain_names import bad_options, bad_title
 from debvote_tools.publish.inputs import CastingVote, Publication
-from debvote_tools.sealed_poll import KEYS, REQUIRED, SealedPoll, is_set
+from debvote_tools.sealed_poll import KEYS, REQUIRED, SealedPoll, poll_of
 from debvote_tools.secret.codes import CODE
 
 # a line that has the shape of a ballot, and the beginning of one of a poll
@@ -23,7 +22,7 @@ KEY = re.compile(rb"(?m)^\s*(?:%s)\s*=" % b"|".join(key.encode() for key in REQU
 def publication_of_files(
     poll_path: str, ballots_path: str, language: Language, *, casting: str | None, desks: int, program_folder: pathlib.Path | None
 ) -> Publication:
-    """What is published of two files."""
+    """What is published of two files. Each is read once, so that all commands read the same bytes."""
     poll_bytes = input_in(poll_path, POLL_LIMIT, "poll", Status.BAD_POLL)
     ballots = input_in(ballots_path, BALLOTS_LIMIT, "ballots", Status.BAD_BALLOTS)
     demand_in_order(poll_bytes, ballots, poll_path, ballots_path, Debvote(pathlib.Path(), program_folder))
@@ -36,7 +35,6 @@ def publication_of_files(
 
 
 def input_in(file: str, limit: int, kind: str, status: int) -> bytes:
-    """The bytes of an input. They are read once, so that all commands read the same bytes."""
     try:
         return read_at_most(file, limit)
     except OSError as error:
@@ -45,7 +43,7 @@ def input_in(file: str, limit: int, kind: str, status: int) -> bytes:
 
 
 def demand_in_order(poll_bytes: bytes, ballots: bytes, poll_path: str, ballots_path: str, debvote: Debvote) -> None:
-    """Stops if debvote refuses the poll or the ballots as a whole, and says so where one file is in the place of the other."""
+    """Stops if debvote refuses the poll, and says so if one file is in the place of the other."""
     answer = debvote.run("count", "--poll", "/dev/stdin", "--ballots", "/dev/null", given=poll_bytes)
     if answer.text:
         return
@@ -61,40 +59,37 @@ def demand_in_order(poll_bytes: bytes, ballots: bytes, poll_path: str, ballots_p
 
 
 def sealed_of(poll_bytes: bytes, file: str) -> SealedPoll:
-    """A poll that debvote takes, for its plain form: the keys of a sealed poll, and no other."""
+    """A poll that debvote takes, for its plain form: the keys of a sealed poll, and no other.
+
+    Stops at shown names that people can't read or tell apart, or that are another option's.
+    """
     try:
         document = tomllib.loads(poll_bytes.decode("utf-8-sig"))
     except (ValueError, RecursionError) as error:
         cure = "write the poll as TOML 1.0"
         raise Fault(file, f"it can't be read ({error})", cure, Status.BAD_POLL, "nothing was published") from None
     values = {key: document[key] for key in KEYS if key in document}
-    strange = [key for key in values if key not in REQUIRED and not is_right(key, document)]
+    strange = [key for key in values if not is_right(key, values[key], len(document["options"]))]
+    cure = "give the poll.toml of a call, or take the key out"
     if strange:
         words = f"no sealed poll has such a value of {', '.join(strange)}"
-        raise Fault(file, words, "give the poll.toml of a call, or take the key out", Status.BAD_POLL, "nothing was published")
-    lists = {key: tuple(value) for key, value in values.items() if isinstance(value, list)}
-    poll = SealedPoll(**{**values, **lists})
-    demand_readable(poll, file)
-    return poll
-
-
-def demand_readable(poll: SealedPoll, file: str) -> None:
-    """Stops at shown names that people can't read or tell apart, or that are another option's."""
+        raise Fault(file, words, cure, Status.BAD_POLL, "nothing was published")
+    poll = poll_of(values)
     bad = bad_title(poll.name) if poll.name != poll.title else []
     bad += [name for name in bad_options(poll.names, poll.plain_names) if name.name != poll.plain_names[name.number - 1]]
     if bad:
         words = f"a shown name can't be published: {bad[0].reason}"
-        raise Fault(file, words, "give the poll.toml of a call, or take the key out", Status.BAD_POLL, "nothing was published")
+        raise Fault(file, words, cure, Status.BAD_POLL, "nothing was published")
+    return poll
 
 
-def is_right(key: str, document: Mapping[str, Any]) -> bool:
-    """Whether a key that may be absent has a value that a sealed poll may have. One that debvote reads is looked at by it."""
-    value, options = document[key], len(document["options"])
-    if key in ("wording", "last_envelope"):
+def is_right(key: str, value: Any, options: int) -> bool:
+    """Whether a sealed poll of this number of options may have such a value. The keys that debvote reads it has looked at itself."""
+    if key in (*REQUIRED, "wording", "last_envelope"):
         return True
     if key == "secret":
         return value is True
     if key in ("shown_options", "explanations"):
-        wanted = options + 1 if key == "shown_options" else options
-        return isinstance(value, list) and len(value) == wanted and all(isinstance(text, str) for text in value)
-    return isinstance(value, str) and is_set(value or None)
+        is_list_of_texts = isinstance(value, list) and all(isinstance(text, str) for text in value)
+        return is_list_of_texts and len(value) == (options + 1 if key == "shown_options" else options)
+    return isinstance(value, str) and value != ""
