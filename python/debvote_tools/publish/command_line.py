@@ -12,7 +12,6 @@ from debvote_tools.arguments import add_arguments, arguments_of, option, positio
 from debvote_tools.faults import Fault, Status
 from debvote_tools.language import ENGLISH, LANGUAGES, language_of
 from debvote_tools.publish import result_folder, two_files
-from debvote_tools.publish.counting import Counted
 
 PROGRAM = "debvote-publish"
 
@@ -41,36 +40,31 @@ def parser() -> argparse.ArgumentParser:
 
 def main(program_folder: pathlib.Path, words: Sequence[str] | None = None) -> int:
     """Publishes, and returns the exit status. `program_folder` is that of the program."""
-    # where it is asked to end, it takes away what it has made
+    # if it is asked to end, it takes away what it has made
     for number in (signal.SIGHUP, signal.SIGINT, signal.SIGTERM):
         signal.signal(number, lambda number, _: sys.exit(128 + number))
     arguments = arguments_of(Arguments, parser().parse_args(words))
+    target_folder = pathlib.Path(arguments.target)
     console.prepare()
     try:
-        counted = publish_files(arguments, program_folder)
+        result_folder.demand_free(target_folder, can_replace=False)
+        publication = two_files.publication_of_files(
+            arguments.poll,
+            arguments.ballots,
+            language_of(arguments.language),
+            casting=arguments.casting,
+            desks=arguments.desks,
+            program_folder=program_folder,
+        )
+        with result_folder.made(publication, target_folder, program_folder) as made:
+            made.take_place(target_folder)
     except Fault as fault:
         return console.failed(PROGRAM, fault.words, fault.status)
     except OSError as error:
         return console.failed(PROGRAM, f"the folder can't be made ({error}): name one that you may make", Status.BAD_OUTPUT)
     try:
-        console.tell_as_it_is(f"{counted.sheet.last_line}\n{counted.verified}\n")
+        console.tell_as_it_is(f"{made.counted.sheet.last_line}\n{made.counted.verified}\n")
     except console.OutputFailed as fault:
         words = f"the output failed; the folder {arguments.target} is made all the same: look at its page index.html"
         return console.failed(PROGRAM, words, fault.status)
-    return counted.status
-
-
-def publish_files(arguments: Arguments, program_folder: pathlib.Path | None) -> Counted:
-    target_folder = pathlib.Path(arguments.target)
-    result_folder.demand_free(target_folder, can_replace=False)
-    publication = two_files.publication_of_files(
-        arguments.poll,
-        arguments.ballots,
-        language_of(arguments.language),
-        casting=arguments.casting,
-        desks=arguments.desks,
-        program_folder=program_folder,
-    )
-    with result_folder.made(publication, target_folder, program_folder) as made:
-        made.take_place(target_folder)
-        return made.counted
+    return made.counted.status

@@ -17,7 +17,7 @@ from debvote_tools.publish.counting import Counted
 from debvote_tools.publish.doubts import Doubt, sentences_of
 from debvote_tools.publish.inputs import Publication
 from debvote_tools.publish.options import Options
-from debvote_tools.publish.picture import shown_picture
+from debvote_tools.publish.picture import MOST_IN_PAGE, drawing_words, picture_in_page
 from debvote_tools.publish.why import Why
 from debvote_tools.rendering import InHtml, render_page, resources
 from debvote_tools.secret.aliases import sealed_checksum
@@ -34,13 +34,12 @@ def page_of(publication: Publication, counted: Counted, doubts: list[Doubt], che
     in_html = InHtml(language.code, language.catalog)
     options = Options(sheet, poll, in_html)
     why = Why(options)
-    in_words = language.say("The defeats as a graph. The list above says the same in words.")
-    picture = shown_picture(counted.picture, len(sheet.names), in_words)
     standing = standing_in(counted.standing_text)
-    style = resources(__package__, "fields.css", "given.css", "page.css")
-    if picture.svg:
-        # it may become smaller than it was drawn, but not too small to be read
-        style += f".picture svg {{ min-width: {picture.least_width}px; }}\n"
+    style, picture = resources(__package__, "fields.css", "given.css", "page.css"), None
+    if counted.picture is not None and len(sheet.names) <= MOST_IN_PAGE:
+        in_words = language.say("The defeats as a graph. The list above says the same in words.")
+        picture, least_width = picture_in_page(counted.picture, in_words)
+        style += f".picture svg {{ min-width: {least_width}px; }}\n"
     return render_page(
         __package__,
         "page.html",
@@ -66,6 +65,7 @@ def page_of(publication: Publication, counted: Counted, doubts: list[Doubt], che
         why=[why.entry(option) for option in sheet.names],
         explanations=explanations_of(poll),
         picture=picture,
+        picture_command=shlex.join(drawing_words(len(sheet.names))),
         ballots=ballots.ballots_of(options, standing, language),
         standing=standing,
         refused=ballots.refused_lines(counted.refused, publication.ballots, in_html),
