@@ -49,7 +49,6 @@ def add_arguments(parser: argparse.ArgumentParser, kind: type[Any]) -> None:
 
 
 def given(arguments: Any, *names: str) -> list[str]:
-    """Which of these options were given."""
     return [f"--{name.replace('_', '-')}" for name in names if getattr(arguments, name) not in (None, False)]
 
 

@@ -39,8 +39,6 @@ class Totals(NamedTuple):
 
 
 class Findings(NamedTuple):
-    """What `explain` says of a poll in order and its ballots."""
-
     refused: list[Finding]
     totals: Totals
 
@@ -87,7 +85,6 @@ class Debvote:
         return findings_in(self.answer("explain", poll_bytes, ballots_bytes).text)
 
     def standing(self, poll_bytes: bytes, ballots_bytes: bytes) -> dict[str, str]:
-        """The ranks of the ballot that stands, by the name of its elector, in the order of the roll."""
         return standing_in(self.answer("standing", poll_bytes, ballots_bytes).text)
 
     def version(self) -> str:
@@ -96,7 +93,6 @@ class Debvote:
 
 
 def refusal(answer: Answer) -> Fault:
-    """The fault of an answer without a text: what debvote said, and its status."""
     said = answer.faults.strip().removeprefix("debvote: ") or f"it ended with status {answer.status}"
     cures: dict[int, str] = {
         Status.BAD_POLL: f"a poll has at most {POLL_LIMIT} bytes; what is wrong with it says debvote-election check",

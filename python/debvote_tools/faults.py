@@ -52,7 +52,6 @@ class Several(Fault):
 
 
 def stop_at(faults: Sequence[Fault]) -> None:
-    """Stops if there are faults."""
     if len(faults) == 1:
         raise faults[0]
     if faults:

@@ -31,7 +31,6 @@ class Written(OSError):
 
 
 def sha256_of(data: bytes) -> str:
-    """As `sha256sum` writes it."""
     return hashlib.sha256(data).hexdigest()
 
 

@@ -57,7 +57,6 @@ class Sheet:
 
     @property
     def left(self) -> list[int]:
-        """The options that are left after the last round."""
         return self.rounds[-1].options
 
     def ended(self, option: int) -> str:

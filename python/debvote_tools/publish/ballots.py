@@ -7,7 +7,7 @@ from markupsafe import Markup
 
 from debvote_tools.ballots import IN_A_LIST, BallotWords
 from debvote_tools.debvote import Finding
-from debvote_tools.language import Language, marked
+from debvote_tools.language import Language
 from debvote_tools.lines import ballot_lines
 from debvote_tools.publish.options import Options
 from debvote_tools.rendering import InHtml
@@ -20,31 +20,13 @@ NAMES_LIMIT = 2_000_000
 SHOWN = 100
 TEXTS_LIMIT = 1_000_000
 
-COLON = marked("{before}: {after}")
 
-
-@dataclasses.dataclass(frozen=True)
-class Ballots:
-    """Elector, ranks and words of each ballot that counts, and whether these words have the names of the options."""
-
-    said: list[tuple[str, str, str]]
-    have_names: bool
-
-
-def ballots_of(options: Options, standing: Mapping[str, str], language: Language) -> Ballots:
-    """The ballots that count, each in words from the first preference on. Many are alike."""
+def words_by_ranks(options: Options, standing: Mapping[str, str], language: Language) -> tuple[dict[str, Markup], bool]:
+    """The ballots that count in words, by their ranks: many are alike; and whether these words have the names of the options."""
     have_names = len(standing) * sum(map(len, options.named.values())) <= NAMES_LIMIT
     shown = [str(named) if have_names else str(option) for option, named in options.named.items()]
     words = BallotWords(shown, language, IN_A_LIST)
-    in_html = {ranks: Markup(words.of(ranks)) for ranks in set(standing.values())}
-    return Ballots([(elector, ranks, in_html[ranks]) for elector, ranks in standing.items()], have_names)
-
-
-def script_words(language: Language) -> dict[str, str]:
-    """The parts of these sentences, with which a script says a ballot as the page does."""
-    between = {"then": IN_A_LIST.then, "and": "{entries} and {last}", "colon": COLON, "semicolon": "{before}; {after}"}
-    said = {name: language.catalog.gettext(getattr(IN_A_LIST, name)) for name in ("equally", "unranked", "nothing")}
-    return said | {name: language.between(text) for name, text in between.items()}
+    return {ranks: Markup(words.of(ranks)) for ranks in set(standing.values())}, have_names
 
 
 # ---------------------------------------------------------------- lines that do not count
@@ -65,7 +47,6 @@ def refused_lines(findings: Iterable[Finding], ballots: bytes, language: InHtml)
 
 
 def late_lines(late: bytes, language: InHtml) -> list[Run]:
-    """The lines that were entered after the close."""
     return runs_of(((number, line, "") for number, line in enumerate(ballot_lines(late), start=1)), language)
 
 

@@ -92,7 +92,6 @@ def demand_same(folder: pathlib.Path, casting_words: list[str], sheet_text: str,
 
 
 def difference(text: str, wanted: str) -> str:
-    """The first line in which two texts differ."""
     lines = itertools.zip_longest(text.splitlines(), wanted.splitlines(), fillvalue="(end)")
     number, (one, other) = next((number, pair) for number, pair in enumerate(lines, start=1) if pair[0] != pair[1])
     return f"line {number} is `{one}`, where debvote has `{other}`"

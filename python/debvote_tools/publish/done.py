@@ -28,7 +28,6 @@ QUIET = (Done.CALLED, Done.CALLED_UNTIL, Done.TAKEN_BACK, Done.KEYRING)
 
 
 def all_acts(publication: Publication, language: Language) -> list[str]:
-    """All that was done, each act with its time."""
     chronicle = publication.chronicle or Chronicle()
     return [dated(act, chronicle, language) for act in chronicle.acts]
 
@@ -41,7 +40,6 @@ def told_acts(publication: Publication, language: Language) -> list[str]:
 
 
 def after_the_end(publication: Publication, language: Language) -> list[str]:
-    """How many ballots came after the end, if there are any."""
     number = publication.chronicle.after_the_end if publication.chronicle else 0
     return [language.say_number(*BALLOTS_AFTER_END, number)] if number else []
 

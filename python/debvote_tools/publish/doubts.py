@@ -52,8 +52,6 @@ IN_SECRET = FOR_READERS | {
 
 @dataclasses.dataclass(frozen=True)
 class Doubt:
-    """A doubt, and what fills its sentence."""
-
     kind: Kind
     places: Mapping[str, Any]
 

@@ -8,16 +8,22 @@ from collections.abc import Mapping
 from typing import Any
 
 from debvote_tools.debvote import casting_words
+from debvote_tools.faults import Fault, Status
 from debvote_tools.files import file_text, read_whole
 from debvote_tools.language import ENGLISH, Language, marked
 from debvote_tools.publish.doubts import Doubt
 from debvote_tools.sealed_poll import SealedPoll
 from debvote_tools.sheet import Sheet, sheet_in
+from debvote_tools.terminal_text import odd_sign
 
-# in bytes
-TEXT_LIMIT = 65_536
+# of the text for the page in bytes, and of the name of who gave the casting vote in characters
+TEXT_LIMIT, NAME_LIMIT = 65_536, 200
+
+# the name is between quotation marks, so that nothing in it reads as words of the program
+REFUSED_IN_NAME = '"\u201c\u201d\u201e\u201f\u2033\uff02\u00ab\u00bb'
 
 
+# ---------------------------------------------------------------- words of those who publish
 def text_in(file: str) -> str:
     """The text of the file that --about was given."""
     data = read_whole(file, TEXT_LIMIT, "give a file that you may read with --about")
@@ -26,11 +32,32 @@ def text_in(file: str) -> str:
 
 @dataclasses.dataclass(frozen=True)
 class CastingVote:
-    """The plain name of the option that it chooses; whose it was and on which day, if that is said."""
+    """The plain name of the option that it chooses; whose it was and on which day, if that is said. No count can show it."""
 
     option: str
     by: str | None = None
     on: datetime.date | None = None
+
+
+def casting_vote_of(option: str, by: str | None, on: str | None, today: datetime.date) -> CastingVote:
+    """The casting vote of the command line. Raises `Fault` unless it says whose it was, and a day that is not to come."""
+    if by is None or on is None:
+        cure = 'say it with --cast-by "NAME" --cast-on 2026-12-05'
+        raise bad_words("--casting", "the page has to say whose casting vote it was, and when it was given", cure)
+    if not by.strip() or odd_sign(by, refused=REFUSED_IN_NAME) is not None or len(by) > NAME_LIMIT:
+        reason = f"it has to be a name on one line, of at most {NAME_LIMIT} characters, and without quotation marks"
+        raise bad_words("--cast-by", reason, "write it anew")
+    try:
+        day = datetime.date.fromisoformat(on)
+    except ValueError:
+        raise bad_words("--cast-on", f"`{on}` is no day", "write it as 2026-12-05") from None
+    if day > today:
+        raise bad_words("--cast-on", f"{day} is to come, and it was given already", "write the day on which it was given")
+    return CastingVote(option, by.strip(), day)
+
+
+def bad_words(option: str, reason: str, cure: str) -> Fault:
+    return Fault(option, reason, cure, Status.BAD_WORDS, "nothing was published")
 
 
 # ---------------------------------------------------------------- acts
@@ -165,5 +192,4 @@ class Publication:
 
     @property
     def casting_words(self) -> list[str]:
-        """The words of the casting vote for debvote."""
         return casting_words(self.casting.option if self.casting else None)

@@ -52,7 +52,6 @@ class Options:
 
     @functools.cached_property
     def named(self) -> dict[int, str]:
-        """Each by its number and its name."""
         return {option: self.language.say(OPTION, number=option, name=name) for option, name in self.names.items()}
 
     @functools.cached_property

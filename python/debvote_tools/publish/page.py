@@ -11,13 +11,14 @@ from markupsafe import Markup
 from debvote_tools.call.data import explanations_of, paragraphs_of
 from debvote_tools.debvote import standing_in
 from debvote_tools.language import ENGLISH, Language
-from debvote_tools.publish import ballots, done, names, scripts
-from debvote_tools.publish.casting_vote import told_if_it_decides
+from debvote_tools.publish import done, names, scripts
+from debvote_tools.publish.ballots import late_lines, refused_lines, words_by_ranks
 from debvote_tools.publish.counting import Counted
 from debvote_tools.publish.doubts import Doubt, sentences_of
 from debvote_tools.publish.inputs import Publication
 from debvote_tools.publish.options import Options
 from debvote_tools.publish.picture import MOST_IN_PAGE, drawing_words, picture_in_page
+from debvote_tools.publish.result_letter import told_if_it_decides
 from debvote_tools.publish.why import Why
 from debvote_tools.rendering import InHtml, render_page, resources
 from debvote_tools.secret.aliases import sealed_checksum
@@ -35,6 +36,7 @@ def page_of(publication: Publication, counted: Counted, doubts: list[Doubt], che
     options = Options(sheet, poll, in_html)
     why = Why(options)
     standing = standing_in(counted.standing_text)
+    ballot_words, have_names = words_by_ranks(options, standing, language)
     style, picture = resources(__package__, "fields.css", "given.css", "page.css"), None
     if counted.picture is not None and len(sheet.names) <= MOST_IN_PAGE:
         in_words = language.say("The defeats as a graph. The list above says the same in words.")
@@ -48,7 +50,7 @@ def page_of(publication: Publication, counted: Counted, doubts: list[Doubt], che
         script=resources(__package__, names.SCRIPT, "count_again.js", "find.js", "fold.js"),
         head=in_html.say("Result: {title}", title=poll.name),
         title=poll.name,
-        colon=language.between(ballots.COLON),
+        colon=language.between(scripts.COLON),
         plain_name=scripts.PLAIN_NAME,
         publication=publication,
         poll=poll,
@@ -66,10 +68,11 @@ def page_of(publication: Publication, counted: Counted, doubts: list[Doubt], che
         explanations=explanations_of(poll),
         picture=picture,
         picture_command=shlex.join(drawing_words(len(sheet.names))),
-        ballots=ballots.ballots_of(options, standing, language),
+        ballot_words=ballot_words,
+        have_names=have_names,
         standing=standing,
-        refused=ballots.refused_lines(counted.refused, publication.ballots, in_html),
-        late=ballots.late_lines(publication.late or b"", in_html),
+        refused=refused_lines(counted.refused, publication.ballots, in_html),
+        late=late_lines(publication.late or b"", in_html),
         acts=done.all_acts(publication, in_html),
         after_the_end=done.after_the_end(publication, in_html),
         remains=[language.say(text) for text in REMAINS] if publication.has_aliases else [],

@@ -23,7 +23,6 @@ SHAPES = {SPACE + name for name in ("svg", "g", "polygon", "polyline", "ellipse"
 
 
 def drawing_words(options: int) -> list[str]:
-    """The command that draws a graph with this number of options."""
     return ["dot", "-Tsvg", *([] if options <= MOST_IN_PAGE else IN_HASTE)]
 
 

@@ -94,7 +94,6 @@ def made(publication: Publication, target_folder: pathlib.Path, program_folder: 
 
 # ---------------------------------------------------------------- what is in it
 def fill(folder: pathlib.Path, publication: Publication, program_folder: pathlib.Path | None) -> Made:
-    """Writes all files of a folder, and counts them."""
     debvote, checksums = Debvote(folder, program_folder), dict[str, str]()
 
     def write(files: dict[str, bytes]) -> None:

@@ -3,10 +3,14 @@
 from collections.abc import Mapping
 
 from debvote_tools.call.data import OPTION
-from debvote_tools.publish.casting_vote import told_if_it_decides
-from debvote_tools.publish.inputs import Publication
+from debvote_tools.language import Language, marked
+from debvote_tools.publish.inputs import CastingVote, Publication
 from debvote_tools.rendering import render_letter
 from debvote_tools.sheet import Sheet
+from debvote_tools.times import date_in_words
+
+WHOSE = marked('The secretary says that the casting vote was that of "{name}", given on {date}. No count can show this.')
+NOBODYS = marked("Those who publish this page do not say whose casting vote it was, or when it was given.")
 
 
 def letter_of(publication: Publication, sheet: Sheet, checksums: Mapping[str, str]) -> bytes:
@@ -31,3 +35,13 @@ def outcome_in_words(publication: Publication, sheet: Sheet) -> str:
     if sheet.winner is None:
         return language.say("Tie: {options}", options=options)
     return language.say("Winner: {option} by casting vote" if sheet.is_by_casting else "Winner: {option}", option=options)
+
+
+def told(vote: CastingVote, language: Language) -> str:
+    if vote.by is None or vote.on is None:
+        return language.say(NOBODYS)
+    return language.say(WHOSE, name=vote.by, date=date_in_words(vote.on, language))
+
+
+def told_if_it_decides(publication: Publication, sheet: Sheet) -> str:
+    return told(publication.casting, publication.language) if sheet.is_by_casting and publication.casting else ""

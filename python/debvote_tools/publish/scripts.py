@@ -2,13 +2,14 @@
 
 import json
 
+from debvote_tools.ballots import IN_A_LIST
 from debvote_tools.call.data import OPTION
 from debvote_tools.language import Language, marked
 from debvote_tools.plain_names import PLAIN_LETTERS, PUNCTUATION, SPELLINGS
-from debvote_tools.publish.ballots import script_words
 from debvote_tools.publish.inputs import Publication
 
 PLAIN_NAME = marked("plain name, on the result sheet: {name}")
+COLON = marked("{before}: {after}")
 
 FIND = {
     "unread": marked("The files of this page can't be counted: {fault}. Tell the other electors."),
@@ -95,5 +96,7 @@ def find_letters(language: Language) -> str:
 
 
 def again_words(language: Language) -> str:
-    """For the script that counts again, as JSON."""
-    return language.words(COUNT_AGAIN, **script_words(language))
+    """For the script that counts again, as JSON; it says a ballot as the page does."""
+    ballots = {"equally": IN_A_LIST.equally, "unranked": IN_A_LIST.unranked, "nothing": IN_A_LIST.nothing}
+    between = {"then": IN_A_LIST.then, "and": "{entries} and {last}", "colon": COLON, "semicolon": "{before}; {after}"}
+    return language.words(COUNT_AGAIN | ballots, **{name: language.between(text) for name, text in between.items()})

@@ -34,8 +34,6 @@ LOSES_NEXT = marked("{before}, which loses to {option} by {over} to {under}")
 
 
 class Why:
-    """The reasons of each option of a sheet."""
-
     def __init__(self, options: Options) -> None:
         self.options, self.sheet, self.language = options, options.sheet, options.language
         self.say, self.votes = options.language.say, options.sheet.votes

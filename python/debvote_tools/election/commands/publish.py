@@ -19,9 +19,8 @@ from debvote_tools.faults import Fault, Status
 from debvote_tools.files import locked
 from debvote_tools.language import LANGUAGES
 from debvote_tools.publish import result_folder
-from debvote_tools.publish.casting_vote import casting_vote_of
 from debvote_tools.publish.counting import Counted
-from debvote_tools.publish.inputs import Publication, text_in
+from debvote_tools.publish.inputs import Publication, casting_vote_of, text_in
 
 HELP = "Make the folder of the result for a web site; without options, make the last one again"
 
