@@ -80,13 +80,19 @@ def sheet_of(lines: list[str]) -> Sheet:
     """Raises ValueError or LookupError if the lines are no sheet."""
     # the first line is the title's, which may be any of these words
     options, votes, dropped, defeats = (lines.index(head, 1) for head in ("Options:", "Votes:", "Dropped:", "Defeats:"))
-    rounds = next((index for index in range(defeats, len(lines)) if lines[index].startswith("Round ")), len(lines))
+    first_round = next((index for index in range(defeats, len(lines)) if lines[index].startswith("Round ")), len(lines))
     facts = dict(line.split(": ", 1) for line in lines[:options])
     multiple, quorum = parts_of(QUORUM_LINE, facts["Quorum"])
     shown = [parts_of(OPTION_LINE, line) for line in lines[options + 1 : votes]]
     names = {int(option): name for option, _, name in shown}
     rows = [line.split() for line in lines[votes + 2 : dropped]]
     causes = [line.split() for line in lines[dropped + 1 : defeats] if line != "  none"]
+    rounds: list[Round] = []
+    for line in lines[first_round:-1]:
+        if line.startswith("Round "):
+            rounds.append(Round([int(option) for option in line.split(": ")[1].split()], []))
+        else:
+            rounds[-1].removed.append(pair_in(line))
     winner = re.fullmatch(r"Winner: (\d+) (.*)", lines[-1])
     outside = re.fullmatch(r"Tie: [\d ]+, casting option (\d+) is not among them", lines[-1])
     return Sheet(
@@ -104,25 +110,14 @@ def sheet_of(lines: list[str]) -> Sheet:
         ratios={int(option): int(ratio) for option, ratio, _ in shown if ratio},
         votes={(int(row[0]), b): int(cell) for row in rows for b, cell in enumerate(row[1:], start=1) if cell != "-"},
         dropped={int(option): cause for option, cause in causes},
-        defeats=[pair_in(line) for line in lines[defeats + 1 : rounds] if line != "  none"],
-        rounds=rounds_in(lines[rounds:-1]),
+        defeats=[pair_in(line) for line in lines[defeats + 1 : first_round] if line != "  none"],
+        rounds=rounds,
         last_line=lines[-1],
         winner=int(winner[1]) if winner else None,
         # a name may itself end with the words that mark a casting vote
         is_by_casting=winner is not None and winner[2] != names[int(winner[1])],
         casting_outside=int(outside[1]) if outside else None,
     )
-
-
-def rounds_in(lines: list[str]) -> list[Round]:
-    """The rounds; the line of each is followed by the defeats that it removes."""
-    rounds: list[Round] = []
-    for line in lines:
-        if line.startswith("Round "):
-            rounds.append(Round([int(option) for option in line.split(": ")[1].split()], []))
-        else:
-            rounds[-1].removed.append(pair_in(line))
-    return rounds
 
 
 def pair_in(line: str) -> Pair:

@@ -6,7 +6,6 @@ import enum
 from collections.abc import Iterable, Mapping
 from typing import Any
 
-from debvote_tools.faults import Fault, Status
 from debvote_tools.language import Language, marked
 from debvote_tools.sheet import Sheet
 from debvote_tools.times import time_in_words
@@ -78,12 +77,6 @@ def doubts_about(sheet: Sheet) -> list[Doubt]:
     if 2 * sheet.refused > sheet.lines:
         found.append(Doubt.of(Kind.MOSTLY_REFUSED, refused=sheet.refused, lines=sheet.lines))
     return found
-
-
-def stop(found: Iterable[Doubt]) -> Fault:
-    """The fault that ends the run at doubts; it says all of them."""
-    cure = 'put it right, or publish it as it is with --force --because "TEXT", and the page tells it'
-    return Fault(None, "; ".join(doubt.told() for doubt in found), cure, Status.DOUBT, "nothing was published")
 
 
 def sentences_of(found: Iterable[Doubt], language: Language, *, is_secret: bool) -> list[str]:

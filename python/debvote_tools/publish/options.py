@@ -1,8 +1,5 @@
 """The options of a sheet: how the page names them, how it ended for each, and what is on its bar."""
 
-import dataclasses
-import functools
-
 from markupsafe import Markup
 
 from debvote_tools.call.data import OPTION
@@ -37,34 +34,20 @@ MARKS = {
 }
 
 
-@dataclasses.dataclass(frozen=True)
 class Options:
     """The options by their numbers. A name that is not plain may be written from right to left, and turns nothing around it."""
 
-    sheet: Sheet
-    poll: SealedPoll
-    language: InHtml
-
-    @functools.cached_property
-    def names(self) -> dict[int, str]:
-        pairs = enumerate(zip(self.poll.names, self.poll.plain_names), start=1)
-        return {option: name if name == plain else self.language.given(name) for option, (name, plain) in pairs}
-
-    @functools.cached_property
-    def named(self) -> dict[int, str]:
-        return {option: self.language.say(OPTION, number=option, name=name) for option, name in self.names.items()}
-
-    @functools.cached_property
-    def said(self) -> dict[int, str]:
-        """Each as part of a sentence."""
-        return {option: Markup('<b data-option="{}">{}</b>').format(option, named) for option, named in self.named.items()}
-
-    @functools.cached_property
-    def marks(self) -> dict[int, tuple[str, str]]:
-        """How each ended that is marked in the table: the class of its row, and words."""
-        ended = {option: self.sheet.ended(option) for option in self.sheet.names}
-        classes = {option: "dropped" if option in self.sheet.dropped else word for option, word in ended.items()}
-        return {option: (classes[option], self.language.say(MARKS[word])) for option, word in ended.items() if word in MARKS}
+    def __init__(self, sheet: Sheet, poll: SealedPoll, language: InHtml) -> None:
+        self.sheet, self.language, say = sheet, language, language.say
+        pairs = enumerate(zip(poll.names, poll.plain_names), start=1)
+        self.names = {option: name if name == plain else language.given(name) for option, (name, plain) in pairs}
+        # with their numbers, and as part of a sentence
+        self.named = {option: say(OPTION, number=option, name=name) for option, name in self.names.items()}
+        self.said = {option: Markup('<b data-option="{}">{}</b>').format(option, named) for option, named in self.named.items()}
+        # of each that is marked in the table the class of its row, and words
+        ended = {option: sheet.ended(option) for option in sheet.names}
+        classes = {option: "dropped" if option in sheet.dropped else word for option, word in ended.items()}
+        self.marks = {option: (classes[option], say(MARKS[word])) for option, word in ended.items() if word in MARKS}
 
     def joined(self, options: list[int]) -> str:
         return self.language.joined(self.said[option] for option in options)

@@ -14,7 +14,7 @@ from debvote_tools.files import sha256_of, sync_folder, temporary_folder, write_
 from debvote_tools.lines import CODE_WITHIN
 from debvote_tools.publish import names
 from debvote_tools.publish.counting import KEEP_FILES, Counted, ask_the_rest, count_files, demand_same
-from debvote_tools.publish.doubts import Doubt, doubts_about, stop
+from debvote_tools.publish.doubts import Doubt, doubts_about
 from debvote_tools.publish.inputs import Publication
 from debvote_tools.publish.page import page_of
 from debvote_tools.publish.result_letter import letter_of
@@ -136,7 +136,8 @@ def demand_publishable(publication: Publication, sheet: Sheet, sheet_text: str) 
         sheet = publication.secret.sheet
     doubts = [*doubts_about(sheet), *publication.doubts]
     if doubts and publication.chronicle is not None and not publication.is_forced:
-        raise stop(doubts)
+        cure = 'put it right, or publish it as it is with --force --because "TEXT", and the page tells it'
+        raise Fault(None, "; ".join(doubt.told() for doubt in doubts), cure, Status.DOUBT, "nothing was published")
     tell_aside(*(f"Note: {doubt.told()}; the page tells it" for doubt in doubts))
     return doubts
 
