@@ -9,6 +9,7 @@ import shutil
 import signal
 import tempfile
 from collections.abc import Iterator
+from typing import BinaryIO
 
 from debvote_tools.faults import Fault, Status
 from debvote_tools.terminal_text import number_of, odd_sign
@@ -89,10 +90,7 @@ def write_whole(file: pathlib.Path, data: bytes, mode: int) -> None:
     handle, name = tempfile.mkstemp(prefix=TEMPORARY, dir=file.parent)
     try:
         with os.fdopen(handle, "wb") as target:
-            target.write(data)
-            target.flush()
-            os.fchmod(target.fileno(), mode)
-            os.fsync(target.fileno())
+            write_through(target, data, mode)
         os.rename(name, file)
     except BaseException as error:
         with contextlib.suppress(OSError):
@@ -128,10 +126,14 @@ def whole_folder(place: pathlib.Path) -> Iterator[pathlib.Path]:
 def write_public(file: pathlib.Path, data: bytes) -> None:
     """Writes a new file that everybody may read, whatever the umask, and brings it to the disk. Raises OSError."""
     with open(file, "xb") as target:
-        target.write(data)
-        target.flush()
-        os.fchmod(target.fileno(), 0o644)
-        os.fsync(target.fileno())
+        write_through(target, data, 0o644)
+
+
+def write_through(target: BinaryIO, data: bytes, mode: int) -> None:
+    target.write(data)
+    target.flush()
+    os.fchmod(target.fileno(), mode)
+    os.fsync(target.fileno())
 
 
 @contextlib.contextmanager
@@ -160,12 +162,10 @@ def in_memory(data: bytes) -> Iterator[str]:
     except OSError as error:
         words = f"there is none for a copy of the input ({error.strerror})"
         raise Fault("memory", words, "run the command again", Status.BAD_OUTPUT) from None
-    try:
-        with open(handle, "wb", closefd=False) as target:
-            target.write(data)
+    with open(handle, "wb") as target:
+        target.write(data)
+        target.flush()
         yield f"/proc/{os.getpid()}/fd/{handle}"
-    finally:
-        os.close(handle)
 
 
 @contextlib.contextmanager
