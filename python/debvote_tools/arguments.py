@@ -35,17 +35,17 @@ def flag(help: str, **how: Any) -> Any:
 
 def add_arguments(parser: argparse.ArgumentParser, kind: type[Any]) -> None:
     fields = {field.name: dict(field.metadata) for field in dataclasses.fields(kind)}
-    groups: dict[str, Any] = {}
+    groups: dict[str | None, Any] = {None: parser}
     for owner in kind.__mro__:
         for field in (name for name in owner.__dict__.get("__annotations__", {}) if name in fields):
             how = fields[field]
             group = how.pop("group", None)
-            target = parser if group is None else groups.setdefault(group, None) or parser.add_mutually_exclusive_group()
-            groups |= {} if group is None else {group: target}
+            if group not in groups:
+                groups[group] = parser.add_mutually_exclusive_group()
             if how.pop("is_positional", False):
-                target.add_argument(field, **how)
+                groups[group].add_argument(field, **how)
             else:
-                target.add_argument(how.pop("name", f"--{field.replace('_', '-')}"), dest=field, **how)
+                groups[group].add_argument(how.pop("name", f"--{field.replace('_', '-')}"), dest=field, **how)
 
 
 def given(arguments: Any, *names: str) -> list[str]:

@@ -33,6 +33,10 @@ def numbered(one: str, many: str) -> tuple[str, str]:
 class Language:
     """A language, by its code. It says sentences in plain text; `rendering.InHtml` says them in HTML."""
 
+    # how a text is written that is not the program's, that a reader has to see or compares character by character, and a link
+    GIVEN = STRONG = EXACT = "{}"
+    LINK = "{1}"
+
     code: str
     catalog: gettext.NullTranslations
 
@@ -70,22 +74,20 @@ class Language:
 
     # ------------------------------------------------------------ texts within a sentence
     def given(self, text: str) -> str:
-        """A text that is not the program's, as a name. It may be written from right to left, and turns nothing around it."""
-        return text
-
-    def strong(self, text: str) -> str:
-        return text
+        """A text that may be written from right to left, and turns nothing around it."""
+        return self.made(self.GIVEN).format(text)
 
     def quoted(self, text: str) -> str:
-        """A text that is not the program's, between quotation marks."""
         return QUOTATION_MARKS[self.code].format(text)
 
+    def strong(self, text: str) -> str:
+        return self.made(self.STRONG).format(text)
+
     def exact(self, text: str) -> str:
-        """A text that a reader compares character by character."""
-        return text
+        return self.made(self.EXACT).format(text)
 
     def link(self, address: str, text: str) -> str:
-        return text
+        return self.made(self.LINK).format(address, text)
 
 
 ENGLISH = Language("en", gettext.NullTranslations())

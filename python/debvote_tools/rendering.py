@@ -27,24 +27,15 @@ COLUMNS = 72
 class InHtml(Language):
     """A language that says sentences in HTML, and escapes what is put into them."""
 
+    GIVEN, STRONG, EXACT = "<bdi>{}</bdi>", "<b>{}</b>", "<code>{}</code>"
+    LINK = '<a href="{}">{}</a>'
+
     def made(self, text: str) -> Markup:
         return Markup(text)
-
-    def given(self, text: str) -> Markup:
-        return Markup("<bdi>{}</bdi>").format(text)
-
-    def strong(self, text: str) -> Markup:
-        return Markup("<b>{}</b>").format(text)
 
     def quoted(self, text: str) -> Markup:
         # the browser adds the quotation marks of the language
         return Markup("<q><bdi>{}</bdi></q>").format(text)
-
-    def exact(self, text: str) -> Markup:
-        return Markup("<code>{}</code>").format(text)
-
-    def link(self, address: str, text: str) -> Markup:
-        return Markup('<a href="{}">{}</a>').format(address, text)
 
 
 # ---------------------------------------------------------------- templates
