@@ -1,6 +1,6 @@
 """What both programs say and ask: only this module writes to standard output and standard error, and reads an answer.
 
-No text that is told has a character that steers a terminal (`terminal_text.written`), but for what debvote wrote, which has none.
+Characters that steer a terminal are replaced (`terminal_text.written`); what debvote wrote has none, and is written as it is.
 """
 
 import contextlib

@@ -62,7 +62,7 @@ RESULT = {
 def result(now: Composer, ended: str = "Winner: {option} by casting vote", *, has_ballot: bool = True, **other: object) -> str:
     """The letter of a result that the casting vote decided."""
     language = now.call.language
-    casting = result_letter.told(CastingVote("Lake", "the chair", datetime.date(2026, 11, 24)), language)
+    casting = result_letter.casting_in_words(CastingVote("Lake", "the chair", datetime.date(2026, 11, 24)), language)
     own = {"ended": language.say(ended, option="Option 1: Lake", options="Option 2: Hall"), "casting": casting}
     return now.text(Kind.RESULT, ADA, has_ballot=has_ballot, **RESULT | own | other)
 

@@ -66,8 +66,8 @@ class Doubt:
     def as_data(self) -> dict[str, str | int]:
         return {"kind": str(self.kind), **self.places}
 
-    def told(self) -> str:
-        """The doubt for the secretary, with what to do about it."""
+    def for_secretary(self) -> str:
+        """The doubt, with what to do about it."""
         return FOR_SECRETARY[self.kind].format(**self.places)
 
 

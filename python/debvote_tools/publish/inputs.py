@@ -136,7 +136,7 @@ class Chronicle:
 class SecretVote:
     """What is known of a secret vote, and is not published as it is."""
 
-    # the codes of the electors, of which none gets into the folder
+    # the codes of the electors; none gets into the folder
     codes: frozenset[str]
     # the random line of the last close, if it made one
     seal: str | None
@@ -178,7 +178,7 @@ class Publication:
     is_forced: bool = False
     doubts: tuple[Doubt, ...] = ()
     secret: SecretVote | None = None
-    # whether the names on the roll are codes, of which nobody has a list
+    # whether the names on the roll are codes, and nobody has a list of them
     has_codes: bool = False
 
     @property

@@ -137,8 +137,8 @@ def demand_publishable(publication: Publication, sheet: Sheet, sheet_text: str) 
     doubts = [*doubts_about(sheet), *publication.doubts]
     if doubts and publication.chronicle is not None and not publication.is_forced:
         cure = 'put it right, or publish it as it is with --force --because "TEXT", and the page tells it'
-        raise Fault(None, "; ".join(doubt.told() for doubt in doubts), cure, Status.DOUBT, "nothing was published")
-    tell_aside(*(f"Note: {doubt.told()}; the page tells it" for doubt in doubts))
+        raise Fault(None, "; ".join(doubt.for_secretary() for doubt in doubts), cure, Status.DOUBT, "nothing was published")
+    tell_aside(*(f"Note: {doubt.for_secretary()}; the page tells it" for doubt in doubts))
     return doubts
 
 

@@ -37,11 +37,11 @@ def outcome_in_words(publication: Publication, sheet: Sheet) -> str:
     return language.say("Winner: {option} by casting vote" if sheet.is_by_casting else "Winner: {option}", option=options)
 
 
-def told(vote: CastingVote, language: Language) -> str:
+def casting_in_words(vote: CastingVote, language: Language) -> str:
     if vote.by is None or vote.on is None:
         return language.say(NOBODYS)
     return language.say(WHOSE, name=vote.by, date=date_in_words(vote.on, language))
 
 
 def told_if_it_decides(publication: Publication, sheet: Sheet) -> str:
-    return told(publication.casting, publication.language) if sheet.is_by_casting and publication.casting else ""
+    return casting_in_words(publication.casting, publication.language) if sheet.is_by_casting and publication.casting else ""
