@@ -16,8 +16,7 @@ from support import FILES, plain_room, publish
 
 sys.path.append(str(support.ROOT / "python"))
 
-from debvote_tools.language import ENGLISH  # noqa: E402
-from debvote_tools.publish import result_folder, two_files  # noqa: E402
+from debvote_tools.publish import command_line, result_folder  # noqa: E402
 
 NEEDS_BROWSER = unittest.skipUnless(at_browser.BROWSER, "chromium is not installed")
 
@@ -150,7 +149,8 @@ class ScriptsTest(support.PublishTest):
     def test_finding_a_ballot_by_its_code(self):
         """Where codes are on the roll, half a code is not called the code of nobody."""
         room, programs = self.secret, support.PROGRAM.parent
-        two = two_files.publication_of_files(str(room / "poll.toml"), str(room / "ballots"), ENGLISH, casting=None, desks=1, program_folder=programs)
+        given = command_line.Arguments(str(room / "poll.toml"), str(room / "ballots"), None, 1, "en", "result")
+        two = command_line.publication_of(given, programs)
         by_code = plain_room(self.scratch / "codes")
         with result_folder.made(dataclasses.replace(two, has_codes=True), by_code / "result", programs) as made:
             made.take_place(by_code / "result")

@@ -18,8 +18,7 @@ from debvote_tools.publish.doubts import Doubt, doubts_about
 from debvote_tools.publish.inputs import Publication
 from debvote_tools.publish.page import page_of
 from debvote_tools.publish.result_letter import letter_of
-from debvote_tools.publish.sheet_data import result_json, votes_csv
-from debvote_tools.sheet import Sheet, sheet_in
+from debvote_tools.sheet import Sheet, result_json, sheet_in, votes_csv
 
 # of the programs and the guide: where the package has them, and where a checkout has them
 HERE = pathlib.Path(__file__).resolve().parent
