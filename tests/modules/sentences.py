@@ -50,8 +50,7 @@ def texts_of(call: ast.Call) -> list[tuple[str, ...]]:
     """The sentences in a call."""
     name = call.func.attr if isinstance(call.func, ast.Attribute) else call.func.id if isinstance(call.func, ast.Name) else ""
     if name in WITH_TWO:
-        # the second argument is missing where a pair is passed on, which `numbered` has marked
-        one, many = [literals(word) for word in call.args[:2]] if len(call.args) > 1 else ([], [])
+        one, many = (literals(word) for word in call.args[:2])
         return [(first, second) for first in one for second in many]
     if name in WITH_ONE and call.args:
         return [(text,) for text in literals(call.args[0])]
