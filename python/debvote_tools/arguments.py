@@ -40,18 +40,17 @@ def flag(help: str, **how: Any) -> Any:
 
 
 def add_arguments(parser: argparse.ArgumentParser, kind: type[Options]) -> None:
-    groups: dict[str, Any] = {}
+    groups: dict[str | None, Any] = {None: parser}
     for owner in kind.__mro__:
         for field in owner.__dict__.get("__annotations__", {}):
             how = dict(owner.__dict__[field])
             group = how.pop("group", None)
-            if group is not None and group not in groups:
+            if group not in groups:
                 groups[group] = parser.add_mutually_exclusive_group()
-            target = groups.get(group, parser)
             if how.pop("is_positional", False):
-                target.add_argument(field, **how)
+                groups[group].add_argument(field, **how)
             else:
-                target.add_argument(how.pop("name", f"--{field.replace('_', '-')}"), dest=field, **how)
+                groups[group].add_argument(how.pop("name", f"--{field.replace('_', '-')}"), dest=field, **how)
 
 
 def given(arguments: Options, *names: str) -> list[str]:

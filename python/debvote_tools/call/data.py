@@ -9,9 +9,8 @@ from collections.abc import Mapping
 
 from debvote_tools.ballots import UNRANKED, ranks_in_words
 from debvote_tools.faults import Fault, Status
-from debvote_tools.language import Language
+from debvote_tools.language import Language, marked
 from debvote_tools.sealed_poll import SealedPoll
-from debvote_tools.sentences import marked
 
 MAIL = re.compile(r"[A-Za-z0-9_][A-Za-z0-9._+=-]*@[A-Za-z0-9-]+(\.[A-Za-z0-9-]+)*")
 MAIL_LIMIT = 254

@@ -1,10 +1,9 @@
 """What is made from a call: the letters in plain text, the page, and the files of the folder `call`."""
 
-from debvote_tools import pages
 from debvote_tools.call.data import OPTION, SUBJECT, CallData
 from debvote_tools.files import sha256_of
-from debvote_tools.rendering import render_letter, render_page
-from debvote_tools.sentences import marked
+from debvote_tools.language import marked
+from debvote_tools.rendering import render_letter, render_page, resources
 
 PACKAGE = "debvote_tools.call"
 
@@ -58,8 +57,8 @@ def call_page(call: CallData) -> bytes:
     sentences = SENTENCES
     if not call.is_open:
         sentences = SENTENCES | {"type_name": TYPE_CODE if call.has_codes_on_roll else TYPE_NAME_IN_SECRET}
-    style = pages.FIELDS_STYLE + pages.GIVEN_STYLE + pages.resource(PACKAGE, "ballot.css")
-    script, script_words = pages.resource(PACKAGE, "ballot.js"), call.language.words(sentences)
+    style, script = resources(PACKAGE, "fields.css", "given.css", "ballot.css"), resources(PACKAGE, "ballot.js")
+    script_words = call.language.words(sentences)
     return render_page(PACKAGE, "page.html", call.language, style=style, script=script, call=call, script_words=script_words)
 
 

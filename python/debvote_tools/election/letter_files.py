@@ -6,13 +6,12 @@ import pathlib
 import shutil
 from collections.abc import Iterator, Mapping
 
-from debvote_tools import pages
 from debvote_tools.book.sent import TAKEN, SentLetter
 from debvote_tools.election.letters_due import LettersDue
 from debvote_tools.files import TEMPORARY, sync_folder, temporary_folder
 from debvote_tools.letters_out.compose import PACKAGE
 from debvote_tools.letters_out.message import message_of, one_line
-from debvote_tools.rendering import render_page
+from debvote_tools.rendering import render_page, resources
 
 TO_PRINT = "to-print.html"
 
@@ -38,7 +37,7 @@ def letter_files(due: LettersDue) -> dict[str, bytes]:
             name = f"{elector.name}_{len(files)}" if f"{elector.name}.eml" in files else elector.name
             files[f"{name}.eml"] = message(due, letter, is_draft=True)
     if printed:
-        call, style = due.composer.call, pages.resource(PACKAGE, "letter.css")
+        call, style = due.composer.call, resources(PACKAGE, "letter.css")
         files[TO_PRINT] = render_page(PACKAGE, "print.html", call.language, style=style, title=call.poll.name, letters=printed)
     return files
 

@@ -19,12 +19,10 @@ from debvote_tools.letters.judge import JudgedLetter, Outcome
 from debvote_tools.letters_out.compose import Became, Came, Composer, Kind
 from debvote_tools.letters_out.message import new_message_id
 from debvote_tools.lines import ballot_file
-from debvote_tools.publish.casting_vote import told_if_it_decides
 from debvote_tools.publish.done import told_acts
 from debvote_tools.publish.doubts import Doubt, sentences_of
 from debvote_tools.publish.inputs import Publication
-from debvote_tools.publish.result_letter import outcome_in_words
-from debvote_tools.rendering import InText
+from debvote_tools.publish.result_letter import outcome_in_words, told_if_it_decides
 from debvote_tools.secret.words import BY_PYTHON
 from debvote_tools.sheet import sheet_in
 from debvote_tools.times import now
@@ -187,7 +185,7 @@ class LettersDue:
             "checksums": act.detail["checksums"],
             "doubts": sentences_of(map(Doubt.from_data, act.detail["doubts"]), language, is_secret=sealed.is_aliased),
             "because": words.because,
-            "acts": told_acts(publication, InText(language)),
+            "acts": told_acts(publication, language),
         }
         return self.to_each(
             act.number,

@@ -15,12 +15,11 @@ from collections.abc import Iterator, Sequence
 from debvote_tools.book.queries import Elector
 from debvote_tools.book.sent import About
 from debvote_tools.call.data import CallData
-from debvote_tools.language import Language
+from debvote_tools.language import Language, marked
 from debvote_tools.letters.readings import BALLOT, NAMED, Near, repaired
 from debvote_tools.letters.reasons import Because, for_elector
 from debvote_tools.letters_out.message import one_line
 from debvote_tools.rendering import render_letter
-from debvote_tools.sentences import marked
 from debvote_tools.times import time_in_words
 
 PACKAGE = "debvote_tools.letters_out"

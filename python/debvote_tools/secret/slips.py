@@ -2,9 +2,8 @@
 
 from collections.abc import Sequence
 
-from debvote_tools import pages
 from debvote_tools.call.data import CallData
-from debvote_tools.rendering import render_page
+from debvote_tools.rendering import render_page, resources
 from debvote_tools.secret.codes import CodeRow
 from debvote_tools.secret.words import BY_PYTHON
 
@@ -13,5 +12,5 @@ PACKAGE = "debvote_tools.secret"
 
 def slips(call: CallData, electors: Sequence[CodeRow]) -> bytes:
     """The page of slips. It loads nothing, and has no script. With codes on the roll the name of an elector is the code."""
-    style = pages.resource(PACKAGE, "slips.css")
+    style = resources(PACKAGE, "slips.css")
     return render_page(PACKAGE, "slips.html", call.language, style=style, call=call, electors=electors, command=BY_PYTHON)

@@ -53,11 +53,9 @@ def what_next(election: Election, history: History, sheet: Sheet, casting: str |
     """What the secretary does with this sheet. Before the close it is no result yet."""
     over = "" if history.is_closed else f"this is no result yet: when the vote is over {election.command('close')}, then "
     cast = ("--cast-by", "WHO", "--cast-on", "DATE")
-    winner = sheet.winner()
-    if winner is not None:
-        return over + election.command("publish", *((*casting_words(casting), *cast) if winner.is_by_casting else ()))
-    names = [sheet.names[option] for option in sheet.final_set()]
-    outside = sheet.casting_outside()
+    if sheet.winner is not None:
+        return over + election.command("publish", *((*casting_words(casting), *cast) if sheet.is_by_casting else ()))
+    names, outside = [sheet.names[option] for option in sheet.left], sheet.casting_outside
     why = f"; {in_shell([sheet.names[outside]])} is not among them" if outside is not None else ""
     commands = " or ".join(election.command("publish", *casting_words(name), *cast) for name in names)
     return f"{over}it is a tie between {in_shell(names)}{why}; who has the casting vote chooses one of them: {commands}"

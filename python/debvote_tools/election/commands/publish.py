@@ -18,10 +18,8 @@ from debvote_tools.faults import Fault, Status
 from debvote_tools.files import locked
 from debvote_tools.language import LANGUAGES
 from debvote_tools.publish import result_folder
-from debvote_tools.publish.casting_vote import casting_vote_of
 from debvote_tools.publish.counting import Counted
-from debvote_tools.publish.inputs import Publication
-from debvote_tools.publish.texts import text_in
+from debvote_tools.publish.inputs import Publication, casting_vote_of, text_in
 
 
 class Arguments(acting.Arguments):
@@ -46,7 +44,7 @@ def run(election: Election, arguments: Arguments) -> int:
     counted, is_new = publish(election, arguments, folder)
     as_before = "" if is_new else ", as it was published before; nothing was changed in the book"
     tell(counted.sheet.last_line, counted.verified, f"Made the folder {folder}{as_before}.")
-    if counted.sheet.winner() is not None:
+    if counted.sheet.winner is not None:
         tell(f"Next: put the folder {folder} on the web site as it is, then {election.command('letters', 'result')}")
     else:
         chosen = election.command("publish", *casting_words("NAME"), "--cast-by", "WHO", "--cast-on", "DATE")
