@@ -149,7 +149,8 @@ class ScriptsTest(support.PublishTest):
     def test_finding_a_ballot_by_its_code(self):
         """Where codes are on the roll, half a code is not called the code of nobody."""
         room, programs = self.secret, support.PROGRAM.parent
-        given = command_line.Arguments(str(room / "poll.toml"), str(room / "ballots"), None, 1, "en", "result")
+        files = {"poll": str(room / "poll.toml"), "ballots": str(room / "ballots")}
+        given = command_line.Arguments(**files, casting=None, desks=1, language="en", target="result")
         two = command_line.publication_of(given, programs)
         by_code = plain_room(self.scratch / "codes")
         with result_folder.made(dataclasses.replace(two, has_codes=True), by_code / "result", programs) as made:
