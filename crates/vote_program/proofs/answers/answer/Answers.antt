@@ -13,4 +13,4 @@ returns-in-Ok-clause-worded g c some =
     rw texts at c.answer_words.ensures.answers
 
 pub returns-in-Ok-clause-sheet : goal.returns-in-Ok-clause-sheet
-returns-in-Ok-clause-sheet g c some = of_words _ _ _ _ _ (returns-in-Ok-clause-worded g c some)
+returns-in-Ok-clause-sheet g c some = of_words _ _ _ _ _ _ (returns-in-Ok-clause-worded g c some)
