@@ -5,12 +5,10 @@ use Rattle.vote_files.specs.Device.{IsTooLong}
 use Rattle.vote_files.specs.Sources.{HasRead, Reading}
 use Rattle.vote_files.specs.declared.ReadFault.{ReadFault}
 use Rattle.vote_files.specs.declared.ReadFault.TheVariants as read
-use Rattle.vote_request.specs.Requests.{ballot_file, poll_file, sheet_file}
-use Rattle.vote_command_line.specs.ParsedArgs.{NamedRequest}
 use Rattle.vote_commands.specs.declared.InputFile.{InputFile}
 use Rattle.vote_commands.specs.declared.InputFile.TheVariants as file
 use Rattle.vote_commands.specs.declared.RunFault.{RunFault}
-use Rattle.vote_program.specs.Reading.{IsOneUnread, IsUnread, all_read, limit_of, named_files, read_whole}
+use Rattle.vote_program.specs.Reading.{IsUnread, all_read, limit_of, read_whole}
 
 -- ---- what is told of readings
 told_more : {A : Type 0} (old mid new : Option (List A)) (first second : List A)
@@ -33,6 +31,7 @@ read_of named = option_to_list (option_map (λ name. read_whole name.now) named)
 abbrev pub failed_at : List ℕ → ReadFault → Reading
 failed_at name fault = record { name = name; fault = Some fault }
 
+-- all that a request names
 abbrev pub files_named : List ℕ → Option (Bor (List ℕ)) → Option (Bor (List ℕ)) → List (InputFile × List ℕ)
 files_named poll ballots sheet =
     (file.Poll, poll) ∷ option_to_list (option_map (λ name. (file.Ballots, name.now)) ballots) ++ option_to_list (option_map (λ name. (file.Sheet, name.now)) sheet)
@@ -52,22 +51,28 @@ module _ (file_bytes : List ℕ → Option (List ℕ)) (told : RunFault) where
       (unread.0, on unread.0 unread.1, subst (λ known. unread.0 ≡ read.TooLong → IsTooLong (known name) (limit_of kind)) same unread.2, unread.3)
 
 module _ {S : Type 0} (readings : S → Option (List Reading)) (file_bytes : List ℕ → Option (List ℕ)) (told : RunFault) where
+  -- the poll was not read
+  pub poll_unread : (start end : S) (poll : List ℕ) (ballots sheet : Option (Bor (List ℕ)))
+      → IsUnread file.Poll (file_bytes poll) (limit_of file.Poll) (λ fault. HasRead readings start end (failed_at poll fault ∷ [])) told
+      → IsAmongUnread file_bytes (HasRead readings start end) told (files_named poll ballots sheet)
+  poll_unread start end poll ballots sheet unread = ([], _, file.Poll, poll, refl, unread)
+
   -- the ballots were not read, after the poll
-  ballots_stop : (start polled end : S) (poll : List ℕ) (ballots sheet : Option (Bor (List ℕ))) (bytes : List ℕ → Option (List ℕ)) → bytes ≡ file_bytes
+  pub ballots_unread : (start polled end : S) (poll : List ℕ) (ballots sheet : Option (Bor (List ℕ))) (bytes : List ℕ → Option (List ℕ)) → bytes ≡ file_bytes
       → HasRead readings start polled (read_whole poll ∷ [])
       → IsSomeAnd ballots (λ name. IsUnread file.Ballots (bytes name.now) (limit_of file.Ballots) (λ fault. HasRead readings polled end (failed_at name.now fault ∷ [])) told)
       → IsAmongUnread file_bytes (HasRead readings start end) told (files_named poll ballots sheet)
-  ballots_stop start polled end poll None sheet bytes same read unread = absurd unread
-  ballots_stop start polled end poll (Some name) sheet bytes same read unread =
+  ballots_unread start polled end poll None sheet bytes same read unread = absurd unread
+  ballots_unread start polled end poll (Some name) sheet bytes same read unread =
       ((file.Poll, poll) ∷ [], _, file.Ballots, name.now, refl, unread_after file_bytes told file.Ballots name.now bytes same (λ fault. more_read readings start polled end _ _ read) unread)
 
   -- the sheet was not read, after the poll and the ballots
-  sheet_stops : (start polled balloted end : S) (poll : List ℕ) (ballots sheet : Option (Bor (List ℕ))) (bytes : List ℕ → Option (List ℕ)) → bytes ≡ file_bytes
+  pub sheet_unread : (start polled balloted end : S) (poll : List ℕ) (ballots sheet : Option (Bor (List ℕ))) (bytes : List ℕ → Option (List ℕ)) → bytes ≡ file_bytes
       → HasRead readings start polled (read_whole poll ∷ []) → HasRead readings polled balloted (read_of ballots)
       → IsSomeAnd sheet (λ name. IsUnread file.Sheet (bytes name.now) (limit_of file.Sheet) (λ fault. HasRead readings balloted end (failed_at name.now fault ∷ [])) told)
       → IsAmongUnread file_bytes (HasRead readings start end) told (files_named poll ballots sheet)
-  sheet_stops start polled balloted end poll ballots None bytes same read more unread = absurd unread
-  sheet_stops start polled balloted end poll None (Some name) bytes same read more unread = (
+  sheet_unread start polled balloted end poll ballots None bytes same read more unread = absurd unread
+  sheet_unread start polled balloted end poll None (Some name) bytes same read more unread = (
     (file.Poll, poll) ∷ [],
     [],
     file.Sheet,
@@ -76,7 +81,7 @@ module _ {S : Type 0} (readings : S → Option (List Reading)) (file_bytes : Lis
     unread_after file_bytes told file.Sheet name.now bytes same
         (λ fault last. more_read readings start polled end _ _ read (more_read readings polled balloted end [] _ more last)) unread,
   )
-  sheet_stops start polled balloted end poll (Some first) (Some name) bytes same read more unread = (
+  sheet_unread start polled balloted end poll (Some first) (Some name) bytes same read more unread = (
     (file.Poll, poll) ∷ (file.Ballots, first.now) ∷ [],
     [],
     file.Sheet,
@@ -85,21 +90,3 @@ module _ {S : Type 0} (readings : S → Option (List Reading)) (file_bytes : Lis
     unread_after file_bytes told file.Sheet name.now bytes same
         (λ fault last. more_read readings start polled end _ _ read (more_read readings polled balloted end (read_whole first.now ∷ []) _ more last)) unread,
   )
-
-  pub poll_unread : (start end : S) (request : NamedRequest)
-      → IsUnread file.Poll (file_bytes (poll_file request).now) (limit_of file.Poll) (λ fault. HasRead readings start end (failed_at (poll_file request).now fault ∷ [])) told
-      → IsOneUnread file_bytes (HasRead readings start end) request told
-  poll_unread start end request unread = ([], _, file.Poll, (poll_file request).now, refl, unread)
-
-  pub ballots_unread : (start polled end : S) (request : NamedRequest) (bytes : List ℕ → Option (List ℕ)) → bytes ≡ file_bytes
-      → HasRead readings start polled (read_whole (poll_file request).now ∷ [])
-      → IsSomeAnd (ballot_file request) (λ name. IsUnread file.Ballots (bytes name.now) (limit_of file.Ballots) (λ fault. HasRead readings polled end (failed_at name.now fault ∷ [])) told)
-      → IsOneUnread file_bytes (HasRead readings start end) request told
-  ballots_unread start polled end request bytes same read unread = ballots_stop start polled end (poll_file request).now (ballot_file request) (sheet_file request) bytes same read unread
-
-  pub sheet_unread : (start polled balloted end : S) (request : NamedRequest) (bytes : List ℕ → Option (List ℕ)) → bytes ≡ file_bytes
-      → HasRead readings start polled (read_whole (poll_file request).now ∷ []) → HasRead readings polled balloted (read_of (ballot_file request))
-      → IsSomeAnd (sheet_file request) (λ name. IsUnread file.Sheet (bytes name.now) (limit_of file.Sheet) (λ fault. HasRead readings balloted end (failed_at name.now fault ∷ [])) told)
-      → IsOneUnread file_bytes (HasRead readings start end) request told
-  sheet_unread start polled balloted end request bytes same read more unread =
-      sheet_stops start polled balloted end (poll_file request).now (ballot_file request) (sheet_file request) bytes same read more unread
