@@ -14,7 +14,8 @@ use Rattle.vote_commands.specs.Counting.{NamesNoOption, casting_option}
 use Rattle.vote_program.specs.Outputs.{WritesNothing, Written}
 use Rattle.vote_program.specs.Reading.{read_whole}
 
--- The words ask for the sheet of two files, of which these bytes are told, with this casting vote, if there is one. The number of desks is any.
+-- The words ask for the sheet of two files, of which these bytes are told, with this casting vote, if there is one: `AreArgsOf` says that the
+-- words make this request. The number of desks is any.
 pub record AskForSheet (file_bytes : Text → Option Text) (words : List Text) (poll ballots : Text) (casting : Option Text) : Type 0 where
   pub poll_name : Bor Text
   pub ballots_name : Bor Text
