@@ -1,5 +1,5 @@
 -- How a request ends, once its files are read.
-use Rattle.std.proofs.Common.{◌≡◌, ℕ, Bor, IfSome, List, Option, inr, subst, sym}
+use Rattle.std.proofs.Common.{ℕ, Bor, IfSome, List, Option, inr, subst, sym}
 use Rattle.vote_files.specs.Sources.{Reading}
 use Rattle.vote_commands.specs.declared.InputFile.TheVariants as file
 use Rattle.vote_commands.specs.declared.FinishedRun.{FinishedRun}

@@ -1,5 +1,5 @@
 -- The readings of a request, one after the other.
-use Rattle.std.proofs.Common.{◌≡◌, ◌∙◌, ℕ, ap, append_assoc, Bor, IfSome, List, [], ◌∷◌, ◌++◌, None, Option, Some, refl, subst, sym}
+use Rattle.std.proofs.Common.{◌≡◌, ◌∙◌, ℕ, ap, append_assoc, Bor, IfSome, List, [], ◌∷◌, ◌++◌, None, Option, Some, refl, subst}
 use Rattle.std.specs.Prelude.{IsSomeAnd, option_map, option_to_list}
 use Rattle.vote_files.specs.Device.{IsTooLong}
 use Rattle.vote_files.specs.Sources.{HasRead, Reading}

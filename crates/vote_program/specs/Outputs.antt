@@ -1,5 +1,5 @@
 -- What is written on standard output, or on standard error.
-use Rattle.std.specs.Prelude.{◌≡◌, ◌<◌, ◌⊎◌, ℕ, Bool, true, Option}
+use Rattle.std.specs.Prelude.{◌≡◌, ◌<◌, ℕ, Bool, true, Option}
 use Rattle.std.specs.Io.KnownBytes.{Appends}
 use Rattle.vote_files.specs.Device.{AppendsPrefix}
 use Rattle.vote_sheet.specs.Texts.{Text}

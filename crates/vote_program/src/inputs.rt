@@ -1,16 +1,15 @@
 //! The inputs of the program, read whole up to their limits.
 
-ghost use Rattle.std.specs.Prelude.{◌≡◌, ◌≤◌, [], ◌∷◌, None, Some, IfErr, IfOk, IfSome, IsSome, IsSomeAnd, OnOk, map, option_map, option_to_list, vec_len};
-ghost use Rattle.vote_files.specs.Device.{IsWhole};
+ghost use Rattle.std.specs.Prelude.{◌≡◌, ◌≤◌, [], ◌∷◌, None, Some, IfErr, IfOk, IfSome, IsSome, IsSomeAnd, OnOk, option_map, option_to_list, vec_len};
 ghost use Rattle.vote_files.specs.Sources.{HasRead};
-ghost use Rattle.vote_request.specs.Requests.{ballot_file, poll_file, sheet_file};
+ghost use Rattle.vote_request.specs.Requests.{ballot_file, sheet_file};
 ghost use Rattle.vote_program.specs.LoadedRequests.{AreReadOf, IsReadWithin};
 ghost use Rattle.vote_program.specs.Reading.{IsOneUnread, IsUnread, all_read, limit_of, named_files, read_whole};
 
 use std::alloc::Global;
 use vote_command_line::NamedRequest;
 use vote_commands::{InputFile, RunFault, unread};
-use vote_files::{ReadFault, Sources, StandardInput};
+use vote_files::{Sources, StandardInput};
 
 /// The most bytes of a poll file.
 pub(crate) const POLL_LIMIT: usize = 1_048_576;
