@@ -22,7 +22,8 @@ const TERMINAL_HINT: &str =
 
 /// Writes the help that words ask for. Returns the exit status.
 fn help<W: Sink, E: Sink>(text: &str, sink: &mut W, errors: &mut E) -> u8
-    ensures answers { AnswersHelp text.now (written_by W.contents W.faults W.flushed sink.old sink.new) (written_by E.contents E.faults E.flushed errors.old errors.new) result }
+    ensures answers { AnswersHelp text.now (written_by W.contents W.faults W.flushed sink.old sink.new)
+        (written_by E.contents E.faults E.flushed errors.old errors.new) result }
     ensures output { (result ≡ 7) ↔ (W.faults sink.old < W.faults sink.new) }
 {
     match write_text(sink, text.as_bytes()) {
@@ -34,7 +35,8 @@ fn help<W: Sink, E: Sink>(text: &str, sink: &mut W, errors: &mut E) -> u8
 /// Answers words that make no request: writes the help that they ask for, or says on standard error why they are refused. Returns
 /// the exit status.
 pub fn refuse<W: Sink, E: Sink>(fault: &ArgsFault, sink: &mut W, errors: &mut E) -> u8
-    ensures answers { AnswersWords fault.now (written_by W.contents W.faults W.flushed sink.old sink.new) (written_by E.contents E.faults E.flushed errors.old errors.new) result }
+    ensures answers { AnswersWords fault.now (written_by W.contents W.faults W.flushed sink.old sink.new)
+        (written_by E.contents E.faults E.flushed errors.old errors.new) result }
     ensures output { (result ≡ 7) ↔ (W.faults sink.old < W.faults sink.new) }
 {
     match fault {
@@ -54,7 +56,8 @@ fn answer_words<S: Sources, W: Sink, E: Sink, R: AllocGlobal + Threads + Wait + 
     sink: &mut W,
     errors: &mut E,
 ) -> u8
-    ensures answers { AnswersWorded (S.file_bytes files.old) (HasRead S.readings files.old files.new) (texts_of words.now) (written_by W.contents W.faults W.flushed sink.old sink.new)
+    ensures answers { AnswersWorded (S.file_bytes files.old) (HasRead S.readings files.old files.new) (texts_of words.now)
+        (written_by W.contents W.faults W.flushed sink.old sink.new)
         (written_by E.contents E.faults E.flushed errors.old errors.new) result }
     ensures output { (result ≡ 7) ↔ (W.faults sink.old < W.faults sink.new) }
 {
@@ -84,7 +87,8 @@ fn answer_joined<I: StandardInput, W: Sink, E: Sink, R: AllocGlobal + Threads + 
     sink: &mut W,
     errors: &mut E,
 ) -> u8
-    ensures answers { AnswersJoined at_terminal (I.standard_bytes input.old) (HasRead I.readings input.old input.new) (written_by W.contents W.faults W.flushed sink.old sink.new)
+    ensures answers { AnswersJoined at_terminal (I.standard_bytes input.old) (HasRead I.readings input.old input.new)
+        (written_by W.contents W.faults W.flushed sink.old sink.new)
         (written_by E.contents E.faults E.flushed errors.old errors.new) result }
     ensures output { (result ≡ 7) ↔ (W.faults sink.old < W.faults sink.new) }
 {
@@ -131,13 +135,16 @@ pub fn answer<
     errors: &mut E,
 ) -> u8
     ensures sheet { 1 < length given.now
-        → WritesTheSheet (S.file_bytes files.old) (HasRead S.readings files.old files.new) (words_in given.now) (written_by W.contents W.faults W.flushed sink.old sink.new)
+        → WritesTheSheet (S.file_bytes files.old) (HasRead S.readings files.old files.new) (words_in given.now)
+        (written_by W.contents W.faults W.flushed sink.old sink.new)
         (written_by E.contents E.faults E.flushed errors.old errors.new) result }
     ensures alone { length given.now ≤ 1
-        → AnswersJoined at_terminal (I.standard_bytes input.old) (HasRead I.readings input.old input.new) (written_by W.contents W.faults W.flushed sink.old sink.new)
+        → AnswersJoined at_terminal (I.standard_bytes input.old) (HasRead I.readings input.old input.new)
+        (written_by W.contents W.faults W.flushed sink.old sink.new)
         (written_by E.contents E.faults E.flushed errors.old errors.new) result }
     ensures worded { 1 < length given.now
-        → AnswersWorded (S.file_bytes files.old) (HasRead S.readings files.old files.new) (words_in given.now) (written_by W.contents W.faults W.flushed sink.old sink.new)
+        → AnswersWorded (S.file_bytes files.old) (HasRead S.readings files.old files.new) (words_in given.now)
+        (written_by W.contents W.faults W.flushed sink.old sink.new)
         (written_by E.contents E.faults E.flushed errors.old errors.new) result }
     ensures no_input { 1 < length given.now → input.new ≡ input.old }
     ensures no_file { length given.now ≤ 1 → files.new ≡ files.old }
