@@ -1,8 +1,12 @@
-//! Where a line leaves the grammar of ballot lines.
+//! Where a line leaves the grammar of ballot lines (`IsBallotLine` of vote_poll), which knows no reading from the left.
+//!
+//! [`column`] gives the column: the bytes before it are the longest prefix of the line that is also a prefix of a ballot line. A
+//! line has one ([`columns_are_unique`]).
+#![tactic(auto)]
 
 ghost use Rattle.std.specs.Prelude.{◌≡◌, ◌++◌, ◌↔◌, IsTrue, List, ℕ};
 ghost use Rattle.vote_poll.specs.BallotLine.{IsBallotText};
-ghost use Rattle.vote_ballot_findings.specs.Column.{IsColumn, IsLinePrefix};
+ghost use Rattle.vote_ballot_column.specs.Column.{IsColumn, IsLinePrefix};
 
 use arrayvec::ArrayVec;
 use vote_poll::{MAX_LINE, is_ballot_line};

@@ -1,6 +1,6 @@
 use Rattle.std.proofs.Common.{◌∙◌, ◌+◌, true≢false, arith, subst, sym}
-use Rattle.vote_ballot_findings.proofs.LinePrefixes.{IsBetween, before_column, begin_between}
-use Rattle.vote_ballot_findings.proofs.prefixes.column.Goals as goal
+use Rattle.vote_ballot_column.proofs.LinePrefixes.{IsBetween, before_column, begin_between}
+use Rattle.vote_ballot_column.proofs.column.Goals as goal
 
 pub loop-known-init : goal.loop-known-init
 loop-known-init c = subst (λ n. IsBetween c.args.line.now 0 (n + 1)) (sym c.min.ensures) (begin_between c.args.line.now)

@@ -1,6 +1,6 @@
 use Rattle.std.proofs.Common.{◌-◌}
-use Rattle.vote_ballot_findings.proofs.LinePrefixes.{IsBetween}
-use Rattle.vote_ballot_findings.proofs.prefixes.column.Given as goal
+use Rattle.vote_ballot_column.proofs.LinePrefixes.{IsBetween}
+use Rattle.vote_ballot_column.proofs.column.Given as goal
 
 abbrev pub invariant-loop-known : goal.invariant-loop-known
 invariant-loop-known l = IsBetween l.line l.known l.column

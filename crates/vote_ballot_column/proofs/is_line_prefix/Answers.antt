@@ -1,7 +1,7 @@
 use Rattle.std.proofs.Common.{◌≡◌, ◌∙◌, [], ◌∷◌, inl, inr, refl, sym, true, false, arith}
 use Rattle.std.proofs.lemmas.Bool.Decides.{nat_tests}
-use Rattle.vote_ballot_findings.proofs.LinePrefixes.{begins_name, begins_ranks, empty_begins}
-use Rattle.vote_ballot_findings.proofs.prefixes.is_line_prefix.Goals as goal
+use Rattle.vote_ballot_column.proofs.LinePrefixes.{begins_name, begins_ranks, empty_begins}
+use Rattle.vote_ballot_column.proofs.is_line_prefix.Goals as goal
 
 pub returns-then-is_empty : goal.returns-then-is_empty
 returns-then-is_empty c = (λ yes. empty_begins c.args.prefix.now (grind (arith, nat_tests, c.is_empty.ensures, c.if-is_empty.true)), λ prefix. refl)

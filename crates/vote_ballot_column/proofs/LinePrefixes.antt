@@ -12,7 +12,7 @@ use Rattle.std.proofs.lemmas.List.Folds.{list_all-append}
 use Rattle.vote_poll.specs.BallotLine.{IsBallotText, IsRank, rank_text}
 use Rattle.vote_poll_text.specs.Names.{is_voter_byte, is_voter_name, is_within}
 use Rattle.vote_poll.proofs.NamesLaws.{within_bounds, within_from}
-use Rattle.vote_ballot_findings.specs.Column.{IsColumn, IsLinePrefix}
+use Rattle.vote_ballot_column.specs.Column.{IsColumn, IsLinePrefix}
 
 -- of a text that is parted in two ways one first part begins with the other
 parted : (a b c d : List ℕ) → a ++ b ≡ c ++ d → ((m : List ℕ) × (c ≡ a ++ m) × (b ≡ m ++ d)) ⊎ ((m : List ℕ) × (a ≡ c ++ m) × (d ≡ m ++ b))
