@@ -1,16 +1,11 @@
 //! A line in plain characters: what is left of it when all is put right that can mean one thing only, if the result is a ballot.
 
-ghost use Rattle.std.specs.Prelude.{◌≡◌};
-ghost use Rattle.vote_poll.specs.Readings.{is_ballot, reading};
-
 use crate::characters::plain_character;
 use std::alloc::{AllocError, Global};
 use vote_poll::{Poll, Reading, read_line};
 
 /// Whether a poll reads a ballot in a text.
-pub(crate) fn is_ballot(poll: &Poll, text: &[u8]) -> bool
-    ensures { result ≡ is_ballot (reading poll.now text.now) }
-{
+pub(crate) fn is_ballot(poll: &Poll, text: &[u8]) -> bool {
     match read_line(poll, text) {
         Reading::Ballot { .. } => true,
         Reading::Bad(_) => false,

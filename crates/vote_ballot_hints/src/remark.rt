@@ -1,11 +1,10 @@
-//! What is open in the findings: remarks, each one line of printable text.
+//! What lets only remarks through: one line of printable text each.
 
 ghost use Rattle.std.specs.Prelude.{◌≡◌, IsTrue};
 ghost use Rattle.std.specs.List.{list_all};
 ghost use Rattle.vote_poll_text.specs.Adding.{Adds};
 ghost use Rattle.vote_poll_text.specs.Names.{is_printable};
-ghost use Rattle.vote_ballot_findings.specs.Adding.{AddsSome};
-ghost use Rattle.vote_ballot_findings.specs.Explained.{AreFileLines, IsRemark, file_line};
+ghost use Rattle.vote_ballot_hints.specs.Remarks.{AddsSome, AreFileLines, IsRemark, file_line};
 
 use crate::MOST_REMARK;
 use std::alloc::AllocError;

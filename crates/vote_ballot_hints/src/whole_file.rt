@@ -33,8 +33,8 @@ fn is_of_bad_shape(step: Option<&Step>) -> bool {
     }
 }
 
-/// Whether a line is refused for its shape.
-pub(crate) fn has_bad_shape(steps: &[Step]) -> bool {
+/// Whether one of these steps refuses its line for its shape.
+pub fn has_bad_shape(steps: &[Step]) -> bool {
     steps.iter().any(|step| is_of_bad_shape(Some(step)))
 }
 

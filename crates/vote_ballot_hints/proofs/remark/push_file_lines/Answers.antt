@@ -1,6 +1,6 @@
 use Rattle.std.proofs.Common.{string_bytes}
-use Rattle.vote_ballot_findings.proofs.Texts.{lines_on}
-use Rattle.vote_ballot_findings.proofs.remark.push_file_lines.Goals as goal
+use Rattle.vote_ballot_hints.proofs.FileLines.{lines_on}
+use Rattle.vote_ballot_hints.proofs.remark.push_file_lines.Goals as goal
 
 pub loop-remark-preserved : goal.loop-remark-preserved
 loop-remark-preserved c =
