@@ -1,12 +1,8 @@
 -- The findings of refused lines, one after another.
-use Rattle.std.proofs.Common.{◌≡◌, ◌+◌, ◌++◌, ◌∙◌, ℕ, List, [], ◌∷◌, length, take, refl, ap, sym, subst, Some, Bool, true, false, arith, append_assoc, append-nil, slice_get}
-use Rattle.std.specs.List.{enumerate_from, flat_map, position, position_or_len, prefix_len}
-use Rattle.std.specs.Prelude.{not, unwrap_or, nat_lt, inl, inr}
-use Rattle.std.proofs.lemmas.Bool.{cases_Bool}
-use Rattle.std.proofs.lemmas.Bool.Decides.{nat_tests}
+use Rattle.std.proofs.Common.{◌≡◌, ◌+◌, ◌++◌, ◌∙◌, ℕ, List, [], ◌∷◌, length, take, refl, ap, sym, subst, Some, true, false, arith, append_assoc, append-nil, slice_get}
+use Rattle.std.specs.List.{enumerate_from, flat_map}
 use Rattle.std.proofs.lemmas.List.{flat_map_more, take_more}
 use Rattle.std.proofs.lemmas.List.FromFn.{get_or-enumerate_from, length-enumerate_from}
-use Rattle.std.proofs.lemmas.List.Sums.{prefix_len-le-length}
 use Rattle.std.proofs.lemmas.Option.{get_or_from_slice_get, slice_get_within}
 use Rattle.vote_poll.specs.PollContent.{PollContent, last_in_time}
 use Rattle.vote_poll.specs.Readings.{reading}
@@ -18,17 +14,6 @@ use Rattle.vote_ballot_hints.specs.Remarks.{Added, IsRemark}
 use Rattle.vote_ballot_findings.specs.Explained.{AreFindings, IsHint, IsRemarked, finding, finding_head}
 use Rattle.vote_ballot_findings.specs.Refusals.{Refusal, refusal_by, refusal_of, refusing_reply}
 use Rattle.vote_ballot_findings.specs.Replies.{if_refusing, refusal}
-
--- ---- the name of a line
-pub first_is_within : {X : Type 0} (p : X → Bool) (xs : List X) → position_or_len p xs ≤ length xs
-first_is_within p xs = prefix_len-le-length (λ x. not (p x)) xs
-
-pub first_or_len : {X : Type 0} (p : X → Bool) (xs : List X) → unwrap_or (position p xs) (length xs) ≡ position_or_len p xs
-first_or_len p xs =
-    elim (cases_Bool (nat_lt (position_or_len p xs) (length xs))) [
-      | inl within ↦ rw within
-      | inr past ↦ let same : length xs ≡ position_or_len p xs = grind (arith, nat_tests, first_is_within p xs) in rw past same
-    ]
 
 -- ---- the finding of a line
 -- words were added, and then a remark
