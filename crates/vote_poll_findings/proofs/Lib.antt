@@ -1,4 +1,2 @@
-mod PathLaws
-mod UnreadLaws
-mod NearLaws
-mod LineLaws
+mod Lines
+mod Unread

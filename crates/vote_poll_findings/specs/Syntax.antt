@@ -1,10 +1,10 @@
 -- What is said of a poll file that is no TOML, by the place of an error in it: how many bytes stand before the error.
 use Rattle.std.specs.Prelude.{◌≡◌, ℕ, ◌+◌, ◌≤◌, ◌↔◌, not, Bool, true, false, List, [], ◌∷◌, ◌++◌, count_by, length, take, IsTrue, codes, decimal}
-use Rattle.std.specs.List.{All}
-use Rattle.vote_poll_text.specs.Lines.{feed_count, line_feed, parts_of, text_of_lines}
+use Rattle.vote_poll_text.specs.Lines.{feed_count, parts_of}
 use Rattle.vote_poll_text.specs.Names.{is_within}
 use Rattle.vote_poll.specs.BallotLine.{IsBallotText}
-use Rattle.vote_poll_findings.specs.Hints.{IsHint}
+use Rattle.vote_poll_hints.specs.Hints.{IsExcerpt, IsHint}
+use Rattle.vote_poll_findings.specs.Lines.{IsLine}
 
 -- ---- lines
 abbrev pub first_part : List (List ℕ) → List ℕ
@@ -42,9 +42,13 @@ unfoldable pub exchanged_text : Bool → List ℕ
 exchanged_text true = codes "the poll file looks like ballots: are the files exchanged?\n"
 exchanged_text false = []
 
--- the place as it is written
-abbrev pub place_words : List ℕ → List ℕ
-place_words before = codes "poll:" ++ decimal (line_number before) ++ codes ":" ++ decimal (column_number (last_line before)) ++ codes ": "
+-- a place as it is written: the number of its line, and the column after what stands before it in the line
+abbrev pub place_words : ℕ → List ℕ → List ℕ
+place_words number left = codes "poll:" ++ decimal number ++ codes ":" ++ decimal (column_number left) ++ codes ": "
+
+-- the place after a text
+abbrev pub place_after : List ℕ → List ℕ
+place_after before = place_words (line_number before) (last_line before)
 
 -- Whether the files may be exchanged, the line of the finding, and lines that show the place. Open are the place that `toml` tells
 -- and the words.
@@ -53,12 +57,8 @@ pub record IsSyntaxFinding (text finding : List ℕ) : Type 0 where
   pub within : place ≤ length text
   pub exchanged : Bool
   pub is_exchanged : IsTrue exchanged ↔ IsBallotText (first_line text)
-  pub hint : List ℕ
-  pub is_hint : IsHint hint
-  pub excerpt : List (List ℕ)
-  pub are_hints : All IsHint excerpt
-  pub is_text : finding ≡ exchanged_text exchanged ++ place_words (take place text) ++ hint ++ line_feed ++ text_of_lines excerpt
-
--- lines that show a place
-abbrev pub IsExcerpt : List ℕ → Type 0
-IsExcerpt text = (lines : List (List ℕ)) × All IsHint lines × (text ≡ text_of_lines lines)
+  pub line : List ℕ
+  pub is_line : IsLine (place_after (take place text)) IsHint line
+  pub excerpt : List ℕ
+  pub is_excerpt : IsExcerpt excerpt
+  pub is_text : finding ≡ exchanged_text exchanged ++ line ++ excerpt
