@@ -1,4 +1,5 @@
 //! The lines of findings: of a fault, and of a key that is not read.
+ghost use Rattle.toml.specs.View.{table_view};
 ghost use Rattle.vote_poll_text.specs.Adding.{Adds};
 ghost use Rattle.vote_poll_findings.specs.Findings.{SaysFault, SaysKey, fault_head, key_head};
 ghost use Rattle.vote_poll_findings.specs.Lines.{AreLinesFor};
@@ -61,7 +62,7 @@ fn push_key_line(
     key: &UnreadKey<'_>,
     hints: &Hints<'_>,
 ) -> Result<(), AllocError>
-    ensures { Tells result text.old (SaysKey hints.now key.now) text.new }
+    ensures { Tells result text.old (SaysKey (table_view hints.now.file.now) key.now) text.new }
 {
     push_key_head(text, key)?;
     hints.push_remark(alloc, text, key)?;
@@ -75,7 +76,7 @@ pub(crate) fn push_key_lines(
     keys: &[UnreadKey<'_>],
     hints: &Hints<'_>,
 ) -> Result<(), AllocError>
-    ensures { Tells result text.old (AreLinesFor (SaysKey hints.now) keys.now) text.new }
+    ensures { Tells result text.old (AreLinesFor (SaysKey (table_view hints.now.file.now)) keys.now) text.new }
 {
     for key in keys {
         push_key_line(alloc, text, key, hints)?;

@@ -6,4 +6,4 @@ use Rattle.vote_poll_findings.proofs.explain.explain_judged.Goals as goal
 
 pub returns-clause-findings : goal.returns-clause-findings
 returns-clause-findings c =
-    subst (λ (faults : List PollFault). AreFindings faults (table_view c.args.table.now) (string_bytes c.in_ok-findings_of.findings)) c.requires.all c.in_ok-findings_of.ensures
+    subst (λ (faults : List PollFault). AreFindings faults (table_view c.args.table.now) (string_bytes c.in_ok-findings_of.field-0)) c.requires.all c.in_ok-findings_of.ensures

@@ -1,7 +1,6 @@
 use Rattle.std.proofs.Common.{◌≡◌, ◌++◌, ℕ, List, Ok, Err, Result, OnOk, append_assoc, codes}
 use Rattle.std.specs.Prelude.{if◌then◌else◌}
 use Rattle.std.specs.Result.{is_ok}
-use Rattle.vote_poll_findings.specs.Findings.{key_head}
 use Rattle.vote_poll_findings.proofs.findings.push_key_head.Goals as goal
 
 in_three : {X E : Type 0} (r : Result X E) (a b d before one two after : List ℕ) → one ≡ before ++ a → two ≡ one ++ b → after ≡ (if is_ok r then two ++ d else two) → OnOk r (after ≡ before ++ (a ++ b ++ d))

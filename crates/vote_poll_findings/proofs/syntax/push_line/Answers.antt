@@ -1,4 +1,3 @@
-use Rattle.std.proofs.Common.{◌≡◌, ap}
 use Rattle.vote_poll_hints.specs.Hints.{IsHint}
 use Rattle.vote_poll_findings.specs.Syntax.{place_words}
 use Rattle.vote_poll_findings.proofs.Lines.{is_line}

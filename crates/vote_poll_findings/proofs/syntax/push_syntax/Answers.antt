@@ -28,7 +28,7 @@ is_finding (Ok x) text place exchanged t0 t1 t2 t3 within is first (line, is_lin
 pub returns : goal.returns
 returns c =
     let place = c.place_at-place.result in
-    let line = subst₂ (λ number left. Adding (IsLine (place_words number left) IsHint) _ (string_bytes c.push_line.new.finding)) c.place_at-place.ensures.number c.place_at-place.ensures.left
+    let line = subst₂ (λ number left. Adding (IsLine (place_words number left) IsHint) (string_bytes c.push_exchanged.new.text) (string_bytes c.push_line.new.finding)) c.place_at-place.ensures.number c.place_at-place.ensures.left
     c.in_ok-push_line.ensures in
     is_finding c.push_excerpt.result c.args.text.now c.args.at c.is_ballot_line.result _ _ _ _ c.requires
     (subst (λ line. IsTrue c.is_ballot_line.result ↔ IsBallotText line) c.first_line.ensures c.is_ballot_line.ensures) c.in_ok-push_exchanged.ensures line c.push_excerpt.ensures
