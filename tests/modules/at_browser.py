@@ -66,7 +66,7 @@ class Window:
         shutil.rmtree(self.room, ignore_errors=True)
 
     def tell(self, method: str, **given: object) -> dict[str, Any]:
-        """What chromium answers to a call of its protocol."""
+        """Makes a call of chromium's protocol, and returns the answer."""
         number = next(self.numbers)
         call = {"id": number, "method": method, "params": given} | ({"sessionId": self.session} if self.session else {})
         os.write(self.to_browser, json.dumps(call).encode() + b"\0")
@@ -95,7 +95,7 @@ class Window:
         self.tell("Emulation.setEmulatedMedia", media="print", features=self.scheme)
 
     def ask(self, script: str) -> Any:
-        """The value of a script in the page."""
+        """Runs a script in the page, and returns its value."""
         found = self.tell("Runtime.evaluate", expression=script, awaitPromise=True, returnByValue=True)
         if "exceptionDetails" in found:
             raise RuntimeError(f"{script}: {found['exceptionDetails']}")
@@ -118,12 +118,12 @@ class Window:
         self.tell("Input.insertText", text=text)
 
     def type_keys(self, keys: str) -> None:
-        """Presses these keys, one after the other: a list takes keys, and no text."""
+        """Presses these keys, one after the other: a drop-down list takes keys, not text."""
         for key in keys:
             self.press(key)
 
     def touch(self, script: str) -> None:
-        """Touches the middle of an element, which is brought into the window as a thumb does."""
+        """Scrolls an element into the window, as a thumb does, and touches its middle."""
         place = self.ask(
             f"(() => {{ const node = {script}; node.scrollIntoView({{ block: 'center' }}); const at = node.getBoundingClientRect();"
             " return [at.left + at.width / 2, at.top + at.height / 2]; })()"
@@ -133,6 +133,6 @@ class Window:
         self.tell("Input.dispatchTouchEvent", type="touchEnd", touchPoints=[])
 
     def choose(self, script: str, files: list[pathlib.Path]) -> None:
-        """Puts files into a field, as the window for choosing them does."""
+        """Puts files into a field, as the file dialog does."""
         node = self.tell("Runtime.evaluate", expression=script)["result"]["objectId"]
         self.tell("DOM.setFileInputFiles", files=[str(file) for file in files], objectId=node)

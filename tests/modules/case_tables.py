@@ -61,7 +61,7 @@ def read_table(file: pathlib.Path) -> dict[str, Row]:
 
 
 def written(text: str) -> str:
-    """A text as TOML writes it: on its own lines, and as it is, if no character has to be escaped."""
+    """The text as a TOML string: a literal of several lines, if no character has to be escaped."""
     start = "\n" if "\n" in text else ""
     if start and "'''" not in text and not text.endswith("'") and all(sign.isprintable() or sign == "\n" for sign in text):
         return f"'''{start}{text}'''"
@@ -70,7 +70,7 @@ def written(text: str) -> str:
 
 
 def spelled(sign: str) -> str:
-    """A character within quotes."""
+    """A character as it is written in a quoted TOML string."""
     known = {"\\": "\\\\", '"': '\\"', "\r": "\\r", "\t": "\\t", "\n": "\n"}
     if sign in known:
         return known[sign]

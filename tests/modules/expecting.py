@@ -7,6 +7,6 @@ class Expecting(unittest.TestCase):
     maxDiff = 2_000
 
     def expect(self, name: str, found: object, wanted: object) -> None:
-        """This fact has to be as expected."""
+        """Checks one named fact."""
         with self.subTest(name):
             self.assertEqual(found, wanted)

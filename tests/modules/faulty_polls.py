@@ -1,8 +1,8 @@
 """Poll files with a fault, each with the poll that was meant, for tests/followed-cures.
 
-They were written before the hints, from what goes wrong with files: mail breaks lines, word processors and phones put in other
-characters, two people edit one file, and people write other formats than TOML. `stays` says that nobody can know what was meant: for
-such a file the advice has to end.
+They were written before the hints, from what goes wrong with files: mail breaks lines, word processors and phones change
+characters, two people edit one file, and people write other formats than TOML. `stays` says that nobody can know what was meant:
+for such a file the advice has to come to an end.
 """
 
 import collections.abc
@@ -157,7 +157,7 @@ def quorums() -> Files:
 
 
 def keys_in_two_places() -> Files:
-    """A key that is in two tables, or misspelt twice, or there twice."""
+    """A key that is in two tables, misspelt twice, or a duplicate."""
     family = "a key in two places"
     old = 'roll = ["zoe"]\n'
     yield swapped(family, (ROLL, f"[old]\n{old}[new]\n{ROLL}"), stays=True)

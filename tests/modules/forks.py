@@ -1,8 +1,8 @@
-"""Runs of the programs in Python without a start: a child of the test has read their modules already, and calls `main`.
+"""Runs the Python programs in forks of the test, which has imported their modules already, and not in new processes.
 
-Python takes longer to start, and to read the modules of debvote-election, than most runs take for their work. `run` takes arguments and
-settings as subprocess.run does. A plain run of a launcher is a fork; any other run is started: with flags, with something done before
-it, or of another program. With DEBVOTE_FORKS=0 every run is started.
+Python takes longer to start, and to import the modules of debvote-election, than most runs take for their work. `run` takes
+arguments and settings as subprocess.run does. A plain run of a launcher is a fork. A new process runs another program, or one with
+flags or settings that a fork cannot have. With DEBVOTE_FORKS=0 every run is a new process.
 """
 
 import contextlib
@@ -60,9 +60,7 @@ def run(words: Sequence[object], **how: object) -> subprocess.CompletedProcess:
 
 
 def read_ahead() -> None:
-    """Reads all modules, and all templates in each language, which takes longer than most commands take otherwise. Whoever is forked later
-    has them.
-    """
+    """Imports all modules, and reads all templates in each language, so that no fork has to: it takes longer than most commands."""
     for found in pkgutil.walk_packages(debvote_tools.__path__, f"{debvote_tools.__name__}."):
         importlib.import_module(found.name)
     packages = {file.parent.parent for file in (ROOT / "python" / "debvote_tools").glob("*/templates/*")}
@@ -75,21 +73,21 @@ def read_ahead() -> None:
 
 
 def is_plain(words: Sequence[object], how: Mapping[str, object]) -> bool:
-    """Whether a fork can give this run what a start would give it."""
+    """Whether a fork runs this as a new process would."""
     is_known = len(words) > 1 and words[0] == sys.executable and str(words[1]) in LAUNCHERS
     is_captured = how.get("capture_output") is True and how.get("stdin") in (None, subprocess.DEVNULL) and how.keys() <= SETTINGS
     return is_known and is_captured and os.environ.get("DEBVOTE_FORKS") != "0"
 
 
 def read(file: object, *, is_text: bool) -> bytes | str:
-    """What a run wrote."""
+    """The output of a run, from the file that it went to."""
     file.seek(0)
     data = file.read()
     return data.decode() if is_text else data
 
 
 def in_child(main: Callable, words: Sequence[object], how: Mapping[str, object], streams: Sequence[int]) -> None:
-    """Runs the program in this process, which ends with it."""
+    """Runs the program in this process, and ends the process."""
     status = 70
     try:
         for number, stream in enumerate(streams):
@@ -118,7 +116,7 @@ def in_child(main: Callable, words: Sequence[object], how: Mapping[str, object],
 
 
 def awaited(child: int, timeout: object, words: Sequence[object]) -> int:
-    """The exit status of a child, as subprocess has it. One that does not end in time is killed."""
+    """Waits for a child, and returns its exit status in the form of subprocess. Kills a child that does not end in time."""
     handle = os.pidfd_open(child)
     try:
         ready, _, _ = select.select([handle], [], [], timeout)

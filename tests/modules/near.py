@@ -1,5 +1,5 @@
 #!/usr/bin/python3
-"""Names that do not exist: which names are near, or how to list them.
+"""Says which names are near to a name that does not exist, or how to list all.
 
     tests/modules/near.py crate NAME    ends with 0 if crates.txt has the crate, else says which are near, and ends with 1
 """

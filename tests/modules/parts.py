@@ -45,10 +45,10 @@ class Count:
 
 
 class Part:
-    """A part that runs: its output goes to its own file, and so do its seconds.
+    """A running part; its output and its seconds go to files of its own.
 
-    Python waits for its own child, so the system gives its number to no other process before. A shell that asks for the status
-    of a child by its number, long after the child has ended, may get that of another.
+    Python waits for its child, so until then no other process gets the same process id. A shell that asks for a status by id,
+    long after the child has ended, may get the status of another process.
     """
 
     def __init__(
@@ -79,7 +79,7 @@ class Part:
 
 
 def with_status(counts: list[Count], status: int) -> Count:
-    """The sum of some counts, with one more failure if the exit status shows one that none of them has."""
+    """The sum of some counts. If the exit status says that something failed, and no count has a failure, one is added."""
     failed = sum(count.failed for count in counts)
     return Count(sum(count.passed for count in counts), failed or int(status != 0 or not counts))
 

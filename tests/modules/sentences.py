@@ -58,7 +58,7 @@ def texts_of(call: ast.Call) -> list[tuple[str, ...]]:
 
 
 def literals(node: ast.expr) -> list[str]:
-    """The texts that an argument may be, as far as the call shows them."""
+    """The string literals that an argument may be, as far as the call shows them."""
     if isinstance(node, ast.Constant) and isinstance(node.value, str):
         return [node.value]
     return [*literals(node.body), *literals(node.orelse)] if isinstance(node, ast.IfExp) else []

@@ -1,7 +1,7 @@
 """Runs tests of unittest side by side: each class in its own process, as many at once as there are processors.
 
-A test is counted by its name: if it was loaded and did not pass, and was not skipped with a reason, it has failed, whatever became of
-its process. What the tests print is printed, and why tests failed.
+A test that was loaded has failed unless it passed or was skipped with a reason, even if its process was killed. The output of the
+tests is printed, and why tests failed.
 """
 
 import argparse
@@ -57,7 +57,7 @@ class Told:
 
 
 class Running:
-    """The tests of a class, in their own process, which leaves what it found in a file."""
+    """The tests of a class in their own process, which writes the results into a file."""
 
     def __init__(self, name: str, tests: list[unittest.TestCase], file: pathlib.Path) -> None:
         self.name, self.tests, self.file = name, tests, file
@@ -66,7 +66,7 @@ class Running:
         self.process.start()
 
     def told(self) -> Told:
-        """What it found, once the process has ended."""
+        """Waits for the process, and returns the results."""
         self.process.join()
         printed = self.file.with_suffix(".printed")
         told = Told(printed=printed.read_text(encoding="utf-8", errors="replace") if printed.exists() else "")
@@ -99,7 +99,7 @@ def run_here(tests: list[unittest.TestCase], file: pathlib.Path) -> None:
 
 
 def skipped_in(found: unittest.TestResult) -> dict[str, str]:
-    """The reason of each test that was skipped; if a part of a test was skipped, the test was."""
+    """The reason of each test that was skipped. A test of which a part was skipped counts as skipped."""
     return {getattr(test, "test_case", test).id(): why for test, why in found.skipped}
 
 
@@ -139,7 +139,7 @@ def run_all(classes: dict[str, list[unittest.TestCase]], at_once: int, room: pat
 
 
 def demand_utf_8() -> None:
-    """Starts again if Python would read texts in the encoding of the machine's locale: pages, letters and tables are in UTF-8."""
+    """Starts Python again in UTF-8 mode if the locale has another encoding: pages, letters and tables are in UTF-8."""
     if not sys.flags.utf8_mode:
         sys.stdout.flush()
         os.execv(sys.executable, [sys.executable, "-X", "utf8", *sys.orig_argv[1:]])
@@ -176,7 +176,8 @@ def run_modules(modules: list[str], at_once: int | None = None) -> int:
 def run_folder(folder: pathlib.Path, about: str, demand: Callable[[], None], longest: Sequence[str] = ()) -> int:
     """Runs the tests of a folder, or those of the modules that the command line names, and returns the exit status.
 
-    `demand` stops if the built program is not there. The modules that take longest begin first: else one of them runs alone at the end.
+    `demand` stops if the program has not been built. The modules that take longest begin first, so that none
+    runs alone at the end.
     """
     found = sorted(file.stem.removesuffix("_tests") for file in folder.glob("*_tests.py"))
     parser = argparse.ArgumentParser(description=about, formatter_class=argparse.RawDescriptionHelpFormatter)

@@ -1,4 +1,4 @@
-"""The tables of cases: what is written is read again, character by character, and a case with another answer fails."""
+"""Tests the tables of cases: a table that was written reads back the same, and a case with another answer fails."""
 
 import os
 import pathlib
