@@ -1,14 +1,11 @@
 -- Where a key of a poll file stands.
-use Rattle.std.specs.Prelude.{ℕ, ◌+◌, ◌==◌, Bool, List, ◌++◌, length, take, codes}
+use Rattle.std.specs.Prelude.{ℕ, ◌+◌, List, ◌++◌, take, codes}
 use Rattle.vote_poll_hints.specs.declared.TheConstants.{MAX_SHOWN}
 
 -- the names of the tables around a key with a point after each, as far as they are shown, and its own name
 pub record Place : Type 0 where
   pub prefix : List ℕ
   pub name : List ℕ
-
-abbrev pub is_above_tables : Place → Bool
-is_above_tables place = length place.prefix == 0
 
 -- the names with points between them
 abbrev pub path_of : Place → List ℕ

@@ -1,8 +1,8 @@
 //! A key of a poll file that nothing reads.
-ghost use Rattle.std.specs.Prelude.{◌≡◌, IfOk};
+ghost use Rattle.std.specs.Prelude.{◌≡◌, ◌==◌, IfOk, length};
 ghost use Rattle.vote_poll_text.specs.Adding.{Adds};
 ghost use Rattle.vote_poll_text.specs.Shown.{shown};
-ghost use Rattle.vote_poll_hints.specs.Places.{is_above_tables, path_of, prefix_in};
+ghost use Rattle.vote_poll_hints.specs.Places.{path_of, prefix_in};
 ghost use Rattle.vote_poll_hints.specs.declared.TheConstants.{MAX_SHOWN};
 
 use crate::MAX_SHOWN;
@@ -49,7 +49,7 @@ impl<'t> UnreadKey<'t> {
 
     /// Whether the key stands above all tables.
     pub fn is_above_tables(&self) -> bool
-        ensures { result ≡ is_above_tables self.now }
+        ensures { result ≡ (length self.now.prefix == 0) }
     {
         self.prefix.is_empty()
     }
