@@ -5,11 +5,11 @@ use Rattle.std.specs.Result.{is_ok}
 use Rattle.std.proofs.lemmas.List.{take_more}
 use Rattle.vote_poll_text.specs.Lines.{line_feed}
 use Rattle.vote_poll_hints.specs.Hints.{Adding}
-use Rattle.vote_poll_findings.specs.Lines.{AreLinesFor, IsLine}
+use Rattle.vote_poll_findings.specs.Findings.{AreLinesFor}
 
 -- the beginning of a line, its rest and a line feed are a line
 pub is_line : {X E : Type 0} (r : Result X E) (head : List ℕ) (Says : List ℕ → Type 0) (before begun told after : List ℕ) → begun ≡ before ++ head → Adding Says begun told
-    → after ≡ (if is_ok r then told ++ line_feed else told) → OnOk r (Adding (IsLine head Says) before after)
+    → after ≡ (if is_ok r then told ++ line_feed else told) → OnOk r (Adding (λ line. (rest : List ℕ) × Says rest × (line ≡ head ++ rest ++ line_feed)) before after)
 is_line (Err x) head Says before begun told after begins tells ends = tt
 is_line (Ok x) head Says before begun told after begins (rest, says, tells) ends = (head ++ rest ++ line_feed, (rest, says, refl), rw (ends, tells, begins) (simp append_assoc))
 

@@ -1,28 +1,18 @@
 -- What is said of a poll file that is no TOML, by the place of an error in it: how many bytes stand before the error.
-use Rattle.std.specs.Prelude.{◌≡◌, ℕ, ◌+◌, ◌≤◌, ◌↔◌, not, Bool, true, false, List, [], ◌∷◌, ◌++◌, count_by, length, take, IsTrue, codes, decimal}
-use Rattle.vote_poll_text.specs.Lines.{feed_count, parts_of}
+use Rattle.std.specs.Prelude.{◌≡◌, ℕ, ◌+◌, ◌-◌, ◌≤◌, ◌↔◌, not, Bool, true, false, List, [], ◌++◌, count_by, length, slice_index_or, take, IsTrue, codes, decimal}
+use Rattle.std.specs.List.{All}
+use Rattle.vote_poll_text.specs.Lines.{feed_count, line_feed, parts_of, text_of_lines}
 use Rattle.vote_poll_text.specs.Names.{is_within}
 use Rattle.vote_poll.specs.BallotLine.{IsBallotText}
-use Rattle.vote_poll_hints.specs.Hints.{IsExcerpt, IsHint}
-use Rattle.vote_poll_findings.specs.Lines.{IsLine}
+use Rattle.vote_poll_hints.specs.Hints.{IsHint}
 
 -- ---- lines
-abbrev pub first_part : List (List ℕ) → List ℕ
-first_part [] = []
-first_part (part ∷ parts) = part
-
--- the last part; of none it is empty
-abbrev pub last_part : List (List ℕ) → List ℕ
-last_part [] = []
-last_part (part ∷ []) = part
-last_part (part ∷ next ∷ parts) = last_part (next ∷ parts)
-
 -- the first line of a text, and what stands after its last line feed
 abbrev pub first_line : List ℕ → List ℕ
-first_line text = first_part (parts_of text)
+first_line text = slice_index_or (parts_of text) 0 []
 
 abbrev pub last_line : List ℕ → List ℕ
-last_line text = last_part (parts_of text)
+last_line text = slice_index_or (parts_of text) (length (parts_of text) - 1) []
 
 -- ---- the line and the column after a text, from 1
 abbrev pub line_number : List ℕ → ℕ
@@ -42,13 +32,9 @@ unfoldable pub exchanged_text : Bool → List ℕ
 exchanged_text true = codes "the poll file looks like ballots: are the files exchanged?\n"
 exchanged_text false = []
 
--- a place as it is written: the number of its line, and the column after what stands before it in the line
-abbrev pub place_words : ℕ → List ℕ → List ℕ
-place_words number left = codes "poll:" ++ decimal number ++ codes ":" ++ decimal (column_number left) ++ codes ": "
-
--- the place after a text
-abbrev pub place_after : List ℕ → List ℕ
-place_after before = place_words (line_number before) (last_line before)
+-- the place as it is written
+abbrev pub place_words : List ℕ → List ℕ
+place_words before = codes "poll:" ++ decimal (line_number before) ++ codes ":" ++ decimal (column_number (last_line before)) ++ codes ": "
 
 -- Whether the files may be exchanged, the line of the finding, and lines that show the place. Open are the place that `toml` tells
 -- and the words.
@@ -57,8 +43,8 @@ pub record IsSyntaxFinding (text finding : List ℕ) : Type 0 where
   pub within : place ≤ length text
   pub exchanged : Bool
   pub is_exchanged : IsTrue exchanged ↔ IsBallotText (first_line text)
-  pub line : List ℕ
-  pub is_line : IsLine (place_after (take place text)) IsHint line
-  pub excerpt : List ℕ
-  pub is_excerpt : IsExcerpt excerpt
-  pub is_text : finding ≡ exchanged_text exchanged ++ line ++ excerpt
+  pub hint : List ℕ
+  pub is_hint : IsHint hint
+  pub excerpt : List (List ℕ)
+  pub are_hints : All IsHint excerpt
+  pub is_text : finding ≡ exchanged_text exchanged ++ place_words (take place text) ++ hint ++ line_feed ++ text_of_lines excerpt

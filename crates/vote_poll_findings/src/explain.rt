@@ -6,7 +6,7 @@ ghost use Rattle.vote_poll_keys.specs.FoundView.{found_view};
 ghost use Rattle.vote_poll_keys.specs.Keys.{document};
 ghost use Rattle.vote_poll.specs.PollFaults.{IsJudged};
 ghost use Rattle.vote_poll.specs.PollFile.{IsPollOrFirst, poll_in, poll_in_table};
-ghost use Rattle.vote_poll_findings.specs.Findings.{AreFindings, AreFindingsOf, AreFindingsOfTable};
+ghost use Rattle.vote_poll_findings.specs.Findings.{AreFindings, AreFindingsOf};
 ghost use Rattle.vote_poll_findings.specs.Syntax.{IsSyntaxFinding};
 ghost use Rattle.vote_poll_keys.specs.declared.fault.PollFault.TheVariants.{Memory, Syntax};
 
@@ -72,7 +72,7 @@ fn explain_judged(
     faults: &[PollFault],
 ) -> Result<ExplainedPoll, AllocError>
     requires { IsJudged (table_view table.now) (found_view keys.now) faults.now }
-    ensures findings { IfOk result (λ told. AreFindingsOfTable (table_view table.now) (string_bytes told.findings)) }
+    ensures findings { IfOk result (λ told. AreFindingsOf text.now (Ok (table_view table.now)) (string_bytes told.findings)) }
     ensures outcome { IfOk result (λ told. told.outcome ≡ poll_in_table (table_view table.now)) }
     ensures known { IfOk result (λ told. told.outcome ≢ Err Memory) }
 {
@@ -84,7 +84,7 @@ fn explain_judged(
 
 /// What the table of a poll file says, and all that is wrong with it: it is judged as [`Poll::from_text`] judges it.
 fn explain_table(alloc: Global, text: &[u8], table: &Table) -> Result<ExplainedPoll, AllocError>
-    ensures findings { IfOk result (λ told. AreFindingsOfTable (table_view table.now) (string_bytes told.findings)) }
+    ensures findings { IfOk result (λ told. AreFindingsOf text.now (Ok (table_view table.now)) (string_bytes told.findings)) }
     ensures outcome { IfOk result (λ told. told.outcome ≡ poll_in_table (table_view table.now)) }
     ensures known { IfOk result (λ told. told.outcome ≢ Err Memory) }
 {

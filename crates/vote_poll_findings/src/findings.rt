@@ -1,8 +1,7 @@
 //! The lines of findings: of a fault, and of a key that is not read.
 ghost use Rattle.toml.specs.View.{table_view};
 ghost use Rattle.vote_poll_text.specs.Adding.{Adds};
-ghost use Rattle.vote_poll_findings.specs.Findings.{SaysFault, SaysKey, fault_head, key_head};
-ghost use Rattle.vote_poll_findings.specs.Lines.{AreLinesFor};
+ghost use Rattle.vote_poll_findings.specs.Findings.{AreLinesFor, SaysFault, SaysKey, fault_head, key_head};
 ghost use Rattle.vote_poll_hints.specs.Hints.{Tells};
 ghost use Rattle.vote_poll_hints.specs.Places.{path_of};
 

@@ -2,9 +2,8 @@
 //! at which place `toml` finds the error no contract says.
 ghost use Rattle.std.specs.Prelude.{◌≡◌, ◌≤◌, ◌++◌, IfOk, codes, decimal, length, string_bytes, take};
 ghost use Rattle.vote_poll_text.specs.Adding.{Adds};
-ghost use Rattle.vote_poll_findings.specs.Lines.{IsLine};
-ghost use Rattle.vote_poll_findings.specs.Syntax.{IsSyntaxFinding, begins_character, column_number, exchanged_text, first_line, last_line, line_number, place_words};
-ghost use Rattle.vote_poll_hints.specs.Hints.{IsHint, Tells};
+ghost use Rattle.vote_poll_findings.specs.Syntax.{IsSyntaxFinding, begins_character, column_number, exchanged_text, first_line, last_line, line_number};
+ghost use Rattle.vote_poll_hints.specs.Hints.{Tells};
 
 use std::alloc::{AllocError, Global};
 use vote_poll::is_ballot_line;
@@ -95,21 +94,6 @@ fn push_place(text: &mut String, line: usize, column: usize) -> Result<(), Alloc
     write!(text, "poll:{line}:{column}: ")
 }
 
-/// Adds the line of a finding at a place after these bytes of a text, of which this is said.
-fn push_line(
-    alloc: Global,
-    finding: &mut String,
-    place: &Place<'_>,
-    said: &str,
-    file: Option<&str>,
-) -> Result<(), AllocError>
-    ensures { Tells result finding.old (IsLine (place_words place.now.number place.now.left.now) IsHint) finding.new }
-{
-    push_place(finding, place.number, column_number(place.left))?;
-    push_syntax_hint(alloc, finding, place, said, file)?;
-    finding.push_str("\n")
-}
-
 /// Adds that a text is no TOML after so many bytes, of which this is said.
 fn push_syntax(
     alloc: Global,
@@ -124,7 +108,9 @@ fn push_syntax(
 {
     let place = place_at(text, at);
     push_exchanged(finding, is_ballot_line(first_line(text)))?;
-    push_line(alloc, finding, &place, said, file)?;
+    push_place(finding, place.number, column_number(place.left))?;
+    push_syntax_hint(alloc, finding, &place, said, file)?;
+    finding.push_str("\n")?;
     push_excerpt(alloc, finding, &place)
 }
 

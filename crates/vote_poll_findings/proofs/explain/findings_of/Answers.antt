@@ -2,8 +2,7 @@ use Rattle.std.proofs.Common.{◌∙◌, List, subst₂, string_bytes}
 use Rattle.toml.specs.Data.{Members}
 use Rattle.vote_poll_hints.specs.Hints.{Adding}
 use Rattle.vote_poll_hints.specs.Places.{Place}
-use Rattle.vote_poll_findings.specs.Findings.{SaysFault, SaysKey}
-use Rattle.vote_poll_findings.specs.Lines.{AreLinesFor}
+use Rattle.vote_poll_findings.specs.Findings.{AreLinesFor, SaysFault, SaysKey}
 use Rattle.vote_poll_findings.proofs.Lines.{both_from_nothing}
 use Rattle.vote_poll_findings.proofs.explain.findings_of.Goals as goal
 

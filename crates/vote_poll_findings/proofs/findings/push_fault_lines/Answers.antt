@@ -2,8 +2,7 @@ use Rattle.std.proofs.Common.{List, refl, subst, string_bytes}
 use Rattle.std.proofs.lemmas.List.{take_all}
 use Rattle.vote_poll_keys.specs.declared.fault.PollFault.{PollFault}
 use Rattle.vote_poll_hints.specs.Hints.{Adding}
-use Rattle.vote_poll_findings.specs.Findings.{SaysFault}
-use Rattle.vote_poll_findings.specs.Lines.{AreLinesFor}
+use Rattle.vote_poll_findings.specs.Findings.{AreLinesFor, SaysFault}
 use Rattle.vote_poll_findings.proofs.Lines.{one_more}
 use Rattle.vote_poll_findings.proofs.findings.push_fault_lines.Goals as goal
 

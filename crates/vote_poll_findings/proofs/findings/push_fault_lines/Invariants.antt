@@ -1,7 +1,6 @@
 use Rattle.std.proofs.Common.{take, string_bytes}
 use Rattle.vote_poll_hints.specs.Hints.{Adding}
-use Rattle.vote_poll_findings.specs.Findings.{SaysFault}
-use Rattle.vote_poll_findings.specs.Lines.{AreLinesFor}
+use Rattle.vote_poll_findings.specs.Findings.{AreLinesFor, SaysFault}
 use Rattle.vote_poll_findings.proofs.findings.push_fault_lines.Given as goal
 
 abbrev pub invariant-loop-fault : goal.invariant-loop-fault

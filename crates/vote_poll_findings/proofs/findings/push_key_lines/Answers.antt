@@ -4,8 +4,7 @@ use Rattle.std.proofs.lemmas.List.{take_all}
 use Rattle.toml.specs.View.{table_view}
 use Rattle.vote_poll_hints.specs.Hints.{Adding}
 use Rattle.vote_poll_hints.specs.Places.{Place}
-use Rattle.vote_poll_findings.specs.Findings.{SaysKey}
-use Rattle.vote_poll_findings.specs.Lines.{AreLinesFor}
+use Rattle.vote_poll_findings.specs.Findings.{AreLinesFor, SaysKey}
 use Rattle.vote_poll_findings.proofs.Lines.{one_more}
 use Rattle.vote_poll_findings.proofs.findings.push_key_lines.Goals as goal
 

@@ -1,8 +1,7 @@
 use Rattle.std.proofs.Common.{take, string_bytes}
 use Rattle.toml.specs.View.{table_view}
 use Rattle.vote_poll_hints.specs.Hints.{Adding}
-use Rattle.vote_poll_findings.specs.Findings.{SaysKey}
-use Rattle.vote_poll_findings.specs.Lines.{AreLinesFor}
+use Rattle.vote_poll_findings.specs.Findings.{AreLinesFor, SaysKey}
 use Rattle.vote_poll_findings.proofs.findings.push_key_lines.Given as goal
 
 abbrev pub invariant-loop-key : goal.invariant-loop-key

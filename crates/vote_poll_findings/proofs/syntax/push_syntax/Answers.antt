@@ -1,34 +1,28 @@
-use Rattle.std.proofs.Common.{◌≡◌, ◌≤◌, ◌++◌, ℕ, List, Bool, Ok, Err, Result, OnOk, length, take, refl, subst, subst₂, append_assoc, string_bytes}
-use Rattle.std.specs.Prelude.{IsTrue, ◌↔◌}
+use Rattle.std.proofs.Common.{◌≡◌, ◌≤◌, ◌++◌, ℕ, List, Bool, Ok, Err, Result, OnOk, length, take, refl, ap, subst, ◌∙◌, append_assoc, codes}
+use Rattle.std.specs.Prelude.{IsTrue, ◌↔◌, decimal}
+use Rattle.vote_poll_text.specs.Lines.{line_feed, text_of_lines}
 use Rattle.vote_poll.specs.BallotLine.{IsBallotText}
 use Rattle.vote_poll_hints.specs.Hints.{Adding, IsExcerpt, IsHint}
-use Rattle.vote_poll_findings.specs.Lines.{IsLine}
-use Rattle.vote_poll_findings.specs.Syntax.{IsSyntaxFinding, exchanged_text, first_line, place_after, place_words}
+use Rattle.vote_poll_findings.specs.Syntax.{IsSyntaxFinding, column_number, exchanged_text, first_line, last_line, line_number, place_words}
 use Rattle.vote_poll_findings.proofs.syntax.push_syntax.Goals as goal
 
-is_finding : {X E : Type 0} (r : Result X E) (text : List ℕ) (place : ℕ) (exchanged : Bool) (t0 t1 t2 t3 : List ℕ) → place ≤ length text → IsTrue exchanged ↔ IsBallotText (first_line text)
-    → t1 ≡ t0 ++ exchanged_text exchanged → Adding (IsLine (place_after (take place text)) IsHint) t1 t2 → OnOk r (Adding IsExcerpt t2 t3) → OnOk r (Adding (IsSyntaxFinding text) t0 t3)
-is_finding (Err x) text place exchanged t0 t1 t2 t3 within is first then last = tt
-is_finding (Ok x) text place exchanged t0 t1 t2 t3 within is first (line, is_line, more) (excerpt, is_excerpt, ended) = (
-  exchanged_text exchanged ++ line ++ excerpt,
-  record {
-    place = place;
-    within = within;
-    exchanged = exchanged;
-    is_exchanged = is;
-    line = line;
-    is_line = is_line;
-    excerpt = excerpt;
-    is_excerpt = is_excerpt;
-    is_text = refl;
-  },
-  rw (ended, more, first) (simp append_assoc),
+joins : (t0 a b d e f t1 t2 t3 t4 t5 : List ℕ) → t1 ≡ t0 ++ a → t2 ≡ t1 ++ b → t3 ≡ t2 ++ d → t4 ≡ t3 ++ e → t5 ≡ t4 ++ f → t5 ≡ t0 ++ (a ++ b ++ d ++ e ++ f)
+joins t0 a b d e f t1 t2 t3 t4 t5 e1 e2 e3 e4 e5 = rw (e5, e4, e3, e2, e1) (simp append_assoc)
+
+is_finding : {X E : Type 0} (r : Result X E) (text : List ℕ) (place line column : ℕ) (exchanged : Bool) (t0 t1 t2 t3 t4 t5 : List ℕ) → place ≤ length text
+    → IsTrue exchanged ↔ IsBallotText (first_line text) → line ≡ line_number (take place text) → column ≡ column_number (last_line (take place text)) → t1 ≡ t0 ++ exchanged_text exchanged
+    → t2 ≡ t1 ++ (codes "poll:" ++ decimal line ++ codes ":" ++ decimal column ++ codes ": ") → Adding IsHint t2 t3 → t4 ≡ t3 ++ line_feed → OnOk r (Adding IsExcerpt t4 t5)
+    → OnOk r (Adding (IsSyntaxFinding text) t0 t5)
+is_finding (Err x) text place line column exchanged t0 t1 t2 t3 t4 t5 within is at from e1 e2 hints e4 shows = tt
+is_finding (Ok x) text place line column exchanged t0 t1 t2 t3 t4 t5 within is at from e1 e2 (hint, is_hint, e3) e4 (more, (lines, are, joined), e5) = (
+  exchanged_text exchanged ++ place_words (take place text) ++ hint ++ line_feed ++ text_of_lines lines,
+  record { place = place; within = within; exchanged = exchanged; is_exchanged = is; hint = hint; is_hint = is_hint; excerpt = lines; are_hints = are; is_text = refl },
+  joins t0 (exchanged_text exchanged) (place_words (take place text)) hint line_feed (text_of_lines lines) t1 t2 t3 t4 t5 e1 (rw (at, from) at e2) e3 e4 (e5 ∙ ap (λ t. t4 ++ t) joined),
 )
 
 pub returns : goal.returns
 returns c =
-    let place = c.place_at-place.result in
-    let line = subst₂ (λ number left. Adding (IsLine (place_words number left) IsHint) (string_bytes c.push_exchanged.new.text) (string_bytes c.push_line.new.finding)) c.place_at-place.ensures.number c.place_at-place.ensures.left
-    c.in_ok-push_line.ensures in
-    is_finding c.push_excerpt.result c.args.text.now c.args.at c.is_ballot_line.result _ _ _ _ c.requires
-    (subst (λ line. IsTrue c.is_ballot_line.result ↔ IsBallotText line) c.first_line.ensures c.is_ballot_line.ensures) c.in_ok-push_exchanged.ensures line c.push_excerpt.ensures
+    is_finding c.push_excerpt.result c.args.text.now c.args.at c.place_at-place.result.number c.column_number.result c.is_ballot_line.result _ _ _ _ _ _ c.requires
+    (subst (λ line. IsTrue c.is_ballot_line.result ↔ IsBallotText line) c.first_line.ensures c.is_ballot_line.ensures) c.place_at-place.ensures.number
+    (c.column_number.ensures ∙ ap column_number c.place_at-place.ensures.left) c.in_ok-push_exchanged.ensures c.in_ok-push_place.ensures c.in_ok-push_syntax_hint.ensures
+    c.in_ok-push_str.ensures.bytes c.push_excerpt.ensures
