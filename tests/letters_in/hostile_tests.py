@@ -51,6 +51,10 @@ class Bombs(unittest.TestCase):
             "100,000 parts of a coded boundary": letter("ada", "--b\n\nx\n" * 100_000 + "--b--\n", kind="multipart/mixed; boundary*=utf-8''%62"),
             "40 parts within each other, and carriage returns": letter("ada", nested(40) + "\r" * 3_000_000, kind="multipart/mixed; boundary=b0"),
             "20 parts in a charset that takes long": letter("ada", f"--b\nContent-Type: text/plain; charset=punycode\n\n{'a' * 260_000}\n" * 20 + "--b--\n", kind=MIXED),
+            "blanks in base64": letter("ada", f"A{' ' * 250_000}A", head="Content-Transfer-Encoding: base64\n"),
+            "quotations and words in turns": letter("ada", "> a\n\nb\n\n" * 28_000 + BALLOT),
+            "flowing lines and empty ones": letter("ada", "a \n\n" * 60_000 + BALLOT, kind="text/plain; format=flowed"),
+            "cells without end": letter("ada", f"<p>{BALLOT}</p>" + "<table><tr><td>x" * 15_000, kind="text/html; x=y; z"),
             "40 parts of HTML": letter("ada", f"--b\nContent-Type: text/html\n\n{'<p>ada 1,1,1,1</p>' * 14_000}\n" * 40 + "--b--\n", kind=MIXED),
             "60,000 accents on one letter": letter("ada", f"a{chr(0x301) * 60_000}{chr(0x316) * 60_000}\n{BALLOT}\n"),
             **{
@@ -96,7 +100,7 @@ class Random(unittest.TestCase):
         chance = random.Random(1)
         for _ in range(3_000):
             found = parsed(self.changed(chance, b'\0\r\n\xff\x80;:="<>-b ', 20))
-            "\n".join((*found.shown_lines, found.subject, found.shown_sender, found.sender, found.message_id)).encode()
+            "\n".join((*found.shown_lines, found.subject, found.shown_sender, found.sender, found.in_reply_to)).encode()
 
     def test_halves_of_characters(self) -> None:
         for charset, text in (("unicode_escape", "\\ud800"), ("raw_unicode_escape", "\\ud800"), ("utf-7", "+2AA-")):
@@ -114,7 +118,7 @@ class Random(unittest.TestCase):
         letters = [self.changed(chance, b'\r\n \t;:="<>/\0\x80', 4) for _ in range(1_500)]
         found = [outcome for data in letters for outcome in outcomes(data)]
         self.assertEqual({one for one in found if one.startswith("in: ")}, {f"in: {BALLOT}"})
-        self.assertGreater(found.count(f"in: {BALLOT}"), 150)
+        self.assertGreater(found.count(f"in: {BALLOT}"), 100)
 
     def test_many_at_once(self) -> None:
         """Letters of nine electors, of one elector, and one letter again and again."""

@@ -14,7 +14,8 @@ PROGRAM = pathlib.Path(os.environ.get("DEBVOTE", ROOT / "crates" / "debvote" / "
 SAMPLES = ROOT / "tests" / "letters"
 sys.path.insert(0, str(ROOT / "python"))
 
-from debvote_tools.letters.judge import Circumstances, JudgedLetter, Outcome, judge_all  # noqa: E402
+from debvote_tools.letters.circumstances import Circumstances  # noqa: E402
+from debvote_tools.letters.judge import JudgedLetter, Outcome, judge_all  # noqa: E402
 from debvote_tools.letters.parse import ParsedLetter, as_json, from_json, parse  # noqa: E402
 from debvote_tools.letters.reasons import Because  # noqa: E402
 from debvote_tools.letters.sources import RawLetter  # noqa: E402

@@ -4,7 +4,8 @@ import unittest
 
 from letters_support import OTHER_RANKS, RANKS, alternatives, at, judged, letter, lines_in, outcome, outcomes, parsed
 
-from debvote_tools.letters.judge import Ballot, Decision, JudgedLetter, Outcome
+from debvote_tools.letters.circumstances import Ballot, Decision
+from debvote_tools.letters.judge import JudgedLetter, Outcome
 from debvote_tools.letters.parse import ParsedLetter
 
 BALLOT, OTHER = f"ada {RANKS}", f"ada {OTHER_RANKS}"

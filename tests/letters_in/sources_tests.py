@@ -1,16 +1,17 @@
 """What letters come in: by what is in it, and not by its name."""
 
+import collections
 import os
 import pathlib
+import random
 import tempfile
 import time
 import unittest
 import unittest.mock
 
-from letters_support import RANKS, answer, letter, mailbox, outcomes, parsed
+from letters_support import NAMES, RANKS, answer, letter, mailbox, outcomes, parsed
 
-
-from debvote_tools.letters.sources import MAX_LETTER, NotRead, Source, are_letters, letters_of_file, letters_of_folder
+from debvote_tools.letters.sources import MAX_LETTER, NotRead, Source, are_letters, letters_of_file, letters_of_folder, parts_of
 
 LINE = b"From somebody Mon Nov 23 10:00:00 2026\n"
 ADA, BEN = letter("ada", f"ada {RANKS}\n"), letter("ben", f"ben {RANKS}\n")
@@ -57,18 +58,45 @@ class Files(unittest.TestCase):
         parts = letter("ada", f"--b\n\nada {RANKS}\n--b--\n", kind="multipart/mixed; boundary=b")
         for line in (b"From ben\n", b"From - Mo Nov 23 10:00:00 2026\n", b"from ben\n", b">From - Mon Nov 23 10:00:00 2026\n"):
             for above in (ADA, parts):
-                self.assertEqual(outcome_of(letters_of_file("box", LINE + above + b"\n" + line + coded)), ["waits: parted off"], line)
+                self.assertEqual(
+                    outcome_of(letters_of_file("box", LINE + above + b"\n" + line + coded)), ["waits: parted off"], line
+                )
                 self.assertEqual(outcome_of(letters_of_file("one", above + b"\n" + line + coded)), ["waits: parted off"], line)
 
     def test_whatever_field_is_below_a_line_without_a_date(self) -> None:
         """Thunderbird and others put fields of their own above all that the mail server wrote."""
         coded = letter("ben", "YmVuIDEsMiw0LDMK\n", head="Content-Transfer-Encoding: base64\n")
-        for line in (b"From \n", b"From ben 2026-11-23T10:00:00\n"):
-            for field in (b"X-Mozilla-Status: 0001\n", b"X-UID: 7\n", b"Delivery-Date: x\n", b"Status: RO\n", b"To: vote\n", b"Subject: x\n"):
-                below = b"\n" + line + field + coded
-                self.assertEqual(outcome_of(letters_of_file("box", LINE + ADA + below)), ["waits: parted off"], field)
-                self.assertEqual(outcome_of(letters_of_file("box", line + field + ADA)), [f"in: ada {RANKS}"], field)
-                self.assertEqual(outcome_of(letters_of_file("box", line + field + ADA + below)), ["waits: parted off"], field)
+        line = b"From ben 2026-11-23T10:00:00\n"
+        for field in (
+            b"X-Mozilla-Status: 0001\n",
+            b"X-UID: 7\n",
+            b"Delivery-Date: x\n",
+            b"Status: RO\n",
+            b"To: vote\n",
+            b"Subject: x\n",
+        ):
+            below = b"\n" + line + field + coded
+            self.assertEqual(outcome_of(letters_of_file("box", LINE + ADA + below)), ["waits: parted off"], field)
+            self.assertEqual(outcome_of(letters_of_file("box", line + field + ADA)), [f"in: ada {RANKS}"], field)
+            self.assertEqual(outcome_of(letters_of_file("box", line + field + ADA + below)), ["waits: parted off"], field)
+
+    def test_a_mailbox_of_thunderbird(self) -> None:
+        """Today it writes lines without sender and date; older letters in it have lines with a date."""
+        status = b"X-Mozilla-Status: 0001\nX-Mozilla-Status2: 00000000\n"
+        for lines in (
+            (b"From \n", b"From \n"),
+            (b"From - \n", b"From -\n"),
+            (b"From - Mon Nov 23 10:00:00 2026\n", b"From \n"),
+            (b"From \n", LINE),
+        ):
+            box = lines[0] + status + ADA + b"\n" + lines[1] + status + BEN + b"\n"
+            for data in (box, box.replace(b"\n", b"\r\n")):
+                self.assertEqual(outcome_of(letters_of_file("box", data)), [f"in: ada {RANKS}", f"in: ben {RANKS}"], lines)
+        # without an empty line between, and as text of a letter that is not in a mailbox
+        self.assertEqual(
+            outcome_of(letters_of_file("box", b"From \n" + ADA + b"From \n" + BEN)), [f"in: ada {RANKS}", "waits: parted off"]
+        )
+        self.assertEqual(outcome_of(letters_of_file("x", ADA + b"\nFrom \n" + BEN)), ["waits: parted off"])
 
     def test_letters_that_somebody_put_together(self) -> None:
         """As `cat *.eml` does: of the second nobody would see anything."""
@@ -187,6 +215,70 @@ class Files(unittest.TestCase):
         self.assertLess(time.process_time() - began, 60)
 
 
+class Conservation(unittest.TestCase):
+    """No byte of what somebody adds is lost: it is in a letter that is kept, is named as not read, or parts two letters."""
+
+    lines = (
+        LINE, b"From - Mon Nov 23 10:00:00 2026\n", b"From \n", b"From ben\n", b">From x Mon Nov 23 10:00:00 2026\n", b"from x\n", b"\n", b"\r\n", b"\r", b" \n",
+        b"\xef\xbb\xbf", b"Received: from a by b; Mon, 23 Nov 2026 10:00:00 +0000\n", b"Content-Length: 300\n", b"Content-Type: multipart/mixed; boundary=b\n", b"--b\n",
+        b"--b--\n", b"ben 2,1,4,3\n", b"X-Mozilla-Status: 0001\n", b"\0", b"\xff",
+    )  # fmt: skip
+
+    def changed(self, chance: random.Random) -> bytes:
+        """A mailbox in which some lines are others."""
+        names = chance.choices(NAMES, k=chance.randint(1, 4))
+        texts = [letter(name, f"{name} {RANKS}\n") for name in names]
+        lines = mailbox(*texts).splitlines(keepends=True)
+        for _ in range(chance.randint(0, 6)):
+            place = chance.randrange(len(lines) + 1)
+            lines[place : place + chance.randint(0, 1)] = [chance.choice(self.lines)]
+        data = b"".join(lines[chance.choice((0, 0, 0, 1)) :])
+        return (
+            data.replace(b"\n", b"\r\n") if chance.random() < 0.2 else data[: chance.choice((len(data), len(data), len(data) - 1))]
+        )
+
+    def test_the_parts_of_a_file_are_the_file(self) -> None:
+        chance = random.Random(3)
+        becomes = collections.Counter[str]()
+        for _ in range(800):
+            data = self.changed(chance)
+            parts = parts_of(data)
+            self.assertEqual(b"".join(above + one + below for above, one, below in parts), data)
+            # what is in no letter parts letters
+            for above, _, below in parts:
+                self.assertRegex(above, rb"\A(\xef\xbb\xbf)?[\r\n]*(From [^\n]*\n[\r\n]*)?\Z")
+                self.assertIn(below, (b"", b"\n", b"\r\n"))
+            found = letters_of_file("box", data)
+            if found.letters:
+                self.assertEqual([raw.data for raw in found.letters], [one for _, one, _ in parts])
+                self.assertEqual(found.passed_over, [])
+            else:
+                self.assertEqual([one.where for one in found.passed_over], ["box"])
+            outcomes = outcome_of(found)
+            self.assertEqual(len(outcomes), len(found.letters))
+            becomes.update(one.partition(": ")[0] for one in outcomes)
+        self.assertEqual(set(becomes), {"in", "waits", "copy"})
+        self.assertGreater(min(becomes["in"], becomes["waits"]), 300)
+
+    def test_any_bytes(self) -> None:
+        chance = random.Random(4)
+        for _ in range(2_000):
+            data = b"".join(chance.choices(self.lines, k=chance.randint(0, 12)))
+            self.assertEqual(b"".join(above + one + below for above, one, below in parts_of(data)), data)
+
+    def test_each_file_of_a_folder_is_a_letter_or_named(self) -> None:
+        chance = random.Random(5)
+        with tempfile.TemporaryDirectory(prefix="debvote-letters-") as name:
+            folder = pathlib.Path(name)
+            for number in range(200):
+                (folder / f"{number}.eml").write_bytes(self.changed(chance))
+            found = letters_of_folder(folder)
+            self.assertEqual(
+                sorted([raw.where for raw in found.letters] + [one.where for one in found.passed_over]),
+                sorted(map(str, folder.iterdir())),
+            )
+
+
 class Folders(unittest.TestCase):
     def setUp(self) -> None:
         self.folder = pathlib.Path(self.enterContext(tempfile.TemporaryDirectory(prefix="debvote-letters-")))
@@ -264,7 +356,6 @@ class Answers(unittest.TestCase):
         """They are plain, or none: what is written into a letter that goes out has no line of its own."""
         data = answer("ada", f"ada {RANKS}\n")
         self.assertEqual(parsed(data).in_reply_to, "<call.ada@club.example>")
-        self.assertEqual(parsed(data).message_id, "<1.ada@mail.example>")
         for value in (
             "=?utf-8?q?=3Cx=0ABcc=3A_y=40z=3E?=",
             "<x y@z>",
@@ -275,8 +366,8 @@ class Answers(unittest.TestCase):
             "x",
             "",
         ):
-            changed = data.replace(b"<1.ada@mail.example>", value.encode("latin-1"))
-            self.assertEqual(parsed(changed).message_id, "", value)
+            changed = data.replace(b"<call.ada@club.example>", value.encode("latin-1"))
+            self.assertEqual(parsed(changed).in_reply_to, "", value)
             self.assertEqual(outcomes(changed), [f"in: ada {RANKS}"], value)
 
     def test_heads_as_they_are_shown(self) -> None:

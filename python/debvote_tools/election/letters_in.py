@@ -24,7 +24,8 @@ from debvote_tools.election.history import History
 from debvote_tools.election.in_time import openness_of
 from debvote_tools.faults import Fault, Status
 from debvote_tools.files import sha256_of
-from debvote_tools.letters.judge import Ballot, Circumstances, Decision, JudgedLetter, Outcome, judge_all
+from debvote_tools.letters.circumstances import Ballot, Circumstances, Decision
+from debvote_tools.letters.judge import JudgedLetter, Outcome, judge_all
 from debvote_tools.letters.parse import ParsedLetter, as_json, from_json, parse
 from debvote_tools.letters.readings import BallotLine
 from debvote_tools.letters.reasons import Reason

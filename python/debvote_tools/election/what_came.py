@@ -39,7 +39,7 @@ def what_came(election: Election, history: History, *, is_over: bool) -> WhatCam
     for letter in found:
         # whoever sent it gets to know, too, if its ballot is in another's name
         sender = letter.circumstances.elector_of(letter.parsed)
-        concerned = [*letter.electors, *([sender.name] if sender else [])]
+        concerned = [*letter.electors, *([sender] if sender else [])]
         for elector in dict.fromkeys(filter(None, map(by_name.get, concerned))):
             if (letter.number, elector.number) not in entered_of:
                 came[elector.number] += came_of_letter(letter, elector, kept_at[letter.number])

@@ -4,23 +4,28 @@ No list of what a quotation looks like can be complete, so nothing here looks fo
 a few lines of greeting or, in an answer to a letter that only this elector has, the quotation of it.
 """
 
+import re
 import unicodedata
-from collections.abc import Callable, Collection, Sequence
+from collections.abc import Collection, Sequence
 
+from debvote_tools.letters.parse import END, Body
 from debvote_tools.letters.reasons import Because, Reason
-from debvote_tools.terminal_text import TURNING
 
-# the line that ends a letter, and one that parts paragraphs as an empty one does
-END, STROKE = "-- ", "--"
+# the line that parts paragraphs as an empty one does
+STROKE = "--"
 
 # the most lines of greeting above a ballot, and the most characters of them together
 MAX_ABOVE, MAX_CHARACTERS = 5, 200
 
 # how a greeting in Spanish may begin
 OPENING = ("¡", "¿")
-# what no greeting has; what turns a text may turn the lines below it, too, and a colon has many forms
-REFUSED = f"@<>|{TURNING}"
-COLONS = ":\u02d0\u02f8\u0589\u05c3\u0703\u0903\u1361\u1365\u16ec\u1803\u1804\u205a\u205d\u2236\u2982\ua4fd\ua789\ufe30"
+# what a greeting has: letters of any script with their marks, blanks, dashes and quotation marks; these signs, which join pictures or
+# turn nothing but themselves, too; and pictures
+CATEGORIES = ("Lu", "Ll", "Lt", "Lm", "Lo", "Mn", "Mc", "Me", "Zs", "Pd", "Pi", "Pf")
+SIGNS = "\t,.;!?'\"()/&*+…·¡¿、。，！？،؟।\u200d\u200e\u200f"
+PICTURES = re.compile("[\u2600-\u2767\u2794-\u27bf\U0001f300-\U0001faff]")
+# letters that look like a colon
+LIKE_COLONS = "\u02d0\u0903\ua4fd"
 
 
 def is_quoted(line: str) -> bool:
@@ -36,13 +41,14 @@ def above_end(lines: Sequence[str]) -> int:
     return lines.index(END) if END in lines else len(lines)
 
 
-def paragraphs_of(lines: Sequence[str], passed_over: Collection[str] = ()) -> list[list[int]]:
+def paragraphs_of(body: Body, passed_over: Collection[str] = ()) -> list[list[int]]:
     """The paragraphs above the end of a letter, each as the indices of its lines. A line that is passed over is in no
     paragraph, and ends none.
     """
     paragraphs: list[list[int]] = [[]]
-    for index, line in enumerate(lines[: above_end(lines)]):
-        if line.strip() in passed_over:
+    flowing = frozenset(body.flowing)
+    for index, line in enumerate(body.lines[: above_end(body.lines)]):
+        if line.strip() in passed_over or (index in flowing and is_empty(line)):
             continue
         if is_empty(line) or line == STROKE:
             paragraphs.append([])
@@ -51,49 +57,41 @@ def paragraphs_of(lines: Sequence[str], passed_over: Collection[str] = ()) -> li
     return [paragraph for paragraph in paragraphs if paragraph]
 
 
-def is_greeting(line: str, *, may_have_digits: bool = False) -> bool:
-    """Whether a line may be a greeting: it begins with a letter, has no digit, no colon and none of `@ < > |`, of any form, and turns no text."""
-    if not (line[:1].isalpha() or line.startswith(OPENING)):
-        return False
-    # each character by itself: of many accents on one letter the time would grow with the square of their number
-    plain = line if line.isascii() else line + "".join(unicodedata.normalize("NFKC", character) for character in line)
-    return not any(
-        character in REFUSED or character in COLONS or (character.isnumeric() and not may_have_digits) for character in plain
-    )
+def is_greeting(line: str, *, is_answer: bool) -> bool:
+    """Whether a line may be a greeting: it begins with a letter, and has what greetings have, so no digit and no colon. Above the ballot of an
+    answer to ours it may be the head of a quotation, with digits, and a colon at its end.
+    """
+    begins = line[:1].isalpha() or line.startswith(OPENING)
+    bare = line.removesuffix(":").removesuffix("：") if is_answer else line
+    return begins and all(is_plain(character) or (is_answer and character.isnumeric()) for character in set(bare))
 
 
-def is_head_of_quotation(line: str) -> bool:
-    """Whether a line may be above the ballot of an answer to ours: as a greeting, but it may have digits, and a colon at its end."""
-    bare = line.rstrip()
-    return is_greeting(bare[:-1] if unicodedata.normalize("NFKC", bare[-1:]) == ":" else bare, may_have_digits=True)
+def is_plain(character: str) -> bool:
+    is_listed = unicodedata.category(character) in CATEGORIES or character in SIGNS or PICTURES.match(character)
+    return bool(is_listed) and not character.isnumeric() and character not in LIKE_COLONS
 
 
-def why_not_first(
-    lines: Sequence[str], ballot: int, *, is_answer: bool, is_html: bool = False, passed_over: Collection[str] = ()
-) -> Because | None:
+def why_not_first(body: Body, ballot: int, *, is_answer: bool, passed_over: Collection[str] = ()) -> Because | None:
     """Why the ballot with this index among the lines is not the first line of the letter; None if it is.
 
     `is_answer` says that the letter answers one of ours, which only this elector has. `passed_over` are lines without their blanks, such
     as the mark of the vote, that may be anywhere.
     """
-    paragraphs = paragraphs_of(lines, passed_over)
+    lines = body.lines
+    paragraphs = paragraphs_of(body, passed_over)
     own = next(paragraph for paragraph in paragraphs if ballot in paragraph)
     before = paragraphs[: paragraphs.index(own)]
-    if any(is_quoted(lines[index]) for index in own):
+    # by their first lines
+    quoted = {paragraph[0] for paragraph in (*before, own) if any(is_quoted(lines[index]) for index in paragraph)}
+    if own[0] in quoted or (quoted and not is_answer):
         return Reason.QUOTED()
-    if is_answer:
-        counting = [paragraph for paragraph in before if not any(is_quoted(lines[index]) for index in paragraph)]
-        return not_as_wanted(lines, [index for paragraph in counting for index in paragraph], is_head_of_quotation)
-    above = [index for paragraph in [*before, own] for index in paragraph if index < ballot]
-    if any(is_quoted(lines[index]) for index in above):
-        return Reason.QUOTED()
-    beside = [index for index in own if index > ballot]
-    why = not_as_wanted(lines, [*above, *beside], is_greeting)
-    is_much = len(above) > (0 if is_html else MAX_ABOVE) or sum(len(lines[index].strip()) for index in above) > MAX_CHARACTERS
-    return why or (Reason.MUCH_ABOVE() if is_much else None)
-
-
-def not_as_wanted(lines: Sequence[str], indices: Sequence[int], is_wanted: Callable[[str], bool]) -> Because | None:
-    """The first of these lines that is not as wanted, by its number from 1."""
-    found = next((index for index in indices if not is_wanted(lines[index])), None)
-    return None if found is None else Reason.NOT_FIRST(number=found + 1)
+    greetings = [index for paragraph in before if paragraph[0] not in quoted for index in paragraph]
+    greetings += [index for index in own if index != ballot and not is_answer]
+    flowing = frozenset(body.flowing)
+    for index in greetings:
+        line = lines[index] if index in flowing else lines[index].rstrip()
+        if not is_greeting(line, is_answer=is_answer):
+            return Reason.NOT_FIRST(number=index + 1)
+    above = [lines[index].strip() for index in greetings if index < ballot]
+    is_much = len(above) > (0 if body.is_html else MAX_ABOVE) or len("".join(above)) > MAX_CHARACTERS
+    return Reason.MUCH_ABOVE() if is_much and not is_answer else None

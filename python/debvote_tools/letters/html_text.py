@@ -9,6 +9,7 @@ import collections
 import html
 import re
 import unicodedata
+from collections.abc import Collection, Mapping
 
 # a comment or declaration, a mark with its attributes, or a text; what has no end ends with the text
 BLANKS = r" \t\n\r\f"
@@ -22,13 +23,14 @@ TOKEN = re.compile(
 DOCTYPE = re.compile(r"<!doctype\s[^<>\[\]]*>", re.IGNORECASE)
 ATTRIBUTE = re.compile(r"""(?<!\s)\s++([a-zA-Z-]++)(?:\s*+=\s*+(?:"([^"]*+)"|'([^']*+)'|([^\s"'>=]++)))?""")
 
-# the elements and attributes of plain marks
+# the elements, attributes and styles of plain marks
 PLAIN = frozenset("html head meta title body div p br span font b strong i em u center blockquote".split())
-PLAIN_ATTRIBUTES = frozenset(("class", "id", "lang"))
+PLAIN_ATTRIBUTES = frozenset("class id lang dir style".split())
+META_ATTRIBUTES = frozenset("charset content http-equiv name".split())
 # from right to left numbers are in another order
-DIRECTIONS = frozenset(("ltr", "auto"))
+DIRECTIONS = ("ltr", "auto")
 RIGHT_TO_LEFT = ("R", "AL", "RLE", "RLO", "RLI", "LRE", "LRO", "LRI", "FSI", "PDF", "PDI")
-LENGTH = r"(?:0|auto|\d{1,2}(?:\.\d+)?(?:px|pt|em|rem|cm|mm|%))"
+LENGTH = r"(?:0|auto|(?:\d{1,2}(?:\.\d+)?|\.\d+)(?:px|pt|em|ex|rem|cm|mm|%))"
 PLAIN_STYLES = {
     "font-family": re.compile(r"[\w\s,'\"-]+"),
     "font-size": re.compile(r"(?:[89]|[12]\d|30)(?:\.\d+)?(?:px|pt)"),
@@ -40,9 +42,21 @@ PLAIN_STYLES |= {
     for name in ("margin", "padding")
     for side in ("", "-top", "-right", "-bottom", "-left")
 }
+# what else may be below a ballot, since it changes nothing above it; with any other mark nothing of a letter is plain
+BELOW = PLAIN - {"html", "head", "meta", "title", "body"} | frozenset(
+    "a img hr ul ol li pre h1 h2 h3 h4 h5 h6 s small code table thead tbody tfoot tr td th".split()
+)
+BELOW_ATTRIBUTES = PLAIN_ATTRIBUTES | frozenset(
+    "name href src alt title target rel width height border cellpadding cellspacing colspan rowspan valign bgcolor color face size "
+    "type cite".split()
+)
+BELOW_STYLES = PLAIN_STYLES | {
+    name: re.compile(r"[\w\s#%.,()'\"-]*")
+    for name in "color background background-color border border-top border-right border-bottom border-left border-collapse border-color "
+    "border-style border-width font-weight font-style text-decoration white-space word-wrap word-break overflow-wrap vertical-align "
+    "width max-width".split()
+}
 
-# with these somewhere in a letter, nothing of it is plain
-STYLING = re.compile(r"<(?:style|script|link|base)\b", re.IGNORECASE)
 # what they hold is no text of the letter
 HOLDING = frozenset(("title", "style", "script"))
 # they begin a line, and after their end a line begins too
@@ -50,15 +64,15 @@ BLOCKS = frozenset(
     "address article aside blockquote center dd div dl dt fieldset figure footer form h1 h2 h3 h4 h5 h6 header li main nav ol p pre "
     "section table tbody tfoot thead tr ul".split()
 )
-# characters that end a line in some programs
-ODD_CHARACTERS = re.compile("[\v\x1c-\x1f\x85\u2028\u2029]")
+CELLS = ("td", "th")
+# a text in a table but in none of its cells is shown above the table
+TABLE = ("table", "thead", "tbody", "tfoot", "tr")
+# what end a line in some programs, or are left out
+ODD_CHARACTERS = re.compile("[\0-\x08\v\x0e-\x1f\x7f\x85\u2028\u2029]")
 
 
 def read_html(text: str) -> "HtmlText":
-    """Reads a text in HTML."""
     reader = HtmlText()
-    # browsers leave zero characters out
-    text = text.replace("\0", "")
     for token in TOKEN.finditer(text):
         if token["text"] is not None:
             reader.read_text(token["text"])
@@ -73,8 +87,8 @@ def read_html(text: str) -> "HtmlText":
     reader.end_line()
     if not reader.first_other:
         reader.plain_lines = len(reader.lines)
-    if STYLING.search(text):
-        reader.plain_lines = 0
+    if reader.odd:
+        reader.plain_lines, reader.first_other = 0, reader.odd
     return reader
 
 
@@ -87,6 +101,8 @@ class HtmlText:
         self.lines: list[str] = []
         self.pieces: list[str] = []
         self.first_other, self.plain_lines = "", 0
+        # the first mark that may be nowhere in a letter
+        self.odd = ""
         # the text of the line that is not ended yet
         self.parts: list[str] = []
         # the blocks that are open, and how many of each
@@ -95,32 +111,30 @@ class HtmlText:
         # the element whose text nobody sees, while it is open
         self.holder = ""
 
-    def found_other(self, name: str) -> None:
-        """A mark comes that is not plain."""
+    def found_other(self, name: str, *, may_be_below: bool) -> None:
         if not self.first_other:
             self.first_other, self.plain_lines = name, len(self.lines)
+        if not may_be_below:
+            self.odd = self.odd or name
 
     def begin(self, tag: str, given: str) -> None:
-        """An element begins."""
-        if tag not in PLAIN:
-            self.found_other(tag)
-        elif not has_plain_attributes(tag, given):
-            self.found_other(f"{tag}{given}")
-            # wherever it is, browsers give its attributes to all that is within
-            if tag in ("html", "body"):
-                self.plain_lines = 0
+        names = META_ATTRIBUTES if tag == "meta" else PLAIN_ATTRIBUTES
+        if tag not in PLAIN or not are_plain(given, names, PLAIN_STYLES):
+            is_known = tag in BELOW and are_plain(given, BELOW_ATTRIBUTES, BELOW_STYLES)
+            self.found_other(f"{tag}{given}", may_be_below=is_known)
         if tag == "title" and (self.lines or self.parts):
-            self.found_other(tag)
+            self.found_other(tag, may_be_below=False)
         if tag in HOLDING:
             self.holder = tag
         if tag in ("br", "hr"):
             self.end_line(keeps_empty=tag == "br")
-        elif tag in ("td", "th"):
+        elif tag in CELLS:
             self.parts.append(" ")
         elif tag in BLOCKS:
             self.end_line()
             if self.open[-1:] == ["p"]:
                 self.close("p")
+        if tag in CELLS or tag in BLOCKS:
             self.open.append(tag)
             self.open_count[tag] += 1
 
@@ -135,8 +149,8 @@ class HtmlText:
         """An element ends. The end of one that is not open begins a line in browsers if it is `br` or `p`, and is no plain mark."""
         is_open = self.open_count[tag] > 0
         if tag not in PLAIN or tag == "br" or (tag in BLOCKS and not is_open):
-            self.found_other(f"/{tag}")
-        if tag in ("br", "p") or is_open:
+            self.found_other(f"/{tag}", may_be_below=tag in PLAIN or tag in BELOW)
+        if tag in ("br", "p") or (is_open and tag not in CELLS):
             self.end_line()
         if is_open:
             self.close(tag)
@@ -146,7 +160,7 @@ class HtmlText:
     def read_declaration(self, text: str) -> None:
         """A comment or a declaration comes. A comment may be shown by some programs."""
         if not DOCTYPE.fullmatch(text) or self.lines or self.parts:
-            self.found_other(text)
+            self.found_other(text, may_be_below=False)
         self.pieces += re.split(r"(?:[\n\r<>]|!?--|!)+", html.unescape(text))
 
     def read_text(self, text: str) -> None:
@@ -154,7 +168,9 @@ class HtmlText:
         shown = html.unescape(text)
         is_turned = not shown.isascii() and any(unicodedata.bidirectional(character) in RIGHT_TO_LEFT for character in shown)
         if text == "<" or ODD_CHARACTERS.search(shown) or is_turned:
-            self.found_other(text)
+            self.found_other(text, may_be_below=True)
+        if self.open and self.open[-1] in TABLE and shown.strip():
+            self.found_other(text, may_be_below=False)
         self.pieces += [f"{self.quotation}{line}" for line in shown.splitlines()]
         if not self.holder:
             self.parts.append(re.sub(r"[ \t\r\n\f]+", " ", shown))
@@ -171,27 +187,26 @@ class HtmlText:
             self.lines.append(self.quotation + text.strip())
 
 
-def has_plain_attributes(tag: str, given: str) -> bool:
-    """Whether the attributes of a mark change nothing that matters."""
+def are_plain(given: str, names: Collection[str], styles: Mapping[str, re.Pattern[str]]) -> bool:
+    """Whether the attributes of a mark are among these, and its style among those."""
     bare = given.rstrip().removesuffix("/").rstrip()
-    attributes = ATTRIBUTE.findall(bare)
     if ATTRIBUTE.sub("", bare):
         return False
-    if tag == "meta":
-        return True
-    return all(
-        name.lower() in PLAIN_ATTRIBUTES
-        or (name.lower() == "dir" and (double or single or bare_value).lower() in DIRECTIONS)
-        or (name.lower() == "style" and is_plain_style(html.unescape(double or single or bare_value)))
-        for name, double, single, bare_value in attributes
-    )
+    for name, *values in ATTRIBUTE.findall(bare.lower()):
+        value = html.unescape("".join(values))
+        if (
+            name not in names
+            or (name == "dir" and value not in DIRECTIONS)
+            or (name == "style" and not is_plain_style(value, styles))
+        ):
+            return False
+    return True
 
 
-def is_plain_style(style: str) -> bool:
-    """Whether a style changes nothing that matters: no size, place or colour that hides a text."""
-    for declaration in style.lower().split(";"):
+def is_plain_style(style: str, styles: Mapping[str, re.Pattern[str]]) -> bool:
+    """Whether each declaration of a style is among these."""
+    for declaration in filter(str.strip, style.split(";")):
         name, _, value = (part.strip() for part in declaration.partition(":"))
-        pattern = PLAIN_STYLES.get(name)
-        if name and (pattern is None or not pattern.fullmatch(value)):
+        if name not in styles or not styles[name].fullmatch(value):
             return False
     return True

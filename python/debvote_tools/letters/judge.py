@@ -5,26 +5,16 @@ The rules say what a letter has to be. What is wrong with letters nobody can lis
 
 import bisect
 import collections
-import dataclasses
 import datetime
 import enum
 import functools
-from collections.abc import Callable, Collection, Mapping, Sequence
+from collections.abc import Callable, Sequence
 
 from debvote_tools.addresses import address_key
-from debvote_tools.letters.greeting import is_quoted, paragraphs_of, why_not_first
+from debvote_tools.letters.circumstances import Ballot, Circumstances, Decision
+from debvote_tools.letters.greeting import above_end, is_quoted, paragraphs_of, why_not_first
 from debvote_tools.letters.parse import Body, ParsedLetter, marks_of
-from debvote_tools.letters.readings import (
-    MAX_BALLOTS,
-    BallotLine,
-    Elector,
-    LineReader,
-    Near,
-    Readings,
-    first_ballot,
-    folded,
-    readings_of,
-)
+from debvote_tools.letters.readings import MAX_BALLOTS, BallotLine, LineReader, Near, Readings, readings_of
 from debvote_tools.letters.reasons import Because, Reason
 from debvote_tools.terminal_text import shown_text
 
@@ -32,19 +22,7 @@ from debvote_tools.terminal_text import shown_text
 AHEAD = datetime.timedelta(minutes=10)
 
 
-class Decision(enum.Enum):
-    """What an act decided of a letter."""
-
-    ENTERED = "entered"
-    TAKEN_BACK = "taken back"
-    PUT_BACK = "put back"
-    SET_ASIDE = "set aside"
-    STRUCK = "struck"
-
-
 class Outcome(enum.Enum):
-    """What becomes of a letter."""
-
     GOES_IN = "goes in"
     WAITS = "waits"
     # it is another letter once more, and is passed over
@@ -64,70 +42,6 @@ DECIDED: dict[Decision, tuple[Outcome, Because | None]] = {
 }
 
 
-@dataclasses.dataclass(frozen=True)
-class Ballot:
-    """A ballot that is in and not struck: its time, in whole seconds, and its line."""
-
-    time: datetime.datetime
-    line: str
-
-
-@dataclasses.dataclass(frozen=True)
-class Circumstances:
-    """All that a letter is judged by, beside itself, as it is now. Times have a zone."""
-
-    # of the poll: the mark, the roll and the language
-    mark: str
-    roll: frozenset[str]
-    language: str
-    # of each elector: the addresses as the list has them, and the real name
-    addresses: Mapping[str, Sequence[str]]
-    real_names: Mapping[str, str]
-    # the first call that was not taken back; the end as it is now; the first close
-    called: datetime.datetime
-    end: datetime.datetime | None
-    first_close: datetime.datetime | None
-    now: datetime.datetime
-    # the Message-IDs of the letters that were written to each elector
-    our_letters: Mapping[str, Collection[str]]
-    # the lines with each elector's name that are in and not struck
-    ballots: Mapping[str, Sequence[Ballot]]
-    # the fingerprint of each elector's key; None where letters need no signature
-    keys: Mapping[str, str] | None
-    # what acts decided, by the keys of the letters
-    decisions: Mapping[str, Decision]
-
-    @property
-    def passed_over(self) -> tuple[str, ...]:
-        """The lines that may be anywhere in a letter: where letters have to be signed, the mark of the poll."""
-        return () if self.keys is None else (f"[{self.mark}]",)
-
-    @functools.cached_property
-    def electors_by_address(self) -> dict[str, list[str]]:
-        """The electors who have an address, by its form without case."""
-        found: dict[str, list[str]] = collections.defaultdict(list)
-        for elector, addresses in self.addresses.items():
-            for key in dict.fromkeys(filter(None, map(address_key, addresses))):
-                found[key].append(elector)
-        return dict(found)
-
-    def by_real_name(self, name: str) -> str | None:
-        """An elector by the real name, folded."""
-        return self.electors_by_real_name.get(name)
-
-    @functools.cached_property
-    def electors_by_real_name(self) -> dict[str, str]:
-        """All electors by their real names, folded. Few letters ask for it, and with many electors it takes a while."""
-        languages = dict.fromkeys((self.language, ""))
-        found = {folded(who, language): elector for elector, who in self.real_names.items() for language in languages}
-        return {name: elector for name, elector in found.items() if name}
-
-    def elector_of(self, letter: ParsedLetter) -> Elector | None:
-        """The one elector whose address the sender of a letter has."""
-        electors = self.electors_by_address.get(letter.sender, [])
-        return Elector(electors[0], self.real_names.get(electors[0], "")) if len(electors) == 1 else None
-
-
 class JudgedLetter:
     """A letter, and what becomes of it. The `reason` says why it waits or was set aside."""
 
@@ -144,10 +58,14 @@ class JudgedLetter:
         # the time of its ballot: that of the signature where letters have to be signed, else that of the arrival
         self.time = letter.signature.time if circumstances.keys is not None and letter.signature is not None else letter.arrived
         self.decision = circumstances.decisions.get(letter.key)
-        text = letter.body.text
-        self.index = first_ballot(text.lines, readings.views[0])
-        self.joined_index = first_ballot(text.joined, readings.views[1]) if len(readings.views) > 1 else None
-        self.ballot = None if self.index is None else readings.views[0][self.index]
+        above = readings.lines[: above_end(letter.body.lines)]
+        self.index = next((index for index, line in enumerate(above) if line is not None), None)
+        self.ballot = None if self.index is None else readings.lines[self.index]
+        self.elector = "" if self.ballot is None else self.ballot.elector
+        # the lines that read as ballots, the one that may go in first, and ranks without a name; each may be entered by its number
+        self.ballots: tuple[BallotLine, ...] = tuple(dict.fromkeys((*filter(None, [self.ballot]), *readings.ballots())))
+        self.offered = readings.offered
+        self.near: tuple[Near, ...] = () if self.ballots else readings.near
         # without `why_not_latest`, by which a letter depends on others
         self.why_by_itself = next(filter(None, (rule(self, circumstances) for rule in RULES)), None)
 
@@ -163,35 +81,12 @@ class JudgedLetter:
 
     @property
     def arrived_before_call(self) -> bool:
-        """Whether it arrived before the call, whatever it waits for."""
         return self.parsed.arrived is not None and self.parsed.arrived <= self.circumstances.called
 
     @property
     def arrived_late(self) -> bool:
-        """Whether it arrived after the end or the first close, whatever it waits for."""
         ends = filter(None, (self.circumstances.end, self.circumstances.first_close))
         return any(self.parsed.arrived is not None and self.parsed.arrived > end for end in ends)
-
-    @property
-    def elector(self) -> str:
-        """The elector on its ballot."""
-        return "" if self.ballot is None else self.ballot.elector
-
-    @functools.cached_property
-    def ballots(self) -> tuple[BallotLine, ...]:
-        """The lines that read as ballots, the one that may go in first; a line that reads as one by itself and joined is one. Each may be
-        entered by its number, as may those that are offered.
-        """
-        return tuple(dict.fromkeys((*filter(None, [self.ballot]), *self.readings.lines())))
-
-    @property
-    def offered(self) -> tuple[BallotLine, ...]:
-        """Ranks without a name, with that of the elector who seems to have sent them."""
-        return self.readings.offered
-
-    @property
-    def near(self) -> tuple[Near, ...]:
-        return () if self.ballots else self.readings.near
 
     @functools.cached_property
     def electors(self) -> tuple[str, ...]:
@@ -199,7 +94,7 @@ class JudgedLetter:
         named = [line.elector for line in (*self.ballots, *self.offered)]
         named += [name for near in self.readings.near if (name := near.ballot.partition(" ")[0]) in self.circumstances.roll]
         sender = self.circumstances.elector_of(self.parsed)
-        return tuple(dict.fromkeys(named)) or (() if sender is None else (sender.name,))
+        return tuple(dict.fromkeys(named)) or (() if sender is None else (sender,))
 
     @property
     def shared_with(self) -> tuple[str, ...]:
@@ -210,8 +105,8 @@ class JudgedLetter:
     @property
     def other_words(self) -> str:
         """The beginning of the sender's own words beside their ballots."""
-        lines, view = self.parsed.body.text.lines, self.readings.views[0]
-        own = (index for paragraph in paragraphs_of(lines, self.circumstances.passed_over) for index in paragraph)
+        lines, view = self.parsed.body.lines, self.readings.lines
+        own = (index for paragraph in paragraphs_of(self.parsed.body, self.circumstances.passed_over) for index in paragraph)
         return shown_text(" ".join(lines[index] for index in own if view[index] is None and not is_quoted(lines[index])))
 
 
@@ -220,7 +115,7 @@ Rule = Callable[[JudgedLetter, Circumstances], Because | None]
 
 # ---------------------------------------------------------------- the rules
 def can_be_read(case: JudgedLetter, circumstances: Circumstances) -> Because | None:
-    letter, text = case.parsed, case.parsed.body.text
+    letter, text = case.parsed, case.parsed.body
     if letter.is_parted_off:
         return Reason.PARTED_OFF()
     if letter.is_automatic:
@@ -273,7 +168,7 @@ def is_signed_by_its_elector(case: JudgedLetter, circumstances: Circumstances) -
         return Reason.SIGNED_BEFORE_THE_CALL(time=signature.time)
     if letter.arrived is None or signature.time > letter.arrived + AHEAD:
         return Reason.SIGNED_AHEAD(time=signature.time)
-    has_mark = any(line.strip() == f"[{circumstances.mark}]" for line in letter.body.text.lines)
+    has_mark = any(line.strip() == f"[{circumstances.mark}]" for line in letter.body.lines)
     return None if has_mark else Reason.NO_MARK(mark=circumstances.mark)
 
 
@@ -287,30 +182,16 @@ def has_one_ballot(case: JudgedLetter, circumstances: Circumstances) -> Because 
 
 
 def ballot_is_first(case: JudgedLetter, circumstances: Circumstances) -> Because | None:
-    """Of the lines as they stand, and joined if the letter says that they flow."""
-    text = case.parsed.body.text
-    if case.ballot is None or case.index is None:
-        if case.joined_index is not None:
-            return Reason.JOINED()
-        elsewhere = case.ballots
-        if elsewhere:
-            return Reason.ELSEWHERE(number=elsewhere[0].number)
+    body = case.parsed.body
+    if case.index is None:
+        if case.ballots:
+            return Reason.JOINED() if body.flowing else Reason.ELSEWHERE(number=case.ballots[0].number)
         return Reason.NO_NAME() if case.readings.offered else Reason.NO_BALLOT()
-    why = placed(case, circumstances, text.lines, case.index)
-    if why is not None or not text.joined:
-        return why
-    joined_ballot = None if case.joined_index is None else case.readings.views[1][case.joined_index]
-    if case.joined_index is None or joined_ballot is None or joined_ballot.ballot != case.ballot.ballot:
+    if case.index in body.flowing:
         return Reason.JOINED()
-    return placed(case, circumstances, text.joined, case.joined_index)
-
-
-def placed(case: JudgedLetter, circumstances: Circumstances, lines: Sequence[str], index: int) -> Because | None:
-    """Why the ballot is not the first of these lines."""
     answered = case.parsed.in_reply_to
     is_answer = bool(answered) and answered in circumstances.our_letters.get(case.elector, ())
-    is_html, passed_over = case.parsed.body.text.is_html, circumstances.passed_over
-    return why_not_first(lines, index, is_answer=is_answer, is_html=is_html, passed_over=passed_over)
+    return why_not_first(body, case.index, is_answer=is_answer, passed_over=circumstances.passed_over)
 
 
 def is_of_this_vote(case: JudgedLetter, circumstances: Circumstances) -> Because | None:
@@ -345,7 +226,6 @@ class Box:
         self.lines[elector, ballot.time].add(ballot.line)
 
     def last(self, elector: str) -> datetime.datetime | None:
-        """The time of the last ballot of an elector."""
         times = self.times[elector]
         return times[-1] if times else None
 
@@ -425,8 +305,7 @@ def set_copy(case: JudgedLetter, first: JudgedLetter, box: Box) -> None:
 
 def judge_all(letters: Sequence[ParsedLetter], circumstances: Circumstances, reader: LineReader) -> list[JudgedLetter]:
     """Judges letters in the order of their times; those without a time come last, in their order."""
-    given = circumstances
-    found = [readings_of(one, given.roll, given.elector_of(one), given.language, given.by_real_name) for one in letters]
+    found = [readings_of(letter, circumstances) for letter in letters]
     asked = dict.fromkeys(line.encode() for readings in found for line in readings.asked())
     asked |= dict.fromkeys(ballot.line.encode() for ballots in circumstances.ballots.values() for ballot in ballots)
     answers = reader.answers(list(asked)) if asked else {}

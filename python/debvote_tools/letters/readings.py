@@ -1,15 +1,16 @@
 """What the lines of a letter read as: as a ballot, or as something near to one. What is a valid ballot debvote says, of all lines at once."""
 
 import dataclasses
+import itertools
 import re
 import unicodedata
-from collections.abc import Callable, Iterator, Mapping, Sequence
+from collections.abc import Iterator, Mapping, Sequence
 from typing import Protocol
 
-from debvote_tools.letters.greeting import above_end, is_quoted
+from debvote_tools.letters.circumstances import Circumstances
+from debvote_tools.letters.greeting import is_quoted
 from debvote_tools.letters.parse import ParsedLetter, may_be_ballot
 from debvote_tools.lines import DASHES, LONGEST_REPAIRED, changed
-from debvote_tools.plain_names import without_accents
 
 # the grammar of a ballot line, and ranks alone
 RANKS = r"(?:-|[1-9][0-9]?)(?:,(?:-|[1-9][0-9]?))*"
@@ -30,18 +31,8 @@ MAX_BALLOTS, MAX_NEAR = 100, 5
 
 
 class LineReader(Protocol):
-    """Asks debvote about lines."""
-
     def answers(self, lines: Sequence[bytes]) -> Mapping[bytes, str | None]:
         """What debvote says of each line, as `bad rank count: ..`; None of a valid ballot of this poll. No line is late."""
-
-
-@dataclasses.dataclass(frozen=True)
-class Elector:
-    """The one elector whose address the sender of a letter has: the name on the roll, and the real name."""
-
-    name: str
-    real_name: str
 
 
 @dataclasses.dataclass(frozen=True)
@@ -72,30 +63,27 @@ class Near:
 class Readings:
     """What the lines of a letter read as.
 
-    `views` are the lines of its text, as they stand and joined if they flow, each line with its ballot or without; `others` are the lines
-    of other parts. `offered` are ranks without a name, with the name of the one elector who may have sent them.
+    `lines` are those of its text, each with its ballot or without; `others` are the lines of other parts. `offered` are ranks without a
+    name, with the name of the one elector who may have sent them.
     """
 
-    views: tuple[tuple[BallotLine | None, ...], ...] = ()
+    lines: tuple[BallotLine | None, ...] = ()
     others: tuple[BallotLine, ...] = ()
     offered: tuple[BallotLine, ...] = ()
     near: tuple[Near, ...] = ()
-    # how many ballots there may be, if they are more than debvote is asked about; then none is in `views` and `others`
+    # how many ballots there may be, if they are more than debvote is asked about; then none is in `lines` and `others`
     crowd: int = 0
 
-    def lines(self) -> Iterator[BallotLine]:
-        """All lines that read as a ballot."""
-        for view in self.views:
-            yield from (line for line in view if line is not None)
+    def ballots(self) -> Iterator[BallotLine]:
+        yield from filter(None, self.lines)
         yield from self.others
 
     @property
     def ballot_count(self) -> int:
-        return len({line.ballot for line in self.lines()})
+        return len({line.ballot for line in self.ballots()})
 
     def asked(self) -> Iterator[str]:
-        """What debvote is asked about."""
-        yield from (line.ballot for line in (*self.lines(), *self.offered))
+        yield from (line.ballot for line in (*self.ballots(), *self.offered))
         yield from (near.ballot for near in self.near)
 
     def answered(self, answers: Mapping[bytes, str | None]) -> "Readings":
@@ -104,108 +92,92 @@ class Readings:
         def valid(line: BallotLine) -> bool:
             return answers[line.ballot.encode()] is None
 
-        views = tuple(tuple(line if line is not None and valid(line) else None for line in view) for view in self.views)
+        lines = tuple(line if line is not None and valid(line) else None for line in self.lines)
         near = [dataclasses.replace(near, answer=answers[near.ballot.encode()]) for near in self.near]
-        for line in self.lines():
+        for line in self.ballots():
             if not valid(line) and all(one.ballot != line.ballot for one in near):
                 near.append(Near(line.number, line.ballot, False, answers[line.ballot.encode()]))
         near = sorted(near, key=lambda near: near.number)[:MAX_NEAR]
-        return Readings(views, tuple(filter(valid, self.others)), tuple(filter(valid, self.offered)), tuple(near), self.crowd)
+        return Readings(lines, tuple(filter(valid, self.others)), tuple(filter(valid, self.offered)), tuple(near), self.crowd)
 
 
-def readings_of(
-    letter: ParsedLetter,
-    roll: frozenset[str],
-    elector: Elector | None,
-    language: str,
-    by_real_name: Callable[[str], str | None],
-) -> Readings:
-    """What the lines of a letter may read as, before debvote has answered. `by_real_name` finds a name of the roll by the real name,
-    folded.
-    """
-    text = letter.body.text
-    reader = Reader(roll, elector, language, by_real_name)
-    views = [tuple(reader.ballot_line(number, line) for number, line in enumerate(text.lines, start=1))]
-    if text.joined:
-        views.append(tuple(reader.ballot_line(start + 1, line) for start, line in zip(text.starts, text.joined)))
-    numbered = list(enumerate(letter.shown_lines, start=1))
-    others = [reader.ballot_line(number, line) for number, line in numbered[len(text.lines) :]]
-    found = Readings(tuple(views), tuple(line for line in others if line is not None))
+def readings_of(letter: ParsedLetter, circumstances: Circumstances) -> Readings:
+    """What the lines of a letter may read as, before debvote has answered."""
+    body, reader = letter.body, Reader(circumstances, circumstances.elector_of(letter))
+    lines = tuple(reader.ballot_line(number, line) for number, line in enumerate(body.lines, start=1))
+    numbered = [(number, line) for number, line in enumerate(letter.shown_lines, start=1) if is_own(line)]
+    others = [reader.ballot_line(number, line) for number, line in numbered if number > len(lines)]
+    found = Readings(lines, tuple(filter(None, others)))
     if found.ballot_count > MAX_BALLOTS:
-        return Readings(tuple((None,) * len(view) for view in views), crowd=found.ballot_count)
+        return Readings((None,) * len(lines), crowd=found.ballot_count)
     if found.ballot_count:
-        beside = [other for number, line in numbered if (other := reader.line_of_other(number, line)) is not None]
-        return dataclasses.replace(found, others=(*found.others, *beside[:MAX_BALLOTS]))
-    own = [(number, line) for number, line in numbered if may_be_ballot(line) and not is_quoted(line)]
-    offered = [completed for number, line in own if (completed := reader.with_name(number, line)) is not None]
-    near = [near for number, line in own if (near := reader.near(number, line)) is not None]
-    return dataclasses.replace(found, offered=tuple(offered[:MAX_BALLOTS]), near=tuple(near[:MAX_NEAR]))
+        beside = filter(None, (reader.line_of_other(number, line) for number, line in numbered))
+        return dataclasses.replace(found, others=(*found.others, *itertools.islice(beside, MAX_BALLOTS)))
+    offered = filter(None, (reader.with_name(number, line) for number, line in numbered))
+    near = filter(None, (reader.near(number, line) for number, line in numbered))
+    return dataclasses.replace(
+        found, offered=tuple(itertools.islice(offered, MAX_BALLOTS)), near=tuple(itertools.islice(near, MAX_NEAR))
+    )
+
+
+def is_own(line: str) -> bool:
+    """Whether a line may be a ballot of whoever wrote the letter: it is not quoted."""
+    return may_be_ballot(line) and not is_quoted(line)
 
 
 @dataclasses.dataclass(frozen=True)
 class Reader:
-    """Reads the lines of a letter."""
+    """Reads the lines of a letter. `elector` is the one whose address its sender has."""
 
-    roll: frozenset[str]
-    elector: Elector | None
-    language: str
-    by_real_name: Callable[[str], str | None]
+    circumstances: Circumstances
+    elector: str | None
 
     def ballot_line(self, number: int, line: str) -> BallotLine | None:
-        """What a line that is not quoted may read as: repaired, a name of the roll and ranks. The sender may have written their own name
-        with accents, or their real name.
+        """What a line may read as: repaired, a name of the roll and ranks. The sender may have written their own name with accents, or
+        their real name.
         """
-        if not may_be_ballot(line) or is_quoted(line):
+        if not is_own(line):
             return None
         text = repaired(line)
-        if BALLOT.fullmatch(text) and text.partition(" ")[0] in self.roll:
+        if BALLOT.fullmatch(text) and text.partition(" ")[0] in self.circumstances.roll:
             return BallotLine(number, text)
         named = NAMED.fullmatch(unicodedata.normalize("NFC", text))
-        if named is None or self.elector is None or not self.is_name_of_sender(named[1], self.elector):
-            return None
-        return BallotLine(number, f"{self.elector.name} {named[2]}")
+        return BallotLine(number, f"{self.elector} {named[2]}") if named is not None and self.is_name_of_sender(named[1]) else None
 
     def line_of_other(self, number: int, line: str) -> BallotLine | None:
         """The ballot of a line with the real name of somebody else, as in the letter of a family. It never goes in by itself."""
-        if not may_be_ballot(line) or is_quoted(line) or self.ballot_line(number, line) is not None:
-            return None
         named = NAMED.fullmatch(unicodedata.normalize("NFC", repaired(line)))
-        names = [] if named is None else [self.by_real_name(folded(named[1], language)) for language in (self.language, "")]
-        name = next(filter(None, names), None)
-        return None if named is None or name is None else BallotLine(number, f"{name} {named[2]}")
+        if named is None or self.ballot_line(number, line) is not None:
+            return None
+        by_real_name = self.circumstances.electors_by_real_name
+        name = next((by_real_name[fold] for fold in sorted(self.circumstances.folds(named[1])) if fold in by_real_name), None)
+        return None if name is None else BallotLine(number, f"{name} {named[2]}")
 
-    def is_name_of_sender(self, name: str, elector: Elector) -> bool:
-        """Whether a name as somebody wrote it is that of the one elector whose address the sender has, and of no other."""
-        folds = {folded(name, language) for language in (self.language, "")} - {""}
-        own = {elector.name, *(folded(elector.real_name, language) for language in (self.language, ""))}
-        return bool(folds & own) and not folds & (self.roll - {elector.name})
+    def is_name_of_sender(self, name: str) -> bool:
+        """Whether a name as somebody wrote it is that of the sender, and of no other elector."""
+        if self.elector is None:
+            return False
+        folds = self.circumstances.folds(name)
+        own = {self.elector} | self.circumstances.folds(self.circumstances.real_names.get(self.elector, ""))
+        return bool(folds & own) and not folds & (self.circumstances.roll - {self.elector})
 
     def with_name(self, number: int, line: str) -> BallotLine | None:
-        """Ranks without a name, with that of the one elector whose address the sender has."""
+        """Ranks without a name, with that of the sender."""
         text = repaired(line)
-        if self.elector is None or "," not in text or not RANKS_ALONE.fullmatch(text):
-            return None
-        return BallotLine(number, f"{self.elector.name} {text}")
+        is_offered = self.elector is not None and "," in text and RANKS_ALONE.fullmatch(text)
+        return BallotLine(number, f"{self.elector} {text}") if is_offered else None
 
     def near(self, number: int, line: str) -> Near | None:
         """A line that has the shape of a ballot or begins with a name of the roll, or has a ballot within other words."""
-        text = repaired(line)
+        text, roll = repaired(line), self.circumstances.roll
         for found in WITHIN.finditer(line[:MAX_LOOKED_THROUGH]):
             ballot = repaired(f"{found[1]} {found[2]}")
             has_words = re.search(r"\w", line[: found.start()] + line[found.end() :]) is not None
-            if has_words and ballot.partition(" ")[0] in self.roll:
+            if has_words and ballot.partition(" ")[0] in roll:
                 return Near(number, ballot, True)
         first_word = re.split(r"[\s:,;*\"']+", text.lstrip("*\"' "), maxsplit=1)[0].lower()
-        is_near = BALLOT.fullmatch(text) or (first_word in self.roll and len(text) <= MAX_LOOKED_THROUGH)
+        is_near = BALLOT.fullmatch(text) or (first_word in roll and len(text) <= MAX_LOOKED_THROUGH)
         return Near(number, text, False) if is_near else None
-
-
-def folded(name: str, language: str) -> str:
-    """A name as one on a roll is made from it, but whole: there a long one is cut, and letters of other scripts are left out, so other words
-    may be where they were. The signs that are written as an apostrophe are no letters.
-    """
-    letters = re.sub(r"(?:[^\w.-]|[_\u02b0-\u02ff])+", "-", without_accents(name, language).lower()).strip("-")
-    return letters if re.search(r"[a-z0-9]", letters) else ""
 
 
 def repaired(line: str) -> str:
@@ -213,8 +185,3 @@ def repaired(line: str) -> str:
     data = line.encode("utf-8", "replace")
     data = data if len(data) <= LONGEST_REPAIRED else " ".join(line.split()).encode("utf-8", "replace")
     return changed(data).decode("utf-8", "replace").replace("\n", " ")
-
-
-def first_ballot(lines: Sequence[str], view: Sequence[BallotLine | None]) -> int | None:
-    """The index of the first line above the end of a letter that reads as a ballot."""
-    return next((index for index, line in enumerate(view[: above_end(lines)]) if line is not None), None)

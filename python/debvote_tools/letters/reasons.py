@@ -31,15 +31,14 @@ class Reason(enum.Enum):
     SET_ASIDE = "it was set aside"
     STRUCK = "its ballot was struck"
     # it can't be read with certainty
-    PARTED_OFF = "it may be text of the letter above it in the mailbox, or have other letters in it: look at the file"
+    PARTED_OFF = "it may be text of the letter above it in the mailbox, or have other letters in it: look at the file, and save its letters as .eml"
     TOO_LONG = "it has {length} {what}, and {limit} are the most"
     TOO_MANY_PARTS = "it has too many parts or lines, or parts too deep within each other"
-    AMBIGUOUS = "it describes a part in a way that programs read differently: {field}"
-    DEFECT = "it is damaged: {defect}"
+    AMBIGUOUS = "programs may read it in different ways, because of {what}"
     ENCRYPTED = "it is encrypted"
     NO_PLAIN_TEXT = "it does not begin with plain text, nor is it HTML alone"
     CHARSET = "its text is not plain text in the character set that it names: {charset}"
-    LINE_END = "its text has a character that ends a line in some programs and not in others: {character}"
+    CONTROL = "it has a character that programs show in different ways: {character}"
     HTML = "it is HTML that may look different than it reads: {element}"
     AUTOMATIC = "a program wrote it: an answer of somebody who is away, or a letter that came back"
     # when it arrived
@@ -117,11 +116,10 @@ FOR_ELECTOR = {
     Reason.TOO_LONG: marked("The reason: it is too long. Send plain text alone."),
     Reason.TOO_MANY_PARTS: UNCERTAIN,
     Reason.AMBIGUOUS: UNCERTAIN,
-    Reason.DEFECT: UNCERTAIN,
     Reason.ENCRYPTED: marked("The reason: it is encrypted, or packed so that it is not read."),
     Reason.NO_PLAIN_TEXT: marked("The reason: it does not begin with plain text, and attachments are not read."),
     Reason.CHARSET: marked("The reason: its charset is unknown. Send plain text in UTF-8."),
-    Reason.LINE_END: marked("The reason: nobody can tell where its lines end. Send plain text alone."),
+    Reason.CONTROL: marked("The reason: nobody can tell where its lines end. Send plain text alone."),
     Reason.HTML: marked("The reason: it has formats (HTML) with which it may look different than it reads. Send plain text alone."),
     Reason.AUTOMATIC: marked("The reason: a program wrote it."),
     Reason.NO_ARRIVAL: marked("The reason: nothing says when it arrived."),

@@ -1,16 +1,15 @@
-"""What letters come in: one message, an mbox, a Maildir, or a folder of messages. The bytes say what a file is, not its name."""
+"""What letters come in: one message, an mbox, a Maildir, or a folder of messages. The bytes say what a file is, not its name.
+
+No byte is lost: `parts_of` parts a file, and its parts joined are the file. Each letter of them is kept, or named as not read.
+"""
 
 import dataclasses
 import enum
 import pathlib
 import re
 
+from debvote_tools.letters.parts import END_OF_HEAD, MAX_HEAD, MAX_LETTER, Part
 from debvote_tools.lines import MARK
-
-# in bytes; a longer letter is not read
-MAX_LETTER = 10_485_760
-# in bytes; the head of a letter is shorter
-MAX_HEAD = 262_144
 
 # where the letters of a Maildir are: those that nobody has looked at come first, since one that somebody looks at meanwhile goes from the
 # first folder to the second; and where it has unfinished ones
@@ -24,23 +23,14 @@ KNOWN = re.compile(
 )
 MIN_KNOWN = 2
 
-# the line between two letters of an mbox; with a date it has the name of a day, and after it a time
-FROM_LINE = re.compile(rb"(?m)^From [^\r\n]{0,990}\r?$")
-DAYS = (b"Mon", b"Tue", b"Wed", b"Thu", b"Fri", b"Sat", b"Sun")
-TIME = re.compile(rb"\d\d?:\d\d(?::\d\d)?")
-
-# another letter within a letter, which a line without a date parts, or one that was changed: its head may begin with any field
-INNER = re.compile(rb"(?im)^>?From [^\r\n]*\r?\n(?:received|from|to|date|subject|status|[a-z0-9]++-[a-z0-9-]++)[ \t]*:")
-
+# what editors put before the first line of a file, and the line that begins an mbox
+START = re.compile(rb"(?:%b)?[\r\n]*(From [^\r\n]*\r?\n[\r\n]*)?" % MARK)
+# lines that may begin a letter. One does in an mbox if it has the name of a day and after it a time, or is bare as Thunderbird writes it
+FROM_LINE = re.compile(rb"(?im)^>?From [^\r\n]*(?:\r?\n|\Z)")
+DATED = re.compile(rb"From (?>[^\r\n]*?\b(?:Mon|Tue|Wed|Thu|Fri|Sat|Sun),* )(?:[^\r\n]* )?\d\d?:\d\d(?::\d\d)?\s")
+BARE = re.compile(rb"From (?:- ?)?\r?\n")
 # in bytes; of the empty line that ends a file so much may be missing
 MAX_MISSING = 2
-
-END_OF_HEAD = re.compile(rb"\r?\n\r?\n")
-CONTENT_LENGTH = re.compile(rb"(?im)^content-length[ \t]*:\s*(\d{1,15})")
-CONTENT_TYPE = re.compile(rb"(?im)^content-type[ \t]*:(?:[^\n]|\n(?=[ \t]))*")
-# with all that Python takes for a blank; one in quotation marks may have blanks in it
-BOUNDARY = re.compile(rb"""(?i)\bboundary\*?\d*\*?[\s\x1c-\x1f]*=[\s\x1c-\x1f]*(?:"([^"\n]*)"|"?([^"\s;]*))""")
-MAX_BOUNDARIES = 5
 
 # how files begin that have no letters which this program reads, and what Outlook calls the parts of a letter
 OLE = b"\xd0\xcf\x11\xe0"
@@ -112,25 +102,37 @@ def kind_not_read(data: bytes) -> NotRead | None:
 
 def are_letters(data: bytes) -> bool:
     """Whether a file begins as an mbox or a message does."""
-    start = without_start(data[:MAX_HEAD])
-    from_line = FROM_LINE.match(start)
-    if from_line is not None:
-        start = start[from_line.end() :].lstrip(b"\r\n")
-        if has_date(from_line[0]):
-            return FIELD.match(start) is not None
-    head = END_OF_HEAD.split(start, maxsplit=1)[0]
-    return FIELD.match(start) is not None and len({name.lower() for name in KNOWN.findall(head)}) >= MIN_KNOWN
-
-
-def without_start(data: bytes) -> bytes:
-    """A file without what editors put before its first line."""
-    return data.removeprefix(MARK).lstrip(b"\r\n")
+    start = begin_of(data)
+    head = END_OF_HEAD.split(data[start.end() : start.end() + MAX_HEAD], maxsplit=1)[0]
+    is_mailbox = start[1] is not None and parts_letters(start[1])
+    return FIELD.match(head) is not None and (is_mailbox or len({name.lower() for name in KNOWN.findall(head)}) >= MIN_KNOWN)
 
 
 def letters_of_file(name: str, data: bytes) -> Source:
-    """The letters of a file that was read whole; an mbox is parted."""
-    bare = without_start(data)
-    return letters_of_mailbox(name, bare) if is_mailbox(bare) and are_letters(bare) else of_one(name, data)
+    """The letters of a file that was read whole. One is parted off if it has others, or may be text of the letter above it: no empty line is
+    between, it is within the Content-Length of a letter above, or the parts of that letter do not end. A length that goes beyond the
+    end of the file is not that of a letter in it.
+    """
+    kind = kind_not_read(data) or (None if are_letters(data) else NotRead.NO_LETTER)
+    if kind is not None:
+        return Source([], [PassedOver(name, kind)])
+    found = Source([], [])
+    parts = parts_of(data)
+    place, reach, is_ended = 0, 0, True
+    for number, (above, letter, below) in enumerate(parts, start=1):
+        where = f"{name}, message {number}" if len(parts) > 1 else name
+        if len(letter) > MAX_LETTER:
+            found.passed_over.append(PassedOver(where, NotRead.TOO_LONG))
+        else:
+            found.letters.append(RawLetter(where, letter, place < reach or not is_ended or has_others(letter)))
+        place += len(above + letter)
+        read = Part(letter)
+        lengths = [int(length[0]) for value in read.values("content-length") if (length := re.match(r"\d{1,15}", value))]
+        ends = [place - len(read.below) + length for length in lengths]
+        reach = max([reach, *(end for end in ends if end <= len(data) + MAX_MISSING)])
+        is_ended = bool(below) and not read.is_open
+        place += len(below)
+    return found
 
 
 def letters_of_folder(folder: pathlib.Path) -> Source:
@@ -149,7 +151,7 @@ def letters_of_folder(folder: pathlib.Path) -> Source:
 
 
 def letter_of_file(file: pathlib.Path) -> Source:
-    """The letter of a file of a folder, which is never parted: it is named if it is a mailbox of several letters."""
+    """The letter of a file of a folder, which is named if it is a mailbox of several letters."""
     name = str(file)
     if file.is_dir():
         return Source([], [PassedOver(name, NotRead.FOLDER)])
@@ -158,78 +160,39 @@ def letter_of_file(file: pathlib.Path) -> Source:
     if not file.is_file():
         return Source([], [PassedOver(name, NotRead.NO_LETTER)])
     data = file.read_bytes()
-    bare = without_start(data)
-    if is_mailbox(bare) and len(from_lines(bare)) > 1:
-        return Source([], [PassedOver(name, NotRead.MAILBOX)])
-    return of_one(name, data)
+    is_mailbox = are_letters(data) and len(parts_of(data)) > 1
+    return Source([], [PassedOver(name, NotRead.MAILBOX)]) if is_mailbox else letters_of_file(name, data)
 
 
-def of_one(name: str, data: bytes) -> Source:
-    """A file that may be one letter. If it has a line as between the letters of a mailbox, it waits, since several may be in it."""
-    kind = kind_not_read(data) or (None if are_letters(data) else NotRead.NO_LETTER)
-    if kind is not None or len(data) > MAX_LETTER:
-        return Source([], [PassedOver(name, kind or NotRead.TOO_LONG)])
-    bare = without_start(data)
-    from_line = FROM_LINE.match(bare)
-    letter = bare if from_line is None else bare[from_line.end() :].lstrip(b"\r\n")
-    return Source([RawLetter(name, letter, is_parted_off=bool(from_lines(letter)) or has_others(letter))], [])
+# ---------------------------------------------------------------- the parts of a file
+def parts_of(data: bytes) -> list[tuple[bytes, bytes, bytes]]:
+    """A file in its parts: of each the line that begins it, the letter, and the empty line that ends it. Joined they are the file. Only an mbox
+    has several.
+    """
+    start = begin_of(data)
+    is_mailbox = start[1] is not None and parts_letters(start[1])
+    lines = FROM_LINE.finditer(data, start.end()) if is_mailbox else ()
+    begins = [line.span() for line in lines if parts_letters(line[0]) and FIELD.match(data, line.end())]
+    parts = []
+    for (begin, letter_begin), (end, _) in zip([start.span(), *begins], [*begins, (len(data), 0)]):
+        letter = data[letter_begin:end]
+        below = b"" if not is_mailbox else b"\n" if letter.endswith(b"\n\n") else b"\r\n" if letter.endswith(b"\n\r\n") else b""
+        parts.append((data[begin:letter_begin], letter.removesuffix(below), below))
+    return parts
 
 
-# ---------------------------------------------------------------- an mbox
-def is_mailbox(data: bytes) -> bool:
-    from_line = FROM_LINE.match(data)
-    return from_line is not None and has_date(from_line[0])
+def begin_of(data: bytes) -> re.Match[bytes]:
+    start = START.match(data)
+    assert start is not None
+    return start
 
 
-def has_date(from_line: bytes) -> bool:
-    """Whether a line `From ` has a date: the name of a day, and after it a time."""
-    words = from_line.split()
-    day = next((number for number, word in enumerate(words) if word.rstrip(b",") in DAYS), len(words))
-    return any(TIME.fullmatch(word) for word in words[day:])
+def parts_letters(line: bytes) -> bool:
+    return DATED.match(line) is not None or BARE.match(line) is not None
 
 
 def has_others(letter: bytes) -> bool:
-    """Whether other letters may be in a letter."""
-    end = END_OF_HEAD.search(letter, 0, MAX_HEAD)
-    return end is not None and INNER.search(letter, end.end()) is not None
-
-
-def from_lines(data: bytes) -> list[re.Match[bytes]]:
-    """The lines between letters."""
-    return [line for line in FROM_LINE.finditer(data) if has_date(line[0])]
-
-
-def letters_of_mailbox(name: str, data: bytes) -> Source:
-    """The letters of an mbox. One is parted off if it has others, or may be text of the letter above it: its line `From ` has no empty line before
-    it, is within the Content-Length of a letter above, or comes before the parts of that letter end. A length that goes beyond the end
-    of the file is not that of a letter in it.
+    """Whether other letters may be in a letter: below a line that parts no letters, since it has no date or was changed, or that is not in
+    an mbox.
     """
-    found = Source([], [])
-    lines = from_lines(data)
-    ends = [line.start() for line in lines[1:]] + [len(data)]
-    reach, is_open = 0, False
-    for number, (line, end) in enumerate(zip(lines, ends), start=1):
-        where, start = f"{name}, message {number}", min(line.end() + 1, end)
-        is_parted_off = number > 1 and (line.start() < reach or is_open or not follows_empty_line(data, line.start()))
-        if end - start > MAX_LETTER:
-            found.passed_over.append(PassedOver(where, NotRead.TOO_LONG))
-        else:
-            letter = without_separator(data[start:end])
-            found.letters.append(RawLetter(where, letter, is_parted_off or has_others(letter)))
-        end_of_head = END_OF_HEAD.search(data, start, min(end, start + MAX_HEAD))
-        head = b"" if end_of_head is None else data[start : end_of_head.end()]
-        reaches = [start + len(head) + int(length) for length in CONTENT_LENGTH.findall(head)]
-        reach = max(reach, *(one for one in reaches if one <= len(data) + MAX_MISSING), 0)
-        found_boundaries = BOUNDARY.findall(b"\n".join(CONTENT_TYPE.findall(head)))[:MAX_BOUNDARIES]
-        boundaries = [quoted.rstrip() or bare for quoted, bare in found_boundaries]
-        is_open = any(data.find(b"\n--" + boundary + b"--", start, end) < 0 for boundary in boundaries)
-    return found
-
-
-def follows_empty_line(data: bytes, start: int) -> bool:
-    return data[max(0, start - 3) : start].endswith((b"\n\n", b"\n\r\n"))
-
-
-def without_separator(letter: bytes) -> bytes:
-    """A letter of an mbox without the empty line that parts it from the next."""
-    return letter[:-1] if letter.endswith(b"\n\n") else letter[:-2] if letter.endswith(b"\n\r\n") else letter
+    return any(DATED.match(line[0]) or FIELD.match(letter, line.end()) for line in FROM_LINE.finditer(letter))
