@@ -8,7 +8,7 @@ use Rattle.vote_poll.specs.PollFaults.{faults_in}
 use Rattle.vote_poll_keys.specs.FaultWords.{fault_words}
 use Rattle.vote_poll_keys.specs.declared.fault.PollFault.{PollFault}
 use Rattle.vote_poll_hints.specs.Hints.{IsHint}
-use Rattle.vote_poll_hints.specs.Places.{Place, path_of}
+use Rattle.vote_poll_hints.specs.Places.{KeyPlace, path_of}
 use Rattle.vote_poll_hints.specs.Remarks.{IsRemark}
 use Rattle.vote_poll_hints.specs.declared.TheConstants.{MAX_SHOWN}
 use Rattle.vote_poll_findings.specs.Syntax.{IsSyntaxFinding}
@@ -24,7 +24,7 @@ SaysFault e line = (hint : List ℕ) × IsHint hint × (line ≡ fault_head e ++
 abbrev pub key_head : List ℕ → List ℕ
 key_head path = codes "poll: key " ++ shown MAX_SHOWN path ++ codes " is not read"
 
-abbrev pub SaysKey : Members → Place → List ℕ → Type 0
+abbrev pub SaysKey : Members → KeyPlace → List ℕ → Type 0
 SaysKey file place line = (remark : List ℕ) × IsRemark file place.name remark × (line ≡ key_head (path_of place) ++ remark ++ line_feed)
 
 -- ---- the text

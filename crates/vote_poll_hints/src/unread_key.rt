@@ -10,7 +10,7 @@ use std::alloc::{AllocError, Global};
 use std::marker::Model;
 use vote_poll_text::push_shown;
 
-/// A key that is not read; contracts see where it stands, a `Place` of `specs/Places.antt`.
+/// A key that is not read; contracts see where it stands, the `KeyPlace` of `specs/Places.antt`.
 #[derive(Drop)]
 pub struct UnreadKey<'t> {
     prefix: Vec<u8>,
@@ -18,15 +18,15 @@ pub struct UnreadKey<'t> {
 }
 
 impl<'t> Model for UnreadKey<'t> {
-    ghost use Rattle.vote_poll_hints.specs.Places.{Place};
+    ghost use Rattle.vote_poll_hints.specs.Places.{KeyPlace};
 
-    ghost Value = { Place };
+    ghost Value = { KeyPlace };
 
     ghost view = { λ key. record { prefix = key.prefix.items; name = key.name.now } };
 }
 
 impl<'t> UnreadKey<'t> {
-    /// A key with this name in the table where this stands before the names of keys.
+    /// A key with this name. `prefix` is what stands before it in its path.
     ///
     /// # Errors
     ///
@@ -67,7 +67,7 @@ impl<'t> UnreadKey<'t> {
         push_shown(text, self.name.as_bytes(), left)
     }
 
-    /// What stands before the names of the keys in the table that is the value of this key, as far as it is shown.
+    /// The prefix of the keys in the table at this key, as far as it is shown.
     ///
     /// # Errors
     ///

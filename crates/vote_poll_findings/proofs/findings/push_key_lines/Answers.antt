@@ -3,7 +3,7 @@ use Rattle.std.proofs.lemmas.Grind.{common_steps}
 use Rattle.std.proofs.lemmas.List.{take_all}
 use Rattle.toml.specs.View.{table_view}
 use Rattle.vote_poll_hints.specs.Hints.{Adding}
-use Rattle.vote_poll_hints.specs.Places.{Place}
+use Rattle.vote_poll_hints.specs.Places.{KeyPlace}
 use Rattle.vote_poll_findings.specs.Findings.{AreLinesFor, SaysKey}
 use Rattle.vote_poll_findings.proofs.Lines.{one_more}
 use Rattle.vote_poll_findings.proofs.findings.push_key_lines.Goals as goal
@@ -17,5 +17,5 @@ loop-key-preserved c =
 
 pub returns : goal.returns
 returns c =
-    subst (λ (keys : List Place). Adding (AreLinesFor (SaysKey (table_view c.args.hints.now.file.now)) keys) (string_bytes c.args.text.now) (string_bytes c.loop-key.text))
+    subst (λ (keys : List KeyPlace). Adding (AreLinesFor (SaysKey (table_view c.args.hints.now.file.now)) keys) (string_bytes c.args.text.now) (string_bytes c.loop-key.text))
     (take_all c.loop-key.key-index c.args.keys.now c.loop-key-test.false) c.loop-key.invariant
