@@ -81,9 +81,11 @@ def large_election(folder: pathlib.Path, path: str) -> Iterator[tuple[str, float
     new_election(room, lines, "name,who,mail\n" + "".join(f"{name},{name},{name}@club.example\n" for name in names), path)
     yield "add, 100,000 lines", command([ELECTION, "add", "--yes", "--force", ballots], room, path), 5
     ranks = ",".join(str(option + 1) for option in range(OPTIONS))
-    (room / "desk").write_text("".join(f"{name} {ranks}\n" for name in names[:DESK_BALLOTS]))
-    desk = sum(command([ELECTION, "desk"], room, path, given=f"{name} {ranks}\n") for name in names[:DESK_BALLOTS])
-    yield "a desk with one ballot", desk / DESK_BALLOTS, 0.5
+    first, *others = (f"{name} {ranks}\n" for name in names[:DESK_BALLOTS])
+    one = command([ELECTION, "desk"], room, path, given=first)
+    yield "a desk with one ballot", one, 0.5
+    all_others = command([ELECTION, "desk"], room, path, given="".join(others))
+    yield "each further ballot of a desk", (all_others - one) / (len(others) - 1), 0.1
     for name, words, most in [("status", ["status"], 0.5), ("close", ["close"], 1), ("publish", ["publish"], 3)]:
         # 1: a tie
         yield name, command([ELECTION, *words], room, path, (0, 1)), most

@@ -33,7 +33,7 @@ complete -c debvote-election -n "__fish_seen_subcommand_from codes" -l on-roll -
 complete -c debvote-election -n "__fish_seen_subcommand_from codes" -l moved -d "Go on although the election was moved here, or an older copy was restored; the result page says so."
 complete -c debvote-election -n "__fish_seen_subcommand_from codes" -l because -x -d "The reason, in your words, for --moved, --force, strike or reopen."
 complete -c debvote-election -n "__fish_seen_subcommand_from call" -l until -x -d "The end of the vote, as '2026-12-04 18:00'; a later time in a second call extends it."
-complete -c debvote-election -n "__fish_seen_subcommand_from call" -l zone -x -d "The time zone of --until, as Europe/Berlin; that of this computer if it is not given."
+complete -c debvote-election -n "__fish_seen_subcommand_from call" -l zone -x -d "The time zone of --until, as Europe/Berlin; if it is not given that of the end before, or of this computer."
 complete -c debvote-election -n "__fish_seen_subcommand_from call" -l to -x -d "The mail address to which ballots are sent."
 complete -c debvote-election -n "__fish_seen_subcommand_from call" -l at -x -d "The web address of the page: of the call, and later of the result."
 complete -c debvote-election -n "__fish_seen_subcommand_from call" -l form -d "Say that in a web form an empty cell counts as a hyphen, as add --blank-is-unranked takes it."

@@ -4,7 +4,7 @@ import functools
 from collections.abc import Sequence
 from typing import NamedTuple
 
-from debvote_tools.language import ENGLISH, Language
+from debvote_tools.language import ENGLISH, Language, marked
 
 UNRANKED = "-"
 
@@ -12,21 +12,27 @@ UNRANKED = "-"
 NUMBERS = {str(rank): rank for rank in range(1, 100)} | {UNRANKED: 100}
 
 
-class Preferences(NamedTuple):
-    """The options of a ballot by their numbers, from the first preference on: equal ones stand together."""
+class Phrases(NamedTuple):
+    """The sentences of which the words of a ballot are made."""
 
-    steps: list[list[int]]
-    unranked: list[int]
+    then: str
+    equally: str
+    unranked: str
+    nothing: str
 
 
-def preferences(ranks: str) -> Preferences:
-    """What the ranks of a valid ballot prefer to what."""
-    numbers = [NUMBERS[rank] for rank in ranks.split(",")]
-    steps: dict[int, list[int]] = {}
-    for place in sorted(range(len(numbers)), key=numbers.__getitem__):
-        steps.setdefault(numbers[place], []).append(place + 1)
-    unranked = steps.pop(NUMBERS[UNRANKED], [])
-    return Preferences(list(steps.values()), unranked)
+IN_A_TEXT = Phrases(
+    then=marked("{before}, then {step}"),
+    equally=marked("{options} equally"),
+    unranked=marked("{ranked}; not ranked, and so behind all others: {unranked}"),
+    nothing=marked("no option is ranked, so nothing is preferred"),
+)
+IN_A_LIST = Phrases(
+    then=marked("{before}; then {step}"),
+    equally=marked("equally {options}"),
+    unranked=marked("{ranked}; not ranked: {unranked}"),
+    nothing=marked("nothing is preferred"),
+)
 
 
 def in_normal_form(ranks: str) -> str:
@@ -48,10 +54,10 @@ def ranks_in_words(ranks: str, names: Sequence[str], language: Language = ENGLIS
 class BallotWords:
     """The same for many ballots: `add` prints 100,000."""
 
-    def __init__(self, names: Sequence[str], language: Language = ENGLISH) -> None:
-        self.language = language
+    def __init__(self, names: Sequence[str], language: Language = ENGLISH, phrases: Phrases = IN_A_TEXT) -> None:
+        self.language, self.phrases = language, phrases
         self.names = [(name,) for name in names]
-        self.then = language.between("{before}, then {step}")
+        self.then = language.between(phrases.then)
         # many ballots have few groups of options that are equal
         self.step = functools.cache(self.step_in_words)
 
@@ -61,13 +67,12 @@ class BallotWords:
             steps[rank] = steps[rank] + name if rank in steps else name
         unranked = steps.pop(UNRANKED, ())
         if not steps:
-            return self.language.say("no option is ranked, so nothing is preferred")
+            return self.language.say(self.phrases.nothing)
         said = self.then.join(map(self.step, map(steps.__getitem__, sorted(steps, key=NUMBERS.__getitem__))))
         if not unranked:
             return said
-        others = self.language.joined(unranked)
-        return self.language.say("{ranked}; not ranked, and so behind all others: {unranked}", ranked=said, unranked=others)
+        return self.language.say(self.phrases.unranked, ranked=said, unranked=self.language.joined(unranked))
 
     def step_in_words(self, names: tuple[str, ...]) -> str:
         """The options that have one rank."""
-        return names[0] if len(names) == 1 else self.language.say("{options} equally", options=self.language.joined(names))
+        return names[0] if len(names) == 1 else self.language.say(self.phrases.equally, options=self.language.joined(names))

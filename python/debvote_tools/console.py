@@ -1,8 +1,9 @@
-"""What both programs say and ask: the one place that writes to standard output and standard error, and that reads an answer.
+"""What both programs say and ask: only this module writes to standard output and standard error, and reads an answer.
 
-No text that is told has a character that steers a terminal (`terminal_text.written`), but for what debvote wrote, which has none.
+Characters that steer a terminal are replaced (`terminal_text.written`); what debvote wrote has none, and is written as it is.
 """
 
+import contextlib
 import io
 import itertools
 import os
@@ -15,16 +16,13 @@ from debvote_tools.terminal_text import written
 
 LINES_AT_ONCE = 1_000
 
-# what is said to any other answer
-YES_OR_NO = "Type y for yes, or n for no."
-
 
 class OutputFailed(Fault):
     """Standard output takes nothing more. What was told before is done."""
 
     def __init__(self, *, is_closed_pipe: bool = False) -> None:
         super().__init__(None, "the output failed", "ask debvote-election status", Status.BAD_OUTPUT, "what was told is done")
-        # whoever reads the first lines alone, as `head` does, has what was asked for
+        # somebody who reads the first lines alone, as `head` does, has what was asked for
         self.is_closed_pipe = is_closed_pipe
 
 
@@ -40,12 +38,12 @@ def has_output() -> bool:
 
 
 def is_terminal() -> bool:
-    """Whether a person sits there, who sees what is told, and can answer."""
+    """Whether a person is there, who sees what is told, and can answer."""
     return sys.stdin is not None and sys.stdin.isatty() and shows()
 
 
 def shows() -> bool:
-    """Whether what is told is seen at a terminal."""
+    """Whether standard output is a terminal."""
     return sys.stdout is not None and sys.stdout.isatty()
 
 
@@ -62,7 +60,6 @@ def tell_many(lines: Iterable[str]) -> None:
 
 
 def tell_as_it_is(text: str) -> None:
-    """Writes to standard output, at once, what debvote wrote. Raises `OutputFailed`."""
     if sys.stdout is None:
         raise OutputFailed()
     try:
@@ -72,23 +69,19 @@ def tell_as_it_is(text: str) -> None:
 
 
 def tell_aside(*lines: str) -> None:
-    """Writes lines to standard error, at once. Where it takes nothing, the exit status says what there is to say."""
+    """Writes lines to standard error, at once. If that fails, the exit status says what there is to say."""
     tell_aside_as_it_is("".join(f"{written(line)}\n" for line in lines))
 
 
 def tell_aside_as_it_is(text: str) -> None:
-    """Writes to standard error, at once, what debvote wrote there."""
-    if sys.stderr is None:
-        return
-    try:
-        write(sys.stderr, text)
-    except OSError:
-        pass
+    if sys.stderr is not None:
+        with contextlib.suppress(OSError):
+            write(sys.stderr, text)
 
 
 def write(output: TextIO, text: str) -> None:
-    """Writes a text at once. Where this fails, what is left of it is dropped: else Python would try again as it ends, and end
-    with a status of its own."""
+    """Writes a text at once. If this fails, the rest of it is dropped: else Python would try again as it ends, and end with a status of
+    its own."""
     try:
         output.write(text)
         output.flush()
@@ -100,14 +93,14 @@ def write(output: TextIO, text: str) -> None:
 
 
 def failed(program: str, words: str | None, status: int) -> int:
-    """Says why a program did not come to its end, unless that is told, and gives its exit status."""
+    """Says why a program did not come to its end, unless that is told, and returns its exit status."""
     if words is not None:
         tell_aside(f"{program}: {words}")
     return status
 
 
 def typed(question: str) -> bytes | None:
-    """What is typed as the answer to a question, with its line end; none at the end of the input."""
+    """The line that is typed as the answer to a question, with its line end; None at the end of the input."""
     tell_as_it_is(written(question))
     line = sys.stdin.buffer.readline()
     if not line:
@@ -115,13 +108,11 @@ def typed(question: str) -> bytes | None:
     return line or None
 
 
-def is_yes(question: str, how: str = YES_OR_NO) -> bool | None:
-    """Whether the answer is yes or no; None at the end of the input. To any other answer it says how to answer."""
+def is_yes(question: str, how: str = "Type y for yes, or n for no.") -> bool | None:
+    """Whether the answer is yes or no; None at the end of the input. After any other answer it says `how` to answer, and asks again."""
     while (answer := typed(f"{question} [y/n] ")) is not None:
         word = answer.strip().lower()
-        if word in (b"y", b"yes"):
-            return True
-        if word in (b"n", b"no"):
-            return False
+        if word in (b"y", b"yes", b"n", b"no"):
+            return word.startswith(b"y")
         tell(how)
     return None

@@ -1,4 +1,4 @@
-"""The program debvote: where it is, and what it writes."""
+"""The program debvote, and its answers (docs/FORMATS.md)."""
 
 import os
 import pathlib
@@ -12,7 +12,7 @@ from debvote_tools.files import BALLOTS_LIMIT, LINES_LIMIT, OWN_FILES, POLL_LIMI
 
 
 class Answer(NamedTuple):
-    """What a run of debvote wrote on standard output and on standard error, and its exit status."""
+    """What a run wrote on standard output and on standard error, and its exit status."""
 
     text: str
     faults: str
@@ -39,17 +39,14 @@ class Totals(NamedTuple):
 
 
 class Findings(NamedTuple):
-    """What `explain` says of a poll in order and its ballots."""
-
     refused: list[Finding]
     totals: Totals
 
 
 class Debvote:
-    """The program debvote, which runs in a folder: the files that it is given are named from there."""
+    """debvote runs in a folder, and the names of its files begin there. It may be beside the program that runs it, in `program_folder`."""
 
     def __init__(self, folder: pathlib.Path, program_folder: pathlib.Path | None = None) -> None:
-        """`program_folder` is that of the program that runs it: debvote may lie beside it."""
         path = (shutil.which("debvote", path=str(program_folder)) if program_folder else None) or shutil.which("debvote")
         if path is None:
             words = "the program is neither beside this one nor in the PATH"
@@ -58,14 +55,13 @@ class Debvote:
         self.folder = folder
 
     def run(self, *words: str | os.PathLike[str], given: bytes | None = None) -> Answer:
-        """Runs debvote with these words, and with these bytes as its standard input."""
+        """Runs debvote, with these bytes as its standard input."""
         if given is not None and not os.path.isdir(OWN_FILES):
             reason = "it is not there, and debvote is given its input by it"
             cure = "have /proc mounted, then run the command again"
             raise Fault(OWN_FILES, reason, cure, Status.BAD_OUTPUT, "nothing was counted")
-        command = [self.path, *(os.fspath(word) for word in words)]
         try:
-            ended = subprocess.run(command, cwd=self.folder, capture_output=True, input=given or b"")
+            ended = subprocess.run([self.path, *words], cwd=self.folder, capture_output=True, input=given or b"")
         except OSError as error:
             done = "nothing was counted, and no file was changed by it"
             reason = f"it can't be started ({error.strerror})"
@@ -73,9 +69,8 @@ class Debvote:
         status = ended.returncode if ended.returncode >= 0 else 128 - ended.returncode
         return Answer(ended.stdout.decode("ascii", "replace"), ended.stderr.decode("utf-8", "replace"), status)
 
-    # ------------------------------------------------------------ about a poll and ballots that are in memory
     def answer(self, task: str, poll_bytes: bytes, ballots_bytes: bytes = b"", *words: str) -> Answer:
-        """What debvote writes about a poll and these ballots. Stops if it refuses them as a whole."""
+        """What debvote writes about a poll and ballots in memory. Stops if it refuses them as a whole."""
         with in_memory(poll_bytes) as poll_path:
             answer = self.run(task, "--poll", poll_path, "--ballots", "/dev/stdin", *words, given=ballots_bytes)
         if answer.text or not answer.faults:
@@ -87,27 +82,23 @@ class Debvote:
         return [line.partition(" ")[2] for line in self.answer("steps", poll_bytes, ballots_bytes).text.splitlines()]
 
     def findings(self, poll_bytes: bytes, ballots_bytes: bytes) -> Findings:
-        """What `explain` says of a poll in order and these ballots."""
         return findings_in(self.answer("explain", poll_bytes, ballots_bytes).text)
 
     def standing(self, poll_bytes: bytes, ballots_bytes: bytes) -> dict[str, str]:
-        """The ranks of the ballot that stands, by the name of its elector, in the order of the roll."""
         return standing_in(self.answer("standing", poll_bytes, ballots_bytes).text)
 
     def version(self) -> str:
-        """The line of `--version`, as `debvote 1.1.0`."""
+        """As `debvote 1.1.0`."""
         return self.run("--version").text.strip()
 
 
 def refusal(answer: Answer) -> Fault:
-    """The fault of an answer without a text: what debvote said, and its status."""
     said = answer.faults.strip().removeprefix("debvote: ") or f"it ended with status {answer.status}"
-    cures = {
+    cures: dict[int, str] = {
         Status.BAD_POLL: f"a poll has at most {POLL_LIMIT} bytes; what is wrong with it says debvote-election check",
         Status.BAD_BALLOTS: f"there can be at most {LINES_LIMIT} lines and {BALLOTS_LIMIT} bytes of ballots: add less",
     }
-    cure = cures.get(Status(answer.status), "run the command again") if answer.status in set(Status) else "run the command again"
-    return Fault("debvote", said, cure, answer.status)
+    return Fault("debvote", said, cures.get(answer.status, "run the command again"), answer.status)
 
 
 def casting_words(name: str | None) -> list[str]:
@@ -117,13 +108,11 @@ def casting_words(name: str | None) -> list[str]:
     return [f"--casting={name}"] if name.startswith("-") else ["--casting", name]
 
 
-# ---------------------------------------------------------------- answers, read by FORMATS
 FINDING = re.compile(r"ballots:(\d+): (late|bad shape|bad rank count|bad not on roll): (.*)")
 TOTALS = re.compile(r"(\d+) lines: (\d+) valid, (\d+) refused, (\d+) of them late; (\d+) of (\d+) electors have a ballot")
 
 
 def findings_in(text: str) -> Findings:
-    """What `explain` wrote of a poll in order with its ballots."""
     lines = text.splitlines()
     totals = TOTALS.fullmatch(lines[-1]) if lines else None
     if totals is None:

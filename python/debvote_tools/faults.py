@@ -5,7 +5,7 @@ from collections.abc import Sequence
 
 
 class Status(enum.IntEnum):
-    """The exit statuses: those of debvote, and that of a shell where there is no debvote. No two have one number."""
+    """The exit statuses: those of debvote, and that of a shell if there is no debvote."""
 
     # all was done; of a count: it has a winner
     DONE = 0
@@ -15,7 +15,7 @@ class Status(enum.IntEnum):
     BAD_BALLOTS = 4
     BAD_OUTPUT = 7
     CASTING_OUTSIDE = 8
-    # a sheet that is another one, lines that are refused, and what a run stops at until a person has looked
+    # another sheet, refused lines, and what a run stops at until a person has looked
     DOUBT = 9
     BAD_SHEET = 10
     NOT_FOUND = 127
@@ -24,7 +24,7 @@ class Status(enum.IntEnum):
 class Fault(Exception):
     """What ends the run: the file that it is about, if any, the reason, the cure, the exit status, and what was done or was not.
 
-    Most faults stop a command until a person has looked, before it has changed anything. `done` is None where the reason says it.
+    Most faults stop a command until a person has looked, before it has changed anything. `done` is None if the reason says it.
     """
 
     def __init__(
@@ -52,7 +52,6 @@ class Several(Fault):
 
 
 def stop_at(faults: Sequence[Fault]) -> None:
-    """Stops if there are faults; all of them are said."""
     if len(faults) == 1:
         raise faults[0]
     if faults:

@@ -9,18 +9,16 @@ import shutil
 import signal
 import tempfile
 from collections.abc import Iterator
+from typing import BinaryIO
 
 from debvote_tools.faults import Fault, Status
 from debvote_tools.terminal_text import number_of, odd_sign
 
-# in bytes; one more is read of a longer file, so that debvote says that it is too long
-POLL_LIMIT, BALLOTS_LIMIT = 1_048_576, 33_554_432
+# in bytes and in lines; of a longer file a byte more is read, so that debvote says that it is too long
+POLL_LIMIT, BALLOTS_LIMIT, LINES_LIMIT = 1_048_576, 33_554_432, 100_000
 
 # in bytes; ten thousand members or electors, with a letter about each, are shorter
 TABLE_LIMIT = 33_554_432
-
-# in lines
-LINES_LIMIT = 100_000
 
 # where a process has its open files by their numbers
 OWN_FILES = "/proc/self/fd"
@@ -30,11 +28,10 @@ TEMPORARY = ".debvote-"
 
 
 class Written(OSError):
-    """A file is written, and its name may not be on the disk yet."""
+    """A file is written, but its name may not be on the disk yet, and be gone after a power cut."""
 
 
 def sha256_of(data: bytes) -> str:
-    """The SHA-256 of some bytes, as `sha256sum` writes it."""
     return hashlib.sha256(data).hexdigest()
 
 
@@ -93,10 +90,7 @@ def write_whole(file: pathlib.Path, data: bytes, mode: int) -> None:
     handle, name = tempfile.mkstemp(prefix=TEMPORARY, dir=file.parent)
     try:
         with os.fdopen(handle, "wb") as target:
-            target.write(data)
-            target.flush()
-            os.fchmod(target.fileno(), mode)
-            os.fsync(target.fileno())
+            write_through(target, data, mode)
         os.rename(name, file)
     except BaseException as error:
         with contextlib.suppress(OSError):
@@ -107,12 +101,11 @@ def write_whole(file: pathlib.Path, data: bytes, mode: int) -> None:
     try:
         sync_folder(file.parent)
     except OSError as error:
-        # the file is there, and may be gone after a power cut
         raise Written(error.errno, error.strerror, str(file)) from None
 
 
 def temporary_folder(place: pathlib.Path) -> pathlib.Path:
-    """Makes a folder for what is moved to its place once it is whole, or was moved away from there. Raises OSError."""
+    """Makes a folder for files that are moved to this place once they are whole, or were moved away from it. Raises OSError."""
     return pathlib.Path(tempfile.mkdtemp(prefix=TEMPORARY, dir=place))
 
 
@@ -133,10 +126,14 @@ def whole_folder(place: pathlib.Path) -> Iterator[pathlib.Path]:
 def write_public(file: pathlib.Path, data: bytes) -> None:
     """Writes a new file that everybody may read, whatever the umask, and brings it to the disk. Raises OSError."""
     with open(file, "xb") as target:
-        target.write(data)
-        target.flush()
-        os.fchmod(target.fileno(), 0o644)
-        os.fsync(target.fileno())
+        write_through(target, data, 0o644)
+
+
+def write_through(target: BinaryIO, data: bytes, mode: int) -> None:
+    target.write(data)
+    target.flush()
+    os.fchmod(target.fileno(), mode)
+    os.fsync(target.fileno())
 
 
 @contextlib.contextmanager
@@ -156,7 +153,7 @@ def locked(place: pathlib.Path, *, is_directory: bool = False) -> Iterator[None]
 
 @contextlib.contextmanager
 def in_memory(data: bytes) -> Iterator[str]:
-    """A file in memory, which other programs can read by this path as long as it lasts, and of which a kill leaves nothing."""
+    """A file in memory, which other programs can read by this path while it lasts; a kill leaves nothing of it."""
     if not os.path.isdir(OWN_FILES):
         words = "it is not there, and programs are given their input by it"
         raise Fault(OWN_FILES, words, "have /proc mounted, then run the command again", Status.BAD_OUTPUT)
@@ -165,17 +162,15 @@ def in_memory(data: bytes) -> Iterator[str]:
     except OSError as error:
         words = f"there is none for a copy of the input ({error.strerror})"
         raise Fault("memory", words, "run the command again", Status.BAD_OUTPUT) from None
-    try:
-        with open(handle, "wb", closefd=False) as target:
-            target.write(data)
+    with open(handle, "wb") as target:
+        target.write(data)
+        target.flush()
         yield f"/proc/{os.getpid()}/fd/{handle}"
-    finally:
-        os.close(handle)
 
 
 @contextlib.contextmanager
 def uninterrupted() -> Iterator[None]:
-    """An interrupt waits until this is done, so that what is done is told too."""
+    """Interrupts wait until this is done, so that what is done is told too."""
     before = signal.pthread_sigmask(signal.SIG_BLOCK, {signal.SIGINT, signal.SIGTERM, signal.SIGHUP})
     try:
         yield

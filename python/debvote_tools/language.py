@@ -1,6 +1,7 @@
 """The language of what electors read: English, or one that has its translations in `locale`.
 
-A language is handed on to whatever makes a page or a letter. What the secretary reads at the terminal is always English.
+Each sentence is in the code or in a template once, whole and in English, with its places by name in braces. A language is handed on to
+whatever makes a page or a letter. What the secretary reads at the terminal is always English.
 """
 
 import dataclasses
@@ -9,58 +10,84 @@ import gettext
 import importlib.resources
 import io
 import json
-from collections.abc import Callable, Iterable, Mapping
+from collections.abc import Iterable, Mapping
 
 # each by the code that the pages have for it, with its name in English
 LANGUAGES = {"en": "English", "de": "German", "fr": "French", "es": "Spanish"}
 
-FOLDER = "locale"
+# of plain text
+QUOTATION_MARKS = {"en": "\u201c{}\u201d", "de": "\u201e{}\u201c", "fr": "\u00ab\u00a0{}\u00a0\u00bb", "es": "\u00ab{}\u00bb"}
+
+
+def marked(text: str) -> str:
+    """The same text, known to be a sentence that has translations; it is said elsewhere."""
+    return text
+
+
+def numbered(one: str, many: str) -> tuple[str, str]:
+    """The same for a sentence with a form for one and a form for many."""
+    return one, many
 
 
 @dataclasses.dataclass(frozen=True)
 class Language:
-    """A language, by its code, and its translations."""
+    """A language, by its code. It says sentences in plain text; `rendering.InHtml` says them in HTML."""
+
+    # how a text is written that is not the program's, that a reader has to see or compares character by character, and a link
+    GIVEN = STRONG = EXACT = "{}"
+    LINK = "{1}"
 
     code: str
     catalog: gettext.NullTranslations
 
-    @property
-    def is_english(self) -> bool:
-        return self.code == "en"
+    def made(self, text: str) -> str:
+        """A text of ours, into which others are put."""
+        return text
 
-    def say(self, text: str, **places: object) -> str:
-        """A sentence, with what stands at its places."""
-        return self.catalog.gettext(text).format(**places)
+    def say(self, text: str, /, **places: object) -> str:
+        return self.made(self.catalog.gettext(text)).format(**places)
 
-    def say_number(self, one: str, many: str, number: int, **places: object) -> str:
-        """A sentence in its form for a number, which stands at `{number}`."""
-        return self.catalog.ngettext(one, many, number).format(number=number, **places)
-
-    def form(self, text: str) -> Callable[..., str]:
-        """What says a sentence that is said often, each time with other words at its places."""
-        return self.catalog.gettext(text).format
+    def say_number(self, one: str, many: str, number: int, /, **places: object) -> str:
+        """A sentence in its form for a number, whose place is `{number}`."""
+        return self.made(self.catalog.ngettext(one, many, number)).format(number=number, **places)
 
     def in_a_row(self, said: Iterable[str]) -> str:
         """Sentences one after another, with semicolons."""
         return self.between("{before}; {after}").join(said)
 
     def joined(self, entries: Iterable[str]) -> str:
-        """The entries as they stand in a sentence; there is at least one."""
+        """The entries as part of a sentence; there is at least one."""
         *before, last = entries
-        return f"{', '.join(before)}{self.and_last}{last}" if before else last
+        return self.made(", ").join(before) + self.and_last + last if before else self.made("{}").format(last)
 
     @functools.cached_property
     def and_last(self) -> str:
-        """What stands before the last of some entries."""
         return self.between("{entries} and {last}")
 
     def between(self, text: str) -> str:
-        """What a sentence has between its two places, with which it begins and ends: so parts are joined one after another."""
-        return self.catalog.gettext(text)[text.index("}") + 1 : -len(text[text.rindex("{") :])]
+        """The words between the two places with which a sentence begins and ends: they join any number of parts."""
+        return self.made(self.catalog.gettext(text)[text.index("}") + 1 : -len(text[text.rindex("{") :])])
 
-    def words(self, sentences: Mapping[str, str]) -> str:
-        """Sentences by their names, as JSON for a script, which puts in what stands at their places."""
-        return json.dumps({name: self.catalog.gettext(text) for name, text in sentences.items()}, ensure_ascii=False)
+    def words(self, sentences: Mapping[str, str], **more: str) -> str:
+        """Sentences by their names, as JSON for a script, which fills their places."""
+        return json.dumps({name: self.catalog.gettext(text) for name, text in sentences.items()} | more, ensure_ascii=False)
+
+    # ------------------------------------------------------------ texts within a sentence
+    def given(self, text: str) -> str:
+        """A text that may be written from right to left, and turns nothing around it."""
+        return self.made(self.GIVEN).format(text)
+
+    def quoted(self, text: str) -> str:
+        return QUOTATION_MARKS[self.code].format(text)
+
+    def strong(self, text: str) -> str:
+        return self.made(self.STRONG).format(text)
+
+    def exact(self, text: str) -> str:
+        return self.made(self.EXACT).format(text)
+
+    def link(self, address: str, text: str) -> str:
+        return self.made(self.LINK).format(address, text)
 
 
 ENGLISH = Language("en", gettext.NullTranslations())
@@ -71,10 +98,10 @@ def language_of(code: str) -> Language:
     """The language of a code of `LANGUAGES`."""
     if code == ENGLISH.code:
         return ENGLISH
-    folder = importlib.resources.files("debvote_tools").joinpath(FOLDER)
-    made = folder.joinpath(f"{code}.mo")
-    if made.is_file():
-        return Language(code, gettext.GNUTranslations(io.BytesIO(made.read_bytes())))
+    folder = importlib.resources.files("debvote_tools").joinpath("locale")
+    compiled = folder.joinpath(f"{code}.mo")
+    if compiled.is_file():
+        return Language(code, gettext.GNUTranslations(io.BytesIO(compiled.read_bytes())))
     return Language(code, catalog_of(folder.joinpath(f"{code}.po").read_bytes()))
 
 

@@ -14,13 +14,10 @@ from collections.abc import Iterable
 from typing import NamedTuple
 
 MARK = codecs.BOM_UTF8
-
 BLANKS = b" \t"
 
 # in bytes; a longer line is no ballot, and nothing of it is repaired
 LONGEST_REPAIRED = 1_000
-
-# a line in which there is nothing to repair
 NOTHING_TO_REPAIR = re.compile(rb"[a-z0-9.-]+ [0-9-][0-9,-]*")
 
 # what can be a name on a roll, at the start of a line
@@ -37,12 +34,12 @@ QUOTES = (
     *"\u201c\u201d \u201e\u201c \u201e\u201d \u201d\u201d \u2018\u2019 \u201a\u2018 \u00ab\u00bb \u00bb\u00ab".split(),
 )
 
-# what a mail program writes in place of bold letters: whole words between asterisks
+# whole words between asterisks are bold letters of a mail program
 BOLD = re.compile(r"(?:^|(?<=[ ,;:]))(\*{1,3})(?=[^ *])([^*]*)(?<=[^ *])\1(?=[ ,;:.]|$)")
 COLON = re.compile(r"([A-Za-z0-9.-]+) *: *(?=[\d%s-])" % DASHES)
 FULL_STOP = re.compile(r"(?<=[\d%s-]) *\.$" % (DASHES + "".join(pair[1] for pair in QUOTES)))
 
-# the characters that are removed or replaced, by what they are called
+# the characters that are removed or replaced, by their names
 REPAIRED = {
     "byte-order mark": (MARK,),
     "carriage return": (b"\r",),
@@ -57,7 +54,6 @@ REPAIRED = {
     "colon": (b":",),
     "dashes": tuple(character.encode() for character in DASHES),
 }
-CAPITALS = re.compile(rb"[A-Z]")
 
 
 class Line(NamedTuple):
@@ -65,16 +61,14 @@ class Line(NamedTuple):
 
     source: str
     place: str
-    # with its byte-order mark and its carriage return, that of a row with the line feeds in its cells
+    # with its byte-order mark and its carriage return, or with the line feeds in the cells of its row
     came: bytes
     # without them: so it is entered if debvote refuses it
     unframed: bytes
-    # after all changes that are allowed
     repaired: bytes
 
     @property
     def where(self) -> str:
-        """File and place, as messages name them."""
         return f"{self.source}{self.place}"
 
     @property
@@ -98,15 +92,11 @@ class Line(NamedTuple):
 
 
 def lines_in(data: bytes, name: str, first: int = 1) -> list[Line]:
-    """The lines of a file; `first` is the number of the first one. A byte-order mark is removed at the start of line 1.
-
-    A carriage return alone ends a line, too.
-    """
+    """The lines of a file, numbered from `first`; a carriage return alone ends one, too. Line 1 loses its byte-order mark."""
     lines = []
     for number, line in enumerate(data.splitlines(keepends=True), start=first):
         came = line.removesuffix(b"\n")
-        unframed = came.removesuffix(b"\r")
-        unframed = unframed.removeprefix(MARK) if number == 1 else unframed
+        unframed = came.removesuffix(b"\r").removeprefix(MARK if number == 1 else b"")
         lines.append(Line(name, f":{number}", came, unframed, changed(unframed)))
     return lines
 
@@ -117,7 +107,6 @@ def ballot_lines(ballots_bytes: bytes) -> list[bytes]:
 
 
 def ballot_file(lines: Iterable[bytes]) -> bytes:
-    """A ballot file of these lines, each with its line feed."""
     return b"\n".join([*lines, b""])
 
 
@@ -128,7 +117,6 @@ def name_in(line: bytes) -> bytes:
 
 
 def changed(line: bytes) -> bytes:
-    """The line after the changes that are allowed."""
     if NOTHING_TO_REPAIR.fullmatch(line):
         return line
     if len(line) > LONGEST_REPAIRED or b"\r" in line or b"\n" in line:
@@ -170,10 +158,9 @@ def unquoted(text: str) -> str:
 
 
 def differences(before: bytes, after: bytes) -> list[str]:
-    """What was changed, by its names."""
     names = [name for name, parts in REPAIRED.items() if any(before.count(part) > after.count(part) for part in parts)]
     if before.count(b"-") < after.count(b"-") and "dashes" not in names:
         names.append("empty cells")
-    if len(CAPITALS.findall(before)) > len(CAPITALS.findall(after)):
+    if len(re.findall(rb"[A-Z]", before)) > len(re.findall(rb"[A-Z]", after)):
         names.append("capital letters")
     return names

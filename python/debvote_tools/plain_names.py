@@ -14,7 +14,6 @@ TITLE_LIMIT, OPTION_LIMIT, ELECTOR_LIMIT = 80, 40, 32
 SHOWN_LIMIT = 200
 
 PLAIN_NAME = re.compile(r"[!-~](?:[ -~]*[!-~])?")
-ELECTOR_NAME = re.compile(r"[a-z0-9.-]{1,%d}" % ELECTOR_LIMIT)
 
 # how each language spells letters that it has no accents on
 SPELLINGS: Mapping[str, Mapping[str, str]] = {"de": {"ä": "ae", "ö": "oe", "ü": "ue"}}
@@ -56,21 +55,18 @@ def without_accents(text: str, language: str) -> str:
 
 def spelled_by(table: Mapping[str, str], text: str) -> str:
     """The text with the letters of the table spelled as it says: Ä is Ae, and AE within capital letters."""
-    around = zip(f" {text}", text, f"{text[1:]} ")
-    return "".join(spelling(table, *letters) if letters[1].lower() in table else letters[1] for letters in around)
-
-
-def spelling(table: Mapping[str, str], before: str, letter: str, after: str) -> str:
-    """How a letter of the table is spelled between two others."""
-    spelled = table[letter.lower()]
-    if not letter.isupper():
-        return spelled
-    is_in_capitals = after.isupper() or (before.isupper() and not after.isalpha())
-    return spelled.upper() if is_in_capitals else spelled.capitalize()
+    parts = []
+    for before, letter, after in zip(f" {text}", text, f"{text[1:]} "):
+        spelled = table.get(letter.lower(), letter)
+        if letter.isupper() and letter.lower() in table:
+            is_in_capitals = after.isupper() or (before.isupper() and not after.isalpha())
+            spelled = spelled.upper() if is_in_capitals else spelled.capitalize()
+        parts.append(spelled)
+    return "".join(parts)
 
 
 def is_plain(text: str, limit: int) -> bool:
-    """Whether debvote takes a text as a name of at most this many bytes."""
+    """Whether debvote accepts a text as a name of at most this many bytes."""
     return len(text) <= limit and PLAIN_NAME.fullmatch(text) is not None
 
 
@@ -104,7 +100,7 @@ def made_different(bases: Sequence[str], taken: Collection[str], limit: int, joi
 
 # ---------------------------------------------------------------- the poll
 def plain_title(title: str, language: str) -> str:
-    """The plain form of a title. An empty one stays empty, so that it is refused."""
+    """An empty title stays empty, so that it is refused."""
     return plain_text(title, language, TITLE_LIMIT) or ("Vote" if title else "")
 
 
@@ -129,7 +125,7 @@ def elector_name(text: str, language: str) -> str:
 
 
 def is_elector_name(name: str) -> bool:
-    return ELECTOR_NAME.fullmatch(name) is not None
+    return len(name) <= ELECTOR_LIMIT and re.fullmatch(r"[a-z0-9.-]+", name) is not None
 
 
 # ---------------------------------------------------------------- names that people read
@@ -145,15 +141,14 @@ def alike(text: str) -> str:
     """The text without case, accents, blanks and unseen characters: names with one such form look alike."""
     if text.isascii():
         return "".join(text.split()).lower()
+
+    def is_told_apart(character: str) -> bool:
+        if character.isspace() or unicodedata.category(character) == "Cf" or character in UNSEEN:
+            return False
+        return not unicodedata.combining(character) or character in VOICED
+
     characters = unicodedata.normalize("NFKD", text.casefold())
     return "".join(filter(is_told_apart, characters)).casefold()
-
-
-def is_told_apart(character: str) -> bool:
-    """Whether people tell names apart by this character."""
-    if character.isspace() or unicodedata.category(character) == "Cf" or character in UNSEEN:
-        return False
-    return not unicodedata.combining(character) or character in VOICED
 
 
 def bad_title(title: str) -> list[BadName]:
@@ -173,7 +168,6 @@ def bad_options(names: Sequence[str], plain_names: Sequence[str]) -> list[BadNam
 
 
 def bad_characters(name: str) -> list[str]:
-    """What is wrong with a name by itself, in words."""
     reasons = []
     odd = odd_sign(name, refused=REFUSED_IN_NAMES)
     if odd is not None:

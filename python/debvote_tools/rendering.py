@@ -1,126 +1,71 @@
 """Pages and letters are made from templates of jinja2. A page escapes what it is given, a letter does not; an unknown name is an error.
 
 A template says its sentences itself, by `say` and `say_number`. One that pages and letters share uses what both have, as the filters
-`paragraph` and `given`; code that makes sentences for both is given a speaker. The templates of a package lie in its folder `templates`;
-those that all packages share lie in that of debvote_tools.
+`paragraph` and `given`. The templates of a package are in its folder `templates`; those that all packages share are in that of
+debvote_tools.
 """
 
-import dataclasses
+import base64
 import functools
+import hashlib
+import importlib.resources
 import re
-from collections.abc import Callable, Iterable
+import textwrap
+from collections.abc import Callable
 
 import jinja2
-from markupsafe import Markup, escape
+from markupsafe import Markup
 
-from debvote_tools import pages, plain_letter
 from debvote_tools.ballots import ranks_in_words
-from debvote_tools.language import Language
+from debvote_tools.language import ENGLISH, Language
 from debvote_tools.times import time_in_words
 
-# of plain text
-QUOTATION_MARKS = {
-    "en": ("\u201c", "\u201d"),
-    "de": ("\u201e", "\u201c"),
-    "fr": ("\u00ab\u00a0", "\u00a0\u00bb"),
-    "es": ("\u00ab", "\u00bb"),
-}
+# mail programs leave lines of this length as they are
+COLUMNS = 72
 
 
-@dataclasses.dataclass(frozen=True)
-class InText:
-    """Says sentences in a language, in plain text."""
+class InHtml(Language):
+    """A language that says sentences in HTML, and escapes what is put into them."""
 
-    language: Language
+    GIVEN, STRONG, EXACT = "<bdi>{}</bdi>", "<b>{}</b>", "<code>{}</code>"
+    LINK = '<a href="{}">{}</a>'
 
-    def say(self, text: str, /, **places: object) -> str:
-        return self.language.say(text, **places)
-
-    def say_number(self, one: str, many: str, number: int, /, **places: object) -> str:
-        """A sentence in its form for a number."""
-        return self.language.say_number(one, many, number, **places)
-
-    def given(self, text: str) -> str:
-        """A text that is not the program's, as a name. It may be written from right to left, and turns nothing around it."""
-        return text
-
-    def strong(self, text: str) -> str:
-        """A text that a reader has to see."""
-        return text
-
-    def quoted(self, text: str) -> str:
-        """A text that is not the program's, between the quotation marks of the language."""
-        before, after = QUOTATION_MARKS[self.language.code]
-        return f"{before}{text}{after}"
-
-    def code(self, text: str) -> str:
-        """A text that a reader compares sign by sign."""
-        return text
-
-    def link(self, address: str, text: str) -> str:
-        """A link; in plain text, the text alone."""
-        return text
-
-    def joined(self, entries: Iterable[str]) -> str:
-        """The entries as they stand in a sentence; there is at least one."""
-        return self.language.joined(entries)
-
-    def in_a_row(self, said: Iterable[str]) -> str:
-        """Sentences one after another, with semicolons."""
-        return self.language.in_a_row(said)
-
-
-class InHtml(InText):
-    """The same in HTML: what stands at the places of a sentence is escaped."""
-
-    def say(self, text: str, /, **places: object) -> Markup:
-        return Markup(self.language.catalog.gettext(text)).format(**places)
-
-    def say_number(self, one: str, many: str, number: int, /, **places: object) -> Markup:
-        return Markup(self.language.catalog.ngettext(one, many, number)).format(number=number, **places)
-
-    def given(self, text: str) -> Markup:
-        return Markup("<bdi>{}</bdi>").format(text)
-
-    def strong(self, text: str) -> Markup:
-        return Markup("<b>{}</b>").format(text)
+    def made(self, text: str) -> Markup:
+        return Markup(text)
 
     def quoted(self, text: str) -> Markup:
-        # the browser puts in the marks of the language
+        # the browser adds the quotation marks of the language
         return Markup("<q><bdi>{}</bdi></q>").format(text)
-
-    def code(self, text: str) -> Markup:
-        return Markup("<code>{}</code>").format(text)
-
-    def link(self, address: str, text: str) -> Markup:
-        return Markup('<a href="{}">{}</a>').format(address, text)
-
-    def joined(self, entries: Iterable[str]) -> Markup:
-        return Markup(super().joined(map(escape, entries)))
-
-    def in_a_row(self, said: Iterable[str]) -> Markup:
-        return Markup(super().in_a_row(map(escape, said)))
 
 
 # ---------------------------------------------------------------- templates
-# of a page, and of plain text: a paragraph, one of several lines in a row, and a line to be copied
+# most letters of a run have the same paragraphs
+@functools.lru_cache(maxsize=1_000)
+def line(text: str, first: str = "", then: str = "") -> str:
+    """A paragraph of a letter without the end of its last line. A word that is longer than a line, as an address, stays whole."""
+    return textwrap.fill(
+        text, COLUMNS, initial_indent=first, subsequent_indent=then, break_long_words=False, break_on_hyphens=False
+    )
+
+
+# a paragraph, one of several lines in a row, and a line to be copied
 PAGE_FILTERS: dict[str, Callable[..., str]] = {
     "paragraph": Markup("<p>{}</p>").format,
     "line": Markup("<p>{}</p>").format,
     "copied": Markup("<pre><code>{}</code></pre>").format,
 }
 LETTER_FILTERS: dict[str, Callable[..., str]] = {
-    "paragraph": plain_letter.wrapped,
-    "line": plain_letter.line,
-    "copied": plain_letter.copied,
-    "heading": plain_letter.heading,
+    "paragraph": lambda text, first="", then="": f"{line(text, first, then)}\n",
+    "line": line,
+    "copied": "  {}\n".format,
+    "heading": lambda text: f"{text.upper()}\n",
 }
 
 
 @functools.cache
 def templates_of(package: str, language: Language, *, is_page: bool) -> jinja2.Environment:
     """The templates of a package, and those that all share. They say their sentences in the language."""
-    speaker = InHtml(language) if is_page else InText(language)
+    speaker = InHtml(language.code, language.catalog) if is_page else language
     environment = jinja2.Environment(
         loader=jinja2.ChoiceLoader([jinja2.PackageLoader(package), jinja2.PackageLoader("debvote_tools")]),
         autoescape=is_page,
@@ -132,13 +77,10 @@ def templates_of(package: str, language: Language, *, is_page: bool) -> jinja2.E
         optimized=False,
     )
     environment.filters |= PAGE_FILTERS if is_page else LETTER_FILTERS
-    environment.filters |= {"given": speaker.given, "strong": speaker.strong}
+    environment.filters |= {"given": speaker.given, "strong": speaker.strong, "exact": speaker.exact}
+    environment.globals |= {name: getattr(speaker, name) for name in ("say", "say_number", "link", "joined")}
     environment.globals |= {
         "is_page": is_page,
-        "say": speaker.say,
-        "say_number": speaker.say_number,
-        "link": speaker.link,
-        "joined": speaker.joined,
         "time_in_words": functools.partial(time_in_words, language=language),
         "ranks_in_words": functools.partial(ranks_in_words, language=language),
     }
@@ -151,10 +93,26 @@ def render_letter(package: str, template: str, language: Language, **values: obj
     return re.sub(r"\n\n\n+", "\n\n", text).strip("\n") + "\n"
 
 
+# ---------------------------------------------------------------- pages
+def resources(package: str, *names: str) -> str:
+    """Styles or scripts, one after another: files of a package, or else of debvote_tools."""
+    places = [importlib.resources.files(folder) for folder in (package, "debvote_tools")]
+    found = (next(file for place in places if (file := place.joinpath(name)).is_file()) for name in names)
+    return "".join(file.read_text(encoding="utf-8") for file in found)
+
+
 def render_page(package: str, template: str, language: Language, *, style: str, script: str = "", **values: object) -> bytes:
     """A page. It loads nothing, and runs its own script alone; its policy names style and script by their checksums."""
-    style = pages.STYLE + style + ("" if language.is_english else pages.LONG_WORDS_STYLE)
-    own = {"style": Markup(style), "script": Markup(script), "policy": Markup(pages.policy_of(style, script))}
-    return (
-        templates_of(package, language, is_page=True).get_template(template).render(values, language=language.code, **own).encode()
-    )
+    style = resources("debvote_tools", "page.css") + style
+    if language != ENGLISH:
+        # words may be longer than a narrow window
+        style += resources("debvote_tools", "long_words.css")
+    allowed = f"style-src {checksum_source(style)}; base-uri 'none'; form-action 'none'"
+    policy = f"default-src 'none'; {f'script-src {checksum_source(script)}; ' if script else ''}{allowed}"
+    made = {"style": Markup(style), "script": Markup(script), "policy": Markup(policy), "language": language.code}
+    return templates_of(package, language, is_page=True).get_template(template).render(values | made).encode()
+
+
+def checksum_source(text: str) -> str:
+    """How the policy of a page allows a script or a style that is in it."""
+    return f"'sha256-{base64.b64encode(hashlib.sha256(text.encode()).digest()).decode()}'"

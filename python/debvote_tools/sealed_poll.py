@@ -14,20 +14,17 @@ from typing import Any
 from debvote_tools.faults import Fault, Status
 from debvote_tools.files import sha256_of
 
-# the keys in their order: those that debvote needs always, and the others only where they are set
+# the keys in their order: those that debvote needs always, and the others only if they are set
 REQUIRED = ("title", "options", "ratios", "default", "quorum", "roll")
 KEYS = (
     *("title", "options", "ratios", "default", "quorum", "wording", "roll", "last_envelope"),
     *("deadline", "address", "secret", "shown_title", "shown_options", "explanations"),
 )
 
-# how many hex digits of the checksum are the mark of the poll
-MARK_LENGTH = 16
-
 
 @dataclasses.dataclass(frozen=True)
 class SealedPoll:
-    """A poll as it is sealed. Options are numbered from 1; the default option is the last."""
+    """Options are numbered from 1; the default option is the last."""
 
     title: str
     # without the default option, with a ratio for each
@@ -43,10 +40,10 @@ class SealedPoll:
     deadline: str | None = None
     address: str | None = None
     secret: bool = False
-    # title and options as people read them, where they differ from the plain names; the options with the default last
+    # title and options as people read them, if they differ from the plain names; the options with the default last
     shown_title: str | None = None
     shown_options: tuple[str, ...] = ()
-    # a text for each option but the default, empty where there is none
+    # a text for each option but the default, empty if there is none
     explanations: tuple[str, ...] = ()
 
     @property
@@ -56,12 +53,12 @@ class SealedPoll:
 
     @property
     def names(self) -> tuple[str, ...]:
-        """What people read as the names of all options, the default last."""
+        """The names of all options that people read, the default last."""
         return self.shown_options or self.plain_names
 
     @property
     def name(self) -> str:
-        """What people read as the title."""
+        """The title that people read."""
         return self.shown_title or self.title
 
     @property
@@ -71,18 +68,16 @@ class SealedPoll:
     @functools.lru_cache(4)
     def as_bytes(self) -> bytes:
         """The poll in plain form."""
-        values = {field.name: getattr(self, field.name) for field in dataclasses.fields(self)}
-        return plain_form({key: values[key] for key in KEYS if key in REQUIRED or is_set(values[key])})
+        return plain_form({key: value for key in KEYS if is_set(value := getattr(self, key)) or key in REQUIRED})
 
     @property
     def checksum(self) -> str:
-        """The SHA-256 of the plain form, in hex digits."""
         return sha256_of(self.as_bytes())
 
     @property
     def mark(self) -> str:
-        """What the subjects of letters about this poll carry in square brackets."""
-        return self.checksum[:MARK_LENGTH]
+        """The digits in square brackets in the subjects of letters about this poll."""
+        return self.checksum[:16]
 
 
 def is_set(value: object) -> bool:
@@ -101,16 +96,18 @@ def read_plain(data: bytes, file: object = "poll.toml") -> SealedPoll:
     """Reads a poll in plain form. Raises `Fault` if it is not in this form, byte for byte."""
     try:
         pairs = [line.split(" = ", 1) for line in data.decode("utf-8").split("\n")[:-1]]
-        values: dict[str, Any] = {key: json.loads(value) for key, value in pairs}
-        lists = {key: tuple(value) for key, value in values.items() if isinstance(value, list)}
-        poll = SealedPoll(**{**values, **lists})
-        is_plain = poll.as_bytes() == data
+        poll = poll_of({key: json.loads(value) for key, value in pairs})
+        if poll.as_bytes() == data:
+            return poll
     except (ValueError, TypeError):
-        is_plain = False
-    if not is_plain:
-        cure = "give the poll.toml of a call or of a published folder"
-        raise Fault(file, "it is not a sealed poll in plain form", cure, Status.BAD_POLL, None)
-    return poll
+        pass
+    cure = "give the poll.toml of a call or of a published folder"
+    raise Fault(file, "it is not a sealed poll in plain form", cure, Status.BAD_POLL, None)
+
+
+def poll_of(values: dict[str, Any]) -> SealedPoll:
+    """The poll of these keys, with lists as JSON and TOML have them. Raises TypeError if a key is missing or too many."""
+    return SealedPoll(**{key: tuple(value) if isinstance(value, list) else value for key, value in values.items()})
 
 
 def with_roll(poll: SealedPoll, roll: Sequence[str]) -> SealedPoll:

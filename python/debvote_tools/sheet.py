@@ -1,36 +1,32 @@
-"""A result sheet, read by its format into numbers."""
+"""A result sheet: parsed into numbers, and as `result.json` for programs and `votes.csv` for spreadsheets (docs/FORMATS.md)."""
 
+import csv
 import dataclasses
+import io
+import json
 import re
 
 from debvote_tools.faults import other_format
+from debvote_tools.sealed_poll import SealedPoll
 
 Pair = tuple[int, int]
 
 OPTION_LINE = re.compile(r" *(\d+) (?:ratio (\d+)|default) (.*)")
 QUORUM_LINE = re.compile(r"(\d+)Q, (\d+) votes")
-DEFEAT_LINE = re.compile(r"(\d+) over (\d+)")
+DEFEAT_LINE = re.compile(r" *(?:drop +)?(\d+) over +(\d+).*")
 
 
 @dataclasses.dataclass(frozen=True)
 class Round:
-    """A round: the options of its set, and the defeats that it removes."""
+    """The options of the set of a round, and the defeats that it removes."""
 
     options: list[int]
     removed: list[Pair]
 
 
 @dataclasses.dataclass(frozen=True)
-class Winner:
-    """The option that wins, and whether the casting vote made it win."""
-
-    option: int
-    is_by_casting: bool
-
-
-@dataclasses.dataclass(frozen=True)
 class Sheet:
-    """A result sheet. Options are numbered from 1, and the last is the default option."""
+    """Options are numbered from 1, and the last is the default option."""
 
     title: str
     electors: int
@@ -53,34 +49,27 @@ class Sheet:
     defeats: list[Pair]
     rounds: list[Round]
     last_line: str
+    # None if it is a tie
+    winner: int | None
+    is_by_casting: bool
+    # the option of a casting vote for an option that is not left
+    casting_outside: int | None
 
     @property
     def default(self) -> int:
         return len(self.names)
 
-    def winner(self) -> Winner | None:
-        """The option that wins; none where it is a tie."""
-        parts = re.fullmatch(r"Winner: (\d+) (.*)", self.last_line)
-        if parts is None:
-            return None
-        # a name may end with the words that tell a casting vote
-        return Winner(int(parts[1]), parts[2] != self.names[int(parts[1])])
-
     @property
-    def is_by_casting(self) -> bool:
-        """Whether the casting vote decides."""
-        winner = self.winner()
-        return winner is not None and winner.is_by_casting
-
-    def casting_outside(self) -> int | None:
-        """The option of a casting vote that is for none of the options that are left."""
-        # the name of an option that wins may have these words
-        option = re.fullmatch(r"Tie: [\d ]+, casting option (\d+) is not among them", self.last_line)
-        return int(option[1]) if option else None
-
-    def final_set(self) -> list[int]:
-        """The options that are left."""
+    def left(self) -> list[int]:
         return self.rounds[-1].options
+
+    def ended(self, option: int) -> str:
+        """How it ended for an option, in a word: `won`, `left` in a tie, dropped for its `quorum` or its `majority`, or `lost`."""
+        if option in self.dropped:
+            return self.dropped[option]
+        if option == self.winner:
+            return "won"
+        return "left" if self.winner is None and option in self.left else "lost"
 
 
 def sheet_in(text: str) -> Sheet:
@@ -92,15 +81,24 @@ def sheet_in(text: str) -> Sheet:
 
 
 def sheet_of(lines: list[str]) -> Sheet:
-    """The sheet of these lines. Raises ValueError or LookupError where they are none."""
+    """Raises ValueError or LookupError if the lines are no sheet."""
     # the first line is the title's, which may be any of these words
     options, votes, dropped, defeats = (lines.index(head, 1) for head in ("Options:", "Votes:", "Dropped:", "Defeats:"))
-    end = next((place for place in range(defeats, len(lines)) if lines[place].startswith("Round ")), len(lines))
+    first_round = next((index for index in range(defeats, len(lines)) if lines[index].startswith("Round ")), len(lines))
     facts = dict(line.split(": ", 1) for line in lines[:options])
     multiple, quorum = parts_of(QUORUM_LINE, facts["Quorum"])
     shown = [parts_of(OPTION_LINE, line) for line in lines[options + 1 : votes]]
+    names = {int(option): name for option, _, name in shown}
     rows = [line.split() for line in lines[votes + 2 : dropped]]
     causes = [line.split() for line in lines[dropped + 1 : defeats] if line != "  none"]
+    rounds: list[Round] = []
+    for line in lines[first_round:-1]:
+        if line.startswith("Round "):
+            rounds.append(Round([int(option) for option in line.split(": ")[1].split()], []))
+        else:
+            rounds[-1].removed.append(pair_in(line))
+    winner = re.fullmatch(r"Winner: (\d+) (.*)", lines[-1])
+    outside = re.fullmatch(r"Tie: [\d ]+, casting option (\d+) is not among them", lines[-1])
     return Sheet(
         title=facts["Poll"],
         electors=int(facts["Electors"]),
@@ -112,38 +110,81 @@ def sheet_of(lines: list[str]) -> Sheet:
         valid=int(facts["Valid"]),
         refused=int(facts["Refused"]),
         voters=int(facts["Voters"]),
-        names={int(option): name for option, _, name in shown},
+        names=names,
         ratios={int(option): int(ratio) for option, ratio, _ in shown if ratio},
         votes={(int(row[0]), b): int(cell) for row in rows for b, cell in enumerate(row[1:], start=1) if cell != "-"},
         dropped={int(option): cause for option, cause in causes},
-        defeats=[pair_in(line) for line in lines[defeats + 1 : end] if line != "  none"],
-        rounds=rounds_in(lines[end:-1]),
+        defeats=[pair_in(line) for line in lines[defeats + 1 : first_round] if line != "  none"],
+        rounds=rounds,
         last_line=lines[-1],
+        winner=int(winner[1]) if winner else None,
+        # a name may itself end with the words that mark a casting vote
+        is_by_casting=winner is not None and winner[2] != names[int(winner[1])],
+        casting_outside=int(outside[1]) if outside else None,
     )
-
-
-def rounds_in(lines: list[str]) -> list[Round]:
-    """The rounds; behind the line of each stand the defeats that it removes."""
-    rounds: list[Round] = []
-    for line in lines:
-        if line.startswith("Round "):
-            rounds.append(Round([int(option) for option in line.split(": ")[1].split()], []))
-        else:
-            rounds[-1].removed.append(pair_in(line))
-    return rounds
 
 
 def pair_in(line: str) -> Pair:
     """The two options of a line such as `1 over 2 by 4 to 2`."""
-    pair = DEFEAT_LINE.search(line)
-    if pair is None:
-        raise ValueError(line)
-    return int(pair[1]), int(pair[2])
+    a, b = parts_of(DEFEAT_LINE, line)
+    return int(a), int(b)
 
 
 def parts_of(pattern: re.Pattern[str], line: str) -> tuple[str, ...]:
-    """The parts of a line that has to fit; one that is not there is empty."""
+    """The parts of a line, empty where a part is missing. Raises ValueError if the line does not fit."""
     parts = pattern.fullmatch(line)
     if parts is None:
         raise ValueError(line)
     return parts.groups("")
+
+
+# ---------------------------------------------------------------- as data
+def result_json(sheet: Sheet, poll: SealedPoll, version: str) -> str:
+    """The sheet as JSON, a key a line. A label is what people read as the name."""
+    document = {
+        "format": "debvote result 1",
+        "program": version,
+        "title": sheet.title,
+        "label": poll.name,
+        "electors": sheet.electors,
+        "quorum": {"multiple": sheet.quorum_multiple, "votes": sheet.quorum},
+        "wording": "more_than" if sheet.is_more_than else "at_least",
+        "lines": sheet.lines,
+        "last_envelope": sheet.last_envelope,
+        "valid": sheet.valid,
+        "refused": sheet.refused,
+        "voters": sheet.voters,
+        "options": [
+            {
+                "number": option,
+                "name": name,
+                "label": poll.names[option - 1],
+                "is_default": option == sheet.default,
+                "ratio": sheet.ratios.get(option),
+                "dropped": sheet.dropped.get(option),
+            }
+            for option, name in sheet.names.items()
+        ],
+        "votes": [[sheet.votes.get((a, b)) for b in sheet.names] for a in sheet.names],
+        "defeats": [{"over": a, "under": b, "votes": sheet.votes[a, b], "against": sheet.votes[b, a]} for a, b in sheet.defeats],
+        "rounds": [{"set": step.options, "removed": [{"over": a, "under": b} for a, b in step.removed]} for step in sheet.rounds],
+        "outcome": {
+            "winner": sheet.winner,
+            "is_by_casting_vote": sheet.is_by_casting,
+            "left": sheet.left,
+            "casting_vote_outside": sheet.casting_outside,
+        },
+    }
+    lines = [f"{json.dumps(key)}: {json.dumps(value, ensure_ascii=False)}" for key, value in document.items()]
+    return "{\n" + ",\n".join(lines) + "\n}\n"
+
+
+def votes_csv(sheet: Sheet) -> str:
+    """The table of votes, a row an option: its number, its name, its ratio, how it ended, and the votes over each option."""
+    table = io.StringIO()
+    writer = csv.writer(table, lineterminator="\n")
+    writer.writerow(["option", "name", "ratio", "ended", *sheet.names])
+    for a, name in sheet.names.items():
+        votes = [sheet.votes.get((a, b), "") for b in sheet.names]
+        writer.writerow([a, name, sheet.ratios.get(a, ""), sheet.ended(a), *votes])
+    return table.getvalue()

@@ -21,7 +21,7 @@ LINE_ENDS = "\u2028\u2029"
 # how many characters are shown of a line that came, and of a short text
 SHOWN_OF_LINE, SHOWN_OF_TEXT = 100, 60
 
-# how characters are shown that people know by a name
+# characters that people know by a name
 KNOWN = {"\r": "\\r", "\n": "\\n", "\t": "\\t"}
 
 
@@ -30,19 +30,18 @@ def written(text: str) -> str:
 
 
 def steering(text: str) -> str | None:
-    """The number of the first such character; None if there is none."""
+    """The number of the first character that steers a terminal."""
     character = STEERING.search(text)
     return None if character is None else number_of(character[0])
 
 
 def odd_sign(text: str, *, allowed: str = "", refused: str = "") -> str | None:
     """The first character that no plain text has, or that is refused here."""
-    odd = (character for character in text if character in refused or (is_odd(character) and character not in allowed))
-    return next(odd, None)
-
-
-def is_odd(character: str) -> bool:
-    return unicodedata.category(character) in ODD or character in TURNING
+    for character in text:
+        is_odd = unicodedata.category(character) in ODD or character in TURNING
+        if character in refused or (is_odd and character not in allowed):
+            return character
+    return None
 
 
 def number_of(character: str) -> str:
@@ -50,13 +49,11 @@ def number_of(character: str) -> str:
 
 
 def shown_line(line: bytes) -> str:
-    """Of a long line the beginning."""
     text = line.decode("utf-8", "backslashreplace")
     return "".join(KNOWN.get(character) or seen(character) for character in cut(text, SHOWN_OF_LINE))
 
 
 def shown_text(text: str) -> str:
-    """Of a long text the beginning."""
     return "".join(map(seen, cut(" ".join(text.split()), SHOWN_OF_TEXT)))
 
 

@@ -2,8 +2,7 @@
 
 import datetime
 
-from debvote_tools.language import ENGLISH, Language
-from debvote_tools.sentences import marked
+from debvote_tools.language import ENGLISH, Language, marked
 
 DAYS = (
     *(marked("Monday"), marked("Tuesday"), marked("Wednesday"), marked("Thursday")),
@@ -20,7 +19,6 @@ def now() -> datetime.datetime:
     return datetime.datetime.now(datetime.UTC).replace(microsecond=0)
 
 
-# ---------------------------------------------------------------- in words
 def time_in_words(time: datetime.datetime, language: Language = ENGLISH) -> str:
     """A time with its offset, as `Friday, 4 December 2026, 18:00 (UTC+01:00)`. The seconds are left out if they are 0."""
     return language.say(
@@ -33,7 +31,7 @@ def time_in_words(time: datetime.datetime, language: Language = ENGLISH) -> str:
 
 
 def minute_in_words(time: datetime.datetime, zone: datetime.tzinfo | None) -> str:
-    """A time to the minute, as the clock of a zone shows it: it stands beside another time of that zone."""
+    """A time to the minute, as the clock of a zone shows it, beside another time of that zone."""
     return time_in_words(time.astimezone(zone).replace(second=0))
 
 
@@ -48,4 +46,4 @@ def date_in_words(date: datetime.date, language: Language = ENGLISH) -> str:
 def offset_in_words(time: datetime.datetime) -> str:
     """The offset of a time, as `UTC+01:00`."""
     offset = time.strftime("%z")
-    return "UTC" if not time.utcoffset() else f"UTC{offset[:3]}:{offset[3:5]}"
+    return f"UTC{offset[:3]}:{offset[3:5]}" if time.utcoffset() else "UTC"

@@ -14,16 +14,18 @@ import sys
 import tempfile
 import unittest
 import unittest.mock
+from collections.abc import Sequence
 
 from at_browser import BROWSER, Window
 
 sys.path.insert(0, str(pathlib.Path(__file__).resolve().parents[2] / "python"))
 
+from debvote_tools.call.data import CallData  # noqa: E402
 from debvote_tools.language import LANGUAGES, language_of  # noqa: E402
 from debvote_tools.sealed_poll import SealedPoll, read_plain  # noqa: E402
 from debvote_tools.secret.aliases import alias_of, aliased_ballots, aliased_poll, seal_line, sealed_checksum  # noqa: E402
 from debvote_tools.secret.codes import NUMBER, CodeRow, codes_csv, looks_like_code, new_code  # noqa: E402
-from debvote_tools.secret.slips import Slip, SlipsData, slips  # noqa: E402
+from debvote_tools.secret.slips import slips  # noqa: E402
 from debvote_tools.secret.words import BY_OPENSSL, BY_PYTHON  # noqa: E402
 
 ROLL = ("ada", "ben", "cleo", "dan")
@@ -41,8 +43,10 @@ POLL = SealedPoll(
     explanations=("Nice", ""),
 )
 UNTIL = datetime.datetime(2026, 12, 4, 18, tzinfo=datetime.timezone(datetime.timedelta(hours=1)))
-SLIPS = SlipsData(language_of("en"), POLL, [Slip(name, f"{name.title()} L.", CODES[name]) for name in ROLL], UNTIL, "v@example.org")
-WITH_CODES = dataclasses.replace(SLIPS, slips=[Slip(code, "", code) for code in CODES.values()], has_codes_on_roll=True)
+CALL = CallData(language_of("en"), POLL, 0, UNTIL, "v@example.org", has_aliases=True)
+ELECTORS = [CodeRow(name, f"{name.title()} L.", "", CODES[name], ALIASES[name]) for name in ROLL]
+WITH_CODES = dataclasses.replace(CALL, has_aliases=False, has_codes_on_roll=True)
+CODES_ON_ROLL = [CodeRow(code, "", "", code, "") for code in CODES.values()]
 
 
 def run(*words: str, given: str = "") -> str:
@@ -124,58 +128,56 @@ class Published(unittest.TestCase):
 
 
 class Slips(unittest.TestCase):
-    def each(self, data: SlipsData) -> list[str]:
+    def each(self, call: CallData, electors: Sequence[CodeRow] = ELECTORS) -> list[str]:
         """The slips as they are read, each blank as one space."""
-        page = slips(data).decode()
-        self.assertEqual(slips(data), page.encode())
+        page = slips(call, electors).decode()
+        self.assertEqual(slips(call, electors), page.encode())
         parts = page.split('<section class="slip">')[1:]
         return [" ".join(html.unescape(re.sub("<[^>]*>", "", part.partition("</section>")[0])).split()) for part in parts]
 
     def test_each_has_what_is_of_its_elector_and_nothing_of_another(self) -> None:
-        for slip, text in zip(SLIPS.slips, self.each(SLIPS), strict=True):
-            for part in (f"{slip.who} Where we meet Name{slip.name} Code{slip.code} ", f"{slip.name} _,_,_", BY_PYTHON):
+        for row, text in zip(ELECTORS, self.each(CALL), strict=True):
+            for part in (f"{row.who} Where we meet Name{row.name} Code{row.code} ", f"{row.name} _,_,_", BY_PYTHON):
                 self.assertIn(part, text)
-            others = [other for other in SLIPS.slips if other != slip]
-            found = [word for other in others for word in dataclasses.astuple(other) if re.search(rf"\b{re.escape(word)}\b", text)]
-            self.assertEqual(found, [])
+            words = [word for other in ELECTORS if other != row for word in (other.name, other.who, other.code)]
+            self.assertEqual([word for word in words if re.search(rf"\b{re.escape(word)}\b", text)], [])
             self.assertEqual([alias for alias in ALIASES.values() if alias in text], [])
 
     def test_what_all_have(self) -> None:
         said = "Until whenFriday, 4 December 2026, 18:00 (UTC+01:00) Send your ballot tov@example.org "
         options = "The options: Option 1: At the lake; Option 2: 72 Euro; Option 3: None of the above."
         example = "For example, the ranks 2,1,3 say: 72 Euro, then At the lake, then None of the above."
-        for text in self.each(SLIPS):
+        for text in self.each(CALL):
             for part in (said, options, example, "The code is no part of your ballot", "Whoever sees your code can see how you voted."):
                 self.assertIn(part, text)
-        for text in self.each(dataclasses.replace(SLIPS, at="https://example.org/vote/")):
+        for text in self.each(dataclasses.replace(CALL, at="https://example.org/vote/")):
             self.assertIn(f"{said}The page of the votehttps://example.org/vote/ ", text)
-        for text in self.each(dataclasses.replace(SLIPS, until=None, to=None)):
+        for text in self.each(dataclasses.replace(CALL, until=None, to=None)):
             self.assertIn("Until whenas the call for votes says Send your ballot toas the call for votes says", text)
         shown = dataclasses.replace(POLL, shown_title="Wohin?", shown_options=("Am See", "72 \u20ac", "Keine"))
-        for text in self.each(dataclasses.replace(SLIPS, poll=shown)):
+        for text in self.each(dataclasses.replace(CALL, poll=shown)):
             self.assertIn("Option 1: Am See; Option 2: 72 \u20ac; Option 3: Keine.", text)
             self.assertIn("L. Wohin? Name", text)
             self.assertIn("the ranks 2,1,3 say: 72 \u20ac, then Am See, then Keine.", text)
 
     def test_with_codes_on_the_roll_nobody_has_a_name(self) -> None:
-        for code, text in zip(CODES.values(), self.each(WITH_CODES), strict=True):
+        for code, text in zip(CODES.values(), self.each(WITH_CODES, CODES_ON_ROLL), strict=True):
             self.assertIn(f"Where we meet Code{code} Until when", text)
             self.assertIn(f"{code} _,_,_", text)
             self.assertIn("your ballot in it under your code", text)
             self.assertNotRegex(text, r"(?i)\bname\b|alias|hmac")
             self.assertEqual([other for other in CODES.values() if other in text], [code])
-        self.assertIn("let each elector draw one", slips(WITH_CODES).decode())
+        self.assertIn("let each elector draw one", slips(WITH_CODES, CODES_ON_ROLL).decode())
         # a slip without a real name has the name on the roll in its place
-        bare = dataclasses.replace(SLIPS, slips=[Slip("ada", "", CODES["ada"])])
-        self.assertTrue(self.each(bare)[0].startswith("ada Where we meet Nameada Code"))
+        bare = CodeRow("ada", "", "", CODES["ada"], "")
+        self.assertTrue(self.each(CALL, [bare])[0].startswith("ada Where we meet Nameada Code"))
 
     def test_hostile_texts_are_texts(self) -> None:
         texts = ["<script>alert(1)</script>", '" onload="x', "\u05d0\u05d1 & {title} %s </bdi></section>"]
         poll = dataclasses.replace(POLL, shown_title=texts[0], shown_options=tuple(texts))
         for code in LANGUAGES:
-            data = dataclasses.replace(SLIPS, language=language_of(code), poll=poll)
-            data = dataclasses.replace(data, slips=[Slip(name, who, CODES[name]) for name, who in zip(ROLL, texts)])
-            page = slips(data).decode()
+            call = dataclasses.replace(CALL, language=language_of(code), poll=poll)
+            page = slips(call, [CodeRow(name, who, "", CODES[name], "") for name, who in zip(ROLL, texts)]).decode()
             self.assertIn(f'<html lang="{code}">', page)
             self.assertNotRegex(page, r"<script| onload=\"x|%s </bdi></section>")
             self.assertEqual(page.count("<section"), 3)
@@ -189,9 +191,9 @@ class Slips(unittest.TestCase):
     def test_they_fit_a_narrow_window_and_no_slip_is_printed_over_two_pages(self) -> None:
         with tempfile.TemporaryDirectory(prefix="debvote-slips-") as folder, Window(390, 800) as window:
             for code in LANGUAGES:
-                for data in (SLIPS, WITH_CODES):
-                    file = pathlib.Path(folder) / f"{code}-{data.has_codes_on_roll}.html"
-                    file.write_bytes(slips(dataclasses.replace(data, language=language_of(code))))
+                for call, electors in ((CALL, ELECTORS), (WITH_CODES, CODES_ON_ROLL)):
+                    file = pathlib.Path(folder) / f"{code}-{call.has_codes_on_roll}.html"
+                    file.write_bytes(slips(dataclasses.replace(call, language=language_of(code)), electors))
                     window.open(file)
                     self.assertEqual(window.ask("document.documentElement.scrollWidth"), 390)
             style = "getComputedStyle(document.querySelector('.slip'))"
@@ -212,7 +214,7 @@ class Table(unittest.TestCase):
     def test_each_elector_has_a_row(self) -> None:
         rows = [CodeRow(name, f'{name.title()} "\u00c9", jr.', "", CODES[name], ALIASES[name]) for name in ROLL]
         found = list(csv.DictReader(io.StringIO(codes_csv(iter(rows)).decode())))
-        self.assertEqual(found, [dataclasses.asdict(row) for row in rows])
+        self.assertEqual(found, [row._asdict() for row in rows])
         self.assertEqual(codes_csv([]), b"name,who,mail,code,alias\n")
 
     def test_a_spreadsheet_runs_no_cell(self) -> None:

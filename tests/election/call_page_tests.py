@@ -16,7 +16,6 @@ import urllib.parse
 ROOT = pathlib.Path(__file__).resolve().parents[2]
 sys.path.insert(0, str(ROOT / "python"))
 
-from debvote_tools.ballots import preferences  # noqa: E402
 from debvote_tools.call.data import CallData  # noqa: E402
 from debvote_tools.call.files import call_files  # noqa: E402
 from debvote_tools.language import ENGLISH  # noqa: E402
@@ -143,6 +142,15 @@ def browse(scratch: pathlib.Path, jobs: list[dict], scheme: int = 1) -> tuple[li
     return json.loads(html.unescape(found[1])), console
 
 
+def order_of(ranks: list[str]) -> tuple[list[list[int]], list[int]]:
+    """The options that some ranks order, from the first preference on, equal ones together; and those that have no rank."""
+    by_rank: dict[str, list[int]] = {}
+    for number, rank in enumerate(ranks, start=1):
+        by_rank.setdefault(rank, []).append(number)
+    unranked = by_rank.pop("-", [])
+    return [by_rank[rank] for rank in sorted(by_rank, key=int)], unranked
+
+
 def order_in(sentences: list[str]) -> tuple[list[list[int]], list[int]]:
     """What the sentences say: the options from the first preference on, equal ones together, and those without a rank."""
     steps: list[list[int]] = []
@@ -219,8 +227,7 @@ class CallPageTest(CallFolder):
 
     def check_result(self, names: list[str], mark: str, choice: dict, result: dict) -> None:
         """The words say the order that the ranks have, and the letter has the line."""
-        said = preferences(",".join(choice["ranks"]))
-        self.assertEqual(order_in(result["words"]), (said.steps, said.unranked))
+        self.assertEqual(order_in(result["words"]), order_of(choice["ranks"]))
         shown = {str(number): f"Option {number}: {name}" for number, name in enumerate(names, start=1)}
         self.assertEqual(result["names"], shown)
         self.assertEqual((result["missing"], result["ready"], result["invalid"]), ("", True, "false"))

@@ -104,12 +104,13 @@ class Again(CallTest):
     def test_extended_twice(self) -> None:
         ended = self.done("call", "--until", "2026-12-05 18:00", "--zone", "Europe/Berlin")
         self.set_clock("2026-12-05T20:00:00+01:00")
-        self.done("call", "--until", "2026-12-06 18:00", "--zone", "Europe/Berlin")
+        # in the zone of the end before
+        self.done("call", "--until", "2026-12-06 18:00")
         self.assertEqual(self.read("call/poll.toml"), self.poll)
         for text in (self.texts(), self.read("letters/extension.txt").decode(), self.done("status").output):
             self.assertIn(SECOND, " ".join(text.split()).replace("&nbsp;", " "))
         self.assertIn("letters/extension.txt", ended.output)
-        self.assert_fault(self.election("call", "--until", "2026-12-06 17:00", "--zone", "Europe/Berlin"), 2, "is not later")
+        self.assert_fault(self.election("call", "--until", "2026-12-06 17:00"), 2, "is not later")
         self.set_clock("2026-12-06T17:00:00+01:00")
         self.assert_fault(self.election("close"), 9, SECOND)
 

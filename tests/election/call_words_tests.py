@@ -375,15 +375,17 @@ CHOOSE = """((name, ranks) => {
 class InBrowser(unittest.TestCase):
     """The page on a telephone of 390 px."""
 
-    def setUp(self) -> None:
-        self.folder = pathlib.Path(self.enterContext(tempfile.TemporaryDirectory(prefix="debvote-call-")))
+    @classmethod
+    def setUpClass(cls) -> None:
+        cls.folder = pathlib.Path(cls.enterClassContext(tempfile.TemporaryDirectory(prefix="debvote-call-")))
+        cls.browser = cls.enterClassContext(Window(390, 800))
 
     def window(self, data: CallData) -> Window:
+        """The window, with the page of a call in place of the one before."""
         (self.folder / "index.html").write_bytes(call_files(data)["index.html"])
-        window = self.enterContext(Window(390, 800))
-        window.open(self.folder / "index.html")
-        window.ask("document.querySelectorAll('details').forEach((node) => { node.open = true; })")
-        return window
+        self.browser.open(self.folder / "index.html")
+        self.browser.ask("document.querySelectorAll('details').forEach((node) => { node.open = true; })")
+        return self.browser
 
     def chosen(self, window: Window, name: str, ranks: str) -> dict[str, object]:
         return window.ask(f"{CHOOSE}({name!r}, {ranks!r})")

@@ -75,7 +75,7 @@ class Refused(CsvBallotsTest):
         self.assert_refused(table, Status.BAD_WORDS, "the column `b` is named twice", name="c", ranks="a,b,b")
         self.assert_refused(table, Status.BAD_WORDS, "it names 2 columns, and the poll has 3 options", "3 Neither", ranks="b,c")
         self.assert_refused(table, Status.BAD_WORDS, "--ranks: ", "quotation marks", ranks='"b,c')
-        self.assertEqual(columns_of("n", '"a, b",c,d', OPTIONS, ROLL).ranks, ["a, b", "c", "d"])
+        self.assertEqual(columns_of("n", '"a, b",c,d', OPTIONS, ROLL).heads, ["n", "a, b", "c", "d"])
 
     def test_tables(self) -> None:
         self.assert_refused("x,n,a,b,c\nI, too,ada,1,2,3\n", Status.BAD_BALLOTS, "form.csv: row 2: it has 6 cells, and the head line has 5")

@@ -14,7 +14,7 @@ import support
 sys.path.insert(0, str(support.ROOT / "python"))
 
 from debvote_tools.election import draft_poll  # noqa: E402
-from debvote_tools.election.draft_poll import BadToml, DraftPoll, faults_when_sealed, sealed_form  # noqa: E402
+from debvote_tools.election.draft_poll import DraftPoll, faults_when_sealed, sealed_form  # noqa: E402
 from debvote_tools.faults import Fault, Status  # noqa: E402
 from debvote_tools.sealed_poll import SealedPoll, read_plain  # noqa: E402
 
@@ -180,8 +180,9 @@ class Faults(DraftTest):
             "a = " + "[" * 9000: "too deep",
             "a = {b = 1,\n}": "line 1",
         }.items():
-            with self.assertRaises(BadToml) as caught:
+            with self.assertRaises(Fault) as caught:
                 self.draft(poll)
+            self.assertEqual(caught.exception.status, Status.BAD_POLL)
             self.assertIn(why, str(caught.exception.words))
             self.assertIn("poll.toml: it can't be read as TOML 1.0: ", str(caught.exception.words))
 

@@ -6,7 +6,7 @@ from typing import Any
 import support
 from called import OTHER_RANKS, RANKS, CalledTest
 
-from debvote_tools.book import lines_by_act, queries
+from debvote_tools.book import queries
 from debvote_tools.book.book import Book
 
 # asks for the lock of the book while debvote would run, and notes both
@@ -41,7 +41,7 @@ class Asked(CalledTest):
         """The numbers of the lines as an act left them."""
         electors = {self.elector(name) for name in names} if names else None
         numbers = {envelope.line: envelope.number for envelope in queries.envelopes(book)}
-        return [numbers[line] for line in lines_by_act.lines_after(book, self.first_act + act, electors)]
+        return [numbers[line] for line in queries.lines_after(book, self.first_act + act, electors)]
 
     def test_the_lines_as_each_act_left_them(self) -> None:
         book = self.book
@@ -53,37 +53,37 @@ class Asked(CalledTest):
         self.assertEqual(self.after(1, "ada", book=book), [1, 3])
         self.assertEqual(self.after(2, "ada", "cleo", book=book), [1, 3, 5])
         self.assertEqual(self.after(4, "ben", book=book), [2])
-        lines = lines_by_act.lines_of_electors(book, {self.elector("ada")})
+        lines = queries.lines_of_electors(book, {self.elector("ada")})
         self.assertEqual(lines, [f"ada {RANKS}".encode()])
-        self.assertEqual(lines_by_act.lines_of_electors(book, {self.elector("ada")}, without=self.first_act), [])
-        # of very many electors all lines are read
-        self.assertEqual(len(lines_by_act.lines_after(book, book.last_number(), range(1000, 2000))), 3)
+        self.assertEqual(queries.lines_of_electors(book, {self.elector("ada")}, without=self.first_act), [])
+        many = [self.elector("ada"), *range(1000, 2000)]
+        self.assertEqual(queries.lines_after(book, book.last_number(), many), [f"ada {RANKS}".encode()])
 
     def test_sizes_numbers_and_the_last_act(self) -> None:
         book = self.book
-        self.assertEqual(lines_by_act.size_in_time(book), (3, len(f"ada {RANKS}\nben {RANKS}\nx\n")))
+        self.assertEqual(queries.size_in_time(book), (3, len(f"ada {RANKS}\nben {RANKS}\nx\n")))
         self.assertEqual(queries.last_envelope(book), 5)
-        self.assertEqual(lines_by_act.last_entering_act(book), self.first_act + 1)
+        self.assertEqual(queries.last_entering_act(book), self.first_act + 1)
         ada, ben = self.elector("ada"), self.elector("ben")
-        self.assertEqual(lines_by_act.last_numbers(book), {ada: (1, f"ada {RANKS}".encode()), ben: (2, f"ben {RANKS}".encode())})
-        came = {line: [(one.number, one.is_struck) for one in ones] for line, ones in lines_by_act.came_in_files(book).items()}
+        self.assertEqual(queries.last_numbers(book), {ada: (1, f"ada {RANKS}".encode()), ben: (2, f"ben {RANKS}".encode())})
+        came = {line: [(one.number, one.is_struck) for one in ones] for line, ones in queries.came_in_files(book).items()}
         lines = [f"ada {RANKS}", f"ben {RANKS}", f"ada {OTHER_RANKS}", "x"]
         self.assertEqual(came, {line.encode(): [(number, number == 3)] for number, line in enumerate(lines, start=1)})
 
     def test_of_equal_lines_the_struck_ones_come_last(self) -> None:
         self.told("strike", 1, "--because", "a test")
         self.told("add", given=f"ada {RANKS}\nada {RANKS}\n")
-        came = lines_by_act.came_in_files(self.book)[f"ada {RANKS}".encode()]
+        came = queries.came_in_files(self.book)[f"ada {RANKS}".encode()]
         self.assertEqual([(one.number, one.is_struck) for one in came], [(6, False), (1, True)])
 
     def test_a_line_that_is_taken_again_is_known_by_its_new_envelope(self) -> None:
         self.told("strike", 1, "--because", "a test")
         self.told("add", "--again", given=f"ada {RANKS}\n")
         line = f"ada {RANKS}".encode()
-        self.assertEqual([one.number for one in lines_by_act.came_in_files(self.book)[line]], [6])
-        self.assertEqual(lines_by_act.lines_that_came(self.book)[line], 1)
+        self.assertEqual([one.number for one in queries.came_in_files(self.book)[line]], [6])
+        self.assertEqual(queries.lines_that_came(self.book)[line], 1)
         self.told("undo")
-        self.assertEqual([one.number for one in lines_by_act.came_in_files(self.book)[line]], [1])
+        self.assertEqual([one.number for one in queries.came_in_files(self.book)[line]], [1])
 
 
 class WhenDebvoteRuns(CalledTest):

@@ -11,7 +11,7 @@ import support
 sys.path.insert(0, str(support.ROOT / "python"))
 
 from debvote_tools.election import members  # noqa: E402
-from debvote_tools.faults import Status  # noqa: E402
+from debvote_tools.faults import Fault, Several, Status  # noqa: E402
 from debvote_tools.files import TABLE_LIMIT  # noqa: E402
 
 KEY = "0123456789ABCDEF0123456789ABCDEF01234567"
@@ -31,7 +31,12 @@ class MembersTest(unittest.TestCase):
 
     def assert_faults(self, content: str | bytes, *wanted: tuple[str, ...]) -> None:
         """The parts of each fault, all of which stop the run."""
-        faults = self.read(content).faults
+        try:
+            faults = self.read(content).faults
+        except Several as several:
+            faults = several.faults
+        except Fault as fault:
+            faults = (fault,)
         self.assertEqual(len(faults), len(wanted), [fault.words for fault in faults])
         for fault, parts in zip(faults, wanted):
             self.assertEqual(fault.status, Status.DOUBT)
@@ -142,15 +147,16 @@ class Unread(MembersTest):
         folder = pathlib.Path(tempfile.mkdtemp())
         self.addCleanup(folder.rmdir)
         for file, part in ((folder, "it is no file"), (folder / "no", "No such file"), (pathlib.Path("/dev/null"), "it is no file")):
-            (fault,) = members.members_in(file).faults
-            self.assertEqual(fault.status, Status.BAD_WORDS)
-            self.assertIn(f"{file}: {part}", str(fault.words))
+            with self.assertRaises(Fault) as caught:
+                members.members_in(file)
+            self.assertEqual(caught.exception.status, Status.BAD_WORDS)
+            self.assertIn(f"{file}: {part}", str(caught.exception.words))
 
     def test_a_file_that_is_too_long(self) -> None:
         with tempfile.NamedTemporaryFile() as file:
             file.truncate(TABLE_LIMIT + 1)
-            (fault,) = members.members_in(pathlib.Path(file.name)).faults
-            self.assertIn("too long", str(fault.words))
+            with self.assertRaisesRegex(Fault, "too long"):
+                members.members_in(pathlib.Path(file.name))
 
 
 class Rows(MembersTest):

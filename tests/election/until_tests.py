@@ -10,7 +10,7 @@ import unittest.mock
 
 sys.path.insert(0, str(pathlib.Path(__file__).resolve().parents[2] / "python"))
 
-from debvote_tools.election.until import demand_future, parse_until  # noqa: E402
+from debvote_tools.election.in_time import demand_future, parse_until  # noqa: E402
 from debvote_tools.faults import Fault, Status  # noqa: E402
 from debvote_tools.language import language_of  # noqa: E402
 from debvote_tools.times import date_in_words, minute_in_words, now, time_in_words  # noqa: E402
@@ -42,7 +42,22 @@ class Until(unittest.TestCase):
         ]:
             with self.subTest(text=text, zone=zone, here=here):
                 self.in_zone(here)
-                self.assertEqual(parse_until(text, zone).isoformat(), wanted)
+                self.assertEqual(parse_until(text, zone)[0].isoformat(), wanted)
+
+    def test_the_zone_of_the_end_before(self) -> None:
+        self.in_zone("Asia/Tokyo")
+        for text, zone, earlier, wanted in [
+            ("2026-12-06 18:00", None, "Europe/Berlin", ("2026-12-06T18:00:00+01:00", "Europe/Berlin")),
+            ("2027-04-06 18:00", None, "Europe/Berlin", ("2027-04-06T18:00:00+02:00", "Europe/Berlin")),
+            ("2026-12-06 18:00", None, "-03:30", ("2026-12-06T18:00:00-03:30", "-03:30")),
+            ("2026-12-06 18:00", None, "Z", ("2026-12-06T18:00:00+00:00", "Z")),
+            ("2026-12-06 18:00", "America/New_York", "Europe/Berlin", ("2026-12-06T18:00:00-05:00", "America/New_York")),
+            ("2026-12-06 18:00 +05:00", None, "Europe/Berlin", ("2026-12-06T18:00:00+05:00", "+05:00")),
+            ("2026-12-06 18:00", None, None, ("2026-12-06T18:00:00+09:00", None)),
+        ]:
+            with self.subTest(text=text, zone=zone, earlier=earlier):
+                time, named = parse_until(text, zone, earlier)
+                self.assertEqual((time.isoformat(), named), wanted)
 
     def test_other_words(self) -> None:
         for text in ("tomorrow", "Friday, 4 December 2026", "2026-12-04", "18:00", "4.12.2026 18:00", "2026-12-04 6pm", "", "2026-12-04 18:00 sharp", "\u0662026-12-04 18:00"):
@@ -61,15 +76,15 @@ class Until(unittest.TestCase):
             self.assert_refused("2027-10-31 02:30", zone, f"{where} this time comes twice.*{both}")
         self.assert_refused("2027-10-31 01:30", "Europe/London", r'write "2027-10-31 01:30 \+01:00" or "2027-10-31 01:30 UTC"')
         for again in ("2027-10-31 02:30 +01:00", "2027-10-31 01:30 UTC"):
-            self.assertEqual(parse_until(again, None).astimezone(datetime.UTC).hour, 1)
+            self.assertEqual(parse_until(again, None)[0].astimezone(datetime.UTC).hour, 1)
 
     def test_a_time_that_is_over(self) -> None:
         clock = datetime.datetime(2026, 11, 26, 10, 0, 30, tzinfo=datetime.UTC)
         for text in ("2026-11-26 11:00:30 +01:00", "2026-11-26 11:00 +01:00"):
             said = r"\(UTC\+01:00\) is over: by the clock of this computer it is Thursday, 26 November 2026, 11:00 \(UTC\+01:00\); nothing was"
             with self.assertRaisesRegex(Fault, said):
-                demand_future(parse_until(text, None), clock)
-        demand_future(parse_until("2026-11-26 11:00:31 +01:00", None), clock)
+                demand_future(parse_until(text, None)[0], clock)
+        demand_future(parse_until("2026-11-26 11:00:31 +01:00", None)[0], clock)
 
 
 class InWords(unittest.TestCase):

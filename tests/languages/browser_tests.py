@@ -13,12 +13,11 @@ from support import ELECTORS
 
 sys.path.insert(0, str(support.ROOT / "python"))
 
-from debvote_tools.call.page import SENTENCES as CALL_SENTENCES  # noqa: E402
+from debvote_tools.call.files import SENTENCES as CALL_SENTENCES  # noqa: E402
 from debvote_tools.language import language_of  # noqa: E402
 from debvote_tools.publish.scripts import COUNT_AGAIN, FIND, FIND_IN_OPEN, FIND_IN_SECRET  # noqa: E402
 
-WIDTHS = (390, 1280)
-TELEPHONE = (390, 844)
+TELEPHONE, SCREEN = (390, 844), (1280, 800)
 
 # what the page of a call shows once a name is typed and ranks are chosen
 CHOOSE = """((name, ranks) => {
@@ -49,27 +48,30 @@ class InBrowser(support.LanguageTest):
     def check_language(self, language: str) -> None:
         places = {name: self.held(name, language, is_secret=name == "secret") for name in ("open", "secret")}
         files = [place / page / "index.html" for place in places.values() for page in ("call", "result")]
-        for width in WIDTHS:
-            with at_browser.Window(width, 800) as window:
-                for file in [*files, places["secret"] / "private" / "slips.html"]:
-                    window.open(file)
-                    # what may be wider scrolls by itself; what is closed is opened
-                    window.ask("document.querySelectorAll('details').forEach((node) => { node.open = true; })")
-                    with self.subTest(language=language, page=str(file.relative_to(self.scratch)), width=width):
-                        self.assertEqual(window.ask("document.documentElement.scrollWidth"), width)
-                        self.assertEqual(window.ask("document.documentElement.lang"), language)
+        files.append(places["secret"] / "private" / "slips.html")
         with at_browser.Window(*TELEPHONE) as window:
+            self.check_widths(window, language, files, TELEPHONE[0])
             for place in places.values():
                 # four options: who has won, one's own ballot, the bars and the reasons
                 window.open(place / "result" / "index.html")
                 end = window.ask("document.getElementById('Why').parentNode.getBoundingClientRect().bottom")
                 self.assertLessEqual(end, 3 * TELEPHONE[1], f"{place.name}: screens of a telephone")
-        with at_browser.Window(WIDTHS[0], 800) as window:
             self.check_call(window, language, places["open"])
             for place in places.values():
                 self.check_count(window, language, place / "result")
             self.check_find(window, language, places["open"])
             self.check_find_in_secret(window, language, places["secret"])
+            window.resize(*SCREEN)
+            self.check_widths(window, language, files, SCREEN[0])
+
+    def check_widths(self, window: at_browser.Window, language: str, files: list[pathlib.Path], width: int) -> None:
+        """No page is wider than the window, with all that is folded opened; what may be wider scrolls by itself."""
+        for file in files:
+            window.open(file)
+            window.ask("document.querySelectorAll('details').forEach((node) => { node.open = true; })")
+            with self.subTest(language=language, page=str(file.relative_to(self.scratch)), width=width):
+                self.assertEqual(window.ask("document.documentElement.scrollWidth"), width)
+                self.assertEqual(window.ask("document.documentElement.lang"), language)
 
     def check_call(self, window: at_browser.Window, language: str, place: pathlib.Path) -> None:
         window.open(place / "call" / "index.html")

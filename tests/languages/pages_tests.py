@@ -6,7 +6,6 @@ import email.policy
 import html
 import pathlib
 import re
-import tempfile
 
 
 import support
@@ -60,8 +59,7 @@ class Marked(support.LanguageTest):
     @classmethod
     def setUpClass(cls) -> None:
         super().setUpClass()
-        tree = pathlib.Path(cls.enterClassContext(tempfile.TemporaryDirectory(prefix="debvote-marked-")))
-        cls.tree = support.marked_tree(tree / "tree")
+        support.mark_german()
 
     def check_page(self, file: pathlib.Path) -> str:
         page = file.read_text(encoding="utf-8")

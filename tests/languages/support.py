@@ -11,7 +11,7 @@ import unittest
 
 import forks
 import sentences
-from babel.messages import mofile, pofile
+from debvote_tools.language import catalog_of, language_of
 
 ROOT = pathlib.Path(__file__).resolve().parents[2]
 PROGRAM = pathlib.Path(os.environ.get("DEBVOTE", ROOT / "crates" / "debvote" / "out" / "debvote"))
@@ -45,7 +45,7 @@ LETTERS = {"e09": "e09 1,2,3,4", "e10": "I vote for the lake", "e11": "e10 1,2,3
 AT, TO = "https://example.org/", "vote@example.org"
 FIRST_END, END, REASON = "2031-12-01 18:00", "2031-12-03 18:00:30", "Nobody has answered"
 
-# each of our words is between these characters in the language of `marked_tree`
+# each of our words is between these characters in the language of `mark_german`
 BEGIN, END_MARK = "\u27e6", "\u27e7"
 MARKED = re.compile(f"{BEGIN}[^{BEGIN}{END_MARK}]*{END_MARK}")
 
@@ -62,29 +62,20 @@ def marked(text: str) -> str:
     return "".join(part if place % 2 or not part else f"{BEGIN}{part}{END_MARK}" for place, part in enumerate(parts))
 
 
-def marked_tree(folder: pathlib.Path) -> pathlib.Path:
-    """A copy of the programs in which German is a language with all words marked. Returns its folder."""
-    for name in ("bin", "python"):
-        shutil.copytree(ROOT / name, folder / name, ignore=shutil.ignore_patterns("__pycache__", "*.mo"))
-    for name in ("tests/reference.py", "docs/READING-A-SHEET.md"):
-        (folder / name).parent.mkdir()
-        shutil.copy(ROOT / name, folder / name)
-    file = folder / "python" / "debvote_tools" / "locale" / "de.po"
-    head = file.read_text(encoding="utf-8").split("\n\n")[0]
+def mark_german() -> None:
+    """In this process, and in the runs that are forks of it, German is a language with all words marked."""
+    if os.environ.get("DEBVOTE_FORKS") == "0":
+        raise unittest.SkipTest("the language with marked words is in forks of the test alone")
+    head = (sentences.LOCALE / "de.po").read_text(encoding="utf-8").split("\n\n")[0]
     entries = [sentences.as_po(texts, tuple(map(marked, texts))) for texts in sentences.in_code()]
-    file.write_text("\n".join([f"{head}\n", *entries]), encoding="utf-8")
-    with file.open("rb") as text, file.with_suffix(".mo").open("wb") as made:
-        # as in the package, where it is faster to read
-        mofile.write_mo(made, pofile.read_po(text))
-    return folder
+    catalog = catalog_of("\n".join([f"{head}\n", *entries]).encode())
+    vars(language_of("de").catalog).update(vars(catalog))
 
 
 class LanguageTest(unittest.TestCase):
     """A test with its own folder."""
 
     maxDiff = None
-    # where the programs are
-    tree = ROOT
 
     def setUp(self) -> None:
         self.scratch = pathlib.Path(tempfile.mkdtemp(prefix="debvote-languages-"))
@@ -95,7 +86,7 @@ class LanguageTest(unittest.TestCase):
         path = os.pathsep.join([str(PROGRAM.parent), os.environ["PATH"]])
         state = str(self.scratch / "state")
         ended = forks.run(
-            [sys.executable, str(self.tree / "bin" / program), *map(str, words)],
+            [sys.executable, str(ROOT / "bin" / program), *map(str, words)],
             cwd=self.scratch,
             input=given,
             capture_output=True,

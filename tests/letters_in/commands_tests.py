@@ -141,6 +141,36 @@ class Adding(LettersTest):
         self.done("held", 1, "--enter", 1, "--force")
         self.assertEqual(self.exported(), (f"ben {RANKS}\nada {RANKS}\n", f"ada {OTHER}\n"))
 
+    def add_after_the_close(self) -> None:
+        """A letter that had arrived in time; then the vote is opened again."""
+        self.done("desk", given=f"cleo {RANKS}\n")
+        self.done("close")
+        self.add(letter("ada", f"ada {RANKS}"))
+        self.assertEqual(self.exported(), (f"cleo {RANKS}\n", f"ada {RANKS}\n"))
+        how = "run debvote-election reopen --in-time 2 --because TEXT"
+        self.assert_fault(self.election("publish"), 9, "the ballot of letter 1 is late", f"to count it {how}")
+        self.assert_fault(self.election("held", 1, "--enter", 1), 9, "it was entered, and is late", f"if it came in time, {how}")
+        ended = self.done("reopen", "--because", "a letter was forgotten")
+        self.assertIn("Note: envelopes 2 stay late; if one had come before the first close, close again and run", ended.output)
+        self.assert_fault(self.election("held", 1, "--enter", 1), 9, f"if it came in time, close again and {how}")
+
+    def assert_published(self) -> None:
+        """The letter that was entered again as in time is no doubt of the result."""
+        self.assertEqual(self.exported(), (f"cleo {RANKS}\nada {RANKS}\n", f"ada {RANKS}\n"))
+        self.done("close")
+        self.done("publish")
+
+    def test_a_letter_in_time_that_was_added_after_the_close(self) -> None:
+        self.add_after_the_close()
+        self.done("close")
+        self.assertIn("3 entered, which was late as 2", self.done("reopen", "--in-time", "2", "--because", "it came in time").output)
+        self.assert_published()
+
+    def test_a_letter_in_time_whose_ballot_is_entered_at_a_desk(self) -> None:
+        self.add_after_the_close()
+        self.done("desk", "--came-before-close", "yes", given=f"ada {RANKS}\n")
+        self.assert_published()
+
     def test_a_stranger_and_a_member_without_address(self) -> None:
         ended = self.add(letter("ada", f"ada {RANKS}", sender="stranger@elsewhere.example"))
         self.assertIn("it came from stranger@elsewhere.example, and the list has ada@club.example for ada", ended.output)
@@ -201,6 +231,12 @@ class Held(LettersTest):
         self.assertEqual(self.numbers()["waiting"], 1)
         self.assert_fault(self.election("held", "1", "--enter", "5"), 9, "it was entered")
         self.assert_fault(self.election("held", "1", "--set-aside"), 9, "was entered")
+
+    def test_no_line_of_a_letter_that_a_program_wrote_is_near_to_a_ballot(self) -> None:
+        for number, sender in ((3, "mailer-daemon@mail.example"), (4, "eve@club.example")):
+            self.add(letter("eve", "We could not deliver this:\n\neve 1,2\n", sender=sender, number=number))
+            shown = self.done("held", number).output
+            self.assertEqual("eve 1,2`" in shown, number == 4, shown)
 
     def test_a_line_is_entered_once(self) -> None:
         for lines in ("5,5", "5, 5"):

@@ -14,7 +14,7 @@ from debvote_tools.letters.readings import Near
 from debvote_tools.letters.reasons import Reason
 from debvote_tools.letters_out.compose import Became, Came, Composer, Kind, without_ballots
 from debvote_tools.letters_out.message import message_of, new_message_id, one_line as on_one_line
-from debvote_tools.publish import casting_vote
+from debvote_tools.publish import result_letter
 from debvote_tools.publish.inputs import CastingVote
 from debvote_tools.sealed_poll import SealedPoll
 
@@ -62,7 +62,7 @@ RESULT = {
 def result(now: Composer, ended: str = "Winner: {option} by casting vote", *, has_ballot: bool = True, **other: object) -> str:
     """The letter of a result that the casting vote decided."""
     language = now.call.language
-    casting = casting_vote.told(CastingVote("Lake", "the chair", datetime.date(2026, 11, 24)), language)
+    casting = result_letter.casting_in_words(CastingVote("Lake", "the chair", datetime.date(2026, 11, 24)), language)
     own = {"ended": language.say(ended, option="Option 1: Lake", options="Option 2: Hall"), "casting": casting}
     return now.text(Kind.RESULT, ADA, has_ballot=has_ballot, **RESULT | own | other)
 

@@ -53,7 +53,8 @@ class Window:
         self.session = self.tell("Target.attachToTarget", targetId=page["targetId"], flatten=True)["sessionId"]
         self.scheme = [{"name": "prefers-color-scheme", "value": "dark" if is_dark else "light"}]
         self.tell("Emulation.setEmulatedMedia", features=self.scheme)
-        self.tell("Emulation.setDeviceMetricsOverride", width=width, height=height, deviceScaleFactor=1, mobile=is_telephone)
+        self.is_telephone = is_telephone
+        self.resize(width, height)
         self.tell("Emulation.setTouchEmulationEnabled", enabled=is_telephone)
 
     def __enter__(self) -> "Window":
@@ -64,6 +65,9 @@ class Window:
         self.process.wait(60)
         self.answers.close()
         shutil.rmtree(self.room, ignore_errors=True)
+
+    def resize(self, width: int, height: int) -> None:
+        self.tell("Emulation.setDeviceMetricsOverride", width=width, height=height, deviceScaleFactor=1, mobile=self.is_telephone)
 
     def tell(self, method: str, **given: object) -> dict[str, Any]:
         """Makes a call of chromium's protocol, and returns the answer."""

@@ -11,9 +11,9 @@ ROOT = pathlib.Path(__file__).resolve().parents[2]
 PACKAGE = ROOT / "python" / "debvote_tools"
 LOCALE = PACKAGE / "locale"
 
-# the functions that take a sentence, and which argument it is; two have a singular and a plural
-WITH_ONE = {"say": 0, "marked": 0, "sentence": 0, "form": 0, "between": 0, "part": 1}
-WITH_TWO = {"say_number": 0, "numbered": 0}
+# the functions whose first argument is a sentence, and those whose first two are its singular and its plural
+WITH_ONE = {"say", "marked", "between"}
+WITH_TWO = {"say_number", "numbered"}
 
 
 @dataclasses.dataclass(frozen=True)
@@ -50,10 +50,10 @@ def texts_of(call: ast.Call) -> list[tuple[str, ...]]:
     """The sentences in a call."""
     name = call.func.attr if isinstance(call.func, ast.Attribute) else call.func.id if isinstance(call.func, ast.Name) else ""
     if name in WITH_TWO:
-        one, many = (literals(word) for word in call.args[WITH_TWO[name] :][:2])
+        one, many = (literals(word) for word in call.args[:2])
         return [(first, second) for first in one for second in many]
-    if name in WITH_ONE and len(call.args) > WITH_ONE[name]:
-        return [(text,) for text in literals(call.args[WITH_ONE[name]])]
+    if name in WITH_ONE and call.args:
+        return [(text,) for text in literals(call.args[0])]
     return []
 
 

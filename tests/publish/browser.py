@@ -1,5 +1,6 @@
 """Reads pages in chromium, and by tidy: what a reader sees at several widths, in a light and in a dark scheme."""
 
+import functools
 import re
 import shutil
 import subprocess
@@ -19,20 +20,22 @@ FRAMES = """<!DOCTYPE html><title>none</title>%s<script>
 onload = () => {
   const say = frame => {
     const page = frame.contentDocument, style = part => frame.contentWindow.getComputedStyle(part);
-    return [%s].join(" ");
+    return [%s].join("@");
   };
   document.title = [...document.querySelectorAll("iframe")].map(say).join(";");
 };
 </script>"""
-WIDTH_AND_COLOURS = "page.documentElement.scrollWidth, style(page.body).backgroundColor, style(page.body).color"
+WIDTH_AND_COLOURS = '[page.documentElement.scrollWidth, style(page.body).backgroundColor, style(page.body).color].join(" ")'
 
 # where the marked doubts stand in a window, whether something lies above them, and the colours of their text, word and ground
-PLACE_OF_DOUBTS = """...(() => {
-  const box = page.querySelector(".doubts"), place = box.getBoundingClientRect(), word = box.querySelector("strong");
+PLACE_OF_DOUBTS = """(() => {
+  const box = page.querySelector(".doubts");
+  if (!box) return "none";
+  const place = box.getBoundingClientRect(), word = box.querySelector("strong");
   const middle = page.elementFromPoint(place.left + place.width / 2, place.top + 10);
   const colours = [style(box).backgroundColor, style(box).color, style(word).color, style(page.body).backgroundColor];
   return [page.documentElement.scrollWidth, place.left >= 0 && place.right <= frame.width, place.bottom <= frame.height,
-    box.contains(middle), ...colours.map(colour => colour.replaceAll(" ", ""))];
+    box.contains(middle), ...colours.map(colour => colour.replaceAll(" ", ""))].join(" ");
 })()"""
 
 # how wide a picture is, the region that it lies in, what was drawn and three quarters of it; and the ink of its words
@@ -52,6 +55,8 @@ PLACE_OF_BARS = """[...page.querySelectorAll(".bars svg")].map(svg => {
     bar.classList.contains("for"), ...colours.map(colour => colour.replaceAll(", ", ","))].join("|");
 }).join(" ")"""
 
+LOOKS = [WIDTH_AND_COLOURS, PLACE_OF_DOUBTS, PLACE_OF_PICTURE, PLACE_OF_BARS]
+
 
 # a heading within a summary is newer than tidy
 SUMMARY = re.compile(r"<summary>(<h2 [^>]*>.*?</h2>)</summary>")
@@ -64,14 +69,20 @@ def try_tidy(expect, folders):
         expect(f"{folder.name}: tidy", found[1:], ("", 0))
 
 
-def browser_says(scratch, folders, widths, what, is_dark):
-    """What a browser says of each page at each width, in a light or in a dark scheme."""
+def browser_says(scratch, folders, widths, look, is_dark):
+    """What a browser says of each page at each width, in a light or in a dark scheme, if it looks at one of `LOOKS`."""
+    return [said.split("@")[LOOKS.index(look)] for said in all_looks(scratch, tuple(folders), tuple(widths), is_dark)]
+
+
+@functools.cache
+def all_looks(scratch, folders, widths, is_dark):
+    """A browser is started once for the same pages and widths, and looks at all that a test can ask."""
     frames = "".join(
         f'<iframe src="{folder.as_uri()}/index.html" width="{width}" height="900" style="border: 0"></iframe>'
         for folder in folders
         for width in widths
     )
-    (scratch / "frames.html").write_text(FRAMES % (frames, what))
+    (scratch / "frames.html").write_text(FRAMES % (frames, ", ".join(LOOKS)))
     flags = ["--headless", "--no-sandbox", "--disable-gpu", "--hide-scrollbars", "--allow-file-access-from-files", "--dump-dom"]
     # 0 is dark for the browser
     scheme = [f"--user-data-dir={scratch}/browser", f"--blink-settings=preferredColorScheme={0 if is_dark else 1}"]
@@ -119,7 +130,7 @@ def try_bars(expect, folders, scratch):
     """Each bar is as long as its number says, and is seen on the ground of the page by its fill or its edge, light and dark."""
     fills = set()
     for is_dark in (False, True):
-        said = browser_says(scratch, folders, DOUBT_WIDTHS, PLACE_OF_BARS, is_dark)
+        said = browser_says(scratch, folders, WIDTHS, PLACE_OF_BARS, is_dark)
         bars = [bar.split("|") for page in said for bar in page.split()]
         expect("chromium: there are bars", len(bars) > 2 * len(folders), True)
         for number, whole, thousandths, is_for, fill, edge, paper in bars:

@@ -126,7 +126,7 @@ class FoldersTest(support.PublishTest):
 
     @browser.NEEDS_BROWSER
     def test_bars(self):
-        browser.try_bars(self.expect, self.folders[:8], self.scratch)
+        browser.try_bars(self.expect, self.folders, self.scratch)
 
     @browser.NEEDS_BROWSER
     @browser.NEEDS_PICTURES

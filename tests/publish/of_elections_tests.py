@@ -1,7 +1,6 @@
 """What debvote-election publishes of its book: the files, what was done, doubts, casting votes, secret votes, and the same bytes again."""
 
 import contextlib
-import dataclasses
 import datetime
 import email.utils
 import hashlib
@@ -470,7 +469,7 @@ class OfOpenVotes(OfElections):
         self.add("ada-lovelace 1,2,3\n")
         self.say("close")
         election = Election(self.folder, support.PROGRAM.parent)
-        given = dict.fromkeys(field.name for field in dataclasses.fields(command.Arguments))
+        given = {field: None for owner in command.Arguments.__mro__ for field in vars(owner).get("__annotations__", {})}
         arguments = command.Arguments(**given | {"language": "en"})
         killed = unittest.mock.patch.object(Made, "take_place", side_effect=KeyboardInterrupt)
         with self.state_of_this(), killed, self.assertRaises(KeyboardInterrupt):

@@ -16,8 +16,7 @@ from support import FILES, plain_room, publish
 
 sys.path.append(str(support.ROOT / "python"))
 
-from debvote_tools.language import ENGLISH  # noqa: E402
-from debvote_tools.publish import result_folder, two_files  # noqa: E402
+from debvote_tools.publish import command_line, result_folder  # noqa: E402
 
 NEEDS_BROWSER = unittest.skipUnless(at_browser.BROWSER, "chromium is not installed")
 
@@ -81,6 +80,7 @@ class ScriptsTest(support.PublishTest):
         ballots = sorted(f"{alias} {ranks}\n" for alias, ranks in zip(roll, ["1,2,3", "2,1,-", "1,1,1"]))
         cls.secret = plain_room(cls.scratch / "secret", poll, "".join(ballots))
         cls.told_in_secret = publish(cls.secret, *FILES, "result")
+        cls.window = cls.enterClassContext(Page()) if at_browser.BROWSER else None
 
     def page_of(self, window, change=None, room=None):
         """Opens the page, or what a change makes of it."""
@@ -98,85 +98,87 @@ class ScriptsTest(support.PublishTest):
 
     @NEEDS_BROWSER
     def test_finding_a_ballot(self):
-        with Page() as window:
-            self.page_of(window)
-            ballot = 'ada 2,1,-: Option 2: <i>B</i> & "C"; then Option 1: 72 Euro; not ranked: Option 3: N'
-            for name in ("ada", " Ada ", "ÁDA"):
-                self.expect(name, window.find(name)[1:], [ballot])
-            self.expect("equal ranks", window.find("ben")[1], 'ben -,1,1: equally Option 2: <i>B</i> & "C" and Option 3: N; not ranked: Option 1: 72 Euro')
-            self.expect("hyphens alone", window.find("cleo")[1], "cleo -,-,-: nothing is preferred")
-            self.expect("no ballot", window.find("dan"), ["dan is on the roll, and no ballot counts for this name."])
-            self.expect("nobody", window.find("Zoë"), ["No elector has the name zoë. Type it as it is on the roll."])
-            self.expect("a place of the page", window.find("Votes"), ["No elector has the name votes. Type it as it is on the roll."])
-            self.expect("nothing typed", window.find(" "), ["Type your name."])
-            window.ask("location.hash = '#ben'")
-            window.until("document.getElementById('answer').textContent.includes('ben')")
-            self.expect("the address names an elector", window.found()[0], "This ballot counts for ben:")
-            others = ["This page shows other ballots than its files have. Tell the other electors."]
-            for what, change in [
-                ("other ranks", lambda text: text.replace("<code>2,1,-</code>", "<code>1,2,-</code>")),
-                ("no entry", lambda text: text.replace('<li id="ada">', '<li id="eva">')),
-            ]:
-                self.page_of(window, change)
-                self.expect(what, window.find("ada"), others)
+        window = self.window
+        self.page_of(window)
+        ballot = 'ada 2,1,-: Option 2: <i>B</i> & "C"; then Option 1: 72 Euro; not ranked: Option 3: N'
+        for name in ("ada", " Ada ", "ÁDA"):
+            self.expect(name, window.find(name)[1:], [ballot])
+        self.expect("equal ranks", window.find("ben")[1], 'ben -,1,1: equally Option 2: <i>B</i> & "C" and Option 3: N; not ranked: Option 1: 72 Euro')
+        self.expect("hyphens alone", window.find("cleo")[1], "cleo -,-,-: nothing is preferred")
+        self.expect("no ballot", window.find("dan"), ["dan is on the roll, and no ballot counts for this name."])
+        self.expect("nobody", window.find("Zoë"), ["No elector has the name zoë. Type it as it is on the roll."])
+        self.expect("a place of the page", window.find("Votes"), ["No elector has the name votes. Type it as it is on the roll."])
+        self.expect("nothing typed", window.find(" "), ["Type your name."])
+        window.ask("location.hash = '#ben'")
+        window.until("document.getElementById('answer').textContent.includes('ben')")
+        self.expect("the address names an elector", window.found()[0], "This ballot counts for ben:")
+        others = ["This page shows other ballots than its files have. Tell the other electors."]
+        for what, change in [
+            ("other ranks", lambda text: text.replace("<code>2,1,-</code>", "<code>1,2,-</code>")),
+            ("no entry", lambda text: text.replace('<li id="ada">', '<li id="eva">')),
+        ]:
+            self.page_of(window, change)
+            self.expect(what, window.find("ada"), others)
 
     @NEEDS_BROWSER
     def test_finding_a_ballot_of_a_secret_vote(self):
-        with Page() as window:
-            self.page_of(window, room=self.secret)
-            alias = alias_of(self.code, "zoe-muller")
-            wanted = [f"{alias} 2,1,-: Option 2: B; then Option 1: A; not ranked: Option 3: N"]
-            for name in ("zoe-muller", "Zoë Müller", "  ZOE  MÜLLER "):
-                self.expect(name, window.find(name, f" {self.code[:16].upper()} {self.code[16:]}")[1:], wanted)
-            none = window.find("cleo", self.code)
-            self.expect("no ballot", none, [f"Your alias is {alias_of(self.code, 'cleo')}. It is on the roll, and no ballot counts under it."])
-            other = f"No elector of this vote has the alias {alias_of('f' * 32, 'ada')}. Type name and code as they are on your slip."
-            self.expect("another code", window.find("ada", "f" * 32), [other])
-            short = "A code has 32 digits, 0 to 9 and a to f. Type yours as it is on your slip."
-            self.expect("a short code", window.find("ada", "f" * 31), [short])
-            line = f"{alias} 2,1,-\n"
-            for what, before, after, said in [
-                ("a line twice", line, line * 2, "replaced"),
-                ("a line that does not count", line, f"{line}x\n", "bad shape"),
-                ("a line of nobody", line, f"{line}{'0' * 32} 1,2,3\n", "bad not on roll"),
-                ("a last envelope", "]\nsecret = true", "]\nlast_envelope = 3\nsecret = true", "last_envelope"),
-            ]:
-                self.page_of(window, lambda text, before=before, after=after: text.replace(before, after), room=self.secret)
-                odd = window.find("ada", self.code)[0]
-                self.expect(f"{what}: {odd}", (odd.startswith("This is not how a secret vote is published: "), said in odd), (True, True))
+        window = self.window
+        self.page_of(window, room=self.secret)
+        alias = alias_of(self.code, "zoe-muller")
+        wanted = [f"{alias} 2,1,-: Option 2: B; then Option 1: A; not ranked: Option 3: N"]
+        for name in ("zoe-muller", "Zoë Müller", "  ZOE  MÜLLER "):
+            self.expect(name, window.find(name, f" {self.code[:16].upper()} {self.code[16:]}")[1:], wanted)
+        none = window.find("cleo", self.code)
+        self.expect("no ballot", none, [f"Your alias is {alias_of(self.code, 'cleo')}. It is on the roll, and no ballot counts under it."])
+        other = f"No elector of this vote has the alias {alias_of('f' * 32, 'ada')}. Type name and code as they are on your slip."
+        self.expect("another code", window.find("ada", "f" * 32), [other])
+        short = "A code has 32 digits, 0 to 9 and a to f. Type yours as it is on your slip."
+        self.expect("a short code", window.find("ada", "f" * 31), [short])
+        line = f"{alias} 2,1,-\n"
+        for what, before, after, said in [
+            ("a line twice", line, line * 2, "replaced"),
+            ("a line that does not count", line, f"{line}x\n", "bad shape"),
+            ("a line of nobody", line, f"{line}{'0' * 32} 1,2,3\n", "bad not on roll"),
+            ("a last envelope", "]\nsecret = true", "]\nlast_envelope = 3\nsecret = true", "last_envelope"),
+        ]:
+            self.page_of(window, lambda text, before=before, after=after: text.replace(before, after), room=self.secret)
+            odd = window.find("ada", self.code)[0]
+            self.expect(f"{what}: {odd}", (odd.startswith("This is not how a secret vote is published: "), said in odd), (True, True))
 
     @NEEDS_BROWSER
     def test_finding_a_ballot_by_its_code(self):
         """Where codes are on the roll, half a code is not called the code of nobody."""
         room, programs = self.secret, support.PROGRAM.parent
-        two = two_files.publication_of_files(str(room / "poll.toml"), str(room / "ballots"), ENGLISH, casting=None, desks=1, program_folder=programs)
+        files = {"poll": str(room / "poll.toml"), "ballots": str(room / "ballots")}
+        given = command_line.Arguments(**files, casting=None, desks=1, language="en", target="result")
+        two = command_line.publication_of(given, programs)
         by_code = plain_room(self.scratch / "codes")
         with result_folder.made(dataclasses.replace(two, has_codes=True), by_code / "result", programs) as made:
             made.take_place(by_code / "result")
         code = alias_of(self.code, "zoe-muller")
-        with Page() as window:
-            self.page_of(window, room=by_code)
-            self.expect("in groups", window.find(f"{code[:16].upper()} {code[16:]}")[1:], [f"{code} 2,1,-: Option 2: B; then Option 1: A; not ranked: Option 3: N"])
-            short = "A code has 32 digits, 0 to 9 and a to f. Type yours as it is on your slip."
-            self.expect("half of it", window.find(code[:16]), [short])
-            self.expect("no ballot", window.find(alias_of(self.code, "cleo")), ["The code is on the roll, and no ballot counts under it."])
-            self.expect("nobody's", window.find("f" * 32), ["No elector has this code. Type it as it is on your slip."])
+        window = self.window
+        self.page_of(window, room=by_code)
+        self.expect("in groups", window.find(f"{code[:16].upper()} {code[16:]}")[1:], [f"{code} 2,1,-: Option 2: B; then Option 1: A; not ranked: Option 3: N"])
+        short = "A code has 32 digits, 0 to 9 and a to f. Type yours as it is on your slip."
+        self.expect("half of it", window.find(code[:16]), [short])
+        self.expect("no ballot", window.find(alias_of(self.code, "cleo")), ["The code is on the roll, and no ballot counts under it."])
+        self.expect("nobody's", window.find("f" * 32), ["No elector has this code. Type it as it is on your slip."])
 
     @NEEDS_BROWSER
     def test_folded_parts(self):
         """A link, or the address of the page, opens the folded part that it leads to; on paper all are open, without a script too."""
-        with Page() as window:
-            self.page_of(window)
-            unfolded = "[...document.querySelectorAll('.folded[open] h2')].map((node) => node.id)"
-            self.expect("all are folded", window.ask(unfolded), [])
-            window.ask("""document.querySelector('nav a[href="#Votes"]').click()""")
-            self.expect("by a link", window.ask(unfolded), ["Votes"])
-            window.ask("document.querySelector('.folded[open]').open = false")
-            window.ask("""document.querySelector('nav a[href="#Votes"]').click()""")
-            self.expect("by the same link again", window.ask(unfolded), ["Votes"])
-            for address, part in (("ada", "Ballots"), ("dan", "Who-voted"), ("%", None)):
-                window.ask(f"location.hash = '#{address}'")
-                window.until(f"{json.dumps(part)} === null || {unfolded}.includes({json.dumps(part)})")
+        window = self.window
+        self.page_of(window)
+        unfolded = "[...document.querySelectorAll('.folded[open] h2')].map((node) => node.id)"
+        self.expect("all are folded", window.ask(unfolded), [])
+        window.ask("""document.querySelector('nav a[href="#Votes"]').click()""")
+        self.expect("by a link", window.ask(unfolded), ["Votes"])
+        window.ask("document.querySelector('.folded[open]').open = false")
+        window.ask("""document.querySelector('nav a[href="#Votes"]').click()""")
+        self.expect("by the same link again", window.ask(unfolded), ["Votes"])
+        for address, part in (("ada", "Ballots"), ("dan", "Who-voted"), ("%", None)):
+            window.ask(f"location.hash = '#{address}'")
+            window.until(f"{json.dumps(part)} === null || {unfolded}.includes({json.dumps(part)})")
         with Page() as window:
             window.for_paper()
             self.page_of(window)
@@ -187,20 +189,20 @@ class ScriptsTest(support.PublishTest):
     def test_counting_again(self):
         folder = self.room / "result"
         sums = {name: hashlib.sha256((folder / name).read_bytes()).hexdigest() for name in ("poll.toml", "ballots.txt", "index.html")}
-        with Page() as window:
-            self.page_of(window)
-            rows = window.count_again()
-            lines = (folder / "sheet.txt").read_text().count("\n")
-            self.expect("the sheet", rows[0], f"The same, line for line: this count comes to the published sheet, in all its {lines} lines.")
-            self.expect("the page", rows[2].startswith("This page shows what its files come to: "), True)
-            for typed in (sums["poll.toml"], f"{sums['poll.toml'].upper()}  poll.toml", f"\\{sums['poll.toml']} *a\\nb", f" {sums['ballots.txt']}\n"):
-                said = " ".join(window.count_again(typed))
-                self.expect(f"typed {typed}", ("Yours is the same." in said, LETTER_OTHER in said), (True, False))
-            self.expect("that of another file", LETTER_OTHER in window.count_again(sums["index.html"])[3], True)
-            sum_of_poll = sums["poll.toml"]
-            for typed, number in ((sum_of_poll[:63], 63), (f"{sum_of_poll[:16]} {sum_of_poll[16:20]}", 20), (f"{sum_of_poll}0", 65), ("?", 0)):
-                part = f"A checksum has 64 digits, 0 to 9 and a to f, and you have typed {number}."
-                self.expect(f"typed {typed}", window.count_again(typed)[3], part)
+        window = self.window
+        self.page_of(window)
+        rows = window.count_again()
+        lines = (folder / "sheet.txt").read_text().count("\n")
+        self.expect("the sheet", rows[0], f"The same, line for line: this count comes to the published sheet, in all its {lines} lines.")
+        self.expect("the page", rows[2].startswith("This page shows what its files come to: "), True)
+        for typed in (sums["poll.toml"], f"{sums['poll.toml'].upper()}  poll.toml", f"\\{sums['poll.toml']} *a\\nb", f" {sums['ballots.txt']}\n"):
+            said = " ".join(window.count_again(typed))
+            self.expect(f"typed {typed}", ("Yours is the same." in said, LETTER_OTHER in said), (True, False))
+        self.expect("that of another file", LETTER_OTHER in window.count_again(sums["index.html"])[3], True)
+        sum_of_poll = sums["poll.toml"]
+        for typed, number in ((sum_of_poll[:63], 63), (f"{sum_of_poll[:16]} {sum_of_poll[16:20]}", 20), (f"{sum_of_poll}0", 65), ("?", 0)):
+            part = f"A checksum has 64 digits, 0 to 9 and a to f, and you have typed {number}."
+            self.expect(f"typed {typed}", window.count_again(typed)[3], part)
 
     @NEEDS_BROWSER
     def test_counting_again_on_changed_pages(self):
@@ -212,23 +214,23 @@ class ScriptsTest(support.PublishTest):
             "the ballot of ben": ('<li id="ben"><b>ben</b> <code>-,1,1', '<li id="ben"><b>ben</b> <code>-,1,2'),
             "the ballot of ada": ("</bdi>; then Option 1: <bdi>72 Euro</bdi>; not", "</bdi>; then Option 1: <bdi>73 Euro</bdi>; not"),
         }
-        with Page() as window:
-            for what, (before, after) in changes.items():
-                self.page_of(window, lambda text, before=before, after=after: text.replace(before, after, 1))
-                said = [row for row in window.count_again() if row.startswith("This page does not show what its files come to: ")]
-                self.expect(f"changed: {what}", [what.strip() in row for row in said], [True])
+        window = self.window
+        for what, (before, after) in changes.items():
+            self.page_of(window, lambda text, before=before, after=after: text.replace(before, after, 1))
+            said = [row for row in window.count_again() if row.startswith("This page does not show what its files come to: ")]
+            self.expect(f"changed: {what}", [what.strip() in row for row in said], [True])
 
     @NEEDS_BROWSER
     def test_files_from_the_disk(self):
         folder = self.room / "result"
         files = {name: (folder / name).read_bytes() for name in ("poll.toml", "ballots.txt", "sheet.txt")}
-        with Page() as window:
-            self.page_of(window)
-            self.expect("the same", window.count_again(files=files)[0].startswith("The same, line for line"), True)
-            cut = window.count_again(files=files | {"sheet.txt": files["sheet.txt"].removesuffix(b"\n")})[0]
-            feeds = (
-                "There it is: Winner: 2 B (without a line feed at its end). By this count it is: Winner: 2 B (with a line feed at its end)."
-            )
-            self.expect(f"no line feed at the end: {cut}", feeds in cut, True)
-            toml = window.count_again(files=files | {"poll.toml": b"# a comment\n" + files["poll.toml"]})[0]
-            self.expect(f"another form of TOML: {toml}", "not in plain form, as the poll.toml of a result is" in toml, True)
+        window = self.window
+        self.page_of(window)
+        self.expect("the same", window.count_again(files=files)[0].startswith("The same, line for line"), True)
+        cut = window.count_again(files=files | {"sheet.txt": files["sheet.txt"].removesuffix(b"\n")})[0]
+        feeds = (
+            "There it is: Winner: 2 B (without a line feed at its end). By this count it is: Winner: 2 B (with a line feed at its end)."
+        )
+        self.expect(f"no line feed at the end: {cut}", feeds in cut, True)
+        toml = window.count_again(files=files | {"poll.toml": b"# a comment\n" + files["poll.toml"]})[0]
+        self.expect(f"another form of TOML: {toml}", "not in plain form, as the poll.toml of a result is" in toml, True)

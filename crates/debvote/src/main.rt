@@ -54,8 +54,8 @@ fn run_on_system<
     match words_given(rt) {
         Ok(given) => answer(
             rt,
-            &ReadableFiles::of(rt),
-            &ReadableInput::of(rt),
+            &mut ReadableFiles::of(rt),
+            &mut ReadableInput::of(rt),
             given.as_slice(),
             at_terminal,
             &mut sink,

@@ -1,5 +1,6 @@
 -- Which lines of a ballot file are refused, and why.
-use Rattle.std.specs.Prelude.{◌≡◌, ℕ, ◌+◌, if◌then◌else◌, List, [], ◌∷◌, ◌++◌, length, drop, Option, Some, None, option_map, option_to_list}
+use Rattle.std.specs.Prelude.{◌≡◌, ℕ, if◌then◌else◌, List, length, drop, Option, Some, None, option_map, option_to_list}
+use Rattle.std.specs.List.{enumerate_from, flat_map}
 use Rattle.vote_poll.specs.PollContent.{PollContent, last_in_time}
 use Rattle.vote_poll.specs.Readings.{reading}
 use Rattle.vote_poll.specs.declared.Reading.{Reading}
@@ -29,15 +30,13 @@ refusing_reply last number reading = if is_late last number then Some Late else 
 abbrev pub refusal_by : ℕ → Text → Option Reply → List Refusal
 refusal_by number bytes reply = option_to_list (option_map (λ reply. record { number = number; bytes = bytes; reply = reply }) reply)
 
--- the lines that are refused, in their order, where the first has this number
-abbrev pub refusals_from : PollContent → ℕ → List Text → List Refusal
-refusals_from poll number [] = []
-refusals_from poll number (bytes ∷ lines) =
-    refusal_by number bytes (refusing_reply (last_in_time poll) number (reading poll bytes)) ++ refusals_from poll (number + 1) lines
+-- the refusal of a line with its number, where it is refused
+abbrev pub refusal_of : PollContent → ℕ × Text → List Refusal
+refusal_of poll line = refusal_by line.0 line.1 (refusing_reply (last_in_time poll) line.0 (reading poll line.1))
 
--- those of a whole file
+-- the lines that are refused, in their order
 abbrev pub refusals : PollContent → List Text → List Refusal
-refusals poll lines = refusals_from poll 1 lines
+refusals poll lines = flat_map (refusal_of poll) (enumerate_from 1 lines)
 
 -- how many lines are late
 abbrev pub late_count : PollContent → List Text → ℕ

@@ -1,20 +1,19 @@
 //! What is wrong with the lines of a ballot file, as a text.
 
 ghost use Rattle.std.specs.Prelude.{◌≡◌, IfOk, OnOk};
+ghost use Rattle.vote_poll.specs.Readings.{is_ballot, reading};
 ghost use Rattle.vote_poll_text.specs.Adding.{Adds};
 ghost use Rattle.vote_steps.specs.HeldLines.{HoldsLines};
 ghost use Rattle.vote_sheet.specs.LastBallots.{refused_count};
-ghost use Rattle.vote_ballot_findings.specs.Adding.{AddsSome, AreTotals};
-ghost use Rattle.vote_ballot_findings.specs.Explained.{IsExample, SaysAll, example_line, totals_text};
+ghost use Rattle.vote_ballot_hints.specs.Remarks.{AddsSome};
+ghost use Rattle.vote_ballot_findings.specs.Explained.{AreTotals, IsExample, SaysAll, example_line, totals_text};
 ghost use Rattle.vote_ballot_findings.specs.Refusals.{EachRefusalIsListed, late_count};
 ghost use Rattle.vote_ballot_findings.specs.Replies.{AreReplies, RefusedAsBySteps};
 
 use crate::findings::Findings;
-use crate::plain_line::is_ballot;
-use crate::remark::push_file_lines;
-use crate::whole_file::{has_bad_shape, look_at, remarks_on_file};
 use std::alloc::{AllocError, Global};
-use vote_poll::{Lines, Poll};
+use vote_ballot_hints::{has_bad_shape, push_remarks_on_file};
+use vote_poll::{Lines, Poll, Reading, read_line};
 use vote_steps::laws::lines_are_counted;
 use vote_steps::{BallotBox, Step, Totals, cast_all};
 
@@ -63,18 +62,18 @@ fn push_line(text: &mut String, example: &str) -> Result<(), AllocError>
     writeln!(text, "a ballot line of this poll: {example}")
 }
 
-/// Adds a ballot line as an example, if it is a ballot of the poll.
-fn push_example(text: &mut String, poll: &Poll, example: &str) -> Result<(), AllocError>
-    ensures { AddsSome (IsExample poll.now) result text.old text.new }
+/// Whether the poll reads a ballot in a line.
+fn is_ballot(poll: &Poll, line: &[u8]) -> bool
+    ensures { result ≡ is_ballot (reading poll.now line.now) }
 {
-    if !is_ballot(poll, example.as_bytes()) {
-        return Ok(());
+    match read_line(poll, line) {
+        Reading::Ballot { .. } => true,
+        Reading::Bad(_) => false,
     }
-    push_line(text, example)
 }
 
-/// Adds an example, if a line is of bad shape.
-fn push_example_if(
+/// Adds an example if it is wanted, and if it is a ballot of the poll.
+fn push_example(
     alloc: Global,
     text: &mut String,
     poll: &Poll,
@@ -85,8 +84,12 @@ fn push_example_if(
     if !is_wanted {
         return Ok(());
     }
-    let ballot = example(alloc, poll)?;
-    push_example(text, poll, ballot.as_str())
+    let example = example(alloc, poll)?;
+    if !is_ballot(poll, example.as_bytes()) {
+        return Ok(());
+    }
+    push_line(text, example.as_str())?;
+    Ok(())
 }
 
 /// Adds how many lines are valid, refused and late, and how many electors have a ballot.
@@ -112,7 +115,8 @@ fn text_of(
     alloc: Global,
     poll: &Poll,
     lines: &Lines<'_>,
-    remarks: &[String],
+    ended: bool,
+    file: Option<&str>,
     steps: &[Step],
     totals: &Totals,
 ) -> Result<String, AllocError>
@@ -120,10 +124,10 @@ fn text_of(
     requires totals { AreTotals poll.now lines.now totals.now }
     ensures { IfOk result (SaysAll poll.now lines.now) }
 {
-    let mut findings = Findings::new(alloc, look_at(poll, lines));
-    push_file_lines(&mut findings.text, remarks)?;
+    let mut findings = Findings::new(alloc, poll, lines);
+    push_remarks_on_file(alloc, &mut findings.text, poll, lines, ended, file, steps)?;
     findings.add_all(poll, lines, steps)?;
-    push_example_if(alloc, &mut findings.text, poll, has_bad_shape(steps))?;
+    push_example(alloc, &mut findings.text, poll, has_bad_shape(steps))?;
     push_totals(&mut findings.text, poll, lines, totals)?;
     Ok(findings.text)
 }
@@ -144,8 +148,7 @@ pub fn explain_ballots(
 {
     let ballot_box = cast_all(alloc, poll, lines)?;
     let totals = totals_of(poll, lines, &ballot_box);
-    let remarks = remarks_on_file(alloc, poll, lines, ended, file, ballot_box.steps())?;
-    let text = text_of(alloc, poll, lines, &remarks, ballot_box.steps(), &totals)?;
+    let text = text_of(alloc, poll, lines, ended, file, ballot_box.steps(), &totals)?;
     Ok(Explained {
         text,
         refused: totals.refused,

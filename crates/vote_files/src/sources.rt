@@ -1,7 +1,10 @@
 //! What a program reads from: files by their names, and standard input.
 
-ghost use Rattle.std.specs.Prelude.{◌≤◌, ℕ, List, None, Option, IfOk, IsErrOf, vec_len};
+ghost use Rattle.std.specs.Prelude.{◌≡◌, ◌≤◌, ℕ, List, [], ◌∷◌, None, Option, IfOk, IsErrOf, vec_len};
+ghost use Rattle.std.specs.Result.{result_err};
+ghost use Rattle.vote_files.specs.declared.input.ReadFault.{ReadFault};
 ghost use Rattle.vote_files.specs.Device.{IsTooLong, IsWhole};
+ghost use Rattle.vote_files.specs.Sources.{HasRead, Reading};
 
 use crate::input::ReadFault;
 use crate::readable::{ReadableFiles, ReadableInput};
@@ -14,11 +17,16 @@ pub trait Sources {
     /// The bytes of the file of this name, if they are told.
     ghost file_bytes: { Self → List ℕ → Option (List ℕ) };
 
+    /// The readings that were made, the oldest first, if they are told.
+    ghost readings: { Self → Option (List Reading) };
+
     /// All bytes of the file of this name, if they are no more than the limit.
-    fn read_file(&self, alloc: Global, name: &str, limit: usize) -> Result<Vec<u8>, ReadFault>
-        ensures whole { IfOk result (λ bytes. IsWhole (file_bytes self.now name.now) bytes.items) }
+    fn read_file(&mut self, alloc: Global, name: &str, limit: usize) -> Result<Vec<u8>, ReadFault>
+        ensures whole { IfOk result (λ bytes. IsWhole (file_bytes self.old name.now) bytes.items) }
         ensures within { IfOk result (λ bytes. vec_len bytes ≤ limit) }
-        ensures too_long { IsErrOf result ReadFault.TooLong → IsTooLong (file_bytes self.now name.now) limit };
+        ensures too_long { IsErrOf result ReadFault.TooLong → IsTooLong (file_bytes self.old name.now) limit }
+        ensures kept { file_bytes self.new ≡ file_bytes self.old }
+        ensures read { HasRead readings self.old self.new (record { name = name.now; fault = result_err result } ∷ []) };
 }
 
 /// The standard input of a program.
@@ -26,18 +34,25 @@ pub trait StandardInput {
     /// The bytes of standard input, if they are told.
     ghost standard_bytes: { Self → Option (List ℕ) };
 
+    /// Why each reading failed, if it did, the oldest first, if readings are told.
+    ghost readings: { Self → Option (List (Option ReadFault)) };
+
     /// All bytes of standard input, if they are no more than the limit.
-    fn read_standard_input(&self, alloc: Global, limit: usize) -> Result<Vec<u8>, ReadFault>
-        ensures whole { IfOk result (λ bytes. IsWhole (standard_bytes self.now) bytes.items) }
+    fn read_standard_input(&mut self, alloc: Global, limit: usize) -> Result<Vec<u8>, ReadFault>
+        ensures whole { IfOk result (λ bytes. IsWhole (standard_bytes self.old) bytes.items) }
         ensures within { IfOk result (λ bytes. vec_len bytes ≤ limit) }
-        ensures too_long { IsErrOf result ReadFault.TooLong → IsTooLong (standard_bytes self.now) limit };
+        ensures too_long { IsErrOf result ReadFault.TooLong → IsTooLong (standard_bytes self.old) limit }
+        ensures read { HasRead readings self.old self.new (result_err result ∷ []) };
 }
 
-/// The files of the system tell no bytes: that a name opens its file, and which bytes come from it, no contract of std says.
+/// The files of the system tell no bytes and no readings: that a name opens its file, and which bytes come from it, no contract of
+/// std says.
 impl<'r, R: Files> Sources for ReadableFiles<'r, R> {
     ghost file_bytes = { λ _ _. None };
 
-    fn read_file(&self, alloc: Global, name: &str, limit: usize) -> Result<Vec<u8>, ReadFault> {
+    ghost readings = { λ _. None };
+
+    fn read_file(&mut self, alloc: Global, name: &str, limit: usize) -> Result<Vec<u8>, ReadFault> {
         match self.open(name) {
             Ok(file) => read_all(alloc, file, limit),
             Err(_) => Err(ReadFault::Device),
@@ -45,11 +60,13 @@ impl<'r, R: Files> Sources for ReadableFiles<'r, R> {
     }
 }
 
-/// The standard input of the system tells no bytes: which come from it, no contract of std says.
+/// The standard input of the system tells no bytes and no readings: which bytes come from it, no contract of std says.
 impl<'r, R: Input> StandardInput for ReadableInput<'r, R> {
     ghost standard_bytes = { λ _. None };
 
-    fn read_standard_input(&self, alloc: Global, limit: usize) -> Result<Vec<u8>, ReadFault> {
+    ghost readings = { λ _. None };
+
+    fn read_standard_input(&mut self, alloc: Global, limit: usize) -> Result<Vec<u8>, ReadFault> {
         read_all(alloc, self.reader(), limit)
     }
 }

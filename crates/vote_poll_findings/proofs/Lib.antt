@@ -1,4 +1,1 @@
-mod PathLaws
-mod UnreadLaws
-mod NearLaws
-mod LineLaws
+mod Lines

@@ -1,28 +1,18 @@
 -- What is said of a poll file that is no TOML, by the place of an error in it: how many bytes stand before the error.
-use Rattle.std.specs.Prelude.{◌≡◌, ℕ, ◌+◌, ◌≤◌, ◌↔◌, not, Bool, true, false, List, [], ◌∷◌, ◌++◌, count_by, length, take, IsTrue, codes, decimal}
+use Rattle.std.specs.Prelude.{◌≡◌, ℕ, ◌+◌, ◌-◌, ◌≤◌, ◌↔◌, not, Bool, true, false, List, [], ◌++◌, count_by, length, slice_index_or, take, IsTrue, codes, decimal}
 use Rattle.std.specs.List.{All}
 use Rattle.vote_poll_text.specs.Lines.{feed_count, line_feed, parts_of, text_of_lines}
 use Rattle.vote_poll_text.specs.Names.{is_within}
 use Rattle.vote_poll.specs.BallotLine.{IsBallotText}
-use Rattle.vote_poll_findings.specs.Hints.{IsHint}
+use Rattle.vote_poll_hints.specs.Hints.{IsHint}
 
 -- ---- lines
-abbrev pub first_part : List (List ℕ) → List ℕ
-first_part [] = []
-first_part (part ∷ parts) = part
-
--- the last part; of none it is empty
-abbrev pub last_part : List (List ℕ) → List ℕ
-last_part [] = []
-last_part (part ∷ []) = part
-last_part (part ∷ next ∷ parts) = last_part (next ∷ parts)
-
 -- the first line of a text, and what stands after its last line feed
 abbrev pub first_line : List ℕ → List ℕ
-first_line text = first_part (parts_of text)
+first_line text = slice_index_or (parts_of text) 0 []
 
 abbrev pub last_line : List ℕ → List ℕ
-last_line text = last_part (parts_of text)
+last_line text = slice_index_or (parts_of text) (length (parts_of text) - 1) []
 
 -- ---- the line and the column after a text, from 1
 abbrev pub line_number : List ℕ → ℕ
@@ -58,7 +48,3 @@ pub record IsSyntaxFinding (text finding : List ℕ) : Type 0 where
   pub excerpt : List (List ℕ)
   pub are_hints : All IsHint excerpt
   pub is_text : finding ≡ exchanged_text exchanged ++ place_words (take place text) ++ hint ++ line_feed ++ text_of_lines excerpt
-
--- lines that show a place
-abbrev pub IsExcerpt : List ℕ → Type 0
-IsExcerpt text = (lines : List (List ℕ)) × All IsHint lines × (text ≡ text_of_lines lines)

@@ -6,19 +6,17 @@ ghost use Rattle.vote_poll_keys.specs.FoundView.{found_view};
 ghost use Rattle.vote_poll_keys.specs.Keys.{document};
 ghost use Rattle.vote_poll.specs.PollFaults.{IsJudged};
 ghost use Rattle.vote_poll.specs.PollFile.{IsPollOrFirst, poll_in, poll_in_table};
-ghost use Rattle.vote_poll_findings.specs.Findings.{ListsAll, ListsTable};
-ghost use Rattle.vote_poll_findings.specs.Hints.{Tells};
+ghost use Rattle.vote_poll_findings.specs.Findings.{AreFindings, AreFindingsOf};
 ghost use Rattle.vote_poll_findings.specs.Syntax.{IsSyntaxFinding};
-ghost use Rattle.vote_poll_findings.specs.UnreadView.{HasLines, SaysAll};
 ghost use Rattle.vote_poll_keys.specs.declared.fault.PollFault.TheVariants.{Memory, Syntax};
 
-use crate::findings::{push_findings, push_unread_keys};
-use crate::hints::Hints;
+use crate::findings::{push_fault_lines, push_key_lines};
 use crate::syntax::syntax_finding;
-use crate::unread::UnreadKeys;
+use crate::unread::unread_keys;
 use std::alloc::{AllocError, Global};
 use toml::Table;
 use vote_poll::{Poll, push_faults};
+use vote_poll_hints::Hints;
 use vote_poll_keys::{FoundKeys, PollFault};
 
 /// What a poll file says, and all that is wrong with it.
@@ -30,23 +28,7 @@ pub struct ExplainedPoll {
     pub outcome: Result<Poll, PollFault>,
 }
 
-/// Adds the findings of a file with these faults: a line for each, and for each key that is not read.
-fn push_found(
-    alloc: Global,
-    findings: &mut String,
-    text: &[u8],
-    keys: &FoundKeys<'_>,
-    unread: &UnreadKeys<'_>,
-    faults: &[PollFault],
-) -> Result<(), AllocError>
-    ensures { Tells result findings.old (SaysAll faults.now unread.now) findings.new }
-{
-    let hints = Hints::of(alloc, text, keys, unread)?;
-    push_findings(alloc, findings, faults, &hints)?;
-    push_unread_keys(alloc, findings, unread, &hints)
-}
-
-/// The findings of a table with these faults.
+/// The findings of a table with these faults: a line for each, and for each key that is not read.
 fn findings_of(
     alloc: Global,
     text: &[u8],
@@ -54,11 +36,13 @@ fn findings_of(
     keys: &FoundKeys<'_>,
     faults: &[PollFault],
 ) -> Result<String, AllocError>
-    ensures { IfOk result (HasLines faults.now (table_view table.now)) }
+    ensures { IfOk result (λ findings. AreFindings faults.now (table_view table.now) (string_bytes findings)) }
 {
-    let unread = UnreadKeys::of_table(alloc, table)?;
+    let unread = unread_keys(alloc, table)?;
+    let hints = Hints::of(alloc, text, table, keys, &unread)?;
     let mut findings = String::new(alloc);
-    push_found(alloc, &mut findings, text, keys, &unread, faults)?;
+    push_fault_lines(alloc, &mut findings, faults, &hints)?;
+    push_key_lines(alloc, &mut findings, &unread, &hints)?;
     Ok(findings)
 }
 
@@ -88,7 +72,7 @@ fn explain_judged(
     faults: &[PollFault],
 ) -> Result<ExplainedPoll, AllocError>
     requires { IsJudged (table_view table.now) (found_view keys.now) faults.now }
-    ensures findings { IfOk result (λ told. ListsTable (table_view table.now) told.findings) }
+    ensures findings { IfOk result (λ told. AreFindingsOf text.now (Ok (table_view table.now)) (string_bytes told.findings)) }
     ensures outcome { IfOk result (λ told. told.outcome ≡ poll_in_table (table_view table.now)) }
     ensures known { IfOk result (λ told. told.outcome ≢ Err Memory) }
 {
@@ -100,7 +84,7 @@ fn explain_judged(
 
 /// What the table of a poll file says, and all that is wrong with it: it is judged as [`Poll::from_text`] judges it.
 fn explain_table(alloc: Global, text: &[u8], table: &Table) -> Result<ExplainedPoll, AllocError>
-    ensures findings { IfOk result (λ told. ListsTable (table_view table.now) told.findings) }
+    ensures findings { IfOk result (λ told. AreFindingsOf text.now (Ok (table_view table.now)) (string_bytes told.findings)) }
     ensures outcome { IfOk result (λ told. told.outcome ≡ poll_in_table (table_view table.now)) }
     ensures known { IfOk result (λ told. told.outcome ≢ Err Memory) }
 {
@@ -137,7 +121,7 @@ pub fn explain_poll(
     text: &[u8],
     file: Option<&str>,
 ) -> Result<ExplainedPoll, AllocError>
-    ensures findings { IfOk result (λ told. ListsAll text.now (document text.now) told.findings) }
+    ensures findings { IfOk result (λ told. AreFindingsOf text.now (document text.now) (string_bytes told.findings)) }
     ensures outcome { IfOk result (λ told. told.outcome ≡ poll_in text.now) }
     ensures known { IfOk result (λ told. told.outcome ≢ Err Memory) }
 {

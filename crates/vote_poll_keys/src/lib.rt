@@ -8,8 +8,8 @@
 //! What is promised, memory aside: each call returns what the definitions of `specs/Keys.antt` and `specs/KeyFaults.antt` say of the
 //! text or the table, and the words are those of `specs/FaultWords.antt`.
 //!
-//! No public call of the crates above has a type of `toml`: vote_poll names its tables in definitions alone, and vote_poll_findings
-//! in private calls.
+//! Of the crates above only vote_poll_hints has public calls with a type of `toml`. vote_poll names its tables in definitions alone,
+//! and vote_poll_findings in private calls.
 #![tactic(auto)]
 
 mod fault;

@@ -1,2 +1,3 @@
 pub mod OnFiles
+pub mod Readings
 pub mod Sheets

@@ -1,7 +1,8 @@
 -- what the contracts of public calls say
 pub mod LoadedRequests
-pub mod Unread
+pub mod Reading
 pub mod ArgsStatus
+pub mod Outputs
 pub mod Errors
 pub mod RequestEnds
 pub mod ProgramAnswers

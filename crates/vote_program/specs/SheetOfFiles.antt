@@ -1,6 +1,7 @@
 -- What one believes when one believes a sheet: which text a count writes, of the bytes of two files.
-use Rattle.std.specs.Prelude.{◌≡◌, ◌⊎◌, ◌++◌, ℕ, List, Ok, Option, Some, option_copied}
+use Rattle.std.specs.Prelude.{◌≡◌, ◌⊎◌, ◌++◌, ℕ, List, [], ◌∷◌, Ok, Option, Some, option_copied}
 use Rattle.std.proofs.Common.{Bor}
+use Rattle.vote_files.specs.Sources.{Reading}
 use Rattle.vote_poll_text.specs.Lines.{lines_of}
 use Rattle.vote_poll.specs.PollContent.{PollContent}
 use Rattle.vote_poll.specs.PollFile.{poll_in}
@@ -10,10 +11,11 @@ use Rattle.vote_request.specs.declared.Purpose.TheVariants as purpose
 use Rattle.vote_request.specs.declared.Request.TheVariants as request
 use Rattle.vote_command_line.specs.Words.{AreArgsOf}
 use Rattle.vote_commands.specs.Counting.{NamesNoOption, casting_option}
-use Rattle.vote_program.specs.Errors.{Errors, SaysNothing}
-use Rattle.vote_program.specs.RequestEnds.{Written}
+use Rattle.vote_program.specs.Outputs.{WritesNothing, Written}
+use Rattle.vote_program.specs.Reading.{read_whole}
 
--- The words ask for the sheet of two files, of which these bytes are told, with this casting vote, if there is one. The number of desks is any.
+-- The words ask for the sheet of two files, of which these bytes are told, with this casting vote, if there is one: `AreArgsOf` says that the
+-- words make this request. The number of desks is any.
 pub record AskForSheet (file_bytes : Text → Option Text) (words : List Text) (poll ballots : Text) (casting : Option Text) : Type 0 where
   pub poll_name : Bor Text
   pub ballots_name : Bor Text
@@ -33,9 +35,11 @@ pub record IsSheetOfFiles (poll_text ballots : Text) (casting : Option Text) (sh
   pub is_sheet : IsSheet poll (lines_of ballots) (casting_option poll casting) sheet
 
 -- If words ask for the sheet of files that tell their bytes, if the output tells its bytes too, and if the exit status is 0 or 1, then
--- the output has grown by one text, which is the sheet of these files, and nothing is written on standard error.
-abbrev pub WritesTheSheet : (Text → Option Text) → List Text → Written → Errors → ℕ → Type 0
-WritesTheSheet file_bytes words written errors answered =
+-- the output has grown by one text, which is the sheet of these files, and nothing is written on standard error. The poll was read, then
+-- the ballots, each once, and no other file.
+abbrev pub WritesTheSheet : (Text → Option Text) → (List Reading → Type 0) → List Text → Written → Written → ℕ → Type 0
+WritesTheSheet file_bytes Reads words written errors answered =
     (poll ballots before : Text) (casting : Option Text)
-    → AskForSheet file_bytes words poll ballots casting → written.old ≡ Some before → (answered ≡ 0) ⊎ (answered ≡ 1)
-    → (sheet : Text) × IsSheetOfFiles poll ballots casting sheet × (written.new ≡ Some (before ++ sheet)) × SaysNothing errors
+    → (asked : AskForSheet file_bytes words poll ballots casting) → written.old.bytes ≡ Some before → (answered ≡ 0) ⊎ (answered ≡ 1)
+    → (sheet : Text) × IsSheetOfFiles poll ballots casting sheet × (written.new.bytes ≡ Some (before ++ sheet)) × WritesNothing errors
+    × Reads (read_whole asked.poll_name.now ∷ read_whole asked.ballots_name.now ∷ [])

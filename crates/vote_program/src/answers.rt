@@ -2,9 +2,10 @@
 
 ghost use Rattle.std.specs.Prelude.{◌≡◌, ◌<◌, ◌≤◌, ◌↔◌, IfOk, drop, length, map, string_bytes};
 ghost use Rattle.vote_command_line.specs.Words.{texts_of};
-ghost use Rattle.vote_program.specs.Errors.{SaysHint, errors_in};
+ghost use Rattle.vote_files.specs.Sources.{HasRead};
+ghost use Rattle.vote_program.specs.Errors.{SaysHint};
+ghost use Rattle.vote_program.specs.Outputs.{written_by};
 ghost use Rattle.vote_program.specs.ProgramAnswers.{AnswersHelp, AnswersJoined, AnswersWorded, AnswersWords, words_in};
-ghost use Rattle.vote_program.specs.RequestEnds.{written_by};
 ghost use Rattle.vote_program.specs.SheetOfFiles.{WritesTheSheet};
 
 use crate::exit_status::{args_status, report, say};
@@ -21,7 +22,8 @@ const TERMINAL_HINT: &str =
 
 /// Writes the help that words ask for. Returns the exit status.
 fn help<W: Sink, E: Sink>(text: &str, sink: &mut W, errors: &mut E) -> u8
-    ensures answers { AnswersHelp text.now (written_by W.contents W.flushed sink.old sink.new) (errors_in E.contents E.faults errors.old errors.new) result }
+    ensures answers { AnswersHelp text.now (written_by W.contents W.faults W.flushed sink.old sink.new)
+        (written_by E.contents E.faults E.flushed errors.old errors.new) result }
     ensures output { (result ≡ 7) ↔ (W.faults sink.old < W.faults sink.new) }
 {
     match write_text(sink, text.as_bytes()) {
@@ -33,7 +35,8 @@ fn help<W: Sink, E: Sink>(text: &str, sink: &mut W, errors: &mut E) -> u8
 /// Answers words that make no request: writes the help that they ask for, or says on standard error why they are refused. Returns
 /// the exit status.
 pub fn refuse<W: Sink, E: Sink>(fault: &ArgsFault, sink: &mut W, errors: &mut E) -> u8
-    ensures answers { AnswersWords fault.now (written_by W.contents W.flushed sink.old sink.new) (errors_in E.contents E.faults errors.old errors.new) result }
+    ensures answers { AnswersWords fault.now (written_by W.contents W.faults W.flushed sink.old sink.new)
+        (written_by E.contents E.faults E.flushed errors.old errors.new) result }
     ensures output { (result ≡ 7) ↔ (W.faults sink.old < W.faults sink.new) }
 {
     match fault {
@@ -48,13 +51,14 @@ pub fn refuse<W: Sink, E: Sink>(fault: &ArgsFault, sink: &mut W, errors: &mut E)
 /// Answers words: performs the request that they make, or says why they make none. Returns the exit status.
 fn answer_words<S: Sources, W: Sink, E: Sink, R: AllocGlobal + Threads + Wait + Sync>(
     rt: &R,
-    files: &S,
+    files: &mut S,
     words: &[&str],
     sink: &mut W,
     errors: &mut E,
 ) -> u8
-    ensures answers { AnswersWorded (S.file_bytes files.now) (texts_of words.now) (written_by W.contents W.flushed sink.old sink.new)
-        (errors_in E.contents E.faults errors.old errors.new) result }
+    ensures answers { AnswersWorded (S.file_bytes files.old) (HasRead S.readings files.old files.new) (texts_of words.now)
+        (written_by W.contents W.faults W.flushed sink.old sink.new)
+        (written_by E.contents E.faults E.flushed errors.old errors.new) result }
     ensures output { (result ≡ 7) ↔ (W.faults sink.old < W.faults sink.new) }
 {
     match parse_args(rt.alloc(), words) {
@@ -68,7 +72,7 @@ fn answer_words<S: Sources, W: Sink, E: Sink, R: AllocGlobal + Threads + Wait + 
 
 /// Says at a terminal what the program waits for.
 fn say_hint<E: Sink>(errors: &mut E, at_terminal: bool)
-    ensures { SaysHint at_terminal (errors_in E.contents E.faults errors.old errors.new) }
+    ensures { SaysHint at_terminal (written_by E.contents E.faults E.flushed errors.old errors.new) }
 {
     if at_terminal {
         say(errors, TERMINAL_HINT);
@@ -78,13 +82,14 @@ fn say_hint<E: Sink>(errors: &mut E, at_terminal: bool)
 /// Answers no words: a joined input. Returns the exit status.
 fn answer_joined<I: StandardInput, W: Sink, E: Sink, R: AllocGlobal + Threads + Wait + Sync>(
     rt: &R,
-    input: &I,
+    input: &mut I,
     at_terminal: bool,
     sink: &mut W,
     errors: &mut E,
 ) -> u8
-    ensures answers { AnswersJoined at_terminal (I.standard_bytes input.now) (written_by W.contents W.flushed sink.old sink.new)
-        (errors_in E.contents E.faults errors.old errors.new) result }
+    ensures answers { AnswersJoined at_terminal (I.standard_bytes input.old) (HasRead I.readings input.old input.new)
+        (written_by W.contents W.faults W.flushed sink.old sink.new)
+        (written_by E.contents E.faults E.flushed errors.old errors.new) result }
     ensures output { (result ≡ 7) ↔ (W.faults sink.old < W.faults sink.new) }
 {
     say_hint(errors, at_terminal);
@@ -122,22 +127,27 @@ pub fn answer<
     R: AllocGlobal + Threads + Wait + Sync,
 >(
     rt: &R,
-    files: &S,
-    input: &I,
+    files: &mut S,
+    input: &mut I,
     given: &[String],
     at_terminal: bool,
     sink: &mut W,
     errors: &mut E,
 ) -> u8
     ensures sheet { 1 < length given.now
-        → WritesTheSheet (S.file_bytes files.now) (words_in given.now) (written_by W.contents W.flushed sink.old sink.new)
-        (errors_in E.contents E.faults errors.old errors.new) result }
+        → WritesTheSheet (S.file_bytes files.old) (HasRead S.readings files.old files.new) (words_in given.now)
+        (written_by W.contents W.faults W.flushed sink.old sink.new)
+        (written_by E.contents E.faults E.flushed errors.old errors.new) result }
     ensures alone { length given.now ≤ 1
-        → AnswersJoined at_terminal (I.standard_bytes input.now) (written_by W.contents W.flushed sink.old sink.new)
-        (errors_in E.contents E.faults errors.old errors.new) result }
+        → AnswersJoined at_terminal (I.standard_bytes input.old) (HasRead I.readings input.old input.new)
+        (written_by W.contents W.faults W.flushed sink.old sink.new)
+        (written_by E.contents E.faults E.flushed errors.old errors.new) result }
     ensures worded { 1 < length given.now
-        → AnswersWorded (S.file_bytes files.now) (words_in given.now) (written_by W.contents W.flushed sink.old sink.new)
-        (errors_in E.contents E.faults errors.old errors.new) result }
+        → AnswersWorded (S.file_bytes files.old) (HasRead S.readings files.old files.new) (words_in given.now)
+        (written_by W.contents W.faults W.flushed sink.old sink.new)
+        (written_by E.contents E.faults E.flushed errors.old errors.new) result }
+    ensures no_input { 1 < length given.now → input.new ≡ input.old }
+    ensures no_file { length given.now ≤ 1 → files.new ≡ files.old }
     ensures output { (result ≡ 7) ↔ (W.faults sink.old < W.faults sink.new) }
 {
     let words = after_name(given);

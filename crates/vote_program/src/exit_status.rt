@@ -3,7 +3,8 @@
 ghost use Rattle.std.specs.Prelude.{◌≡◌, ◌↔◌, IsErrOf};
 ghost use Rattle.vote_commands.specs.Status.{status};
 ghost use Rattle.vote_program.specs.ArgsStatus.{args_status};
-ghost use Rattle.vote_program.specs.Errors.{Says, SaysEnd, errors_in};
+ghost use Rattle.vote_program.specs.Errors.{Says, SaysEnd};
+ghost use Rattle.vote_program.specs.Outputs.{written_by};
 
 use crate::fault_lines::fault_line;
 use vote_command_line::ArgsFault;
@@ -12,7 +13,7 @@ use vote_files::{Sink, write_text};
 
 /// Writes a text on standard error. If it can't be written, the run goes on.
 pub(crate) fn say<E: Sink>(errors: &mut E, text: &str)
-    ensures { Says text.now (errors_in E.contents E.faults errors.old errors.new) }
+    ensures { Says text.now (written_by E.contents E.faults E.flushed errors.old errors.new) }
 {
     let _ = write_text(errors, text.as_bytes());
 }
@@ -21,7 +22,7 @@ pub(crate) fn say<E: Sink>(errors: &mut E, text: &str)
 pub fn report<E: Sink>(errors: &mut E, outcome: &Result<Ended, RunFault>) -> u8
     ensures status { result ≡ status outcome.now }
     ensures output { (result ≡ 7) ↔ IsErrOf outcome.now RunFault.Output }
-    ensures says { SaysEnd outcome.now (errors_in E.contents E.faults errors.old errors.new) }
+    ensures says { SaysEnd outcome.now (written_by E.contents E.faults E.flushed errors.old errors.new) }
 {
     if let Err(fault) = outcome {
         say(errors, fault_line(fault).as_str());

@@ -1,17 +1,15 @@
 //! The inputs of the program, read whole up to their limits.
 
-ghost use Rattle.std.specs.Prelude.{◌≡◌, ◌≤◌, [], Ok, Err, IfErr, IfOk, IfSome, IsSome, IsSomeAnd, vec_len};
-ghost use Rattle.vote_files.specs.Device.{IsWhole};
-ghost use Rattle.vote_files.specs.declared.ReadFault.{ReadFault};
-ghost use Rattle.vote_commands.specs.Status.{unread};
-ghost use Rattle.vote_request.specs.Requests.{ballot_file, poll_file, sheet_file};
-ghost use Rattle.vote_program.specs.LoadedRequests.{AreReadOf};
-ghost use Rattle.vote_program.specs.Unread.{IsOneUnread, IsUnread};
+ghost use Rattle.std.specs.Prelude.{◌≡◌, ◌≤◌, [], ◌∷◌, None, Some, IfErr, IfOk, IfSome, IsSome, IsSomeAnd, OnOk, option_map, option_to_list, vec_len};
+ghost use Rattle.vote_files.specs.Sources.{HasRead};
+ghost use Rattle.vote_request.specs.Requests.{ballot_file, sheet_file};
+ghost use Rattle.vote_program.specs.LoadedRequests.{AreReadOf, IsReadWithin};
+ghost use Rattle.vote_program.specs.Reading.{IsOneUnread, IsUnread, all_read, limit_of, named_files, read_whole};
 
 use std::alloc::Global;
 use vote_command_line::NamedRequest;
 use vote_commands::{InputFile, RunFault, unread};
-use vote_files::{ReadFault, Sources, StandardInput};
+use vote_files::{Sources, StandardInput};
 
 /// The most bytes of a poll file.
 pub(crate) const POLL_LIMIT: usize = 1_048_576;
@@ -25,69 +23,53 @@ pub(crate) const BALLOTS_LIMIT: usize = 33_554_432;
 /// The most bytes of a joined input: both files and the line between them.
 pub(crate) const JOINED_LIMIT: usize = 34_603_011;
 
-/// What was read of this file, or why it was not.
-fn of_file(file: InputFile, read: Result<Vec<u8>, ReadFault>) -> Result<Vec<u8>, RunFault>
-    ensures bytes { IfOk result (λ bytes. read ≡ Ok bytes) }
-    ensures told { IfErr result (λ told. (fault : ReadFault) × (read ≡ Err fault) × (told ≡ unread file fault)) }
+/// The most bytes of a file of this kind.
+fn limit_of(file: InputFile) -> usize
+    ensures { result ≡ limit_of file }
 {
-    match read {
+    match file {
+        InputFile::Poll => POLL_LIMIT,
+        InputFile::Ballots => BALLOTS_LIMIT,
+        InputFile::Sheet => SHEET_LIMIT,
+    }
+}
+
+/// All bytes of the file of this name.
+fn read_named<S: Sources>(
+    files: &mut S,
+    alloc: Global,
+    file: InputFile,
+    name: &str,
+) -> Result<Vec<u8>, RunFault>
+    ensures whole { IfOk result (λ bytes. IsReadWithin (limit_of file) (S.file_bytes files.old name.now) bytes.items) }
+    ensures kept { S.file_bytes files.new ≡ S.file_bytes files.old }
+    ensures read { OnOk result (HasRead S.readings files.old files.new (read_whole name.now ∷ [])) }
+    ensures fault { IfErr result (IsUnread file (S.file_bytes files.old name.now) (limit_of file)
+        (λ fault. HasRead S.readings files.old files.new (record { name = name.now; fault = Some fault } ∷ []))) }
+{
+    match files.read_file(alloc, name, limit_of(file)) {
         Ok(bytes) => Ok(bytes),
         Err(fault) => Err(unread(file, fault)),
     }
 }
 
-/// All bytes of a request's poll file.
-#[tactic(auto, using(crate::proofs::OnFiles::is_unread))]
-fn read_poll<S: Sources>(
-    files: &S,
+/// The same, or no bytes if there is no name.
+fn read_if_named<S: Sources>(
+    files: &mut S,
     alloc: Global,
-    request: &NamedRequest<'_>,
+    file: InputFile,
+    name: Option<&str>,
 ) -> Result<Vec<u8>, RunFault>
-    ensures whole { IfOk result (λ bytes. IsWhole (S.file_bytes files.now (poll_file request.now).now) bytes.items) }
-    ensures within { IfOk result (λ bytes. vec_len bytes ≤ POLL_LIMIT) }
-    ensures fault { IfErr result (IsUnread InputFile.Poll (S.file_bytes files.now (poll_file request.now).now) POLL_LIMIT) }
+    ensures whole { IfOk result (λ bytes. IfSome name.entry (λ name. IsReadWithin (limit_of file) (S.file_bytes files.old name.now) bytes.items)) }
+    ensures within { IfOk result (λ bytes. vec_len bytes ≤ limit_of file) }
+    ensures unnamed { ¬ IsSome name.entry → IfOk result (λ bytes. bytes.items ≡ []) }
+    ensures kept { S.file_bytes files.new ≡ S.file_bytes files.old }
+    ensures read { OnOk result (HasRead S.readings files.old files.new (option_to_list (option_map (λ name. read_whole name.now) name.entry))) }
+    ensures fault { IfErr result (λ told. IsSomeAnd name.entry (λ name. IsUnread file (S.file_bytes files.old name.now) (limit_of file)
+        (λ fault. HasRead S.readings files.old files.new (record { name = name.now; fault = Some fault } ∷ [])) told)) }
 {
-    of_file(
-        InputFile::Poll,
-        files.read_file(alloc, request.poll(), POLL_LIMIT),
-    )
-}
-
-/// All bytes of a request's ballot file, or none if it names none.
-#[tactic(auto, using(crate::proofs::OnFiles::is_unread))]
-fn read_ballots<S: Sources>(
-    files: &S,
-    alloc: Global,
-    request: &NamedRequest<'_>,
-) -> Result<Vec<u8>, RunFault>
-    ensures whole { IfOk result (λ bytes. IfSome (ballot_file request.now) (λ name. IsWhole (S.file_bytes files.now name.now) bytes.items)) }
-    ensures within { IfOk result (λ bytes. vec_len bytes ≤ BALLOTS_LIMIT) }
-    ensures unnamed { ¬ IsSome (ballot_file request.now) → IfOk result (λ bytes. bytes.items ≡ []) }
-    ensures fault { IfErr result (λ fault. IsSomeAnd (ballot_file request.now) (λ name. IsUnread InputFile.Ballots (S.file_bytes files.now name.now) BALLOTS_LIMIT fault)) }
-{
-    match request.ballots() {
-        Some(name) => of_file(
-            InputFile::Ballots,
-            files.read_file(alloc, name, BALLOTS_LIMIT),
-        ),
-        None => Ok(Vec::new(alloc)),
-    }
-}
-
-/// All bytes of the published sheet that a request compares, or none if it compares none.
-#[tactic(auto, using(crate::proofs::OnFiles::is_unread))]
-fn read_sheet<S: Sources>(
-    files: &S,
-    alloc: Global,
-    request: &NamedRequest<'_>,
-) -> Result<Vec<u8>, RunFault>
-    ensures whole { IfOk result (λ bytes. IfSome (sheet_file request.now) (λ name. IsWhole (S.file_bytes files.now name.now) bytes.items)) }
-    ensures within { IfOk result (λ bytes. vec_len bytes ≤ SHEET_LIMIT) }
-    ensures unnamed { ¬ IsSome (sheet_file request.now) → IfOk result (λ bytes. bytes.items ≡ []) }
-    ensures fault { IfErr result (λ fault. IsSomeAnd (sheet_file request.now) (λ name. IsUnread InputFile.Sheet (S.file_bytes files.now name.now) SHEET_LIMIT fault)) }
-{
-    match request.sheet() {
-        Some(name) => of_file(InputFile::Sheet, files.read_file(alloc, name, SHEET_LIMIT)),
+    match name {
+        Some(name) => read_named(files, alloc, file, name),
         None => Ok(Vec::new(alloc)),
     }
 }
@@ -102,27 +84,28 @@ pub struct Inputs {
 
 /// Reads the files of a request: the poll, then the ballots, then a published sheet.
 pub fn read_inputs<S: Sources>(
-    files: &S,
+    files: &mut S,
     alloc: Global,
     request: &NamedRequest<'_>,
 ) -> Result<Inputs, RunFault>
-    ensures files { IfOk result (λ inputs. AreReadOf (S.file_bytes files.now) request.now inputs) }
+    ensures files { IfOk result (λ inputs. AreReadOf (S.file_bytes files.old) request.now inputs) }
     ensures poll { IfOk result (λ inputs. vec_len inputs.poll ≤ POLL_LIMIT) }
     ensures ballots { IfOk result (λ inputs. vec_len inputs.ballots ≤ BALLOTS_LIMIT) }
     ensures sheet { IfOk result (λ inputs. vec_len inputs.sheet ≤ SHEET_LIMIT) }
     ensures no_ballots { ¬ IsSome (ballot_file request.now) → IfOk result (λ inputs. inputs.ballots.items ≡ []) }
     ensures no_sheet { ¬ IsSome (sheet_file request.now) → IfOk result (λ inputs. inputs.sheet.items ≡ []) }
-    ensures fault { IfErr result (IsOneUnread (S.file_bytes files.now) request.now) }
+    ensures read { OnOk result (HasRead S.readings files.old files.new (all_read (named_files request.now))) }
+    ensures fault { IfErr result (IsOneUnread (S.file_bytes files.old) (HasRead S.readings files.old files.new) request.now) }
 {
-    let poll = match read_poll(files, alloc, request) {
+    let poll = match read_named(files, alloc, InputFile::Poll, request.poll()) {
         Ok(poll) => poll,
         Err(fault) => return Err(fault),
     };
-    let ballots = match read_ballots(files, alloc, request) {
+    let ballots = match read_if_named(files, alloc, InputFile::Ballots, request.ballots()) {
         Ok(ballots) => ballots,
         Err(fault) => return Err(fault),
     };
-    let sheet = match read_sheet(files, alloc, request) {
+    let sheet = match read_if_named(files, alloc, InputFile::Sheet, request.sheet()) {
         Ok(sheet) => sheet,
         Err(fault) => return Err(fault),
     };
@@ -134,14 +117,13 @@ pub fn read_inputs<S: Sources>(
 }
 
 /// All bytes of standard input, a joined input. One that can't be read is as a ballot file that can't be.
-#[tactic(auto, using(crate::proofs::OnFiles::is_unread))]
-pub fn read_joined<I: StandardInput>(input: &I, alloc: Global) -> Result<Vec<u8>, RunFault>
-    ensures whole { IfOk result (λ bytes. IsWhole (I.standard_bytes input.now) bytes.items) }
-    ensures within { IfOk result (λ bytes. vec_len bytes ≤ JOINED_LIMIT) }
-    ensures fault { IfErr result (IsUnread InputFile.Ballots (I.standard_bytes input.now) JOINED_LIMIT) }
+pub fn read_joined<I: StandardInput>(input: &mut I, alloc: Global) -> Result<Vec<u8>, RunFault>
+    ensures whole { IfOk result (λ bytes. IsReadWithin JOINED_LIMIT (I.standard_bytes input.old) bytes.items) }
+    ensures read { OnOk result (HasRead I.readings input.old input.new (None ∷ [])) }
+    ensures fault { IfErr result (IsUnread InputFile.Ballots (I.standard_bytes input.old) JOINED_LIMIT (λ fault. HasRead I.readings input.old input.new (Some fault ∷ []))) }
 {
-    of_file(
-        InputFile::Ballots,
-        input.read_standard_input(alloc, JOINED_LIMIT),
-    )
+    match input.read_standard_input(alloc, JOINED_LIMIT) {
+        Ok(bytes) => Ok(bytes),
+        Err(fault) => Err(unread(InputFile::Ballots, fault)),
+    }
 }

@@ -10,10 +10,11 @@
 //!
 //! **What is promised.** The answer to words is the end of the request that they make, on the bytes that the sources tell of the
 //! names in those words; or that of the fault that the words have. A loaded request asks for what the named one asks for, with the
-//! bytes of its own files. The fault of an input that was not read names that input, and of the files of a request only one that
-//! the request names; an input has no more bytes than its limit, which [`laws`] has in numbers. The exit status is that of the
-//! tables of `vote_commands` and of [`args_status`], and it is that of a failed output exactly when the sink failed. Standard error
-//! gets the line of the fault, if there is one, and nothing else; where words are refused, the text of `clap`.
+//! bytes of its own files. Those are read in their order, each once, and no other file; the first that is not read ends the run, which
+//! names it and the fault of its reading. Standard input is read once if there are no words, and otherwise never. An input has no more
+//! bytes than its limit, which [`laws`] has in numbers. The exit status is that of the tables of `vote_commands` and of
+//! [`args_status`], and it is that of a failed output exactly when the sink failed. Standard error gets the line of the fault, if there
+//! is one, and nothing else, and is flushed; where words are refused, the text of `clap`.
 #![tactic(auto)]
 
 mod answers;

@@ -3,7 +3,9 @@
 ghost use Rattle.std.specs.Prelude.{◌≡◌, ◌<◌, ◌↔◌, Err, IsErrOf};
 ghost use Rattle.vote_request.specs.Requests.{DesksFit};
 ghost use Rattle.vote_commands.specs.Performing.{TellsNoBox};
-ghost use Rattle.vote_program.specs.RequestEnds.{EndsJoined, EndsRequest, IsRequestDone, written_by};
+ghost use Rattle.vote_files.specs.Sources.{HasRead};
+ghost use Rattle.vote_program.specs.Outputs.{written_by};
+ghost use Rattle.vote_program.specs.RequestEnds.{EndsJoined, EndsRequest, IsRequestDone};
 
 use crate::inputs::{Inputs, read_inputs, read_joined};
 use crate::loaded_request::with_bytes;
@@ -37,7 +39,7 @@ fn perform_with<W: Sink, R: Threads + Wait + Sync>(
     sink: &mut W,
 ) -> FinishedRun
     requires { DesksFit request.now }
-    ensures done { IsRequestDone request.now inputs.now (written_by W.contents W.flushed sink.old sink.new) result }
+    ensures done { IsRequestDone request.now inputs.now (written_by W.contents W.faults W.flushed sink.old sink.new) result }
     ensures output { IsErrOf result.end RunFault.Output ↔ (W.faults sink.old < W.faults sink.new) }
 {
     let loaded = with_bytes(request, inputs);
@@ -49,12 +51,12 @@ fn perform_with<W: Sink, R: Threads + Wait + Sync>(
 pub fn carry_out<S: Sources, W: Sink, R: Threads + Wait + Sync>(
     rt: &R,
     alloc: Global,
-    files: &S,
+    files: &mut S,
     request: &NamedRequest<'_>,
     sink: &mut W,
 ) -> FinishedRun
     requires { DesksFit request.now }
-    ensures ends { EndsRequest (S.file_bytes files.now) request.now (written_by W.contents W.flushed sink.old sink.new) result }
+    ensures ends { EndsRequest (S.file_bytes files.old) (HasRead S.readings files.old files.new) request.now (written_by W.contents W.faults W.flushed sink.old sink.new) result }
     ensures output { IsErrOf result.end RunFault.Output ↔ (W.faults sink.old < W.faults sink.new) }
 {
     let inputs = match read_inputs(files, alloc, request) {
@@ -68,10 +70,10 @@ pub fn carry_out<S: Sources, W: Sink, R: Threads + Wait + Sync>(
 pub fn print_joined<I: StandardInput, W: Sink, R: Threads + Wait + Sync>(
     rt: &R,
     alloc: Global,
-    input: &I,
+    input: &mut I,
     sink: &mut W,
 ) -> FinishedRun
-    ensures ends { EndsJoined (I.standard_bytes input.now) (written_by W.contents W.flushed sink.old sink.new) result }
+    ensures ends { EndsJoined (I.standard_bytes input.old) (HasRead I.readings input.old input.new) (written_by W.contents W.faults W.flushed sink.old sink.new) result }
     ensures output { IsErrOf result.end RunFault.Output ↔ (W.faults sink.old < W.faults sink.new) }
 {
     let text = match read_joined(input, alloc) {

@@ -17,13 +17,13 @@ class Detail(TypedDict, total=False):
     because: str
     # new
     language: str
-    # roll and addresses: how many there are, how many were changed
+    # roll and addresses: how many electors there are, or were changed; codes: how many, and whether they replace the names on the roll
     electors: int
-    # codes: how many, and whether they are on the roll in place of names
     codes: int
     on_roll: bool
-    # call, extend and announce; times and addresses as the command line names them
+    # call, extend and announce; times, the zone of --until and addresses as the command line names them
     until: str
+    zone: str
     to: str
     at: str
     form: bool
@@ -45,9 +45,8 @@ class Detail(TypedDict, total=False):
     unsigned: bool
     # add and desk, after reopen
     came_before_close: bool | None
-    # undo: the act that it takes back
+    # undo: the act that it takes back; strike: the envelope
     act: int
-    # strike
     envelope: int
     # close
     checksum: str
@@ -56,7 +55,7 @@ class Detail(TypedDict, total=False):
     waiting: int
     after_end: int
     before_call: int
-    # reopen: the late envelopes that were entered anew
+    # reopen: the late envelopes that were entered anew, and whether although there are later ballots
     in_time: list[int]
     force: bool
     # publish

@@ -1,21 +1,18 @@
 """The book: one SQLite database that has everything an election knows. This package alone knows SQL, but for conditions on envelopes.
 
-An act adds rows, in one transaction, and is told only after its commit. Triggers refuse whatever would change or remove a row.
+An act adds rows, in one transaction, and is reported only after its commit. Triggers refuse whatever would change or remove a row.
 """
 
 import contextlib
-import dataclasses
 import datetime
 import fcntl
-import functools
 import itertools
 import json
 import os
 import pathlib
 import sqlite3
-import urllib.parse
 from collections.abc import Iterable, Iterator, Sequence
-from typing import Any, Final
+from typing import Any, Final, NamedTuple
 
 from debvote_tools import times
 from debvote_tools.book import chain
@@ -38,7 +35,7 @@ PATIENCE = 120
 SETTINGS = ("foreign_keys = ON", "recursive_triggers = ON", "journal_mode = DELETE", "synchronous = EXTRA", "trusted_schema = OFF")
 
 # how many rows one statement adds: one for each row takes twice the time
-ROWS_AT_ONCE = 400
+ROWS_AT_ONCE = 100
 
 # the byte of the file that SQLite locks for an act
 RESERVED_BYTE = 0x40000001
@@ -50,24 +47,20 @@ class Overtaken(Exception):
     """Another act came between: what this one was decided by may have changed."""
 
 
-@dataclasses.dataclass(frozen=True)
-class DoneAct:
-    """An act of the book."""
-
+class DoneAct(NamedTuple):
     number: int
     time: datetime.datetime
     name: ActName
     detail_as_json: str
     digest: str
 
-    @functools.cached_property
+    @property
     def detail(self) -> Detail:
         found: Detail = json.loads(self.detail_as_json)
         return found
 
 
-@dataclasses.dataclass
-class NewAct:
+class NewAct(NamedTuple):
     """An act while it is written. Its rows are in the book when it is committed, all or none."""
 
     connection: sqlite3.Connection
@@ -76,28 +69,19 @@ class NewAct:
     name: ActName
     detail: Detail
 
-    def insert_all(self, table: str, columns: Sequence[str], rows: Iterable[Sequence[object]], **same: object) -> None:
-        """Adds many rows of this act, each with its own values in these columns, and all with the same in others."""
-        values, waiting = [self.number, *same.values()], iter(rows)
-        words = f"INSERT INTO {table} ({', '.join(['act', *same, *columns])}) VALUES"
+    def insert_all(self, table: str, columns: Sequence[str], rows: Iterable[Sequence[object]]) -> None:
+        """Adds many rows of this act, each with its values in these columns."""
+        words = f"INSERT INTO {table} (act, {', '.join(columns)}) VALUES "
+        row_words, waiting = f"(?{', ?' * len(columns)})", iter(rows)
         while part := list(itertools.islice(waiting, ROWS_AT_ONCE)):
-            places = places_of(len(values), len(columns), len(part))
-            self.connection.execute(f"{words} {places}", [*values, *itertools.chain.from_iterable(part)])
+            values = [value for row in part for value in (self.number, *row)]
+            self.connection.execute(words + ", ".join([row_words] * len(part)), values)
 
     def insert(self, table: str, **values: object) -> int:
         """Adds a row of this act, and returns its number."""
-        columns: dict[str, Any] = {"act": self.number, **values}
-        words = f"INSERT INTO {table} ({', '.join(columns)}) VALUES ({', '.join('?' * len(columns))})"
-        row = self.connection.execute(words, tuple(columns.values())).lastrowid
-        assert row is not None
-        return row
-
-
-@functools.lru_cache(100)
-def places_of(shared: int, own: int, rows: int) -> str:
-    """The places of values in a statement that adds rows, as `(?1, ?2), (?1, ?3)`: some values are shared by all rows."""
-    starts = range(shared + 1, shared + 1 + rows * own, own)
-    return ", ".join(f"({', '.join(f'?{n}' for n in (*range(1, shared + 1), *range(start, start + own)))})" for start in starts)
+        self.insert_all(table, list(values), [tuple(values.values())])
+        [(row,)] = self.connection.execute("SELECT last_insert_rowid()")
+        return int(row)
 
 
 class Book:
@@ -109,7 +93,7 @@ class Book:
 
     # ------------------------------------------------------------ reading
     def rows(self, words: str, *values: object) -> list[Any]:
-        with told_as_faults(self.path):
+        with sqlite_faults(self.path):
             return self.connection.execute(words, values).fetchall()
 
     def acts(self) -> Sequence[DoneAct]:
@@ -137,19 +121,23 @@ class Book:
 
     def broken_act(self) -> int | None:
         """The first act that is not as its digest says; None if the chain of digests is whole."""
-        with told_as_faults(self.path), self.snapshot():
+        with self.snapshot():
             return chain.broken_act(self.connection)
 
-    @contextlib.contextmanager
-    def snapshot(self) -> Iterator[None]:
+    def snapshot(self) -> contextlib.AbstractContextManager[None]:
         """All queries within see one state of the book."""
-        with told_as_faults(self.path):
-            self.connection.execute("BEGIN")
-        try:
-            yield
-        finally:
-            with contextlib.suppress(sqlite3.Error):
-                self.connection.execute("ROLLBACK")
+        return self.transaction("BEGIN")
+
+    @contextlib.contextmanager
+    def transaction(self, begin: str) -> Iterator[None]:
+        """A transaction, which is rolled back at the end unless it was committed."""
+        with sqlite_faults(self.path):
+            self.connection.execute(begin)
+            try:
+                yield
+            finally:
+                with contextlib.suppress(sqlite3.Error):
+                    self.connection.rollback()
 
     # ------------------------------------------------------------ acts
     @contextlib.contextmanager
@@ -160,117 +148,101 @@ class Book:
         within. The act `moved` makes this book the one that the machine knows.
         """
         note = self.note()
-        note.demand_writable()
-        with told_as_faults(self.path):
-            self.connection.execute("BEGIN IMMEDIATE")
-            try:
-                before = self.last_act()
-                if seen is not None and before.number != seen:
-                    raise Overtaken
-                if name != MOVED:
-                    self.demand_noted(note)
-                act = NewAct(self.connection, before.number + 1, times.now(), name, detail or {})
-                yield act
-                with uninterrupted():
-                    digest = self.finish(act, before)
-            except BaseException:
-                with contextlib.suppress(sqlite3.Error):
-                    self.connection.execute("ROLLBACK")
-                raise
+        with note.under_lock():
+            # only whether it can be written
+            pass
+        with self.transaction("BEGIN IMMEDIATE"):
+            before = self.last_act()
+            if seen not in (None, before.number):
+                raise Overtaken
+            if name != MOVED:
+                self.demand_noted()
+            act = NewAct(self.connection, before.number + 1, times.now(), name, detail or {})
+            yield act
+            with uninterrupted():
+                digest = self.finish(act, before.digest)
         # a note that can't be written is one of an earlier act, as after a kill
         with contextlib.suppress(Fault, OSError):
             note.write(Note(act.number, digest), is_moved=name == MOVED)
 
-    def finish(self, act: NewAct, before: DoneAct | None) -> str:
+    def finish(self, act: NewAct, digest_before: str) -> str:
         """Adds the row of the act, with its digest, and commits."""
         detail = json.dumps(act.detail, ensure_ascii=False)
         row = (act.number, as_text(act.time), act.name, detail, os.urandom(16))
-        digest = chain.digest_of(self.connection, before.digest if before else chain.BEGINNING, row)
+        digest = chain.digest_of(self.connection, digest_before, row)
         self.connection.execute("INSERT INTO act VALUES (?, ?, ?, ?, ?, ?)", (*row, digest))
         self.connection.execute("COMMIT")
         return digest
 
     # ------------------------------------------------------------ this machine's note
     def note(self) -> MachineNote:
-        """What this machine noted of the book."""
-        first = self.digest_at(1)
-        assert first is not None
-        return MachineNote(self.path.resolve(), first)
+        return MachineNote(self.path.resolve(), self.acts()[0].digest)
 
     def note_seen(self) -> None:
         """Notes the last act, if this is the book that this machine knows: an act that was seen must not be gone later."""
         with contextlib.suppress(Fault, OSError):
-            note, last = self.note(), self.last_act()
-            noted = note.read()
-            if noted is not None and noted.act < last.number and self.strangeness(noted) is None:
-                note.write(Note(last.number, last.digest))
+            if self.strangeness() is None:
+                last = self.last_act()
+                self.note().write(Note(last.number, last.digest))
 
-    def strangeness(self, noted: Note | None) -> str | None:
-        """Why this is not the book of the note; None if it is."""
+    def strangeness(self) -> str | None:
+        """Why this is not the book that this machine knows; None if it is."""
+        noted = self.note().read()
         if noted is None:
             return "this computer has never seen this election in this folder"
         digest = self.digest_at(noted.act)
         if digest is None:
-            return f"it ends with act {self.last_act().number}, and this computer saw act {noted.act} already: it is an older copy"
+            return f"it ends with act {self.last_number()}, and this computer saw act {noted.act} already: it is an older copy"
         if digest != noted.digest:
-            return (
-                f"its act {noted.act} is not the one that this computer saw: somebody went on from a copy, or wrote the book anew"
-            )
+            how = "somebody went on from a copy, or wrote the book anew"
+            return f"its act {noted.act} is not the one that this computer saw: {how}"
         return None
 
-    def demand_noted(self, note: MachineNote) -> None:
-        """Stops if this is not the book that this machine knows."""
-        why = self.strangeness(note.read())
+    def demand_noted(self) -> None:
+        why = self.strangeness()
         if why is not None:
-            cure = (
-                "find out how that came; if it is the right book, as after a move to this computer or folder, give the command "
-                "--moved --because TEXT, and the page tells it"
-            )
+            right = "if it is the right book, as after a move to this computer or folder"
+            cure = f"find out how that came; {right}, give the command --moved --because TEXT, and the page tells it"
             raise Fault(self.path, why, cure)
 
     def accept(self, because: str) -> None:
         """The act `moved`: from now on this machine takes this book for the right one."""
-        noted, last = self.note().read(), self.last_act()
-        why = self.strangeness(noted)
+        noted, last, why = self.note().read(), self.last_act(), self.strangeness()
         if why is None:
             raise Fault("--moved", "this is the book that this computer knows", "leave it out", Status.BAD_WORDS)
         there = {"act": last.number, "digest": last.digest}
-        noted_detail = noted._asdict() if noted else None
-        with self.act(MOVED, {"why": why, "noted": noted_detail, "there": there, "because": because}):
+        with self.act(MOVED, {"why": why, "noted": noted and noted._asdict(), "there": there, "because": because}):
             pass
 
     # ------------------------------------------------------------ the file
     def demand_locks(self) -> None:
         """Stops if a second process gets the lock that this one holds."""
-        with told_as_faults(self.path):
-            self.connection.execute("BEGIN IMMEDIATE")
-            try:
-                is_locked = is_locked_for_others(self.path)
-            finally:
-                self.connection.execute("ROLLBACK")
-        if not is_locked:
-            words = "locks do not work in this file system, as on some network shares"
-            raise Fault(self.path, words, "move the folder to a disk of this computer")
+        with self.transaction("BEGIN IMMEDIATE"):
+            if not is_locked_for_others(self.path):
+                words = "locks do not work in this file system, as on some network shares"
+                raise Fault(self.path, words, "move the folder to a disk of this computer")
 
     def demand_alone(self) -> None:
         """Stops if another book in the folder is no beginning of this one, as the copy that a sync tool leaves."""
-        own = self.path.stat()
         for file in sorted(self.path.parent.iterdir()):
-            try:
-                found = file.stat()
-            except OSError:
-                # as the journal of another command, which is gone by now
-                continue
-            if os.path.samestat(found, own) or not file.is_file() or not has_our_id(file):
-                continue
-            number, digest = last_digest_of(file)
-            if number is None or self.digest_at(number) != digest:
-                words = "it is another book of this election, with acts that election.db lacks, as a sync tool leaves it"
-                cure = "find out which one is right, and move the other out of the folder"
-                raise Fault(file, words, cure)
+            # a file that is gone by now was the journal of another command
+            with contextlib.suppress(OSError):
+                if file.is_file() and not file.samefile(self.path) and has_our_id(file) and not self.begins_with(file):
+                    words = "it is another book of this election, with acts that election.db lacks, as a sync tool leaves it"
+                    cure = "find out which one is right, and move the other out of the folder"
+                    raise Fault(file, words, cure)
+
+    def begins_with(self, file: pathlib.Path) -> bool:
+        """Whether this book has all acts of another one, which can be read."""
+        try:
+            with contextlib.closing(connected(file, "ro")) as other:
+                [(number, digest)] = other.execute("SELECT act, digest FROM act ORDER BY act DESC LIMIT 1")
+        except (sqlite3.Error, ValueError):
+            return False
+        return bool(self.digest_at(number) == digest)
 
     def back_up(self, target: pathlib.Path) -> None:
-        with told_as_faults(target):
+        with sqlite_faults(target):
             os.close(os.open(target, os.O_WRONLY | os.O_CREAT | os.O_EXCL, 0o600))
             with contextlib.closing(sqlite3.connect(target)) as copy:
                 self.connection.backup(copy)
@@ -298,18 +270,16 @@ def create(path: pathlib.Path, detail: Detail, final_path: pathlib.Path) -> None
     """Makes a new book with the act `new`. The folder is moved afterwards: `final_path` is where the book will lie."""
     os.close(os.open(path, os.O_RDWR | os.O_CREAT | os.O_EXCL, 0o600))
     connection = connected(path, "rw")
-    with contextlib.closing(connection), told_as_faults(path):
+    book = Book(path, connection)
+    with contextlib.closing(connection), book.transaction("BEGIN IMMEDIATE"):
         connection.execute(f"PRAGMA application_id = {APPLICATION_ID}")
         connection.execute(f"PRAGMA user_version = {VERSION}")
-        connection.execute("BEGIN IMMEDIATE")
-        schema = pathlib.Path(__file__).with_name("schema.sql").read_text()
-        for statement in schema.split(";\n"):
+        for statement in pathlib.Path(__file__).with_name("schema.sql").read_text().split(";\n"):
             connection.execute(statement)
         for table in (*chain.TABLES, "act"):
             for verb in ("UPDATE", "DELETE"):
                 connection.execute(REFUSE.format(table=table, verb=verb))
-        book = Book(path, connection)
-        digest = book.finish(NewAct(connection, 1, times.now(), "new", detail), None)
+        digest = book.finish(NewAct(connection, 1, times.now(), "new", detail), chain.BEGINNING)
         book.demand_locks()
     # before the folder is moved: a kill between both leaves a note of nothing
     MachineNote(final_path, digest).write(Note(1, digest))
@@ -318,12 +288,11 @@ def create(path: pathlib.Path, detail: Detail, final_path: pathlib.Path) -> None
 def open_book(path: pathlib.Path) -> Book:
     """Opens the book of an election. What is no book of this version is a fault that says what it is."""
     is_read_only = not os.access(path, os.W_OK) or not os.access(path.parent, os.W_OK)
-    with told_as_faults(path):
+    with sqlite_faults(path):
         connection = connected(path, "ro" if is_read_only else "rw")
         try:
-            [(found,)] = connection.execute("PRAGMA application_id")
-            [(version,)] = connection.execute("PRAGMA user_version")
-            connection.execute("SELECT 1 FROM sqlite_schema").fetchone()
+            words = "SELECT application_id, user_version FROM pragma_application_id, pragma_user_version"
+            [(found, version)] = connection.execute(words)
         except sqlite3.Error as error:
             if is_read_only and "unable to open" in str(error) or "readonly" in str(error):
                 words = "a command was cut off in its act, and in a folder that can't be written the act can't be taken back"
@@ -343,9 +312,8 @@ def open_book(path: pathlib.Path) -> Book:
 
 
 def connected(path: pathlib.Path, mode: str) -> sqlite3.Connection:
-    connection = sqlite3.connect(
-        f"file:{urllib.parse.quote(str(path.absolute()))}?mode={mode}", uri=True, isolation_level=None, timeout=PATIENCE
-    )
+    address = f"{path.absolute().as_uri()}?mode={mode}"
+    connection = sqlite3.connect(address, uri=True, isolation_level=None, timeout=PATIENCE)
     for setting in SETTINGS if mode == "rw" else ("trusted_schema = OFF",):
         connection.execute(f"PRAGMA {setting}")
     chain.prepare(connection)
@@ -353,60 +321,39 @@ def connected(path: pathlib.Path, mode: str) -> sqlite3.Connection:
 
 
 @contextlib.contextmanager
-def told_as_faults(path: pathlib.Path) -> Iterator[None]:
-    """What SQLite says is told as a fault of the file."""
+def sqlite_faults(path: pathlib.Path) -> Iterator[None]:
+    """An error of SQLite is raised as a fault of the file."""
     try:
         yield
     except sqlite3.Error as error:
-        raise fault_of(path, error) from None
-
-
-def fault_of(path: pathlib.Path, error: sqlite3.Error) -> Fault:
-    kind = getattr(error, "sqlite_errorname", "").removeprefix("SQLITE_")
-    if kind.startswith("BUSY"):
-        words = "other commands have worked on it for two minutes"
-        return Fault(path, words, "wait until they are done, then run the command again", Status.BAD_OUTPUT)
-    if kind.startswith(("CORRUPT", "NOTADB", "ERROR", "CONSTRAINT", "MISMATCH", "FORMAT")):
-        return damaged(path, str(error))
-    if kind.startswith(("FULL", "IOERR")):
-        cure = "make room on the disk, or look whether it is in order, then run the command again"
-        return Fault(path, f"it can't be written ({error})", cure, Status.BAD_OUTPUT)
-    if kind.startswith(("READONLY", "CANTOPEN", "PERM", "AUTH")):
-        cure = "make file and folder writable for you, then run the command again"
-        return Fault(path, f"it can't be written ({error})", cure, Status.BAD_OUTPUT)
-    return Fault(path, str(error), "run the command again", Status.BAD_OUTPUT)
+        kind = getattr(error, "sqlite_errorname", "").removeprefix("SQLITE_")
+        if kind.startswith(("CORRUPT", "NOTADB", "ERROR", "CONSTRAINT", "MISMATCH", "FORMAT")):
+            raise damaged(path, str(error)) from None
+        words, cure = str(error), "run the command again"
+        if kind.startswith("BUSY"):
+            words, cure = "other commands have worked on it for two minutes", "wait until they are done, then run the command again"
+        elif kind.startswith(("FULL", "IOERR")):
+            words = f"it can't be written ({error})"
+            cure = "make room on the disk, or look whether it is in order, then run the command again"
+        elif kind.startswith(("READONLY", "CANTOPEN", "PERM", "AUTH")):
+            words, cure = f"it can't be written ({error})", "make file and folder writable for you, then run the command again"
+        raise Fault(path, words, cure, Status.BAD_OUTPUT) from None
 
 
 def damaged(path: pathlib.Path, how: str = "it has no first act") -> Fault:
-    """The fault of a book that can't be read."""
     cure = "put back the last copy that debvote-election backup made, and tell the maintainers"
     return Fault(path, f"the book is damaged ({how})", cure)
 
 
-# ---------------------------------------------------------------- other files
 def has_our_id(file: pathlib.Path) -> bool:
-    """Whether a file is a database of SQLite with the number of our books."""
-    try:
-        with open(file, "rb") as source:
-            head = source.read(72)
-    except OSError:
-        return False
+    """Whether a file is a database of SQLite with the number of our books. Raises OSError."""
+    with open(file, "rb") as source:
+        head = source.read(72)
     return head.startswith(b"SQLite format 3\0") and head[68:72] == APPLICATION_ID.to_bytes(4, "big")
-
-
-def last_digest_of(file: pathlib.Path) -> tuple[int | None, str | None]:
-    """The last act of another book, and its digest; None if it can't be read."""
-    try:
-        with contextlib.closing(connected(file, "ro")) as connection:
-            [(number, digest)] = connection.execute("SELECT act, digest FROM act ORDER BY act DESC LIMIT 1")
-            return int(number), str(digest)
-    except (sqlite3.Error, ValueError):
-        return None, None
 
 
 # ---------------------------------------------------------------- values
 def as_text(time: datetime.datetime) -> str:
-    """A time as the book has it."""
     return time.astimezone(datetime.UTC).strftime("%Y-%m-%dT%H:%M:%SZ")
 
 

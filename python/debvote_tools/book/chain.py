@@ -6,14 +6,16 @@ table's name and the columns, bytes by their SHA-256.
 
 import hashlib
 import itertools
+import operator
 import sqlite3
-from collections.abc import Iterable, Iterator
+from collections.abc import Iterable
 
-# how many lines of an act are in memory at once
+# how many lines are joined at once
 LINES_AT_ONCE = 1_000
 
-# what is in the place of the digest before the first act
+# in place of the digest before the first act, and of the act and the rows of a table that has no more
 BEGINNING = ""
+NO_ROWS: tuple[int, Iterable[tuple[int, str]]] = (0, ())
 
 # the columns of the tables whose rows belong to an act, in the order of the schema; those that have bytes end with a star
 TABLES = {
@@ -30,7 +32,6 @@ TABLES = {
 
 
 def row_as_json(table: str, columns: str) -> str:
-    """The expression for a row of a table as JSON."""
     parts = [f"sha256({name[:-1]})" if name.endswith("*") else name for name in columns.split()]
     return f"json_array('{table}', {', '.join(parts)})"
 
@@ -49,33 +50,29 @@ def digest_of(connection: sqlite3.Connection, before: str, act: tuple[object, ..
     columns = "SELECT ? AS act, ? AS time, ? AS name, ? AS detail, ? AS salt"
     line = connection.execute(f"SELECT {ACT_AS_JSON} FROM ({columns})", act).fetchone()
     found = (connection.execute(f"{rows} WHERE act = ? ORDER BY rowid", act[:1]) for rows in ROWS)
-    return digest_of_lines(itertools.chain([before, *line], (json for rows in found for _, json in rows)))
+    return digest_of_lines(before, itertools.chain(line, (json for rows in found for _, json in rows)))
 
 
-def digest_of_lines(lines: Iterable[str]) -> str:
-    digest, waiting, between = hashlib.sha256(), iter(lines), ""
-    while part := list(itertools.islice(waiting, LINES_AT_ONCE)):
-        digest.update((between + "\n".join(part)).encode())
-        between = "\n"
+def digest_of_lines(before: str, lines: Iterable[str]) -> str:
+    digest, waiting = hashlib.sha256(before.encode()), iter(lines)
+    while part := "\n".join(itertools.islice(waiting, LINES_AT_ONCE)):
+        digest.update(f"\n{part}".encode())
     return digest.hexdigest()
 
 
 def broken_act(connection: sqlite3.Connection) -> int | None:
     """The first act whose digest is not that of its rows, or that rows name and the book lacks; None if the chain is whole."""
-    tables = [iter(connection.execute(f"{rows} ORDER BY act, rowid")) for rows in ROWS]
-    waiting = [next(rows, (0, "")) for rows in tables]
-
-    def lines_of(act: int) -> Iterator[str]:
-        """The lines of the rows of an act, which come next in each table."""
-        for index, rows in enumerate(tables):
-            while waiting[index][0] == act:
-                yield waiting[index][1]
-                waiting[index] = next(rows, (0, ""))
-
+    tables = [itertools.groupby(connection.execute(f"{rows} ORDER BY act, rowid"), operator.itemgetter(0)) for rows in ROWS]
+    waiting = [next(table, NO_ROWS) for table in tables]
     before, number = BEGINNING, 0
     acts = connection.execute(f"SELECT act, {ACT_AS_JSON}, digest FROM act ORDER BY act")
     for number, (act, line, digest) in enumerate(acts, start=1):
-        if act != number or digest != digest_of_lines(itertools.chain([before, line], lines_of(act))):
+        lines = [line]
+        for index, table in enumerate(tables):
+            if waiting[index][0] == act:
+                lines += (json for _, json in waiting[index][1])
+                waiting[index] = next(table, NO_ROWS)
+        if act != number or digest != digest_of_lines(before, lines):
             return number
         before = digest
     return number + 1 if any(owner for owner, _ in waiting) else None

@@ -32,12 +32,7 @@ FROM letter ORDER BY letter
 
 
 def letters(book: Book) -> list[KeptLetter]:
-    """All letters that came, in the order of their numbers."""
     return [KeptLetter(*row) for row in book.rows(KEPT_LETTERS)]
-
-
-def have_come(book: Book) -> bool:
-    return bool(book.rows("SELECT EXISTS (SELECT 1 FROM letter)")[0][0])
 
 
 def known_digests(book: Book) -> set[tuple[str, bool]]:
@@ -62,15 +57,12 @@ def keep_letter(act: NewAct, where: str, data: bytes, identity: str, known: str)
 
 
 def decide(act: NewAct, letter: int, state: str) -> None:
-    """Notes what an act decided of a letter."""
     act.insert("letter_state", letter=letter, state=state)
 
 
 def our_message_ids(book: Book) -> dict[int, list[str]]:
-    """The Message-IDs of the letters that were written to each elector."""
     found: dict[int, list[str]] = {}
-    words = "SELECT elector, json_extract(detail, '$.message_id') FROM sent WHERE elector IS NOT NULL"
+    words = "SELECT elector, json_extract(detail, '$.message_id') AS id FROM sent WHERE state = 'written' AND id <> ''"
     for elector, message_id in book.rows(words):
-        if message_id:
-            found.setdefault(elector, []).append(message_id)
+        found.setdefault(elector, []).append(message_id)
     return found

@@ -18,23 +18,21 @@ from debvote_tools.files import locked, write_whole
 
 
 class Note(NamedTuple):
-    """An act of a book."""
-
     act: int
     digest: str
 
 
 class MachineNote:
-    """The note of one book at one path."""
+    """The note of the book at a path, whose first act has the digest `book_id`, where programs keep what has to outlast them."""
 
     def __init__(self, path: pathlib.Path, book_id: str) -> None:
-        """`book_id` is the digest of the first act."""
-        self.folder = state_folder()
-        self.path, self.book_id = str(path), book_id
-        self.file = self.folder / hashlib.sha256(f"{self.path}\n{book_id}".encode()).hexdigest()[:40]
+        base = os.environ.get("XDG_STATE_HOME", "")
+        self.folder = (pathlib.Path(base) if os.path.isabs(base) else pathlib.Path.home() / ".local" / "state") / "debvote"
+        self.path = str(path)
+        self.file = self.folder / hashlib.sha256(f"{path}\n{book_id}".encode()).hexdigest()[:40]
 
     def read(self) -> Note | None:
-        """What this machine noted; None if it has never seen this book here."""
+        """The act that this machine noted; None if it has never seen this book here."""
         try:
             noted = json.loads(self.file.read_text())
             return Note(int(noted["act"]), str(noted["digest"]))
@@ -45,11 +43,6 @@ class MachineNote:
             words = f"this machine's note of the election can't be read ({error})"
             raise Fault(self.file, words, cure, Status.DOUBT, None) from None
 
-    def demand_writable(self) -> None:
-        """Stops if the note could not be written after an act."""
-        with self.under_lock():
-            pass
-
     def write(self, note: Note, *, is_moved: bool = False) -> None:
         """Notes an act, unless a later one is noted."""
         with self.under_lock():
@@ -59,6 +52,7 @@ class MachineNote:
 
     @contextlib.contextmanager
     def under_lock(self) -> Iterator[None]:
+        """Nobody else writes a note. Stops if none could be written."""
         try:
             self.folder.mkdir(mode=0o700, parents=True, exist_ok=True)
             if not os.access(self.folder, os.W_OK):
@@ -69,9 +63,3 @@ class MachineNote:
             words = f"this machine has to note there what it did last, and can't ({error.strerror})"
             cure = "make the folder writable for you, or set XDG_STATE_HOME"
             raise Fault(self.folder, words, cure, Status.BAD_OUTPUT, None) from None
-
-
-def state_folder() -> pathlib.Path:
-    """Where programs keep what has to outlast them, as the XDG base directories say."""
-    base = os.environ.get("XDG_STATE_HOME", "")
-    return (pathlib.Path(base) if os.path.isabs(base) else pathlib.Path.home() / ".local" / "state") / "debvote"

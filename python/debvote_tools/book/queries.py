@@ -1,7 +1,7 @@
-"""What is asked of the book, by subject."""
+"""What is asked of the book about electors, what is sealed, envelopes and their lines, and sources."""
 
+import collections
 import datetime
-import itertools
 import json
 from collections.abc import Collection, Iterable
 from typing import NamedTuple
@@ -9,13 +9,9 @@ from typing import NamedTuple
 from debvote_tools.book.book import Book, NewAct, as_text, from_text
 
 
-# more names than a query takes are looked for among all
-MOST_NAMES = 200
-
-
 # ---------------------------------------------------------------- electors
 class Elector(NamedTuple):
-    """An elector as the book has them now. `position` is the place in the list of members; None if they are no longer on it."""
+    """An elector as the book has them now. `position` is that in the list of members; None if they are no longer on it."""
 
     number: int
     name: str
@@ -37,10 +33,7 @@ ORDER BY position
 
 def all_electors(book: Book) -> list[Elector]:
     """All electors that the book knows, those who are no longer on the list first."""
-    return [
-        Elector(number, name, position, who, tuple(json.loads(mail)), key, code, alias)
-        for number, name, position, who, mail, key, code, alias in book.rows(ELECTORS)
-    ]
+    return [Elector(*row)._replace(addresses=tuple(json.loads(row[4]))) for row in book.rows(ELECTORS)]
 
 
 def electors(book: Book) -> list[Elector]:
@@ -59,10 +52,9 @@ def new_elector(act: NewAct, name: str) -> Elector:
 
 
 def put_electors(act: NewAct, electors: Iterable[Elector]) -> None:
-    """Notes what electors are now."""
     rows = (
-        (one.number, one.position, one.who, json.dumps(one.addresses, ensure_ascii=False), one.key, one.code, one.alias)
-        for one in electors
+        (number, position, who, json.dumps(addresses, ensure_ascii=False), key, code, alias)
+        for number, _, position, who, addresses, key, code, alias in electors
     )
     act.insert_all("elector_state", ["elector", "position", "who", "mail", "key", "code", "alias"], rows)
 
@@ -96,6 +88,10 @@ class Envelope(NamedTuple):
     # the act that struck it
     struck: int | None
 
+    @property
+    def is_struck(self) -> bool:
+        return self.struck is not None
+
 
 # the envelopes, each with the act that struck it, and conditions on them
 ENVELOPES = "envelope LEFT JOIN struck USING (envelope)"
@@ -108,10 +104,7 @@ ENVELOPE_COLUMNS = "envelope, envelope.act, elector, line, source, letter, place
 def envelopes(book: Book, condition: str = "1", *values: object) -> list[Envelope]:
     """The envelopes that meet a condition, in their order."""
     rows = book.rows(f"SELECT {ENVELOPE_COLUMNS} FROM {ENVELOPES} WHERE {condition} ORDER BY envelope", *values)
-    return [
-        Envelope(number, act, elector, line, source, letter, place, from_text(time), bool(late), struck)
-        for number, act, elector, line, source, letter, place, time, late, struck in rows
-    ]
+    return [Envelope._make([*row[:7], from_text(row[7]), bool(row[8]), row[9]]) for row in rows]
 
 
 def lines(book: Book, condition: str, *values: object) -> list[bytes]:
@@ -135,9 +128,7 @@ def late_lines(book: Book) -> list[bytes]:
 
 
 def has_come(book: Book, since: int) -> bool:
-    """Whether a ballot or a letter has come since an act."""
-    words = "SELECT EXISTS (SELECT 1 FROM envelope WHERE act > ?) OR EXISTS (SELECT 1 FROM letter WHERE act > ?)"
-    return bool(book.rows(words, since, since)[0][0])
+    return bool(book.rows("SELECT 1 FROM (SELECT act FROM envelope UNION ALL SELECT act FROM letter) WHERE act > ? LIMIT 1", since))
 
 
 def strike_envelopes(act: NewAct, numbers: Iterable[int]) -> None:
@@ -156,15 +147,12 @@ class NewEnvelope(NamedTuple):
 
 def add_envelopes(act: NewAct, new: Iterable[NewEnvelope], electors: Iterable[int | None], *, is_late: bool) -> None:
     """Enters lines, each with the elector with whose name it begins."""
-    for (source, letter, time), group in itertools.groupby(zip(electors, new), key=shared):
-        rows = ((elector, envelope.line, envelope.place) for elector, envelope in group)
-        same = {"source": source, "letter": letter, "time": as_text(time or act.time), "late": int(is_late)}
-        act.insert_all("envelope", ["elector", "line", "place"], rows, **same)
-
-
-def shared(pair: tuple[int | None, NewEnvelope]) -> tuple[int | None, int | None, datetime.datetime | None]:
-    """What a line has in common with others of its file."""
-    return pair[1].source, pair[1].letter, pair[1].time
+    now = as_text(act.time)
+    rows = (
+        (elector, line, place, source, letter, as_text(time) if time else now, int(is_late))
+        for elector, (line, place, source, letter, time) in zip(electors, new)
+    )
+    act.insert_all("envelope", ["elector", "line", "place", "source", "letter", "time", "late"], rows)
 
 
 def last_envelope(book: Book) -> int:
@@ -173,10 +161,74 @@ def last_envelope(book: Book) -> int:
 
 
 def elector_numbers(book: Book, names: Collection[str]) -> dict[str, int]:
-    """The numbers of the electors who have one of these names; of very many names those of all electors."""
-    if len(names) > MOST_NAMES:
-        return dict(book.rows("SELECT name, elector FROM elector"))
-    return dict(book.rows(f"SELECT name, elector FROM elector WHERE name IN ({', '.join('?' * len(names))})", *names))
+    words = "SELECT name, elector FROM elector WHERE name IN (SELECT value FROM json_each(?))"
+    return dict(book.rows(words, json.dumps(list(names))))
+
+
+# ---------------------------------------------------------------- lines by act, and those that came in files
+# the acts that no `undo` took back
+NOT_UNDONE = "act NOT IN (SELECT json_extract(detail, '$.act') FROM act WHERE name = 'undo')"
+
+# the late envelopes that a `reopen` entered anew as in time, and those that `add --again` entered anew, if no `undo` took that back
+ANEW_IN_TIME = f"SELECT value FROM act, json_each(act.detail, '$.in_time') WHERE act.name = 'reopen' AND act.{NOT_UNDONE}"
+ANEW_BY_ADD = f"SELECT value FROM act, json_each(act.detail, '$.again') WHERE act.name = 'add' AND act.{NOT_UNDONE}"
+
+# the envelopes that came in files of lines and tables; a line that was entered anew came once, and is known by its new envelope
+CAME_IN_FILES = (
+    f"source IS NOT NULL AND letter IS NULL AND envelope.{NOT_UNDONE} AND envelope NOT IN ({ANEW_IN_TIME} UNION {ANEW_BY_ADD})"
+)
+
+
+def last_entering_act(book: Book) -> int | None:
+    """The last act that entered lines and that no `undo` took back; None if there is none."""
+    number = book.rows(f"SELECT max(act) FROM envelope WHERE {NOT_UNDONE}")[0][0]
+    return None if number is None else int(number)
+
+
+def lines_after(book: Book, act: int, electors: Collection[int] | None = None, *, without: int = 0) -> list[bytes]:
+    """The line of each envelope that was in time and not struck when an act was done, in their order, without those of one act: of all
+    electors, or of some.
+    """
+    condition = "late = 0 AND (struck.act IS NULL OR struck.act > ?1) AND envelope.act <= ?1 AND envelope.act <> ?2"
+    if electors is None:
+        return lines(book, condition, act, without)
+    condition += " AND elector IN (SELECT value FROM json_each(?3))"
+    return lines(book, condition, act, without, json.dumps(list(electors)))
+
+
+def lines_of_electors(book: Book, electors: Collection[int], *, without: int = 0) -> list[bytes]:
+    """The same of some electors, as the book is now."""
+    return lines_after(book, book.last_number(), electors, without=without)
+
+
+def entered_anew(book: Book) -> set[int]:
+    """The late envelopes that a `reopen` entered anew as in time."""
+    return {int(number) for number, in book.rows(ANEW_IN_TIME)}
+
+
+def lines_that_came(book: Book) -> collections.Counter[bytes]:
+    """How often each line came in a file of lines or a table that no `undo` took back."""
+    return collections.Counter(dict(book.rows(f"SELECT line, count(*) FROM envelope WHERE {CAME_IN_FILES} GROUP BY line")))
+
+
+def came_in_files(book: Book) -> dict[bytes, list[Envelope]]:
+    """The envelopes that came in files and that no `undo` took back, by their line; those that are struck or late come last."""
+    by_line: dict[bytes, list[Envelope]] = {}
+    for envelope in sorted(envelopes(book, CAME_IN_FILES), key=lambda envelope: envelope.is_late or envelope.is_struck):
+        by_line.setdefault(envelope.line, []).append(envelope)
+    return by_line
+
+
+def last_numbers(book: Book) -> dict[int, tuple[int, bytes]]:
+    """Number and line of the last envelope of each elector that is in time and not struck."""
+    words = f"SELECT elector, max(envelope), line FROM {ENVELOPES} WHERE {IN_TIME} AND elector IS NOT NULL GROUP BY elector"
+    return {elector: (number, line) for elector, number, line in book.rows(words)}
+
+
+def size_in_time(book: Book) -> tuple[int, int]:
+    """How many lines and bytes the ballots have that are counted."""
+    [(count, size)] = book.rows(f"SELECT count(*), coalesce(sum(length(line) + 1), 0) FROM {ENVELOPES} WHERE {IN_TIME}")
+    return int(count), int(size)
 
 
 # ---------------------------------------------------------------- sources

@@ -11,10 +11,7 @@ from debvote_tools.book.book import Book, NewAct, from_text
 # it is written; the server may have it; the server has taken it; it takes it never, or not now
 WRITTEN, BEGUN, TAKEN, REFUSED, POSTPONED = "written", "begun", "taken", "refused", "postponed"
 
-COLUMNS = ("elector", "kind", "state", "detail")
-
-
-# what a receipt is about: an envelope or a letter, its number, and whether it tells that the envelope was struck
+# the subject of a receipt: an envelope or a letter, its number, and whether it says that the envelope was struck
 About = tuple[str, int, bool]
 
 
@@ -35,47 +32,35 @@ class SentLetter:
     reply: str = ""
 
 
-def sent_letters(book: Book, kind: str) -> list[SentLetter]:
-    """All letters of a kind, in the order in which they were written."""
+def sent_letters(book: Book, kind: str | None = None, elector: int | None = None) -> list[SentLetter]:
+    """The letters of a kind, if one is given, and to an elector, if one is given, in the order in which they were written."""
     found: dict[str, SentLetter] = {}
-    for row, elector, state, text in book.rows("SELECT sent, elector, state, detail FROM sent WHERE kind = ? ORDER BY sent", kind):
+    words = "SELECT * FROM sent WHERE kind = coalesce(?, kind) AND elector = coalesce(?, elector) ORDER BY sent"
+    for row, _, number, its_kind, state, text in book.rows(words, kind, elector):
         detail = json.loads(text)
+        message_id = detail["message_id"]
         if state == WRITTEN:
             time, about = from_text(detail["time"]), tuple((what, number, is_struck) for what, number, is_struck in detail["about"])
-            letter = SentLetter(elector, kind, detail["for_act"], detail["address"], detail["message_id"], time, about)
-            found[letter.message_id or f"printed {row}"] = letter
+            letter = SentLetter(number, its_kind, detail["for_act"], detail["address"], message_id, time, about)
+            found[message_id or f"printed {row}"] = letter
         else:
-            before = found[detail["message_id"]]
-            found[before.message_id] = dataclasses.replace(before, state=state, reply=detail.get("reply", ""))
+            found[message_id] = dataclasses.replace(found[message_id], state=state, reply=detail.get("reply", ""))
     return list(found.values())
 
 
-def sent_to(book: Book, elector: int) -> list[SentLetter]:
-    """All letters to an elector, in the order of their times."""
-    kinds = [kind for kind, in book.rows("SELECT DISTINCT kind FROM sent WHERE elector = ?", elector)]
-    found = [letter for kind in kinds for letter in sent_letters(book, kind) if letter.elector == elector]
-    return sorted(found, key=lambda letter: letter.time)
+def note(act: NewAct, letters: Iterable[SentLetter]) -> None:
+    rows = ((letter.elector, letter.kind, letter.state, detail_of(letter)) for letter in letters)
+    act.insert_all("sent", ["elector", "kind", "state", "detail"], rows)
 
 
-def note_written(act: NewAct, letters: Iterable[SentLetter]) -> None:
-    act.insert_all("sent", COLUMNS, ((letter.elector, letter.kind, WRITTEN, written_detail(letter)) for letter in letters))
-
-
-def written_detail(letter: SentLetter) -> str:
-    detail: dict[str, Any] = {
-        "message_id": letter.message_id,
-        "address": letter.address,
-        "time": letter.time.isoformat(),
-        "for_act": letter.for_act,
-        "about": letter.about,
-    }
+def detail_of(letter: SentLetter) -> str:
+    """The detail of a state: of a letter that is written all of it, else the reply of the server."""
+    detail: dict[str, Any] = {"message_id": letter.message_id}
+    if letter.state == WRITTEN:
+        detail |= {"address": letter.address, "time": letter.time.isoformat(), "for_act": letter.for_act, "about": letter.about}
+    elif letter.reply:
+        detail["reply"] = letter.reply
     return json.dumps(detail, ensure_ascii=False)
-
-
-def note_state(act: NewAct, letter: SentLetter) -> None:
-    detail = {"message_id": letter.message_id, **({"reply": letter.reply} if letter.reply else {})}
-    text = json.dumps(detail, ensure_ascii=False)
-    act.insert("sent", elector=letter.elector, kind=letter.kind, state=letter.state, detail=text)
 
 
 def addresses_before(book: Book, since: int) -> dict[int, list[tuple[int, tuple[str, ...]]]]:

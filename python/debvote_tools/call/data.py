@@ -9,9 +9,8 @@ from collections.abc import Mapping
 
 from debvote_tools.ballots import UNRANKED, ranks_in_words
 from debvote_tools.faults import Fault, Status
-from debvote_tools.language import Language
+from debvote_tools.language import Language, marked
 from debvote_tools.sealed_poll import SealedPoll
-from debvote_tools.sentences import marked
 
 MAIL = re.compile(r"[A-Za-z0-9_][A-Za-z0-9._+=-]*@[A-Za-z0-9-]+(\.[A-Za-z0-9-]+)*")
 MAIL_LIMIT = 254
@@ -50,7 +49,6 @@ class CallData:
 
     @property
     def is_open(self) -> bool:
-        """Whether ballots are published under names."""
         return not (self.has_aliases or self.has_codes_on_roll)
 
     @property
@@ -60,12 +58,10 @@ class CallData:
 
     @property
     def roll(self) -> tuple[str, ...]:
-        """The names on the roll, if the call may show them."""
         return self.poll.roll if self.is_open else ()
 
     @functools.cached_property
     def mark(self) -> str:
-        """The mark of the poll, as the subject of a letter has it."""
         return f"[{self.poll.mark}]"
 
     @property
@@ -89,11 +85,18 @@ class CallData:
 
     @property
     def example(self) -> str:
-        return example_ranks(len(self.poll.names))
+        """Ranks that show the order, and with four options or more one that is not ranked."""
+        count = len(self.poll.names)
+        return "1,2" if count == 2 else ",".join(["2", "1", *[UNRANKED] * (count - 3), "3"])
 
     @property
     def example_in_words(self) -> str:
         return ranks_in_words(self.example, self.option_names, self.language)
+
+    @property
+    def gaps(self) -> str:
+        """The text in place of the ranks, where an elector is to write them."""
+        return ",".join("_" * len(self.poll.names))
 
 
 def explanations_of(poll: SealedPoll) -> list[tuple[int, list[str]]]:
@@ -102,22 +105,10 @@ def explanations_of(poll: SealedPoll) -> list[tuple[int, list[str]]]:
 
 
 def paragraphs_of(text: str) -> list[str]:
-    """The paragraphs of a text; an empty line ends each."""
     return [lines for lines in re.split(r"\n(?:[ \t]*\n)+", text.strip("\n")) if lines.strip()]
 
 
-def example_ranks(count: int) -> str:
-    """Ranks for a number of options that show the order, and with four options or more one that is not ranked."""
-    return "1,2" if count == 2 else ",".join(["2", "1", *[UNRANKED] * (count - 3), "3"])
-
-
-def gaps_of(count: int) -> str:
-    """The text in place of this number of ranks, where an elector is to write them."""
-    return ",".join("_" * count)
-
-
 def demand_mail_address(text: str, option: str = "--to") -> None:
-    """Raises `Fault` unless the option is one plain mail address."""
     if not is_mail_address(text):
         reason = "it has to be one mail address, as secretary@example.org"
         raise Fault(option, reason, "write it anew", Status.BAD_WORDS)
@@ -129,7 +120,6 @@ def is_mail_address(text: str) -> bool:
 
 
 def demand_web_address(text: str) -> None:
-    """Raises `Fault` unless `--at` is the web address of a page."""
     if not is_web_address(text):
         reason = "it has to be the address of a page, as https://example.org/vote/, without a part after #"
         raise Fault("--at", reason, "write it as the browser shows it", Status.BAD_WORDS)

@@ -1,8 +1,6 @@
 """What commands ask of the book first: that this machine knows it, that it is whole, and that nobody writes another."""
 
-import dataclasses
-
-from debvote_tools.arguments import flag, option
+from debvote_tools.arguments import Options, flag, option
 from debvote_tools.book.book import Book
 from debvote_tools.console import tell
 from debvote_tools.election.election import Election
@@ -13,8 +11,7 @@ from debvote_tools.terminal_text import LINE_ENDS, number_of, odd_sign
 LONGEST_REASON = 2_000
 
 
-@dataclasses.dataclass(frozen=True)
-class Arguments:
+class Arguments(Options):
     """The options of each command that writes an act."""
 
     moved: bool = flag("Go on although the election was moved here, or an older copy was restored; the result page says so")
@@ -32,7 +29,7 @@ def book_for_act(election: Election, arguments: Arguments) -> Book:
     if arguments.moved:
         book.accept(demand_reason(arguments.because, "--moved"))
     else:
-        book.demand_noted(book.note())
+        book.demand_noted()
     return book
 
 
@@ -48,7 +45,7 @@ def demand_whole(book: Book) -> None:
 def tell_strangeness(book: Book) -> None:
     """Says why this may not be the book that this machine worked on last."""
     try:
-        why = book.strangeness(book.note().read())
+        why = book.strangeness()
     except Fault as fault:
         why = str(fault.reason)
     if why is not None:
@@ -63,8 +60,7 @@ def demand_reason(because: str | None, option: str, *, has_paragraphs: bool = Fa
     """The reason that an option needs: one line of plain text, or several."""
     text = (because or "").strip()
     if not text:
-        cure = 'write it: --because "TEXT"'
-        raise Fault(option, "it needs a reason, which the log keeps", cure, Status.BAD_WORDS)
+        raise Fault(option, "it needs a reason, which the log keeps", 'write it: --because "TEXT"', Status.BAD_WORDS)
     odd = odd_sign(text, allowed="\t\n") if has_paragraphs else odd_sign(text, refused=LINE_ENDS)
     if odd is not None:
         words = f"the text has the character {number_of(odd)}, which no plain text has"

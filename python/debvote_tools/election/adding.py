@@ -1,16 +1,11 @@
-"""How `add` takes files of lines and tables: it reads them, stops at what a person has to look at, and enters the lines that are new.
-
-1. `read_lines` reads the files, and asks debvote about each line.
-2. `plan_of` decides by the book which lines are new. It takes no time, so it is done again if another act came between.
-3. `add` enters them, and prints the replies.
-"""
+"""How `add` takes files of lines and tables: it reads them, stops at what a person has to look at, and enters the lines that are new."""
 
 import collections
 import contextlib
 import dataclasses
+import itertools
 import re
 from collections.abc import Iterator, Sequence
-from typing import NamedTuple
 
 from debvote_tools.arguments import flag, option, positional
 from debvote_tools.book import queries
@@ -19,18 +14,14 @@ from debvote_tools.book.book import Book, NewAct, Overtaken
 from debvote_tools.book.queries import NewEnvelope
 from debvote_tools.console import tell, tell_many
 from debvote_tools.election import acting, in_time
-from debvote_tools.election.vote import JudgedLine, Vote
-from debvote_tools.election.line_words import LineWords, summary
-from debvote_tools.election.came import NOTHING_ADDED, CameFile
-from debvote_tools.election.came_before import NewAndRepeated, sorted_out
+from debvote_tools.election.vote import LATE_REPLY, JudgedLine, Vote, summary
+from debvote_tools.election.came import NOTHING_ADDED, CameFile, FileLines, sorted_out
 from debvote_tools.election.csv_ballots import Columns, lines_of_table
-from debvote_tools.election.election import Election, is_signed
-from debvote_tools.election.entering import LATE_REPLY, entered, is_too_long, long_words
-from debvote_tools.election.history import History
-from debvote_tools.election.in_time import Openness, openness_of
+from debvote_tools.election.election import Election, History
+from debvote_tools.election.entering import entered, too_long
 from debvote_tools.election.reporting import count_of
 from debvote_tools.faults import Fault, Status, stop_at
-from debvote_tools.lines import MARK, Line, lines_in
+from debvote_tools.lines import MARK, lines_in
 from debvote_tools.terminal_text import shown_line
 
 FORCE = "add it all the same with --force"
@@ -42,10 +33,7 @@ MAX_REFUSED, MAX_REPEATED = 10, 20
 MEMBERS_HEADS = {"who", "mail"}
 
 
-@dataclasses.dataclass(frozen=True)
 class Arguments(in_time.Arguments):
-    """The options of `add`."""
-
     files: list[str] = positional(
         "FILE",
         "Letters (a mailbox, a Maildir, a folder of .eml), or ballots, a line each, or with --csv tables; - or none is standard input",
@@ -67,113 +55,103 @@ class Arguments(in_time.Arguments):
     force: bool = flag("Add them although few lines are ballots, one is very long, or an older ballot would replace a later one")
 
 
-class FileLines(NamedTuple):
-    """A file and its lines, in the order in which they are entered."""
-
-    came: CameFile
-    lines: tuple[JudgedLine, ...]
-    empty: tuple[Line, ...]
-
-
 @dataclasses.dataclass(frozen=True)
 class Plan:
     """Which lines would be entered, by the book as it is now."""
 
     decided_at: int = dataclasses.field(compare=False)
-    openness: Openness
-    # whether letters have to be signed, and whether the call says that an empty cell is a hyphen
-    is_signed: bool
-    has_form: bool
-    files: tuple[tuple[FileLines, NewAndRepeated], ...]
+    openness: History
+    files: tuple[FileLines, ...]
 
     @property
     def new_lines(self) -> list[JudgedLine]:
-        """The lines of all files that go in."""
-        return [line for _, found in self.files for line in found.new]
+        return [line for file in self.files for line in file.new]
 
     def envelopes(self, act: NewAct) -> Iterator[NewEnvelope]:
         """What goes in, while the act is written: each file is kept whole before its lines."""
-        for file, found in self.files:
+        for file in self.files:
             source = queries.keep_source(act, file.came.kept_name, file.came.data)
-            for line in found.new:
-                yield NewEnvelope(line.as_entered, line.line.place, source)
+            yield from (NewEnvelope(line.as_entered, line.line.place, source) for line in file.new)
 
 
 def doubt(where: object, words: str, cure: str) -> Fault:
-    """What a person has to look at first."""
     return Fault(where, words, cure, Status.DOUBT, NOTHING_ADDED)
 
 
-# ---------------------------------------------------------------- reading
 def read_lines(vote: Vote, files: Sequence[CameFile], columns: Columns | None, arguments: Arguments) -> list[FileLines]:
-    """The lines of the files, with what debvote says of them."""
     lists = [lines_in(file.data, file.name) if columns is None else lines_of_table(file.data, file.name, columns) for file in files]
     what = "it has empty lines alone" if columns is None else "it has no row of a ballot"
     empty = [file for file, lines in zip(files, lists) if all(line.is_empty for line in lines)]
     stop_at([doubt(file.name, what, "write a ballot a line into it") for file in empty])
     if arguments.newest_first:
         lists = [lines[::-1] for lines in lists]
-    filled = [[line for line in lines if not line.is_empty] for lines in lists]
-    read = vote.read([line for lines in filled for line in lines])
+    read = iter(vote.read([line for lines in lists for line in lines if not line.is_empty]))
     found = []
-    for file, lines, own in zip(files, lists, filled):
-        found.append(FileLines(file, tuple(read[: len(own)]), tuple(line for line in lines if line.is_empty)))
-        read = read[len(own) :]
+    for file, lines in zip(files, lists):
+        empty_lines = tuple(line for line in lines if line.is_empty)
+        found.append(FileLines(file, tuple(itertools.islice(read, len(lines) - len(empty_lines))), empty_lines))
     return found
 
 
 # ---------------------------------------------------------------- the plan, and what speaks against it
 def plan_of(book: Book, vote: Vote, files: Sequence[FileLines], arguments: Arguments) -> Plan:
-    """Which lines would be entered now."""
+    """Which lines are new by the book. It takes no time, so it is done again if another act came between."""
     history = History(book.acts())
-    openness = openness_of(history)
+    openness = history.openness()
     if openness.call != vote.call:
         raise doubt(None, "the vote was called anew meanwhile", "run the command again")
-    found = sorted_out(book, [file.lines for file in files], takes_again=arguments.again, is_reopened=openness.is_reopened)
-    has_form, signed = bool(history.announced("form")), is_signed(book, vote.call)
-    return Plan(history.last.number, openness, signed, has_form, tuple(zip(files, found)))
+    found = sorted_out(book, files, takes_again=arguments.again, is_reopened=openness.is_reopened)
+    return Plan(history.last.number, openness, found)
 
 
 def demand_nothing_against(vote: Vote, plan: Plan, arguments: Arguments) -> None:
     """Stops at what a person has to look at first; all of it is said at once."""
-    faults = list(orders_missing(plan)) if is_unsorted(arguments) else []
-    if plan.new_lines and plan.is_signed and not (arguments.force and acting.has_reason(arguments.because)):
-        words = "letters have to be signed in this vote, and nothing says who has sent a line of a file"
-        cure = "add the letters themselves; or, if you know by other means who has sent each line, give --force --because TEXT"
-        faults.append(doubt(plan.files[0][0].came.name, words, cure))
-    if not arguments.force:
-        faults += doubts(vote, plan, arguments)
-    stop_at(faults)
+    stop_at(list(doubts(vote, plan, arguments)))
 
 
-def is_unsorted(arguments: Arguments) -> bool:
-    """Whether nobody has said how the rows of a table are sorted."""
-    return arguments.csv and not arguments.oldest_first and not arguments.newest_first
-
-
-def orders_missing(plan: Plan) -> Iterator[Fault]:
-    """Tables that have two ballots of one elector which differ, one of them new at least: nobody has said which one is newer."""
-    for file, found in plan.files:
-        new = {line.line.place for line in found.new}
-        pair = next((pair for pair in pairs_that_differ(file) if any(line.line.place in new for line in pair)), None)
-        if pair is not None:
+def doubts(vote: Vote, plan: Plan, arguments: Arguments) -> Iterator[Fault]:
+    is_unsorted = arguments.csv and not arguments.oldest_first and not arguments.newest_first
+    for file in plan.files:
+        if is_unsorted and (pair := of_unknown_order(file)):
             rows = " and ".join(map(place_in, pair))
             words = f"it has two ballots of {pair[0].voter} that differ ({rows}), and the last one that is entered counts"
             yield doubt(file.came.name, words, "say how its rows are sorted: --oldest-first or --newest-first")
+    if plan.new_lines and vote.is_signed and not (arguments.force and acting.has_reason(arguments.because)):
+        words = "letters have to be signed in this vote, and nothing says who has sent a line of a file"
+        cure = "add the letters themselves; or, if you know by other means who has sent each line, give --force --because TEXT"
+        yield doubt(plan.files[0].came.name, words, cure)
+    if arguments.force:
+        return
+    for file in plan.files:
+        long_lines = ((line.line.where, why) for line in file.new if (why := too_long(line.line)))
+        for where, why in itertools.islice(long_lines, 1):
+            yield doubt(where, why, f"take out what is no ballot, or {FORCE}")
+    yield from few_ballots(vote, [file for file in plan.files if file.new], arguments)
+    for file in plan.files:
+        if not is_unsorted and (pair := new_one_above(file)):
+            words = f"{place_in(pair[0])} has an older ballot of {pair[0].voter} than {place_in(pair[1])}, which came before"
+            yield doubt(file.came.name, f"{words}, and would replace it", f"take the older one out, or {FORCE}")
+    if plan.new_lines and arguments.blank_is_unranked and not vote.has_form:
+        words = "the call does not say that an empty cell is a hyphen, so an elector may have meant otherwise"
+        cure = f"ask the electors whose rows have empty cells; if they were told otherwise, {FORCE}"
+        yield doubt("--blank-is-unranked", words, cure)
 
 
-def pairs_that_differ(file: FileLines) -> Iterator[tuple[JudgedLine, JudgedLine]]:
-    """Two ballots of one elector that differ, one above the other."""
+def of_unknown_order(file: FileLines) -> tuple[JudgedLine, JudgedLine] | None:
+    """Two ballots of one elector that differ, one of them new at least: nobody has said which one is newer."""
+    new = {line.line.place for line in file.new}
     above: dict[str, list[JudgedLine]] = collections.defaultdict(list)
-    for line in file.lines:
-        if line.is_ballot:
-            yield from ((other, line) for other in above[line.voter] if other.ranks != line.ranks)
-            above[line.voter].append(line)
+    for line in filter(lambda line: line.is_ballot, file.lines):
+        for other in above[line.voter]:
+            if other.ranks != line.ranks and not new.isdisjoint((other.line.place, line.line.place)):
+                return other, line
+        above[line.voter].append(line)
+    return None
 
 
-def new_one_above(file: FileLines, found: NewAndRepeated) -> tuple[JudgedLine, JudgedLine] | None:
+def new_one_above(file: FileLines) -> tuple[JudgedLine, JudgedLine] | None:
     """A new ballot and one below it that came before, of one elector, which differ. By this order the new one is older, and would count."""
-    new = {line.line.place for line in found.new} if found.repeated else set()
+    new = {line.line.place for line in file.new} if file.repeated else set()
     above: dict[str, JudgedLine] = {}
     for line in file.lines if new else ():
         if line.is_ballot and line.line.place in new:
@@ -189,85 +167,44 @@ def place_in(line: JudgedLine) -> str:
     return f"line {place}" if place.isdigit() else place
 
 
-def doubts(vote: Vote, plan: Plan, arguments: Arguments) -> Iterator[Fault]:
-    """What stops without --force."""
-    for _, found in plan.files:
-        for line in [line.line for line in found.new if is_too_long(line.line)][:1]:
-            yield doubt(line.where, long_words(line), f"take out what is no ballot, or {FORCE}")
-    for file in with_few_ballots([file for file, found in plan.files if found.new]):
-        tell_others(vote, file)
-        yield few_ballots(file, arguments)
-    for file, found in plan.files:
-        older = None if is_unsorted(arguments) else new_one_above(file, found)
-        if older is not None:
-            places = [place_in(line) for line in older]
-            words = f"{places[0]} has an older ballot of {older[0].voter} than {places[1]}, which came before, and would replace it"
-            yield doubt(file.came.name, words, f"take the older one out, or {FORCE}")
-    if plan.new_lines and arguments.blank_is_unranked and not plan.has_form:
-        words = "the call does not say that an empty cell is a hyphen, so an elector may have meant otherwise"
-        cure = f"ask the electors whose rows have empty cells; if they were told otherwise, {FORCE}"
-        yield doubt("--blank-is-unranked", words, cure)
+def few_ballots(vote: Vote, files: Sequence[FileLines], arguments: Arguments) -> Iterator[Fault]:
+    """A fault for each file of which fewer than half of the lines are ballots; if none has so few, all of them together are looked at. If
+    some are ballots, it tells the first of the others.
+    """
+    all_lines = tuple(line for file in files for line in file.lines)
+    few = [file for file in files if has_few_ballots(file.lines)]
+    if not few and len(files) > 1 and has_few_ballots(all_lines):
+        few = [files[0]._replace(lines=all_lines)]
+    for file in few:
+        refused = [line for line in file.lines if not line.is_ballot]
+        count = len(file.lines) - len(refused)
+        if count:
+            tell(*(f"{line.line.where}: no ballot: {vote.in_words(line)}" for line in refused[:MAX_REFUSED]))
+        if count and len(refused) > MAX_REFUSED:
+            tell(f"and {len(refused) - MAX_REFUSED} more lines that are no ballots")
+        reason = f"debvote takes {f'{count} alone' if count else 'none'} of the {len(file.lines)} lines as a ballot"
+        yield doubt(file.came.name, reason, f"{cure_of(file, refused[0], arguments)}, or {FORCE}")
 
 
-# ---------------------------------------------------------------- a file that has other lines than ballots
 def has_few_ballots(lines: Sequence[JudgedLine]) -> bool:
-    """Whether fewer than half of several lines are ballots. One line alone is looked at by whoever adds it."""
+    """One line alone is looked at by whoever adds it."""
     return len(lines) > 1 and sum(line.is_ballot for line in lines) * 2 < len(lines)
 
 
-def with_few_ballots(files: Sequence[FileLines]) -> list[FileLines]:
-    """The files of which fewer than half of the lines are ballots; if none has so few, all of them together are looked at."""
-    few = [file for file in files if has_few_ballots(file.lines)]
-    all_lines = tuple(line for file in files for line in file.lines)
-    if not few and len(files) > 1 and has_few_ballots(all_lines):
-        return [files[0]._replace(lines=all_lines)]
-    return few
-
-
-def tell_others(vote: Vote, file: FileLines) -> None:
-    """Says which lines are no ballots, if some are; of many the first."""
-    refused = [line for line in file.lines if not line.is_ballot]
-    if len(refused) == len(file.lines):
-        return
-    words = LineWords(vote)
-    tell(*(f"{line.line.where}: no ballot: {words.of(line)}" for line in refused[:MAX_REFUSED]))
-    if len(refused) > MAX_REFUSED:
-        tell(f"and {len(refused) - MAX_REFUSED} more lines that are no ballots")
-
-
-def few_ballots(file: FileLines, arguments: Arguments) -> Fault:
-    """The fault of a file of which few lines are ballots, with the first of the others."""
-    refused = [line for line in file.lines if not line.is_ballot]
-    count = len(file.lines) - len(refused)
-    words = f"debvote takes {f'{count} alone' if count else 'none'} of the {len(file.lines)} lines as a ballot"
-    return doubt(file.came.name, words, f"{cure_of(file, refused[0], arguments)}, or {FORCE}")
-
-
 def cure_of(file: FileLines, refused: JudgedLine, arguments: Arguments) -> str:
-    """What to do, by what the file looks like."""
     if arguments.csv:
         return "look whether --name and --ranks name the right columns, the ranks in the order of the options"
-    if looks_like_members(file.came.data):
+    head = file.came.data.removeprefix(MARK).lstrip().split(b"\n", 1)[0].decode("utf-8", "replace")
+    if MEMBERS_HEADS <= {cell.strip(' \t\r"').casefold() for cell in re.split("[,;\t]", head)}:
         return "it looks like the list of members, so name the file of the ballots"
-    if looks_like_table(file.lines):
+    shapeless = sum(line.finding is not None and line.finding.word == "bad shape" for line in file.lines)
+    counts = ({line.line.unframed.count(delimiter) for line in file.lines} for delimiter in (b",", b";", b"\t"))
+    # most have no shape of a ballot, and all the same number of delimiters
+    if shapeless * 2 > len(file.lines) and any(len(count) == 1 and count != {0} for count in counts):
         return "it looks like a table, which is added with --csv --name COLUMN --ranks COLUMN,COLUMN,.."
     why = "" if refused.finding is None else f" ({refused.finding.word}: {refused.finding.hint})"
     which = "whose first line is" if refused is file.lines[0] else "which has the line"
     return f"look at the file, {which} `{shown_line(refused.as_entered)}`{why}"
-
-
-def looks_like_members(data: bytes) -> bool:
-    """Whether a file begins with the heads of a list of members."""
-    head = data.removeprefix(MARK).lstrip().split(b"\n", 1)[0].decode("utf-8", "replace")
-    return MEMBERS_HEADS <= {cell.strip(' \t\r"').casefold() for cell in re.split("[,;\t]", head)}
-
-
-def looks_like_table(lines: Sequence[JudgedLine]) -> bool:
-    """Whether all lines have as many delimiters, and most have no shape of a ballot."""
-    if sum(line.finding is not None and line.finding.word == "bad shape" for line in lines) * 2 <= len(lines):
-        return False
-    counts = ({line.line.unframed.count(delimiter) for line in lines} for delimiter in (b",", b";", b"\t"))
-    return any(len(count) == 1 and count != {0} for count in counts)
 
 
 # ---------------------------------------------------------------- adding
@@ -280,16 +217,14 @@ def add(election: Election, book: Book, vote: Vote, files: Sequence[FileLines], 
             tell(*report(election, vote, plan, (), ()), "Nothing is new. Nothing was added.")
             return plan
         came_before_close = in_time.came_before_close(plan.openness, arguments.came_before_close, NOTHING_ADDED)
+        detail, is_late = detail_of(vote, plan, arguments, came_before_close), plan.openness.is_late(came_before_close)
+
+        def is_same() -> bool:
+            return plan_of(book, vote, files, arguments) == plan
+
         with contextlib.suppress(Overtaken):
             with entered(
-                book,
-                vote,
-                "add",
-                detail_of(plan, arguments, came_before_close),
-                plan.envelopes,
-                decided_at=plan.decided_at,
-                is_late=plan.openness.is_late(came_before_close),
-                is_same=lambda: plan_of(book, vote, files, arguments) == plan,
+                book, vote, "add", detail, plan.envelopes, decided_at=plan.decided_at, is_late=is_late, is_same=is_same
             ) as done:
                 replies = done.replies()
                 tell_many(report(election, vote, plan, done.numbers, replies))
@@ -297,17 +232,17 @@ def add(election: Election, book: Book, vote: Vote, files: Sequence[FileLines], 
             return plan
 
 
-def detail_of(plan: Plan, arguments: Arguments, came_before_close: bool | None) -> Detail:
+def detail_of(vote: Vote, plan: Plan, arguments: Arguments, came_before_close: bool | None) -> Detail:
     detail: Detail = {
-        "files": [file.came.kept_name for file, _ in plan.files],
+        "files": [file.came.kept_name for file in plan.files],
         "lines": len(plan.new_lines),
-        "passed_over": sum(len(found.repeated) for _, found in plan.files),
+        "passed_over": sum(len(file.repeated) for file in plan.files),
     }
-    if again := [number for _, found in plan.files for number in found.again]:
+    if again := [number for file in plan.files for number in file.again]:
         detail["again"] = again
     if came_before_close is not None:
         detail["came_before_close"] = came_before_close
-    if plan.is_signed:
+    if vote.is_signed:
         detail.update({"unsigned": True, "because": acting.demand_reason(arguments.because, "--force")})
     return detail
 
@@ -334,40 +269,35 @@ def look(election: Election, vote: Vote, files: Sequence[FileLines], arguments: 
 def report(
     election: Election, vote: Vote, plan: Plan, numbers: Sequence[int], replies: Sequence[str], *, is_entered: bool = True
 ) -> Iterator[str]:
-    """What is printed about the lines, those that were entered and those that were not."""
     if numbers:
-        what = "what is added" if is_entered else "what would be added"
-        yield from in_time.notes(election, plan.openness, what)
-    for file, found in plan.files:
+        yield from in_time.notes(election, plan.openness, "what is added" if is_entered else "what would be added")
+    for file in plan.files:
         yield from (f"{line.where}: it is empty, and was left out" for line in file.empty)
-        yield from repeated_words(file, found)
-    yield from LineWords(vote).report(plan.new_lines, numbers, replies, is_entered=is_entered)
-    for file, found in plan.files:
-        yield from duplicate_words(file, found.new)
+        yield from repeated_words(file)
+    yield from vote.report(plan.new_lines, numbers, replies, is_entered=is_entered)
+    for file in plan.files:
+        yield from duplicate_words(file)
 
 
-def repeated_words(file: FileLines, found: NewAndRepeated) -> Iterator[str]:
-    """The lines of a file that came before, in words."""
-    if not found.repeated:
+def repeated_words(file: FileLines) -> Iterator[str]:
+    if not file.repeated:
         return
-    ignored = "is ignored, since it came before" if len(found.repeated) == 1 else "are ignored, since they came before"
-    new = f"{len(found.new)} {'is' if len(found.new) == 1 else 'are'} new"
-    yield f"{file.came.name}: {count_of(len(found.repeated), 'line')} {ignored}; {new}"
-    changed = [repeated for repeated in found.repeated if repeated.change is not None]
-    for repeated in changed[:MAX_REPEATED]:
-        line = repeated.line
-        yield f"  {line.line.where}: `{shown_line(line.as_entered)}` came before, and {repeated.change}; --again enters it again"
+    ignored = "is ignored, since it came before" if len(file.repeated) == 1 else "are ignored, since they came before"
+    new = f"{len(file.new)} {'is' if len(file.new) == 1 else 'are'} new"
+    yield f"{file.came.name}: {count_of(len(file.repeated), 'line')} {ignored}; {new}"
+    changed = [(line, change) for line, change in file.repeated if change is not None]
+    for line, change in changed[:MAX_REPEATED]:
+        yield f"  {line.line.where}: `{shown_line(line.as_entered)}` came before, and {change}; --again enters it again"
     if len(changed) > MAX_REPEATED:
         yield f"  and {len(changed) - MAX_REPEATED} more that --again enters again"
 
 
-def duplicate_words(file: FileLines, lines: Sequence[JudgedLine]) -> Iterator[str]:
-    """The electors of whom a file has several new ballots, in words."""
-    by_name: dict[bytes, list[str]] = collections.defaultdict(list)
-    for line in lines:
-        if line.finding is None:
-            by_name[line.as_entered.partition(b" ")[0]].append(line.line.place)
+def duplicate_words(file: FileLines) -> Iterator[str]:
+    by_name: dict[str, list[str]] = collections.defaultdict(list)
+    for line in file.new:
+        if line.is_ballot:
+            by_name[line.voter].append(line.line.place)
     for name, places in by_name.items():
         if len(places) > 1:
             listed = ", ".join(place.lstrip(": ") for place in places[:5]) + (", .." if places[5:] else "")
-            yield f"Note: {file.came.name} has {len(places)} ballots of {name.decode()} ({listed}); the last one counts."
+            yield f"Note: {file.came.name} has {len(places)} ballots of {name} ({listed}); the last one counts."

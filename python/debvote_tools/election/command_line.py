@@ -16,7 +16,7 @@ from debvote_tools.files import Written
 
 PROGRAM = "debvote-election"
 
-# the modules of the commands, in the order in which an election needs them; each has `HELP`, `Arguments` and `run`
+# the modules of the commands, in the order in which an election needs them; each has its help as docstring, `Arguments` and `run`
 COMMANDS = (
     *("new", "roll", "check", "codes", "call", "add", "held", "undo", "strike", "desk", "letters", "show", "status"),
     *("close", "reopen", "count", "publish", "log", "export", "backup"),
@@ -42,7 +42,8 @@ def parser(words: Sequence[str] = ()) -> argparse.ArgumentParser:
     commands = top.add_subparsers(dest="command", metavar="COMMAND", required=True)
     for name in words[:1] if words and words[0] in COMMANDS else COMMANDS:
         module = importlib.import_module(f"debvote_tools.election.commands.{name}")
-        command = commands.add_parser(name, help=module.HELP, description=f"{module.HELP}.", allow_abbrev=False, parents=[folder])
+        text = str(module.__doc__)
+        command = commands.add_parser(name, help=text.removesuffix("."), description=text, allow_abbrev=False, parents=[folder])
         arguments.add_arguments(command, module.Arguments)
         command.set_defaults(run=module.run, arguments=module.Arguments)
     return top
@@ -63,17 +64,15 @@ def main(program_folder: pathlib.Path, words: Sequence[str] | None = None) -> in
     try:
         folder = getattr(namespace, "folder", None)
         election = Election(None if folder is None else pathlib.Path(folder), program_folder)
-        return int(namespace.run(election, arguments.arguments_of(namespace.arguments, namespace)))
+        return int(namespace.run(election, arguments.arguments_of(namespace.arguments, namespace)) or Status.DONE)
     except console.OutputFailed as fault:
         # a command that changes nothing ends quietly if nobody reads on
         is_quiet = fault.is_closed_pipe and namespace.command in QUIET
         return 128 + signal.SIGPIPE if is_quiet else console.failed(PROGRAM, fault.words, fault.status)
-    except Several as several:
-        for one in several.faults:
-            console.failed(PROGRAM, one.words, one.status)
-        return several.status
     except Fault as fault:
-        return console.failed(PROGRAM, fault.words, fault.status)
+        for one in fault.faults if isinstance(fault, Several) else (fault,):
+            console.failed(PROGRAM, one.words, one.status)
+        return fault.status
     except Overtaken:
         words = "another command changed the election meanwhile, and nothing was changed by this one; run it again"
         return console.failed(PROGRAM, words, Status.DOUBT)

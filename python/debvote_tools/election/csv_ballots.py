@@ -6,105 +6,75 @@ from collections.abc import Collection, Sequence
 from typing import NamedTuple
 
 from debvote_tools.ballots import UNRANKED
-from debvote_tools.election.csv_tables import BadTable, Row, Table, head_form, read_table
+from debvote_tools.election.csv_tables import head_form, read_table
 from debvote_tools.election.came import NOTHING_ADDED
 from debvote_tools.faults import Fault, Status
 from debvote_tools.lines import BLANKS, Line
 
 
 class Columns(NamedTuple):
-    """The heads of the columns that are read: that of the names, and that of each rank in the order of the options."""
+    """The heads of the columns that are read: that of the names, then that of each rank in the order of the options."""
 
-    name: str
-    ranks: list[str]
+    heads: list[str]
     # whether an empty cell is an option that is not ranked
     is_blank_unranked: bool = False
 
-    @property
-    def heads(self) -> list[str]:
-        return [self.name, *self.ranks]
-
 
 def columns_of(name: str, ranks: str, options: Sequence[str], roll: Collection[str], *, is_blank_unranked: bool = False) -> Columns:
-    """The columns that the command line names: one of names, and one of ranks for each option, the default among them.
-
-    The head of the names must not be a name of the roll: the table would have no head line, and its first ballot would be lost.
-    """
-    columns = Columns(name.strip(), heads_in(ranks), is_blank_unranked)
-    if head_form(name) in roll:
-        reason = f"`{columns.name}` is an elector, so the table seems to have no head line"
-        raise bad_columns("--name", reason, "write a head line above the rows, and name the column by its head")
-    if len(columns.ranks) != len(options):
-        listed = ", ".join(f"{number} {option}" for number, option in enumerate(options, start=1))
-        reason = f"it names {len(columns.ranks)} columns, and the poll has {len(options)} options, the default among them: {listed}"
-        raise bad_columns("--ranks", reason, "name a column for each, in this order")
-    forms = [head_form(head) for head in columns.heads]
-    twice = next((head for head, form in zip(columns.heads, forms) if forms.count(form) > 1), None)
-    if twice is not None:
-        raise bad_columns("--name, --ranks", f"the column `{twice}` is named twice", "name each once")
-    return columns
-
-
-def heads_in(ranks: str) -> list[str]:
-    """The heads of a list with commas between; a head with a comma is in quotation marks."""
+    """The columns that the command line names. A head that has a comma is in quotation marks."""
     try:
-        return [head.strip() for head in next(csv.reader([ranks], strict=True, skipinitialspace=True), [])]
+        heads = [head.strip() for head in (name, *next(csv.reader([ranks], strict=True, skipinitialspace=True), []))]
     except csv.Error as error:
         raise bad_columns("--ranks", str(error), "put a head that has a comma into quotation marks") from None
+    # then the first ballot would be lost as the head line
+    if head_form(name) in roll:
+        reason = f"`{heads[0]}` is an elector, so the table seems to have no head line"
+        raise bad_columns("--name", reason, "write a head line above the rows, and name the column by its head")
+    if len(heads) != 1 + len(options):
+        listed = ", ".join(f"{number} {option}" for number, option in enumerate(options, start=1))
+        reason = f"it names {len(heads) - 1} columns, and the poll has {len(options)} options, the default among them: {listed}"
+        raise bad_columns("--ranks", reason, "name a column for each, in this order")
+    forms = [head_form(head) for head in heads]
+    for head, form in zip(heads, forms):
+        if forms.count(form) > 1:
+            raise bad_columns("--name, --ranks", f"the column `{head}` is named twice", "name each once")
+    return Columns(heads, is_blank_unranked)
 
 
 def bad_columns(where: str, reason: str, cure: str) -> Fault:
     return Fault(where, reason, cure, Status.BAD_WORDS, NOTHING_ADDED)
 
 
-# ---------------------------------------------------------------- the table
+def bad_table(where: object, reason: str, cure: str) -> Fault:
+    return Fault(where, reason, cure, Status.BAD_BALLOTS, NOTHING_ADDED)
+
+
 def lines_of_table(data: bytes, file_name: str, columns: Columns) -> list[Line]:
-    """The lines that the rows of a table make. An empty cell stays so, and debvote refuses its line, unless the columns say that
-    it is an option that is not ranked.
-    """
-    try:
-        table = read_table(data, columns.heads)
-    except BadTable as bad:
-        raise Fault(bad.where(file_name), bad.reason, bad.cure, Status.BAD_BALLOTS, NOTHING_ADDED) from None
-    indices = indices_of(table, file_name, columns)
-    lines = []
-    for row in table.rows:
-        demand_width(row, table, file_name)
-        lines.append(line_of(row, indices, file_name, is_blank_unranked=columns.is_blank_unranked))
-    return lines
-
-
-def indices_of(table: Table, file_name: str, columns: Columns) -> list[int]:
-    """The index of the column of names, and that of each rank."""
-    heads = table.heads
+    """The lines that the rows of a table make. Each cell is repaired by itself, so that none becomes a part of another."""
+    table = read_table(data, columns.heads, file_name, bad_table)
+    heads, width = table.heads, len(table.head.cells)
+    indices, lines = [], []
     for column in columns.heads:
         if heads.count(head_form(column)) != 1:
             what = "there is more than one column" if head_form(column) in heads else "there is no column"
             raise bad_columns(file_name, f"{what} `{column}`; its heads are {table.heads_in_words}", "name each by its head")
-    return [heads.index(head_form(column)) for column in columns.heads]
-
-
-def demand_width(row: Row, table: Table, file_name: str) -> None:
-    """Stops at a row that is longer than the head line: its cells are not below their heads."""
-    if row.cells_after(len(table.head.cells)):
-        reason = f"it has {len(row.cells)} cells, and the head line has {len(table.head.cells)}"
-        cure = "put a cell that has the delimiter in it into quotation marks, and add the file again"
-        raise Fault(f"{file_name}: row {row.number}", reason, cure, Status.BAD_BALLOTS, NOTHING_ADDED)
-
-
-def line_of(row: Row, indices: Sequence[int], file_name: str, *, is_blank_unranked: bool) -> Line:
-    """The line of a row, from its cells at these indices: the name, and each rank. Each cell is repaired by itself, so that none
-    becomes a part of another.
-    """
-    place = f": row {row.number}"
-    if row.is_blank:
-        return Line(file_name, place, b"", b"", b"")
-    came = [row.cell(index).encode("utf-8", "backslashreplace") for index in indices]
-    elector, *ranks = [re.sub(rb"[\r\n]+", b" ", cell).strip(BLANKS) for cell in came]
-    if is_blank_unranked and elector:
-        ranks = [rank or UNRANKED.encode() for rank in ranks]
-    whole = line_from(came)
-    return Line(file_name, place, whole, re.sub(rb"[\r\n]+", b" ", whole), line_from([elector.lower(), *ranks]))
+        indices.append(heads.index(head_form(column)))
+    for row in table.rows:
+        place = f": row {row.number}"
+        if row.cells_after(width):
+            reason = f"it has {len(row.cells)} cells, and the head line has {width}"
+            cure = "put a cell that has the delimiter in it into quotation marks, and add the file again"
+            raise bad_table(f"{file_name}{place}", reason, cure)
+        if row.is_blank:
+            lines.append(Line(file_name, place, b"", b"", b""))
+            continue
+        cells = [row.cells[index].encode("utf-8", "backslashreplace") for index in indices]
+        elector, *ranks = [re.sub(rb"[\r\n]+", b" ", cell).strip(BLANKS) for cell in cells]
+        if columns.is_blank_unranked and elector:
+            ranks = [rank or UNRANKED.encode() for rank in ranks]
+        came = line_from(cells)
+        lines.append(Line(file_name, place, came, re.sub(rb"[\r\n]+", b" ", came), line_from([elector.lower(), *ranks])))
+    return lines
 
 
 def line_from(cells: Sequence[bytes]) -> bytes:

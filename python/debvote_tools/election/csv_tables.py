@@ -4,16 +4,14 @@ import codecs
 import csv
 import io
 import re
-from collections.abc import Collection
+from collections.abc import Callable, Collection
 from typing import NamedTuple
 
+from debvote_tools.faults import Fault
 from debvote_tools.file_kinds import kind_of
 from debvote_tools.terminal_text import shown_text
 
 DELIMITERS = {",": "comma", ";": "semicolon", "\t": "tab"}
-
-# the mark that a text begins with, and how it is written
-MARKS = {codecs.BOM_UTF8: "utf-8", codecs.BOM_UTF16_LE: "utf-16-le", codecs.BOM_UTF16_BE: "utf-16-be"}
 
 # longer than a file that is read, so that a cell has no limit of its own
 CELL_LIMIT = 67_108_864
@@ -21,19 +19,12 @@ CELL_LIMIT = 67_108_864
 SAVE_AS = "save it anew as CSV in UTF-8"
 
 
-class BadTable(Exception):
-    """Why a file can't be read as a table: the line that is meant, the reason, and the cure. Who reads the file says its name."""
-
-    def __init__(self, reason: str, cure: str, line: int | None = None) -> None:
-        super().__init__(reason)
-        self.reason, self.cure, self.line = reason, cure, line
-
-    def where(self, file: object) -> str:
-        return f"{file}" if self.line is None else f"{file}:{self.line}"
+# the fault of a file that can't be read as a table, or of a line of it: the caller knows the status, and what is not done
+BadTable = Callable[[object, str, str], Fault]
 
 
 class Row(NamedTuple):
-    """A row with the line of the file where it begins, both counted from 1."""
+    """A row with the line of the file where it begins, both counted from 1. It has at least as many cells as the head line."""
 
     number: int
     line: int
@@ -43,29 +34,21 @@ class Row(NamedTuple):
     def is_blank(self) -> bool:
         return not any(cell.strip() for cell in self.cells)
 
-    def cell(self, index: int) -> str:
-        """The cell at an index; a row may end before it."""
-        return self.cells[index] if index < len(self.cells) else ""
-
     def cells_after(self, width: int) -> list[str]:
         """The cells after the head line's last column that have something in them."""
         return [cell.strip() for cell in self.cells[width:] if cell.strip()]
 
 
 class Table(NamedTuple):
-    """The rows below the head line, blank ones too, and the heads in a form to be compared."""
+    """The rows below the head line, blank ones too."""
 
     head: Row
     rows: list[Row]
 
     @property
     def heads(self) -> list[str]:
+        """The heads in a form to be compared."""
         return [head_form(cell) for cell in self.head.cells]
-
-    @property
-    def width(self) -> int:
-        """How many columns have a head, counted up to the last that has one."""
-        return max((index for index, head in enumerate(self.heads, start=1) if head), default=0)
 
     @property
     def heads_in_words(self) -> str:
@@ -77,12 +60,14 @@ def head_form(head: str) -> str:
     return head.strip().casefold()
 
 
-def read_table(data: bytes, wanted_heads: Collection[str], *, skips_spaces: bool = False) -> Table:
+def read_table(
+    data: bytes, wanted_heads: Collection[str], file: object, bad_table: BadTable, *, skips_spaces: bool = False
+) -> Table:
     """The table of a file, with the delimiter by which most of the wanted heads are found in its first line that is not blank.
 
-    Spaces before a cell may be skipped: then quotation marks after them count as such. Raises `BadTable`.
+    Spaces before a cell may be skipped: then quotation marks after them count as such.
     """
-    text = decoded(data)
+    text = decoded(data, file, bad_table)
     head_line = next((line for line in re.split(r"[\r\n]+", text) if line.strip(' \t,;"')), "")
     wanted = {head_form(head) for head in wanted_heads}
 
@@ -91,44 +76,41 @@ def read_table(data: bytes, wanted_heads: Collection[str], *, skips_spaces: bool
         return len(heads & wanted), head_line.count(delimiter)
 
     delimiter = max(DELIMITERS, key=fitness)
-    rows = rows_in(text, delimiter, skips_spaces=skips_spaces)
-    head = next((row for row in rows if not row.is_blank), None)
-    if head is None:
-        raise BadTable("it is empty", "write the head line, and a line for each row")
-    return Table(head, rows[head.number :])
-
-
-def decoded(data: bytes) -> str:
-    """The text of a file, by its mark; without one it is in UTF-8."""
-    kind = kind_of(data)
-    if kind is not None:
-        raise BadTable(f"it is {kind}, and no CSV", f"open it in the spreadsheet and {SAVE_AS}")
-    mark = next((mark for mark in MARKS if data.startswith(mark)), b"")
-    encoding = MARKS.get(mark, "utf-8")
-    data = data.removeprefix(mark)
-    if encoding == "utf-8" and b"\0" in data:
-        raise BadTable("it is no text in UTF-8, and for one in UTF-16 its mark is missing", SAVE_AS)
-    try:
-        return data.decode(encoding)
-    except UnicodeDecodeError as error:
-        if encoding != "utf-8":
-            raise BadTable("it begins as a text in UTF-16 and is none to its end", SAVE_AS) from None
-        feeds = data.count(b"\n", 0, error.start)
-        seen = shown_text(data.split(b"\n")[feeds].decode("cp1252", "replace"))
-        raise BadTable(f"it is not in UTF-8, but perhaps in Latin-1: {seen}", SAVE_AS, feeds + 1) from None
-
-
-def rows_in(text: str, delimiter: str, *, skips_spaces: bool) -> list[Row]:
-    """All rows of a table. A cell in quotation marks may have line ends in it, and the marks twice."""
     csv.field_size_limit(CELL_LIMIT)
     reader = csv.reader(io.StringIO(text, newline=""), delimiter=delimiter, strict=True, skipinitialspace=skips_spaces)
+    head: Row | None = None
     rows: list[Row] = []
     line = 1
     try:
         for number, cells in enumerate(reader, start=1):
-            rows.append(Row(number, line, cells))
+            row = Row(number, line, cells + [""] * (len(head.cells) - len(cells)) if head else cells)
             line = reader.line_num + 1
+            if head:
+                rows.append(row)
+            elif not row.is_blank:
+                head = row
     except csv.Error as error:
         reason = f"the row that begins here is no row with a {DELIMITERS[delimiter]} between its cells ({error})"
-        raise BadTable(reason, "close each quotation mark, and put nothing between it and the delimiter", line) from None
-    return rows
+        cure = "close each quotation mark, and put nothing between it and the delimiter"
+        raise bad_table(f"{file}:{line}", reason, cure) from None
+    if head is None:
+        raise bad_table(file, "it is empty", "write the head line, and a line for each row")
+    return Table(head, rows)
+
+
+def decoded(data: bytes, file: object, bad_table: BadTable) -> str:
+    """The text of a file, by its mark; without one it is in UTF-8."""
+    kind = kind_of(data)
+    if kind is not None:
+        raise bad_table(file, f"it is {kind}, and no CSV", f"open it in the spreadsheet and {SAVE_AS}")
+    is_utf_16 = data.startswith((codecs.BOM_UTF16_LE, codecs.BOM_UTF16_BE))
+    if b"\0" in data and not is_utf_16:
+        raise bad_table(file, "it is no text in UTF-8, and for one in UTF-16 its mark is missing", SAVE_AS)
+    try:
+        return data.decode("utf-16" if is_utf_16 else "utf-8-sig")
+    except UnicodeDecodeError as error:
+        if is_utf_16:
+            raise bad_table(file, "it begins as a text in UTF-16 and is none to its end", SAVE_AS) from None
+        feeds = error.object.count(b"\n", 0, error.start)
+        seen = shown_text(error.object.split(b"\n")[feeds].decode("cp1252", "replace"))
+        raise bad_table(f"{file}:{feeds + 1}", f"it is not in UTF-8, but perhaps in Latin-1: {seen}", SAVE_AS) from None

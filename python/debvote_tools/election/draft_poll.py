@@ -9,11 +9,15 @@ import tomllib
 from collections.abc import Collection, Mapping, Sequence
 from typing import Any
 
-from debvote_tools.election.election import POLL_FILE, TEXTS
-from debvote_tools.faults import Fault, Status
+from debvote_tools.book import queries
+from debvote_tools.console import tell, tell_as_it_is
+from debvote_tools.election.election import POLL_FILE, TEXTS, Election, History
+from debvote_tools.election.reporting import count_of
+from debvote_tools.faults import Fault, Status, stop_at
 from debvote_tools.files import POLL_LIMIT, file_text, read_whole
 from debvote_tools.plain_names import bad_options, bad_title, plain_options, plain_title, without_accents
-from debvote_tools.sealed_poll import KEYS, is_set, plain_form
+from debvote_tools.sealed_poll import KEYS, SealedPoll, is_set, plain_form, read_plain
+from debvote_tools.sheet import Sheet, sheet_in
 from debvote_tools.terminal_text import LINE_ENDS, shown_text
 
 # the file that `new` writes, with its explanations
@@ -25,13 +29,13 @@ DRAFT_KEYS = ("title", "options", "ratios", "default", "quorum", "wording", "sec
 TEXTS_LIMIT = 524_288
 
 TEXT_NAME = re.compile(r"([1-9][0-9]?)\.txt")
-# what an editor leaves beside a file
+# a file that an editor leaves beside another
 OF_EDITORS = re.compile(r"\..*|.*~|#.*#")
 
 # what follows each cure
 THEN = ", then run debvote-election check"
 
-# what sets a key that is not the secretary's
+# how a key is set that is not the secretary's
 SET_ELSEWHERE = {
     "roll": "the electors are written into members.csv, which roll reads",
     "last_envelope": "close ends the vote",
@@ -48,54 +52,34 @@ FOLDINGS, LONGEST_REAL_NAME = ("en", "de"), 200
 BRACKETS = "([{<"
 
 
-class BadToml(Fault):
-    """The poll can't be read as TOML. What debvote says of the same bytes names line and column."""
-
-
 @dataclasses.dataclass(frozen=True)
 class DraftPoll:
-    """The poll as it is written: the values of its keys, of whatever type, and the texts of options by their numbers.
-
-    What is wrong with them by themselves is in `faults`; `faults_when_sealed` finds more, and debvote the rest in the sealed form.
+    """The poll as it is written: the values of its keys, of whatever type, and the texts of options by their numbers. `faults` has what is
+    wrong with each by itself.
     """
 
     values: Mapping[str, Any]
+    # title and options as people read them, the default last; empty where it is no text
+    title: str
+    names: Sequence[str]
     texts: Mapping[int, str]
-    faults: tuple[Fault, ...] = ()
-    folder: pathlib.Path = pathlib.Path()
-
-    @property
-    def options(self) -> list[Any]:
-        """The options without the default, as they are written."""
-        value = self.values.get("options")
-        return value if isinstance(value, list) else []
-
-    @property
-    def names(self) -> list[str]:
-        """The names of all options, the default last, as people read them; what is no text is empty."""
-        return [read_name(value) for value in (*self.options, self.values.get("default"))]
-
-    @property
-    def title(self) -> str:
-        return read_name(self.values.get("title"))
+    faults: Sequence[Fault]
+    folder: pathlib.Path
 
 
-def read_name(value: object) -> str:
-    return value.strip() if isinstance(value, str) else ""
-
-
-# ---------------------------------------------------------------- reading
 def draft_in(folder: pathlib.Path) -> DraftPoll:
-    """Reads the poll of a folder, and the texts beside it. Raises `Fault` if the poll can't be read at all, as `BadToml`."""
+    """Reads the poll of a folder, and the texts beside it. Raises `Fault` if the poll can't be read at all."""
     file = folder / POLL_FILE
     values = parsed_toml(read_whole(file, POLL_LIMIT, "write it", THEN), file)
-    draft = DraftPoll(values, {}, (), folder)
-    texts, faults = texts_in(folder / TEXTS, len(draft.options))
-    return dataclasses.replace(draft, texts=texts, faults=(*faults_of_keys(values, file), *faults))
+    options = values["options"] if isinstance(values.get("options"), list) else []
+    title, *names = (
+        name.strip() if isinstance(name, str) else "" for name in (values.get("title"), *options, values.get("default"))
+    )
+    texts, faults = texts_in(folder / TEXTS, len(options))
+    return DraftPoll(values, title, names, texts, (*faults_of_keys(values, file), *faults), folder)
 
 
 def parsed_toml(data: bytes, file: pathlib.Path) -> dict[str, Any]:
-    """The keys of a poll and their values."""
     try:
         return tomllib.loads(data.removeprefix(b"\xef\xbb\xbf").decode("utf-8"))
     except UnicodeDecodeError as error:
@@ -105,7 +89,7 @@ def parsed_toml(data: bytes, file: pathlib.Path) -> dict[str, Any]:
         why = "lists are nested too deep"
     except ValueError as error:
         why = str(error)
-    raise BadToml(file, f"it can't be read as TOML 1.0: {why}", f"put it right with an editor{THEN}", Status.BAD_POLL, None)
+    raise bad_poll(file, f"it can't be read as TOML 1.0: {why}", "put it right with an editor")
 
 
 def bad_poll(file: object, reason: str, cure: str) -> Fault:
@@ -124,7 +108,6 @@ def faults_of_keys(values: Mapping[str, Any], file: object) -> list[Fault]:
 
 
 def stranger(key: str, value: object) -> tuple[str, str]:
-    """Why a key is refused, and the cure."""
     shown = shown_text(key)
     if key in SET_ELSEWHERE:
         return f"the key `{shown}` is not written here: {SET_ELSEWHERE[key]}", "take it out"
@@ -152,30 +135,23 @@ def texts_in(folder: pathlib.Path, option_count: int) -> tuple[dict[int, str], l
     except FileNotFoundError:
         return {}, []
     except OSError as error:
-        cure = "put a folder there with a text for each option"
-        return {}, [Fault(folder, error.strerror, cure, Status.BAD_WORDS, None)]
+        return {}, [Fault(folder, error.strerror, "put a folder there with a text for each option", Status.BAD_WORDS, None)]
     for file in files:
+        number = TEXT_NAME.fullmatch(file.name)
         try:
-            number = number_of_text(file, option_count)
+            if number is None or int(number[1]) > option_count:
+                most = f"1.txt to {option_count}.txt" if option_count else "1.txt and so on"
+                cure = f"name it by the number of an option that is not the default, {most}, or move it out of there"
+                raise Fault(file, "it is no text of an option of this poll", cure, Status.BAD_WORDS, None)
             data = read_whole(file, TEXTS_LIMIT, "put a file there that you may read", THEN)
             size += len(data)
-            texts[number] = file_text(data, file, "write it, or take the file away", THEN, refused=LINE_ENDS)
+            texts[int(number[1])] = file_text(data, file, "write it, or take the file away", THEN, refused=LINE_ENDS)
         except Fault as fault:
             faults.append(fault)
     if size > TEXTS_LIMIT:
         reason = f"the texts have {size} bytes together, {TEXTS_LIMIT} are the most"
         faults.append(Fault(folder, reason, f"shorten them{THEN}", Status.BAD_WORDS, None))
     return dict(sorted(texts.items())), faults
-
-
-def number_of_text(file: pathlib.Path, option_count: int) -> int:
-    """The number of the option that a file of this name is about. The default option has no text."""
-    number = TEXT_NAME.fullmatch(file.name)
-    if number is None or int(number[1]) > option_count:
-        most = f"1.txt to {option_count}.txt" if option_count else "1.txt and so on"
-        cure = f"name it by the number of an option that is not the default, {most}, or move it out of there"
-        raise Fault(file, "it is no text of an option of this poll", cure, Status.BAD_WORDS, None)
-    return int(number[1])
 
 
 # ---------------------------------------------------------------- what is wrong with it as a whole
@@ -187,31 +163,25 @@ def faults_when_sealed(draft: DraftPoll, names: Collection[str], language: str) 
         faults.append(bad_poll(file, f"{which}, `{shown_text(bad.name)}`: {bad.reason}", "write it in another way"))
     texts = {draft.folder / TEXTS / f"{number}.txt": text for number, text in draft.texts.items()}
     texts[file] = " | ".join([draft.title, *draft.names])
-    return faults + ballots_in(texts, names, len(draft.names))
+    plain = {as_repaired(name, folding) for folding in FOLDINGS for name in names} - {""}
+    for source, text in texts.items():
+        for ballot in ballots_in(text, plain, len(draft.names)):
+            reason = f"`{shown_text(ballot)}` in it would read as a ballot, if a letter quotes it"
+            faults.append(bad_poll(source, reason, "write it in another way"))
+    return faults
 
 
-def ballots_in(texts: Mapping[pathlib.Path, str], names: Collection[str], option_count: int) -> list[Fault]:
-    """Texts that have one of these names with a rank for each option: quoted in a letter, that would read as a ballot."""
-    by_last_word: dict[str, set[str]] = {}
-    for name in filter(None, (as_repaired(name, language) for language in FOLDINGS for name in names)):
-        by_last_word.setdefault(name.rpartition(" ")[2], set()).add(name)
-    return [
-        bad_poll(file, f"`{shown_text(found)}` in it would read as a ballot, if a letter quotes it", "write it in another way")
-        for file, text in texts.items()
-        for found in ballots_of_text(text, by_last_word, option_count)
-    ]
-
-
-def ballots_of_text(text: str, names_by_last_word: Mapping[str, Collection[str]], option_count: int) -> list[str]:
-    """Names with ranks in a text, after the repairs of a line, and wherever a line of it is broken at a blank."""
+def ballots_in(text: str, names: Collection[str], option_count: int) -> list[str]:
+    """One of these names with a rank for each option, after the repairs of a line, and wherever a line of the text is broken at a blank."""
     ranks = re.compile(rf"(?<![^\s:])(?:{RANK} ?, ?){{{option_count - 1}}}{RANK}(?![0-9])")
+    most_words = max((name.count(" ") + 1 for name in names), default=0)
     found: dict[str, None] = {}
-    for repaired in {as_repaired(text, language): None for language in FOLDINGS}:
+    for repaired in {as_repaired(text, folding): None for folding in FOLDINGS}:
         for match in ranks.finditer(repaired):
-            before = f" {repaired[max(0, match.start() - LONGEST_REAL_NAME) : match.start()]}".rstrip(": ")
-            last_word = before.rpartition(" ")[2].lstrip(BRACKETS)
-            for name in names_by_last_word.get(last_word, ()):
-                if before.endswith(name) and before.removesuffix(name)[-1] in f" {BRACKETS}":
+            words = repaired[max(0, match.start() - LONGEST_REAL_NAME) : match.start()].rstrip(": ").split(" ")
+            before = [" ".join(words[-count:]) for count in range(1, most_words + 1)]
+            for name in (*before, *(words.lstrip(BRACKETS) for words in before)):
+                if name in names:
                     found[f"{name} {match[0]}"] = None
     return list(found)
 
@@ -222,19 +192,17 @@ def as_repaired(text: str, language: str) -> str:
     return " ".join(plain.split())
 
 
-# ---------------------------------------------------------------- sealing
 def sealed_form(
     draft: DraftPoll, roll: Sequence[str], language: str, *, deadline: str | None = None, address: str | None = None
 ) -> bytes:
     """The poll in plain form as it would be sealed, for debvote to say what is wrong with it: what is missing stays missing."""
     names, plain_names, title = draft.names, plain_options(draft.names, language), plain_title(draft.title, language)
-    options = [name if isinstance(value, str) else value for name, value in zip(plain_names, draft.options)]
     texts = [draft.texts.get(number, "") for number in range(1, len(names))]
     made = {key: value for key, value in draft.values.items() if key in DRAFT_KEYS and has_plain_form(value)}
-    for key, value in {"title": title, "default": plain_names[-1], "options": options}.items():
-        # a value of another type stays
-        if isinstance(made.get(key), type(value)):
-            made[key] = value
+    # a value of another type stays
+    made |= {key: name for key, name in {"title": title, "default": plain_names[-1]}.items() if isinstance(made.get(key), str)}
+    if isinstance(made.get("options"), list):
+        made["options"] = [name if isinstance(value, str) else value for name, value in zip(plain_names, made["options"])]
     further = {
         "deadline": deadline,
         "address": address,
@@ -245,3 +213,52 @@ def sealed_form(
     }
     made |= further | {"roll": list(roll)}
     return plain_form({key: made[key] for key in KEYS if key in made and (key not in further or is_set(made[key]))})
+
+
+# ---------------------------------------------------------------- asking debvote
+def checked_poll(election: Election, *, deadline: str | None = None, address: str | None = None) -> tuple[SealedPoll, Sheet]:
+    """The poll as it would be sealed, and its sheet without ballots. All that is wrong with it is said at once."""
+    try:
+        draft = draft_in(election.folder)
+    except Fault as fault:
+        if fault.status == Status.BAD_POLL:
+            # of what is no TOML debvote names line and column
+            tell_as_it_is(election.debvote.run("explain", "--poll", POLL_FILE).text)
+        raise
+    electors, language = queries.electors(election.book), election.language.code
+    roll = [elector.name for elector in electors]
+    people = [*roll, *(elector.who for elector in electors if elector.who)]
+    faults = [*draft.faults, *faults_when_sealed(draft, people, language)]
+    if not roll:
+        faults.append(Fault(None, "there are no electors yet", f"run {election.command('roll')} first", done=None))
+    data = sealed_form(draft, roll or ["nobody"], language, deadline=deadline, address=address)
+    stop_at([*faults, *faults_by_debvote(election, data)])
+    return read_plain(data), sheet_in(election.debvote.answer("count", data).text)
+
+
+def faults_by_debvote(election: Election, poll_bytes: bytes) -> list[Fault]:
+    answer, file = election.debvote.run("explain", "--poll", "/dev/stdin", given=poll_bytes), election.path(POLL_FILE)
+    if not answer.text:
+        words = answer.faults.strip().removeprefix("debvote: ") or f"debvote ended with status {answer.status}"
+        return [Fault(file, words, f"run {election.command('check')} again", answer.status, None)]
+    findings = [line.removeprefix("poll: ") for line in answer.text.splitlines() if line.startswith("poll: ")]
+    cure = f"put it right with an editor, then run {election.command('check')}"
+    return [Fault(file, finding, cure, Status.BAD_POLL, None) for finding in findings]
+
+
+def lacks_codes(election: Election, history: History, poll: SealedPoll) -> bool:
+    return poll.secret and not history.has_codes_on_roll and not all(elector.code for elector in queries.electors(election.book))
+
+
+def tell_poll(poll: SealedPoll, sheet: Sheet) -> None:
+    tell(f"Title: {poll.name}", *([f"  plain: {poll.title}"] if poll.name != poll.title else []), "Options:")
+    texts = poll.explanations or [""] * len(poll.options)
+    for number, (name, plain, text) in enumerate(zip(poll.names, poll.plain_names, [*texts, ""]), start=1):
+        kind = f"majority ratio {sheet.ratios[number]}" if number in sheet.ratios else "the default option"
+        tell(f"{number:3}  {name} ({kind})")
+        if name != plain:
+            tell(f"     plain: {plain}")
+        if text:
+            tell(f"     text: {count_of(len(text.split()), 'word')} from texts/{number}.txt")
+    if sheet.is_more_than:
+        tell("Majority: more than the ratio, where Debian has at least the ratio")

@@ -1,15 +1,19 @@
-"""An election in its folder: the book, and debvote."""
+"""An election in its folder: the book, what its acts say of the election as a whole, and debvote."""
 
+import dataclasses
+import datetime
+import enum
 import functools
 import os
 import pathlib
 import shlex
-from typing import NamedTuple
+from collections.abc import Sequence
+from typing import Any, NamedTuple
 
 from debvote_tools.book import queries
-from debvote_tools.book.book import NAME, Book, DoneAct, open_book
+from debvote_tools.book.acts import ActName
+from debvote_tools.book.book import NAME, Book, DoneAct, from_text, open_book
 from debvote_tools.debvote import Debvote
-from debvote_tools.election.history import History
 from debvote_tools.faults import Fault, Status
 from debvote_tools.language import Language, language_of
 from debvote_tools.sealed_poll import SealedPoll, read_plain
@@ -25,6 +29,89 @@ POLL, POLL_WITH_NAMES, KEYRING = "poll", "poll with names", "keyring"
 OF_VERSION_1 = ("journal", "ballots", "received")
 
 
+class Stage(enum.StrEnum):
+    """How far the election is. After `reopen` it is called again."""
+
+    NEW = "new"
+    CALLED = "called"
+    CLOSED = "closed"
+    PUBLISHED = "published"
+
+
+@dataclasses.dataclass(frozen=True)
+class History:
+    """The acts of a book, in their order."""
+
+    acts: Sequence[DoneAct]
+
+    def named(self, *names: ActName) -> list[DoneAct]:
+        return [act for act in self.acts if act.name in names]
+
+    def since_call(self, *names: ActName) -> list[DoneAct]:
+        """The acts of these names from the call that holds on, itself among them; none before it."""
+        call = self.call
+        return [] if call is None else [act for act in self.named(*names) if act.number >= call.number]
+
+    def act(self, number: int) -> DoneAct:
+        return self.acts[number - 1]
+
+    @property
+    def last(self) -> DoneAct:
+        return self.acts[-1]
+
+    @property
+    def call(self) -> DoneAct | None:
+        """The first call that was not taken back."""
+        taken_back = max((act.number for act in self.named("take back")), default=0)
+        return next((act for act in self.named("call") if act.number > taken_back), None)
+
+    def announced(self, key: str) -> Any:
+        """What the call, or a later act that adds to it, says last of something, as `address`; None if it does not say it."""
+        said = (act.detail.get(key) for act in reversed(self.since_call("call", "extend", "announce")))
+        return next((value for value in said if value is not None), None)
+
+    @property
+    def has_codes_on_roll(self) -> bool:
+        return any(act.detail.get("on_roll") for act in self.named("codes"))
+
+    @property
+    def until(self) -> datetime.datetime | None:
+        """Until when one can vote, with the offset in which it was announced; None if no time was."""
+        until = self.announced("until")
+        return None if until is None else from_text(until)
+
+    @property
+    def closes(self) -> list[DoneAct]:
+        """The closes since the call that holds: those of a call that was taken back are over."""
+        return self.since_call("close")
+
+    @property
+    def is_closed(self) -> bool:
+        acts = self.since_call("close", "reopen")
+        return bool(acts) and acts[-1].name == "close"
+
+    @property
+    def is_reopened(self) -> bool:
+        """Whether the vote was closed once and is open again: then only what came before the first close is in time."""
+        return bool(self.closes) and not self.is_closed
+
+    def is_late(self, came_before_close: bool | None) -> bool:
+        """Whether lines that are entered now are late, by the answer of whoever enters them."""
+        return self.is_closed or (self.is_reopened and not came_before_close)
+
+    def openness(self) -> "History":
+        """The acts on which it depends whether the vote is open, and until when."""
+        return History(self.named("call", "take back", "extend", "close", "reopen"))
+
+    @property
+    def stage(self) -> Stage:
+        if self.call is None:
+            return Stage.NEW
+        if not self.is_closed:
+            return Stage.CALLED
+        return Stage.PUBLISHED if any(act.number > self.closes[-1].number for act in self.since_call("publish")) else Stage.CLOSED
+
+
 class Sealed(NamedTuple):
     """The poll as it was called: what everybody sees, and what ballots are counted by. They differ if the public sees aliases."""
 
@@ -34,11 +121,6 @@ class Sealed(NamedTuple):
     @property
     def is_aliased(self) -> bool:
         return self.public != self.counted
-
-
-def is_signed(book: Book, call: int) -> bool:
-    """Whether letters have to be signed: the act of the call, or a later one, has sealed a keyring."""
-    return queries.last_act_that_sealed(book, KEYRING) >= call
 
 
 class Election:
@@ -57,7 +139,6 @@ class Election:
 
     @functools.cached_property
     def book(self) -> Book:
-        """The book, opened once a run."""
         if not self.path(NAME).is_file():
             raise no_book(self.folder)
         book = open_book(self.path(NAME))
@@ -69,7 +150,6 @@ class Election:
         return language_of(self.book.acts()[0].detail["language"])
 
     def history(self) -> History:
-        """The acts as they are now."""
         return History(self.book.acts())
 
     def sealed(self) -> Sealed:
@@ -94,7 +174,6 @@ class Election:
         return history.call
 
     def command(self, *words: str) -> str:
-        """A command on this election, as a user types it."""
         folder = [] if self.folder == pathlib.Path() else ["--folder", str(self.folder)]
         return shlex.join(["debvote-election", *words[:1], *folder, *words[1:]])
 

@@ -8,44 +8,25 @@ import contextlib
 from collections.abc import Callable, Collection, Iterable, Iterator, Sequence
 from typing import NamedTuple
 
-from debvote_tools.book import lines_by_act
 from debvote_tools.book import queries
 from debvote_tools.book.acts import ActName, Detail
 from debvote_tools.book.book import Book, NewAct, Overtaken
-from debvote_tools.book.queries import NewEnvelope
 from debvote_tools.console import OutputFailed
-from debvote_tools.election.vote import Vote
+from debvote_tools.election.vote import LATE_REPLY, Vote
 from debvote_tools.election.reporting import count_of
 from debvote_tools.faults import Fault, Status
 from debvote_tools.files import BALLOTS_LIMIT, LINES_LIMIT, uninterrupted
 from debvote_tools.lines import Line, name_in
-
-LATE_REPLY = "late"
 
 # in bytes; no ballot has half as many
 LONGEST_LINE = 500
 
 
 class Entered(NamedTuple):
-    """What an act entered."""
+    """What an act entered: the numbers of the envelopes, and the reply to each line, by all lines as the act left them."""
 
-    book: Book
-    vote: Vote
-    act: int
     numbers: range
-    lines: list[bytes]
-    electors: frozenset[int]
-    is_late: bool
-
-    def replies(self) -> list[str]:
-        """The reply to each line, by all lines as the act left them: those of its electors, on whom alone it depends."""
-        if self.is_late:
-            return [LATE_REPLY] * len(self.numbers)
-        before = lines_by_act.lines_after(self.book, self.act - 1, self.electors)
-        try:
-            return self.vote.replies(before, self.lines)
-        except Fault as fault:
-            raise fault.with_done(f"all the same the lines were entered ({envelope_words(self.numbers)})") from None
+    replies: Callable[[], list[str]]
 
 
 @contextlib.contextmanager
@@ -54,7 +35,7 @@ def entered(
     vote: Vote,
     name: ActName,
     detail: Detail,
-    envelopes: Callable[[NewAct], Iterable[NewEnvelope]],
+    envelopes: Callable[[NewAct], Iterable[queries.NewEnvelope]],
     *,
     decided_at: int,
     is_late: bool,
@@ -76,12 +57,23 @@ def entered(
             # whoever enters a ballot sees the reply to it
             stack.enter_context(uninterrupted())
             first = queries.last_envelope(book) + 1
-            new_lines = [envelope.line for envelope in new]
-            electors = electors_of(book, vote, new_lines)
+            lines = [envelope.line for envelope in new]
+            electors = electors_of(book, vote, lines)
             queries.add_envelopes(act, new, electors, is_late=is_late)
         numbers = range(first, first + len(new))
+
+        def replies() -> list[str]:
+            if is_late:
+                return [LATE_REPLY] * len(numbers)
+            # they depend on the lines of the same electors alone
+            before = queries.lines_after(book, act.number - 1, frozenset(filter(None, electors)))
+            try:
+                return vote.replies(before, lines)
+            except Fault as fault:
+                raise fault.with_done(f"all the same the lines were entered ({envelope_words(numbers)})") from None
+
         try:
-            yield Entered(book, vote, act.number, numbers, new_lines, frozenset(filter(None, electors)), is_late)
+            yield Entered(numbers, replies)
         except OutputFailed as fault:
             done = f"all the same {done} ({envelope_words(numbers)})"
             raise Fault(None, "the output failed", "ask debvote-election status", fault.status, done) from None
@@ -94,13 +86,13 @@ def electors_of(book: Book, vote: Vote, lines: Sequence[bytes]) -> list[int | No
     return list(map({name.encode(): number for name, number in numbers.items()}.get, names))
 
 
-def demand_room(book: Book, new: Sequence[NewEnvelope]) -> None:
+def demand_room(book: Book, new: Sequence[queries.NewEnvelope]) -> None:
     """Stops if debvote would no longer take the ballots."""
     added = sum(len(envelope.line) + 1 for envelope in new)
     # the file of the book is longer than all lines in it, so they are counted only if there may be too many
     if queries.last_envelope(book) + len(new) <= LINES_LIMIT and book.size() + added <= BALLOTS_LIMIT:
         return
-    line_count, size = lines_by_act.size_in_time(book)
+    line_count, size = queries.size_in_time(book)
     if line_count + len(new) > LINES_LIMIT or size + added > BALLOTS_LIMIT:
         words = f"with it there would be {count_of(line_count + len(new), 'line')} and {size + added} bytes of ballots"
         cure = f"debvote takes {LINES_LIMIT} lines and {BALLOTS_LIMIT} bytes at most: add less of it"
@@ -118,11 +110,6 @@ def envelope_words(numbers: Collection[int]) -> str:
     return f"envelope{'s' * (len(numbers) != 1)} {', '.join('-'.join(map(str, run)) for run in runs)}"
 
 
-def is_too_long(line: Line) -> bool:
-    """Whether a line is much longer than any ballot."""
-    return len(line.came) > LONGEST_LINE
-
-
-def long_words(line: Line) -> str:
-    """What is said of a line that is much longer than any ballot."""
-    return f"the line has {len(line.came)} bytes, and a ballot has a few dozen"
+def too_long(line: Line) -> str | None:
+    """Why a line is much longer than any ballot; None if it is not."""
+    return f"the line has {len(line.came)} bytes, and a ballot has a few dozen" if len(line.came) > LONGEST_LINE else None

@@ -1,22 +1,24 @@
 """Whether what is entered now comes in time: whether the vote is open, until when, and what is asked after it was opened again."""
 
-import dataclasses
 import datetime
-from typing import NamedTuple
+import re
 
-from debvote_tools import times
 from debvote_tools.arguments import option
 from debvote_tools.console import is_terminal, is_yes
 from debvote_tools.election import acting
-from debvote_tools.election.election import Election
-from debvote_tools.election.history import History
+from debvote_tools.election.election import Election, History
 from debvote_tools.election.reporting import act_time
 from debvote_tools.faults import Fault, Status
+from debvote_tools.times import minute_in_words, now, offset_in_words, time_in_words
 
 CAME_BEFORE_CLOSE = "--came-before-close"
 
+# what --until takes: a date, a time of day, and an offset if the zone is not given otherwise
+OFFSET = re.compile(r"Z|UTC|[+-]\d\d:?\d\d", re.ASCII)
+TIME = re.compile(rf"(\d{{4}}-\d\d-\d\d)[ T]+(\d\d:\d\d(?::\d\d)?)\s*({OFFSET.pattern})?", re.ASCII)
+HOW = 'write it as "2026-12-04 18:00", as "2026-12-04 18:00 +01:00", or with --zone Europe/Berlin'
 
-@dataclasses.dataclass(frozen=True)
+
 class Arguments(acting.Arguments):
     """The options of a command that enters lines."""
 
@@ -25,59 +27,26 @@ class Arguments(acting.Arguments):
     )
 
 
-class Openness(NamedTuple):
-    """Whether the vote is open."""
-
-    # the number of the act that called the vote
-    call: int
-    until: datetime.datetime | None
-    is_closed: bool
-    # when the vote was closed for the first time and the last time
-    first_close: datetime.datetime | None
-    last_close: datetime.datetime | None
-
-    @property
-    def is_reopened(self) -> bool:
-        """Whether somebody has to say of what is entered by hand, or as lines, whether it came before the first close."""
-        return self.first_close is not None and not self.is_closed
-
-    def is_late(self, came_before_close: bool | None) -> bool:
-        """Whether lines that are entered now are late, by the answer of whoever enters them."""
-        return self.is_closed or (self.is_reopened and not came_before_close)
-
-
-def openness_of(history: History) -> Openness:
-    """What the acts say."""
-    call, closes = history.call, history.closes
-    first, last = (closes[0].time, closes[-1].time) if closes else (None, None)
-    return Openness(call.number if call else 0, history.until, history.is_closed, first, last)
-
-
-def notes(election: Election, openness: Openness, what: str) -> list[str]:
+def notes(election: Election, history: History, what: str) -> list[str]:
     """What is said before lines are entered after the end; `what` says what is done with them."""
-    if openness.is_closed:
-        assert openness.last_close is not None
-        return [f"Note: the vote was closed at {act_time(openness.last_close)}; {what} now is late."]
-    if openness.until is not None and times.now() >= openness.until:
-        over = f"one could vote until {times.time_in_words(openness.until)}, and that is over"
+    if history.is_closed:
+        return [f"Note: the vote was closed at {act_time(history.closes[-1].time)}; {what} now is late."]
+    if history.until is not None and now() >= history.until:
+        over = f"one could vote until {time_in_words(history.until)}, and that is over"
         counts = f"{what} counts as long as the vote is not closed, and the page of the result tells how many lines"
         return [f"Note: {over}; {counts}: {election.command('close')}"]
     return []
 
 
-def came_before_close(openness: Openness, answer: str | None, not_done: str) -> bool | None:
-    """Whether what is entered came before the first close, by the option or by an answer at a terminal. None if that does not matter.
-
-    `not_done` says what has not been done if it stops here.
-    """
-    if not openness.is_reopened:
-        if answer is not None and not openness.is_closed:
+def came_before_close(history: History, answer: str | None, not_done: str) -> bool | None:
+    """Whether what is entered came before the first close, by the option or by an answer at a terminal. None if that does not matter."""
+    if not history.is_reopened:
+        if answer is not None and not history.is_closed:
             raise Fault(CAME_BEFORE_CLOSE, "the vote was never closed", "leave it out", Status.BAD_WORDS, not_done)
         return None
     if answer is not None:
         return answer == "yes"
-    assert openness.first_close is not None
-    closed = f"vote was closed at {act_time(openness.first_close)} and opened again"
+    closed = f"vote was closed at {act_time(history.closes[0].time)} and opened again"
     if not is_terminal():
         cure = f"say whether this came before that close: {CAME_BEFORE_CLOSE} yes, or {CAME_BEFORE_CLOSE} no, and then it is late"
         raise Fault(CAME_BEFORE_CLOSE, f"the {closed}, and only what came before counts", cure, Status.DOUBT, not_done)
@@ -85,3 +54,61 @@ def came_before_close(openness: Openness, answer: str | None, not_done: str) -> 
     if said is None:
         raise Fault(None, "nobody said whether it came before the close", "run the command again", Status.DOUBT, not_done)
     return said
+
+
+def parse_until(text: str, zone: str | None, earlier_zone: str | None = None) -> tuple[datetime.datetime, str | None]:
+    """The time that `--until` names, and its zone as it was typed: its own offset, `--zone`, or the zone of the end before; None if it is
+    that of this computer.
+    """
+    parts = TIME.fullmatch(text.strip())
+    if parts is None:
+        raise bad_until("it has to be a time", HOW)
+    date, clock, offset = parts.groups()
+    if offset is not None and zone is not None:
+        raise Fault("--zone", "the time has an offset already", "leave out one of the two", Status.BAD_WORDS)
+    named = next((place for place in (offset, zone, earlier_zone) if place is not None), None)
+    try:
+        plain = datetime.datetime.fromisoformat(f"{date} {clock}")
+        if zone is None and named is not None and OFFSET.fullmatch(named):
+            return (
+                plain.replace(tzinfo=datetime.UTC if named in ("Z", "UTC") else datetime.datetime.strptime(named, "%z").tzinfo),
+                named,
+            )
+        return in_zone(plain, named), named
+    except (ValueError, OverflowError):
+        raise bad_until("there is no such day or time of day (a day goes from 00:00 to 23:59)", HOW) from None
+
+
+def demand_future(time: datetime.datetime, by: datetime.datetime) -> None:
+    if time <= by:
+        clock = minute_in_words(by, time.tzinfo)
+        reason = f"{time_in_words(time)} is over: by the clock of this computer it is {clock}"
+        raise bad_until(reason, "write a time that is to come")
+
+
+def in_zone(plain: datetime.datetime, name: str | None) -> datetime.datetime:
+    """The time of a clock in a zone, or of the clock of this computer. The clock has to show it just once."""
+    # it takes a while to be imported, and a desk needs no zones
+    import zoneinfo
+
+    try:
+        zone = None if name is None else zoneinfo.ZoneInfo(name)
+    except (zoneinfo.ZoneInfoNotFoundError, ValueError, OSError):
+        cure = "write one as Europe/Berlin, or give the offset in the time, as +01:00"
+        raise Fault("--zone", "this computer knows no time zone of this name", cure, Status.BAD_WORDS) from None
+    folded = [plain.replace(fold=fold) for fold in (0, 1)]
+    first, second = (time.astimezone() if zone is None else time.replace(tzinfo=zone) for time in folded)
+    is_shown = any(time.astimezone(datetime.UTC).astimezone(zone).replace(tzinfo=None) == plain for time in (first, second))
+    where = "where this computer is" if name is None else f"in {name}"
+    if not is_shown:
+        raise bad_until(f"{where} there is no such time: on that day clocks are put forward over it", "write another time")
+    if first.utcoffset() != second.utcoffset():
+        offsets = [offset_in_words(time).removeprefix("UTC") or "UTC" for time in (first, second)]
+        both = " or ".join(f'"{plain:%Y-%m-%d %H:%M} {offset}"' for offset in offsets)
+        raise bad_until(f"{where} this time comes twice, since on that day clocks are put back", f"write {both}")
+    # a fixed offset in place of the zone: what is written down says the same on each computer
+    return datetime.datetime.fromisoformat(first.isoformat(timespec="seconds"))
+
+
+def bad_until(reason: str, cure: str) -> Fault:
+    return Fault("--until", reason, cure, Status.BAD_WORDS)

@@ -6,13 +6,12 @@ import pathlib
 import shutil
 from collections.abc import Iterator, Mapping
 
-from debvote_tools import pages
 from debvote_tools.book.sent import TAKEN, SentLetter
 from debvote_tools.election.letters_due import LettersDue
 from debvote_tools.files import TEMPORARY, sync_folder, temporary_folder
 from debvote_tools.letters_out.compose import PACKAGE
 from debvote_tools.letters_out.message import message_of, one_line
-from debvote_tools.rendering import render_page
+from debvote_tools.rendering import render_page, resources
 
 TO_PRINT = "to-print.html"
 
@@ -38,7 +37,7 @@ def letter_files(due: LettersDue) -> dict[str, bytes]:
             name = f"{elector.name}_{len(files)}" if f"{elector.name}.eml" in files else elector.name
             files[f"{name}.eml"] = message(due, letter, is_draft=True)
     if printed:
-        call, style = due.composer.call, pages.resource(PACKAGE, "letter.css")
+        call, style = due.composer.call, resources(PACKAGE, "letter.css")
         files[TO_PRINT] = render_page(PACKAGE, "print.html", call.language, style=style, title=call.poll.name, letters=printed)
     return files
 
@@ -56,9 +55,8 @@ def in_place(files: Mapping[str, bytes], place: pathlib.Path) -> Iterator[None]:
     made, before = temporary_folder(place.parent), temporary_folder(place.parent)
     try:
         for name, data in files.items():
-            handle = os.open(made / name, os.O_WRONLY | os.O_CREAT | os.O_EXCL, 0o600)
-            with open(handle, "wb") as target:
-                target.write(data)
+            (made / name).touch(0o600)
+            (made / name).write_bytes(data)
         os.sync()
         has_before = place.is_dir()
         if has_before:
@@ -79,7 +77,6 @@ def in_place(files: Mapping[str, bytes], place: pathlib.Path) -> Iterator[None]:
 
 
 def make_own(folder: pathlib.Path) -> None:
-    """Makes a folder and the one above it, for its owner alone."""
     for one in (folder.parent, folder):
         one.mkdir(mode=0o700, exist_ok=True)
         one.chmod(0o700)

@@ -1,36 +1,29 @@
 """What is told of letters: what goes in, what waits and why, and a letter line by line."""
 
-import datetime
 from collections.abc import Iterator, Sequence
 
-from debvote_tools.election.line_words import IS_CODE, LineWords
+from debvote_tools.election.vote import IS_CODE, Vote
 from debvote_tools.election.entering import Entered
 from debvote_tools.election.reporting import act_time, count_of
 from debvote_tools.letters.judge import JudgedLetter, Outcome
 from debvote_tools.letters.reasons import for_secretary
-from debvote_tools.letters.sources import PassedOver
 from debvote_tools.terminal_text import shown_line, shown_text
 
 
-def time_words(time: datetime.datetime | None) -> str:
-    return "at a time that is not known" if time is None else act_time(time)
-
-
 def who_and_when(letter: JudgedLetter) -> str:
-    """A letter by its number, its sender, and when it arrived."""
     parsed = letter.parsed
     number = f"letter {letter.number}" if letter.number else shown_text(parsed.where)
-    return f"{number}, from {shown_text(parsed.shown_sender) or 'nobody'}, {time_words(parsed.arrived)}"
+    time = "at a time that is not known" if parsed.arrived is None else act_time(parsed.arrived)
+    return f"{number}, from {shown_text(parsed.shown_sender) or 'nobody'}, {time}"
 
 
-def going_in(letter: JudgedLetter, words: LineWords, *, is_late: bool) -> Iterator[str]:
-    """A letter whose ballot goes in."""
+def going_in(letter: JudgedLetter, vote: Vote, *, is_late: bool) -> Iterator[str]:
     ballot = letter.ballots[0]
     yield f"{who_and_when(letter)}: goes in{', and is late' if is_late else ''}"
     written = letter.parsed.shown_lines[ballot.number - 1]
     if written.strip() != ballot.ballot:
         yield f"  `{shown_line(written.encode())}` is read as `{ballot.ballot}`"
-    yield f"  {words.ballot(ballot.ballot)}"
+    yield f"  {vote.ballot_in_words(ballot.ballot)}"
     if letter.other_words:
         yield f"  other words: {letter.other_words}"
     if letter.shared_with:
@@ -38,14 +31,12 @@ def going_in(letter: JudgedLetter, words: LineWords, *, is_late: bool) -> Iterat
     yield from code_words(letter)
 
 
-def reply_words(words: LineWords, done: Entered, ballots: Sequence[str]) -> Iterator[str]:
-    """The reply to each ballot that went in."""
+def reply_words(vote: Vote, done: Entered, ballots: Sequence[str]) -> Iterator[str]:
     for number, reply, ballot in zip(done.numbers, done.replies(), ballots):
-        yield f"{number} {reply}  {words.ballot(ballot)}"
+        yield f"{number} {reply}  {vote.ballot_in_words(ballot)}"
 
 
 def waiting(letter: JudgedLetter) -> Iterator[str]:
-    """A letter that waits, and why."""
     reason = "it goes in when you add it again" if letter.reason is None else for_secretary(letter.reason)
     since = "; has voted since" if letter.has_voted_since else ""
     yield f"{who_and_when(letter)}: {reason}{since}"
@@ -56,23 +47,15 @@ def waiting(letter: JudgedLetter) -> Iterator[str]:
 
 
 def code_words(letter: JudgedLetter) -> Iterator[str]:
-    """The lines of a letter that have what looks like a code."""
     yield from (f"  line {number}{IS_CODE}" for number in letter.code_lines)
 
 
 def near_words(letter: JudgedLetter) -> Iterator[str]:
-    """The lines of a letter that are a ballot, or near to one."""
     for line in (*letter.ballots, *letter.offered):
         yield f"line {line.number}: {line.ballot}"
     for near in letter.near:
         within = ", within other words" if near.is_within else ""
         yield f"line {near.number}, `{shown_text(near.ballot)}`{within}: {near.answer or 'a ballot, but not alone on its line'}"
-
-
-def passed_over_words(passed_over: Sequence[PassedOver]) -> Iterator[str]:
-    """What is no letter, and what to do about it."""
-    for one in passed_over:
-        yield f"{shown_text(one.where)}: {one.why.what}, and is passed over; {one.why.cure}"
 
 
 def whole(letter: JudgedLetter) -> Iterator[str]:
@@ -90,7 +73,6 @@ def whole(letter: JudgedLetter) -> Iterator[str]:
 
 
 def counts(letters: Sequence[JudgedLetter], entered: int) -> str:
-    """How many letters went in and how many wait."""
     copies = sum(letter.outcome is Outcome.COPY for letter in letters)
     waits = sum(letter.outcome is Outcome.WAITS for letter in letters)
     parts = [f"{count_of(entered, 'ballot')} of letters went in", f"{count_of(waits, 'letter waits', 'letters wait')}"]

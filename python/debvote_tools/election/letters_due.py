@@ -1,31 +1,28 @@
 """Which letters of a kind are due, and what each says: those that were written before and wait for the server, and new ones."""
 
 import datetime
-from collections.abc import Callable, Iterable, Mapping, Sequence
+from collections.abc import Callable, Sequence
 
-from debvote_tools.book import lines_by_act, queries, sent
-from debvote_tools.book.book import DoneAct
-from debvote_tools.book.queries import Elector
+from debvote_tools.addresses import address_key
+from debvote_tools.book import letters, queries, sent
+from debvote_tools.book.queries import Elector, Envelope
 from debvote_tools.book.sent import BEGUN, POSTPONED, REFUSED, TAKEN, WRITTEN, About, SentLetter
 from debvote_tools.call.data import is_mail_address
 from debvote_tools.call.files import call_letter, extension_letter
 from debvote_tools.debvote import casting_words
-from debvote_tools.election import closing_letter
-from debvote_tools.election.call_now import current_data
-from debvote_tools.election.election import Election
-from debvote_tools.election.history import History
-from debvote_tools.election.publication import Words, chronicle_of, last_publication
-from debvote_tools.election.what_came import waits_of, what_came
+from debvote_tools.election import letters_in
+from debvote_tools.election.publication import Words, chronicle_of, closing_letter, current_data, last_publication
+from debvote_tools.election.election import Election, History
+from debvote_tools.election.vote import Vote
 from debvote_tools.faults import Fault, Status
-from debvote_tools.letters_out.compose import Came, Composer, Kind
+from debvote_tools.letters.judge import JudgedLetter, Outcome
+from debvote_tools.letters_out.compose import Became, Came, Composer, Kind
 from debvote_tools.letters_out.message import new_message_id
 from debvote_tools.lines import ballot_file
-from debvote_tools.publish.casting_vote import told_if_it_decides
 from debvote_tools.publish.done import told_acts
 from debvote_tools.publish.doubts import Doubt, sentences_of
 from debvote_tools.publish.inputs import Publication
-from debvote_tools.publish.result_letter import outcome_in_words
-from debvote_tools.rendering import InText
+from debvote_tools.publish.result_letter import outcome_in_words, told_if_it_decides
 from debvote_tools.secret.words import BY_PYTHON
 from debvote_tools.sheet import sheet_in
 from debvote_tools.times import now
@@ -54,19 +51,13 @@ class LettersDue:
         # those who have the call, each at an address, where the letter of an extension is due
         self.had_call: set[tuple[int, str]] = set()
         self.electors = {elector.number: elector for elector in queries.electors(election.book)}
-        plans = {
-            Kind.CALL: self.call,
-            Kind.RECEIPTS: self.receipts,
-            Kind.REMINDERS: self.reminders,
-            Kind.CLOSED: self.closed,
-            Kind.RESULT: self.result,
-        }
-        self.for_act, self.new, self.written, self.text_of = plans[kind]()
+        # each kind has a method of its name
+        plan: Plan = getattr(self, kind)()
+        self.for_act, self.new, self.written, self.text_of = plan
 
     @property
     def waiting(self) -> list[SentLetter]:
-        """The letters that a server can take now."""
-        return [one for one in (*self.written, *self.new) if one.address and one.state in (WRITTEN, POSTPONED)]
+        return list(filter(can_be_sent, (*self.written, *self.new)))
 
     @property
     def cut_off(self) -> list[SentLetter]:
@@ -88,7 +79,13 @@ class LettersDue:
         """The call to each elector; after an extension that, to those who have the call."""
         self.demand_not_over()
         acts = self.history.since_call("call", "extend")
-        self.had_call = have([letter for letter in self.letters if acts[0].number <= letter.for_act < acts[-1].number])
+        earlier = [letter for letter in self.letters if acts[0].number <= letter.for_act < acts[-1].number]
+        sent_for = {letter.for_act for letter in earlier if letter.state != WRITTEN}
+        for letter in earlier:
+            # a server has taken it, it is on paper, or all for its act were written as files
+            is_out = letter.state == WRITTEN and not (letter.address and letter.for_act in sent_for)
+            if is_out or letter.state == TAKEN:
+                self.had_call.add((letter.elector, letter.address))
         whole, extension = call_letter(self.composer.call), extension_letter(self.composer.call)
 
         def text_of(elector: Elector, letter: SentLetter) -> str:
@@ -98,51 +95,59 @@ class LettersDue:
         return self.to_each(acts[-1].number, text_of)
 
     def reminders(self) -> Plan:
-        """A letter to each elector without a ballot that stands. A run of this day that was cut off goes on; else each run is a new one."""
+        """A letter to each elector whose ballot does not count yet. A run of this day that was cut off goes on; else each run is a new one."""
         self.demand_not_over()
         came = what_came(self.election, self.history, is_over=False)
-        silent = {number: elector for number, elector in self.electors.items() if elector.name not in came.standing}
+        voted = {number for number, items in came.items() if any(one.became is Became.COUNTS for one in items)}
+        silent = {number: elector for number, elector in self.electors.items() if number not in voted}
         last = max((letter.for_act for letter in self.letters), default=0)
         of_last = [letter for letter in self.letters if letter.for_act == last and letter.elector in silent]
-
-        def has_address_of_now(letter: SentLetter) -> bool:
-            return letter.address == address_in(silent[letter.elector].addresses)
-
-        def is_cut_off(letter: SentLetter) -> bool:
-            """Whether a server can take it, and a run of this day has not sent it."""
-            is_of_this_day = self.time - letter.time < LASTING and has_address_of_now(letter)
-            return is_of_this_day and bool(letter.address) and letter.state in (WRITTEN, POSTPONED)
-
-        goes_on = self.is_sending and any(map(is_cut_off, of_last))
+        # to the address of now
+        good = {letter for letter in of_last if letter.address == address_in(silent[letter.elector].addresses)}
+        goes_on = self.is_sending and any(can_be_sent(letter) and self.time - letter.time < LASTING for letter in good)
+        written = [letter for letter in of_last if letter.state == BEGUN or (goes_on and letter in good)]
 
         def text_of(elector: Elector, letter: SentLetter) -> str:
-            return self.composer.reminder(elector, waits_of(came.by_elector[elector.number]))
+            waits = [one for one in came[elector.number] if one.became in (Became.WAITS, Became.ELSEWHERE)]
+            return self.composer.reminder(elector, waits)
 
-        written = [letter for letter in of_last if letter.state == BEGUN or (goes_on and has_address_of_now(letter))]
-        if goes_on:
-            return last, [], written, text_of
-        for_act = self.history.last.number + 1
-        return for_act, [self.letter_to(elector, for_act) for elector in silent.values()], written, text_of
+        for_act = last if goes_on else self.history.last.number + 1
+        new = [] if goes_on else [self.letter_to(elector, for_act) for elector in silent.values()]
+        return for_act, new, written, text_of
 
     def receipts(self) -> Plan:
         """A letter to each elector about all that came since the last one, also to an address that they had before."""
         came = what_came(self.election, self.history, is_over=self.composer.is_over)
         for_act, new = self.history.last.number + 1, []
         told = {(letter.elector, key) for letter in self.letters if not self.failed_elsewhere(letter) for key in letter.about}
-        old = old_addresses(self.election, self.history, self.letters)
-        for number, items in came.by_elector.items():
+        old = self.old_addresses()
+        for number, items in came.items():
             elector, keys = self.electors[number], [one.key for one in items if (number, one.key) not in told]
             addresses = dict.fromkeys([address_in(elector.addresses), *old.get(number, [])]) if keys else []
             new += [self.letter_to(elector, for_act, address, keys) for address in addresses]
 
         def text_of(elector: Elector, letter: SentLetter) -> str:
-            return self.composer.receipt(elector, about_now(letter.about, came.by_elector[elector.number]))
+            return self.composer.receipt(elector, about_now(letter.about, came[elector.number]))
 
-        waiting = [one for one in self.letters if one.state in (WRITTEN, POSTPONED, BEGUN) and one.address]
-        waiting = [one for one in waiting if not (self.failed_elsewhere(one) and is_written_anew(one, (*self.letters, *new)))]
+        def is_written_anew(letter: SentLetter) -> bool:
+            """Whether a later receipt to the same address tells all that this one does."""
+            same = [one for one in (*self.letters, *new) if (one.elector, one.address) == (letter.elector, letter.address)]
+            return any(one.for_act > letter.for_act and set(letter.about) <= set(one.about) for one in same)
+
+        waiting = [one for one in self.letters if can_be_sent(one) or one.state == BEGUN]
+        waiting = [one for one in waiting if not (self.failed_elsewhere(one) and is_written_anew(one))]
         # not to those who are no longer on the list, nor about a letter that is a ballot now, of which a new one tells
-        there = [one for one in waiting if one.elector in self.electors and about_now(one.about, came.by_elector[one.elector])]
+        there = [one for one in waiting if one.elector in self.electors and about_now(one.about, came[one.elector])]
         return for_act, new, there if self.is_sending else [], text_of
+
+    def old_addresses(self) -> dict[int, list[str]]:
+        """The addresses that electors had before the list was changed after the call, if no receipt was written to them since."""
+        last = {letter.elector: letter.for_act for letter in self.letters}
+        before = sent.addresses_before(self.election.book, self.election.called(self.history).number)
+        return {
+            elector: [address for act, old in lists if act > last.get(elector, 0) and (address := address_in(old))]
+            for elector, lists in before.items()
+        }
 
     def failed_elsewhere(self, letter: SentLetter) -> bool:
         """Whether no server has taken it, and its elector has the address no longer. A file may have gone out by a mail program, unless it
@@ -152,38 +157,46 @@ class LettersDue:
         return letter.state in states and elector is not None and letter.address not in elector.addresses
 
     def closed(self) -> Plan:
-        """The letter of the close to each elector."""
         if not self.history.is_closed:
             cure = f"run {self.election.command('close')} first"
             raise Fault(self.kind, "the vote is not closed", cure, Status.DOUBT, "nothing was written")
-        text = closing_letter.letter(self.history, self.composer.call.poll, self.election.language).decode()
+        text = closing_letter(self.history, self.composer.call.poll, self.election.language).decode()
         return self.to_each(
             self.history.closes[-1].number, lambda elector, letter: self.composer.text(self.kind, elector, letter=text)
         )
 
     def result(self) -> Plan:
-        """The result to each elector."""
         act = last_publication(self.history)
         if act is None or not self.history.is_closed:
             cure = f"run {self.election.command('publish')} first"
             raise Fault(None, "nothing is published", cure, Status.DOUBT, "nothing was written")
         if self.composer.call.at is None:
-            words = "the letter has to say where the result is published"
-            raise Fault("--at", words, "give its address with --at URL", Status.BAD_WORDS, "nothing was written")
-        values, standing = result_of(self.election, self.history, act)
-
-        def text_of(elector: Elector, letter: SentLetter) -> str:
-            return self.composer.text(self.kind, elector, has_ballot=elector.name in standing, **values)
-
-        return self.to_each(act.number, text_of)
+            reason = "the letter has to say where the result is published"
+            raise Fault("--at", reason, "give its address with --at URL", Status.BAD_WORDS, "nothing was written")
+        language, sealed, words = self.election.language, self.election.sealed(), Words(**act.detail["words"])
+        poll, ballots = sealed.counted.as_bytes(), ballot_file(queries.lines_after(self.election.book, act.number))
+        sheet = sheet_in(self.election.debvote.answer("count", poll, ballots, *casting_words(words.casting)).text)
+        standing = self.election.debvote.standing(poll, ballots)
+        chronicle = chronicle_of(self.election.book, History(self.history.acts[: act.number]), is_secret=sealed.is_aliased)
+        publication = Publication(sealed.public, b"", language=language, casting=words.vote, chronicle=chronicle)
+        values: dict[str, object] = {
+            "ended": outcome_in_words(publication, sheet),
+            "casting": told_if_it_decides(publication, sheet),
+            "checksums": act.detail["checksums"],
+            "doubts": sentences_of(map(Doubt.from_data, act.detail["doubts"]), language, is_secret=sealed.is_aliased),
+            "because": words.because,
+            "acts": told_acts(publication, language),
+        }
+        return self.to_each(
+            act.number,
+            lambda elector, _: self.composer.text(self.kind, elector, has_ballot=elector.name in standing, **values),
+        )
 
     def demand_not_over(self) -> None:
-        """Stops if nobody can vote any more."""
         if self.composer.is_over:
             cure = f"see {self.election.command('status')}"
             raise Fault(self.kind, "the time to vote is over, so nobody is invited", cure, Status.DOUBT, "nothing was written")
 
-    # ------------------------------------------------------------ letters
     def letter_to(self, elector: Elector, for_act: int, address: str | None = None, about: Sequence[About] = ()) -> SentLetter:
         """A letter that is not written yet."""
         address = address_in(elector.addresses) if address is None else address
@@ -198,64 +211,71 @@ class LettersDue:
         return for_act, new, [written for _, written in found if written is not None], text_of
 
 
+def can_be_sent(letter: SentLetter) -> bool:
+    """Whether a server can take a letter now. One to be printed has no address."""
+    return bool(letter.address) and letter.state in (WRITTEN, POSTPONED)
+
+
 def address_in(addresses: Sequence[str]) -> str:
     """The first of some addresses that every mail server takes; empty if there is none."""
     return next(filter(is_mail_address, addresses), "")
 
 
-def have(letters: Sequence[SentLetter]) -> set[tuple[int, str]]:
-    """The electors who have one of some letters, and at which address: a server has taken it, it is on paper, or all for its act were
-    written as files.
-    """
-    sent_for = {letter.for_act for letter in letters if letter.state != WRITTEN}
-    return {
-        (letter.elector, letter.address)
-        for letter in letters
-        if letter.state == TAKEN or (letter.state == WRITTEN and not (letter.address and letter.for_act in sent_for))
-    }
+# ---------------------------------------------------------------- what came, and what became of it
+def what_came(election: Election, history: History, *, is_over: bool) -> dict[int, list[Came]]:
+    """Judges all letters and all lines as they are now: what came of each elector, in the order of its times. debvote is started twice."""
+    envelopes, kept, electors = queries.envelopes(election.book), letters.letters(election.book), queries.electors(election.book)
+    came: dict[int, list[Came]] = {elector.number: [] for elector in electors}
+    answers = Vote(election, history).answers([envelope.line for envelope in envelopes])
+    # the last valid line of each elector counts
+    last = {one.elector: one.number for one in envelopes if one.struck is None and not one.is_late and answers[one.line] is None}
+
+    def became(envelope: Envelope) -> Became:
+        if envelope.struck is not None:
+            return Became.TAKEN_BACK if history.act(envelope.struck).name == "undo" else Became.STRUCK
+        if envelope.is_late:
+            return Became.LATE
+        if answers[envelope.line] is not None:
+            return Became.REFUSED
+        if last[envelope.elector] != envelope.number:
+            return Became.REPLACED
+        return Became.COUNTS_AT_THE_END if is_over else Became.COUNTS
+
+    for envelope in envelopes:
+        if envelope.elector in came:
+            answer = answers[envelope.line]
+            key = ("envelope", envelope.number, envelope.struck is not None)
+            ranks = "" if answer is not None else envelope.line.decode("ascii").partition(" ")[2]
+            came[envelope.elector].append(Came(key, became(envelope), envelope.time, ranks=ranks, answer=answer or ""))
+    by_name = {elector.name: elector for elector in electors}
+    entered_of = {(envelope.letter, envelope.elector) for envelope in envelopes}
+    kept_at = {letter.number: history.act(letter.act).time for letter in kept}
+    for letter in letters_in.judged(election, history, kept):
+        # whoever sent it gets to know, too, if its ballot is in another's name
+        sender = letter.circumstances.elector_of(letter.parsed)
+        concerned = [*letter.electors, *([sender] if sender else [])]
+        for elector in dict.fromkeys(filter(None, map(by_name.get, concerned))):
+            if (letter.number, elector.number) not in entered_of:
+                came[elector.number] += came_of_letter(letter, elector, kept_at[letter.number])
+    return {number: sorted(items, key=lambda one: one.time) for number, items in came.items()}
 
 
-# ---------------------------------------------------------------- receipts
-def old_addresses(election: Election, history: History, receipts: Iterable[SentLetter]) -> dict[int, list[str]]:
-    """The addresses that electors had before the list was changed after the call, if no receipt was written to them since."""
-    assert history.call is not None
-    last = {letter.elector: letter.for_act for letter in receipts}
-    before = sent.addresses_before(election.book, history.call.number)
-    return {
-        elector: [address for act, old in lists if act > last.get(elector, 0) and (address := address_in(old))]
-        for elector, lists in before.items()
-    }
-
-
-def is_written_anew(letter: SentLetter, receipts: Iterable[SentLetter]) -> bool:
-    """Whether a later receipt to the same address tells all that this one does."""
-    later = (
-        one for one in receipts if (one.elector, one.address) == (letter.elector, letter.address) and one.for_act > letter.for_act
-    )
-    return any(set(letter.about) <= set(one.about) for one in later)
+def came_of_letter(letter: JudgedLetter, elector: Elector, kept: datetime.datetime) -> list[Came]:
+    """What became of a letter that entered no line for this elector. A copy is the letter that it copies."""
+    if letter.outcome not in (Outcome.WAITS, Outcome.GOES_IN, Outcome.SET_ASIDE):
+        return []
+    is_own = letter.parsed.sender in map(address_key, elector.addresses)
+    # a program would answer, and be answered; and our own letter, which comes back, has the name of its elector
+    if letter.parsed.is_automatic and (is_own or not letter.ballots):
+        return []
+    key, time = ("letter", letter.number, False), letter.parsed.arrived or kept
+    is_aside = letter.outcome is Outcome.SET_ASIDE
+    if not is_own:
+        return [Came(key, Became.ELSEWHERE_SET_ASIDE if is_aside else Became.ELSEWHERE, time)]
+    return [Came(key, Became.SET_ASIDE if is_aside else Became.WAITS, time, because=letter.reason, near=letter.near)]
 
 
 def about_now(about: Sequence[About], came: Sequence[Came]) -> list[Came]:
     """What a receipt is about, as it is now: a ballot may have been struck since it was written."""
     numbers = {key[:2] for key in about}
     return [one for one in came if one.key[:2] in numbers]
-
-
-# ---------------------------------------------------------------- the result
-def result_of(election: Election, history: History, act: DoneAct) -> tuple[dict[str, object], Mapping[str, str]]:
-    """What the letters of a publication say, and the ballots that stood then."""
-    language, sealed, words = election.language, election.sealed(), Words(**act.detail["words"])
-    poll, ballots = sealed.counted.as_bytes(), ballot_file(lines_by_act.lines_after(election.book, act.number))
-    sheet = sheet_in(election.debvote.answer("count", poll, ballots, *casting_words(words.casting)).text)
-    chronicle = chronicle_of(election.book, History(history.acts[: act.number]), is_secret=sealed.is_aliased)
-    publication = Publication(sealed.public, b"", language=language, casting=words.vote, chronicle=chronicle)
-    doubts = [Doubt.from_data(doubt) for doubt in act.detail["doubts"]]
-    values: dict[str, object] = {
-        "ended": outcome_in_words(publication, sheet),
-        "casting": told_if_it_decides(publication, sheet),
-        "checksums": act.detail["checksums"],
-        "doubts": sentences_of(doubts, language, is_secret=sealed.is_aliased),
-        "because": words.because,
-        "acts": told_acts(publication, InText(language)),
-    }
-    return values, election.debvote.standing(poll, ballots)

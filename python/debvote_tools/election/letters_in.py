@@ -1,27 +1,26 @@
-"""Letters that come: they are kept as they came, judged by what the book says now, and those that are plainly ballots go in.
-
-1. `read` reads mailboxes and folders whole; `keep` keeps the letters that are new, before anything is shown of them.
-2. `judged` judges all letters that the book has, by list, time and book as they are.
-3. `plan_of` says which go in; after the secretary's yes `enter` enters them, if it is still the same plan.
+"""Letters that come: `add` keeps those that are new as they came, judges all by what the book says now, and enters the ballots of those
+that are plainly ballots.
 """
 
 import contextlib
-import dataclasses
 import pathlib
 from collections.abc import Collection, Iterator, Mapping, Sequence
 
 from debvote_tools import times
+from debvote_tools.arguments import given
 from debvote_tools.book import letters, queries
 from debvote_tools.book.acts import Detail
-from debvote_tools.book.book import Book, NewAct
+from debvote_tools.book.book import NewAct, Overtaken
 from debvote_tools.book.letters import KeptLetter
 from debvote_tools.book.queries import NewEnvelope
-from debvote_tools.election.vote import Vote, vote_of
+from debvote_tools.console import is_terminal, is_yes, tell
+from debvote_tools.election import acting, letter_words
+from debvote_tools.election.adding import Arguments
 from debvote_tools.election.came import NOTHING_ADDED, CameFile, safe
-from debvote_tools.election.election import KEYRING, Election, is_signed
-from debvote_tools.election.entering import Entered, entered
-from debvote_tools.election.history import History
-from debvote_tools.election.in_time import openness_of
+from debvote_tools.election.election import KEYRING, Election, History
+from debvote_tools.election.entering import entered
+from debvote_tools.election.reporting import count_of
+from debvote_tools.election.vote import Vote
 from debvote_tools.faults import Fault, Status
 from debvote_tools.files import sha256_of
 from debvote_tools.letters.circumstances import Ballot, Circumstances, Decision
@@ -33,11 +32,38 @@ from debvote_tools.letters.signatures import find_gpgv, verified
 from debvote_tools.letters.sources import PassedOver, RawLetter, letters_of_file, letters_of_folder
 from debvote_tools.lines import CODE_WITHIN
 from debvote_tools.secret.codes import looks_like_code
+from debvote_tools.terminal_text import shown_text
 
 SLOW = Reason.SLOW_SIGNATURE()
 
 
-# ---------------------------------------------------------------- what came
+def take_letters(election: Election, vote: Vote, files: Mapping[str, CameFile | None], arguments: Arguments) -> None:
+    """Keeps the letters that are new, and enters the ballots that go in; or tells what would become of them."""
+    if of_lines := given(arguments, "csv", "again", "force"):
+        words = "it is about lines and tables, and these are letters"
+        raise Fault(", ".join(of_lines), words, "leave it out", Status.BAD_WORDS, NOTHING_ADDED)
+    raws, passed_over = read(files)
+    if not arguments.look:
+        acting.book_for_act(election, arguments)
+    new = new_of(election, raws)
+    found = parsed(election, new)
+    if not arguments.look:
+        keep(election, new, found)
+    tell(*(f"{shown_text(one.where)}: {one.why.what}, and is passed over; {one.why.cure}" for one in passed_over))
+    if not arguments.look:
+        tell(f"{count_of(len(new), 'new letter')}; {len(raws) - len(new)} came before.")
+        enter_letters(election, vote, is_agreed=arguments.yes)
+        return
+    history = election.history()
+    all_letters = judged(election, history, letters.letters(election.book), found)
+    tell_letters(vote, all_letters, is_late=history.is_closed)
+    keys = {letter.key for letter in found}
+    number = sum(letter.parsed.key in keys for letter in all_letters)
+    going_in = sum(letter.outcome is Outcome.GOES_IN for letter in all_letters)
+    would = letter_words.counts(all_letters, going_in).replace("went in", "would go in")
+    tell(f"{count_of(number, 'new letter')}: {would}", "Nothing was changed.")
+
+
 def read(files: Mapping[str, CameFile | None]) -> tuple[list[RawLetter], list[PassedOver]]:
     """The letters of mailboxes, files and folders, each read whole, and what is passed over. A folder is None."""
     found, passed_over = [], []
@@ -51,6 +77,86 @@ def read(files: Mapping[str, CameFile | None]) -> tuple[list[RawLetter], list[Pa
     return found, passed_over
 
 
+def new_of(election: Election, raws: Sequence[RawLetter]) -> list[RawLetter]:
+    known = letters.known_digests(election.book)
+    # of the same bytes the first letter, but rather one that is not parted off
+    chosen: dict[str, RawLetter] = {}
+    for raw in raws:
+        digest = sha256_of(raw.data)
+        if digest not in chosen or chosen[digest].is_parted_off > raw.is_parted_off:
+            chosen[digest] = raw
+    return [raw for digest, raw in chosen.items() if is_new(digest, raw.is_parted_off, known)]
+
+
+def is_new(digest: str, is_parted_off: bool, known: Collection[tuple[str, bool]]) -> bool:
+    """Whether a letter did not come before, byte for byte. One that was parted off comes anew as a letter of its own."""
+    return (digest, False) not in known and not (is_parted_off and (digest, True) in known)
+
+
+def keep(election: Election, raws: Sequence[RawLetter], found: Sequence[ParsedLetter]) -> None:
+    if not raws:
+        return
+    with election.book.act("letters", {"letters": len(raws)}) as act:
+        known = letters.known_digests(election.book)
+        for raw, letter in zip(raws, found):
+            # another command may have kept it meanwhile
+            if is_new(letter.digest, letter.is_parted_off, known):
+                letters.keep_letter(act, safe(raw.where), raw.data, letter.identity, as_json(letter))
+
+
+def enter_letters(election: Election, vote: Vote, *, is_agreed: bool) -> None:
+    """Enters the ballots that go in. If another act changes which these are, the letters are shown and asked about anew."""
+    shown = None
+    while True:
+        history = election.history()
+        all_letters = judged(election, history, letters.letters(election.book))
+        going_in = [letter for letter in all_letters if letter.outcome is Outcome.GOES_IN]
+        ballots, is_late = [letter.ballots[0].ballot for letter in going_in], history.is_closed
+        plan = (is_late, ballots, [letter.number for letter in going_in])
+        if plan != shown:
+            tell_letters(vote, all_letters, is_late=is_late)
+            if going_in and not is_agreed and not agreed(count_of(len(going_in), "ballot")):
+                tell("Nothing was entered; the letters are kept, and wait.")
+                break
+            shown = plan
+        if not going_in:
+            tell(letter_words.counts(all_letters, 0))
+            break
+
+        def envelopes(act: NewAct) -> Iterator[NewEnvelope]:
+            for letter in going_in:
+                letters.decide(act, letter.number, letters.ENTERED)
+                yield new_envelope(letter, letter.ballots[0])
+
+        detail: Detail = {"letters": len(going_in), "lines": len(going_in)}
+        with contextlib.suppress(Overtaken):
+            with entered(election.book, vote, "add", detail, envelopes, decided_at=history.last.number, is_late=is_late) as done:
+                tell(*letter_words.reply_words(vote, done, ballots))
+                tell(letter_words.counts(all_letters, len(going_in)))
+            break
+    undo = f"{election.command('undo')} takes back what was entered last"
+    waiting = f"{election.command('held')}, which lists the letters that wait"
+    is_waiting = any(letter.outcome is Outcome.WAITS for letter in all_letters)
+    tell(f"Next: {waiting if is_waiting else election.command('status')}; {undo}")
+
+
+def agreed(ballots: str) -> bool:
+    """Whether the secretary agrees to what goes in. Elsewhere than at a terminal it stops."""
+    if not is_terminal():
+        done = f"{NOTHING_ADDED}, and the letters are kept"
+        raise Fault(None, f"{ballots} would go in", "agree with --yes, or run it at a terminal", Status.DOUBT, done)
+    return bool(is_yes(f"Enter {ballots}?"))
+
+
+def tell_letters(vote: Vote, found: Sequence[JudgedLetter], *, is_late: bool) -> None:
+    for letter in found:
+        if letter.outcome is Outcome.GOES_IN:
+            tell(*letter_words.going_in(letter, vote, is_late=is_late))
+        elif letter.outcome is Outcome.WAITS:
+            tell(*letter_words.waiting(letter))
+
+
+# ---------------------------------------------------------------- how they are judged
 def parsed(election: Election, raws: Sequence[RawLetter]) -> list[ParsedLetter]:
     """What letters say, with their signatures if letters have to be signed."""
     found = [parse(raw) for raw in raws]
@@ -60,50 +166,7 @@ def parsed(election: Election, raws: Sequence[RawLetter]) -> list[ParsedLetter]:
 
 def keyring_of(election: Election) -> bytes | None:
     """The keyring that holds; None if letters need no signature."""
-    call = election.history().call
-    if call is None or not is_signed(election.book, call.number):
-        return None
-    return queries.sealed(election.book, KEYRING)
-
-
-def new_of(election: Election, raws: Sequence[RawLetter]) -> tuple[list[RawLetter], list[ParsedLetter]]:
-    """The letters that did not come before."""
-    known = letters.known_digests(election.book)
-    # of the same bytes the first letter, but rather one that is not parted off
-    chosen: dict[str, RawLetter] = {}
-    for raw in raws:
-        digest = sha256_of(raw.data)
-        if digest not in chosen or chosen[digest].is_parted_off > raw.is_parted_off:
-            chosen[digest] = raw
-    new = [raw for digest, raw in chosen.items() if is_new(digest, raw.is_parted_off, known)]
-    return new, parsed(election, new)
-
-
-def is_new(digest: str, is_parted_off: bool, known: Collection[tuple[str, bool]]) -> bool:
-    """Whether a letter did not come before, byte for byte. One that was parted off comes anew as a letter of its own."""
-    return (digest, False) not in known and not (is_parted_off and (digest, True) in known)
-
-
-def keep(book: Book, raws: Sequence[RawLetter], found: Sequence[ParsedLetter]) -> None:
-    """The act that keeps letters as they came."""
-    if not raws:
-        return
-    with book.act("letters", {"letters": len(raws)}) as act:
-        known = letters.known_digests(book)
-        for raw, letter in zip(raws, found):
-            # another command may have kept it meanwhile
-            if is_new(letter.digest, letter.is_parted_off, known):
-                letters.keep_letter(act, safe(raw.where), raw.data, letter.identity, as_json(letter))
-
-
-# ---------------------------------------------------------------- how they are judged
-def waiting_now(election: Election, history: History) -> list[JudgedLetter]:
-    """The letters that wait for the secretary."""
-    kept = letters.letters(election.book)
-    # where letters have to be signed, what was signed says which are copies, which the book may not have known when they came
-    if keyring_of(election) is None:
-        kept = letters.undecided(kept)
-    return [letter for letter in judged(election, history, kept) if letter.waits]
+    return queries.sealed(election.book, KEYRING) if election.history().announced("signed") else None
 
 
 def judged(
@@ -114,24 +177,21 @@ def judged(
     by_key = {letter.key: kept_letter for letter, kept_letter in zip(found, kept)}
     if not kept and not looked_at:
         return []
-    vote = vote_of(election, history)
-    circumstances = circumstances_of(election, history, list(zip(found, kept)))
+    vote = Vote(election, history)
+    circumstances = circumstances_of(election, history, by_key)
     no_codes_expected = election.sealed().counted.secret and not vote.has_codes
     letters_now = judge_all([*found, *looked_at], circumstances, vote)
     for letter in letters_now:
         if letter.parsed.key in by_key:
             letter.number, letter.source = by_key[letter.parsed.key].number, by_key[letter.parsed.key].source
         if no_codes_expected:
-            letter.code_lines = code_lines(letter.parsed)
+            letter.code_lines = tuple(number for number, line in enumerate(letter.parsed.shown_lines, start=1) if has_code(line))
     return letters_now
 
 
-def code_lines(letter: ParsedLetter) -> tuple[int, ...]:
-    """The lines of a letter, from 1, with what looks like a code or an alias."""
-    lines = enumerate(letter.shown_lines, start=1)
-    return tuple(
-        number for number, line in lines if looks_like_code(line) or CODE_WITHIN.search(line.lower().encode("utf-8", "replace"))
-    )
+def has_code(line: str) -> bool:
+    """Whether a line has what looks like a code or an alias."""
+    return looks_like_code(line) or CODE_WITHIN.search(line.lower().encode("utf-8", "replace")) is not None
 
 
 def kept_letters(election: Election, kept: Sequence[KeptLetter]) -> list[ParsedLetter]:
@@ -143,13 +203,12 @@ def kept_letters(election: Election, kept: Sequence[KeptLetter]) -> list[ParsedL
     old = [index for index, letter in enumerate(kept) if letter.act < sealed or found[index].why_unsigned == SLOW]
     sources = {index: letters.source_of(election.book, kept[index].source) for index in old}
     raws = [RawLetter(found[index].where, data, found[index].is_parted_off) for index, data in sources.items()]
-    for index, letter in zip(old, parsed(election, raws) if raws else []):
+    for index, letter in zip(old, parsed(election, raws)):
         found[index] = letter
     return found
 
 
-def circumstances_of(election: Election, history: History, found: Sequence[tuple[ParsedLetter, KeptLetter]]) -> Circumstances:
-    """All that letters are judged by, as it is now."""
+def circumstances_of(election: Election, history: History, by_key: Mapping[str, KeptLetter]) -> Circumstances:
     call, sealed, electors = history.call, election.sealed(), queries.electors(election.book)
     assert call is not None
     by_number = {elector.number: elector.name for elector in electors}
@@ -172,50 +231,15 @@ def circumstances_of(election: Election, history: History, found: Sequence[tuple
         our_letters={elector.name: ids.get(elector.number, []) for elector in electors},
         ballots=ballots,
         keys={elector.name: elector.key for elector in electors} if keyring_of(election) is not None else None,
-        decisions={letter.key: Decision(kept.state) for letter, kept in found if kept.state != letters.WAITS},
+        decisions={key: Decision(kept.state) for key, kept in by_key.items() if kept.state != letters.WAITS},
     )
 
 
-# ---------------------------------------------------------------- what goes in
-@dataclasses.dataclass(frozen=True)
-class LettersPlan:
-    """Which letters go in, each with its ballot, and all others as they are now."""
-
-    decided_at: int = dataclasses.field(compare=False)
-    is_late: bool
-    going_in: tuple[tuple[int, str], ...]
-    letters: tuple[JudgedLetter, ...] = dataclasses.field(compare=False)
-
-
-def plan_of(election: Election, looked_at: Sequence[ParsedLetter] = ()) -> LettersPlan:
-    """What goes in now."""
-    history = election.history()
-    found = judged(election, history, letters.letters(election.book), looked_at)
-    going_in = [letter for letter in found if letter.outcome is Outcome.GOES_IN]
-    pairs = tuple((letter.number, letter.ballots[0].ballot) for letter in going_in)
-    return LettersPlan(history.last.number, history.is_closed, pairs, tuple(found))
-
-
-def enter(election: Election, vote: Vote, plan: LettersPlan) -> contextlib.AbstractContextManager[Entered]:
-    """The act: the ballots go in."""
-
-    def envelopes(act: NewAct) -> Iterator[NewEnvelope]:
-        for letter in plan.letters:
-            if letter.outcome is Outcome.GOES_IN:
-                letters.decide(act, letter.number, letters.ENTERED)
-                yield new_envelope(letter, letter.ballots[0])
-
-    detail: Detail = {"letters": len(plan.going_in), "lines": len(plan.going_in)}
-    return entered(election.book, vote, "add", detail, envelopes, decided_at=plan.decided_at, is_late=plan.is_late)
-
-
 def new_envelope(letter: JudgedLetter, line: BallotLine) -> NewEnvelope:
-    """The envelope of a ballot that came in a letter."""
     return NewEnvelope(line.ballot.encode(), "", letter.source, letter.number, letter.time)
 
 
 def is_late(history: History, letter: JudgedLetter) -> bool:
     """Whether what is entered of a letter now is late: the vote is closed, or was reopened for what had arrived before the first close."""
-    arrived, openness = letter.parsed.arrived, openness_of(history)
-    first_close = openness.first_close
-    return openness.is_late(arrived is not None and first_close is not None and arrived <= first_close)
+    arrived, closes = letter.parsed.arrived, history.closes
+    return history.is_late(arrived is not None and bool(closes) and arrived <= closes[0].time)

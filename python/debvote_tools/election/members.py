@@ -1,16 +1,19 @@
-"""The list of members: a table as spreadsheets save it. It is read, and never written."""
+"""The list of members, a table as spreadsheets save it, and the roll that it becomes. It is read, and never written."""
 
+import itertools
 import pathlib
 import re
 import unicodedata
-from typing import NamedTuple
+from collections.abc import Callable, Hashable, Iterable, Iterator, Sequence
+from typing import NamedTuple, TypeVar
 
 from debvote_tools.addresses import ADDRESS, address_key
 from debvote_tools.book.queries import Elector
-from debvote_tools.election.csv_tables import BadTable, Row, Table, read_table
-from debvote_tools.faults import Fault, Status
+from debvote_tools.election.csv_tables import Row, read_table
+from debvote_tools.faults import Fault, Status, stop_at
 from debvote_tools.files import TABLE_LIMIT, read_at_most
-from debvote_tools.plain_names import ELECTOR_LIMIT, is_elector_name
+from debvote_tools.language import ENGLISH
+from debvote_tools.plain_names import ELECTOR_LIMIT, alike, elector_name, is_elector_name, made_different
 from debvote_tools.terminal_text import shown_text, steering
 
 REQUIRED, OPTIONAL = ("who", "mail"), ("name", "key")
@@ -28,6 +31,12 @@ FINGERPRINT = re.compile(r"[0-9A-F]{40}")
 # several addresses of one member have spaces, commas or semicolons between; a mail program writes one within < and >
 IN_BRACKETS = re.compile(r"<([^<>]*)>")
 BETWEEN_ADDRESSES = re.compile(r"[\s,;]+")
+
+# in electors
+ROLL_LIMIT = 10_000
+
+# how many a fault names
+NAMED_LIMIT = 10
 
 
 class Member(NamedTuple):
@@ -51,7 +60,6 @@ class Member(NamedTuple):
 
     @property
     def label(self) -> str:
-        """The name, and who it is."""
         return f"{self.name} ({shown_text(self.who)})" if self.who else self.name
 
     @property
@@ -59,103 +67,227 @@ class Member(NamedTuple):
         """What is not as the book has it of an elector on the roll: before, and now."""
         if self.known is None or self.is_new:
             return {}
-        before, now = ", ".join(self.known.addresses), ", ".join(self.addresses)
-        pairs = {"name": (self.known.name, self.name), "who": (self.known.who, self.who)}
-        if address_key(before) != address_key(now):
-            pairs["address"] = before, now
-        pairs["key"] = self.known.key, self.key
+        known, before, now = self.known, ", ".join(self.known.addresses), ", ".join(self.addresses)
+        # without the case of letters an address is the same
+        address = (before, now) if address_key(before) != address_key(now) else ("", "")
+        pairs = {"name": (known.name, self.name), "who": (known.who, self.who), "address": address, "key": (known.key, self.key)}
         return {what: pair for what, pair in pairs.items() if pair[0] != pair[1]}
 
 
 class Members(NamedTuple):
-    """The rows of a list in its order, and all that is wrong with it."""
+    """The rows of a list in its order, and all that is wrong with them."""
 
     file: object
     rows: tuple[Member, ...]
-    faults: tuple[Fault, ...] = ()
+    faults: tuple[Fault, ...]
 
 
 def members_in(file: pathlib.Path) -> Members:
-    """Reads the list of members in a file."""
+    """Reads the list of members in a file. Raises `Fault` if it is no table with their columns."""
     cure = f"the list of members is a CSV file, as a spreadsheet saves it: put it there, {AGAIN}"
     try:
         if file.exists() and not file.is_file():
-            return Members(file, (), (Fault(file, "it is no file", cure, Status.BAD_WORDS, None),))
+            raise Fault(file, "it is no file", cure, Status.BAD_WORDS, None)
         data = read_at_most(file, TABLE_LIMIT)
     except OSError as error:
-        return Members(file, (), (Fault(file, error.strerror, cure, Status.BAD_WORDS, None),))
+        raise Fault(file, error.strerror, cure, Status.BAD_WORDS, None) from None
     if len(data) > TABLE_LIMIT:
-        return Members(file, (), (Fault(file, "it is too long for a list of members", cure, done=None),))
+        raise Fault(file, "it is too long for a list of members", cure, done=None)
     return members_of(data, file)
 
 
 def members_of(data: bytes, file: object = "members.csv") -> Members:
-    """The members of a list, and all that is wrong with it."""
-    try:
-        table = read_table(data, COLUMNS, skips_spaces=True)
-    except BadTable as bad:
-        return Members(file, (), (Fault(bad.where(file), bad.reason, f"{bad.cure}, {AGAIN}", done=None),))
-    faults = faults_of_head(table, file)
-    if faults:
-        return Members(file, (), tuple(faults))
-    indices = {column: table.heads.index(column) for column in COLUMNS if column in table.heads}
-    rows, width = [], table.width
-    for row in table.rows:
-        if not row.is_blank:
-            rows.append(member_of(row, indices))
-            faults += faults_of_row(row, rows[-1], width, file)
-    if not rows:
-        faults.append(bad_list(file, "there is nobody on it", "write a line for each member below the head line"))
-    return Members(file, tuple(rows), tuple(faults))
-
-
-def bad_list(file: object, reason: str, cure: str, line: int | None = None) -> Fault:
-    """A fault of the list, or of a line of it."""
-    return Fault(file if line is None else f"{file}:{line}", reason, f"{cure}, {AGAIN}", done=None)
-
-
-def faults_of_head(table: Table, file: object) -> list[Fault]:
-    """Which columns are missing, and which are there twice."""
-    faults = []
+    table = read_table(data, COLUMNS, file, bad_list, skips_spaces=True)
+    head_faults = []
     missing = [f"`{column}`" for column in REQUIRED if column not in table.heads]
     if missing:
         reason = f"the head line has no column {' and no column '.join(missing)}, it has {table.heads_in_words}; {BELONGS}"
-        faults.append(bad_list(file, reason, "name the columns so", table.head.line))
-    for column in COLUMNS:
-        if table.heads.count(column) > 1:
-            reason = f"the head line has the column `{column}` twice"
-            faults.append(bad_list(file, reason, "name one of them otherwise", table.head.line))
-    return faults
+        head_faults.append((reason, "name the columns so"))
+    twice = [column for column in COLUMNS if table.heads.count(column) > 1]
+    head_faults += [(f"the head line has the column `{column}` twice", "name one of them otherwise") for column in twice]
+    stop_at([bad_list(file, *fault, table.head.line) for fault in head_faults])
+    indices = {column: table.heads.index(column) for column in COLUMNS if column in table.heads}
+    # up to the last column that has a head
+    width = max(index for index, head in enumerate(table.heads, start=1) if head)
+    members, faults = [], []
+    for row in table.rows:
+        if not row.is_blank:
+            members.append(member_of(row, indices))
+            faults += [bad_list(file, *fault, row.line) for fault in faults_of_row(row, members[-1], width)]
+    if not members:
+        faults.append(bad_list(file, "there is nobody on it", "write a line for each member below the head line"))
+    return Members(file, tuple(members), tuple(faults))
+
+
+def bad_list(file: object, reason: str, cure: str, line: int | None = None) -> Fault:
+    return Fault(file if line is None else f"{file}:{line}", reason, f"{cure}, {AGAIN}", done=None)
 
 
 def member_of(row: Row, indices: dict[str, int]) -> Member:
     """The member of a row, with each cell on one line."""
-    cells = {column: unicodedata.normalize("NFC", " ".join(row.cell(index).split())) for column, index in indices.items()}
+    cells = {column: unicodedata.normalize("NFC", " ".join(row.cells[index].split())) for column, index in indices.items()}
     addresses = IN_BRACKETS.findall(cells["mail"]) or BETWEEN_ADDRESSES.split(cells["mail"])
     each_once = dict.fromkeys(address.strip().removeprefix("mailto:") for address in addresses if address.strip())
     key = "".join(cells.get("key", "").split()).upper()
     return Member(row.line, cells.get("name", ""), cells["who"], tuple(each_once), key)
 
 
-def faults_of_row(row: Row, member: Member, width: int, file: object) -> list[Fault]:
-    found: list[tuple[str, str]] = []
-    beyond = row.cells_after(width)
-    if beyond:
+def faults_of_row(row: Row, member: Member, width: int) -> Iterator[tuple[str, str]]:
+    if beyond := row.cells_after(width):
         reason = f"`{shown_text(beyond[0])}` is after the last column of the head line"
-        found.append((reason, "put a cell that has the delimiter in it into quotation marks"))
+        yield reason, "put a cell that has the delimiter in it into quotation marks"
     if not member.who and not member.name:
-        found.append(("it has no `who`", "write who it is, or take the line out"))
+        yield "it has no `who`", "write who it is, or take the line out"
     if steering(member.who) is not None:
         reason = f"`{shown_text(member.who)}` has the character {steering(member.who)}, which steers a terminal or turns the text"
-        found.append((reason, "take it out"))
+        yield reason, "take it out"
     if member.name and not is_elector_name(member.name):
-        reason = f"`{shown_text(member.name)}` can't be a name on the roll"
-        found.append((reason, f"write 1 to {ELECTOR_LIMIT} of a to z, 0 to 9, point and hyphen under `name`, or leave it empty"))
+        cure = f"write 1 to {ELECTOR_LIMIT} of a to z, 0 to 9, point and hyphen under `name`, or leave it empty"
+        yield f"`{shown_text(member.name)}` can't be a name on the roll", cure
     for address in member.addresses:
         if not ADDRESS.fullmatch(address) or steering(address) is not None:
-            found.append((f"`{shown_text(address)}` is no mail address", "put it right, or take it out"))
+            yield f"`{shown_text(address)}` is no mail address", "put it right, or take it out"
     if member.key and not FINGERPRINT.fullmatch(member.key):
-        reason = f"`{shown_text(member.key)}` is no fingerprint of a key"
         cure = "write all 40 digits of it (0 to 9 and A to F; spaces may be between), as gpg --fingerprint shows them"
-        found.append((reason, cure))
-    return [bad_list(file, reason, cure, row.line) for reason, cure in found]
+        yield f"`{shown_text(member.key)}` is no fingerprint of a key", cure
+
+
+Entry = TypeVar("Entry")
+
+# by what a member is the same person as an elector: first by the name, then by `who`
+SAME_PERSON: tuple[Callable[[Member | Elector], str], ...] = (
+    lambda person: person.name,
+    lambda person: person.who,
+    lambda person: alike(person.who),
+)
+
+
+class Roll(NamedTuple):
+    """The electors in the order of the list, after the call in that of the sealed poll; and all that is wrong with them."""
+
+    electors: tuple[Member, ...]
+    # electors of the last list who are not on this one
+    gone: tuple[Elector, ...]
+    faults: tuple[Fault, ...]
+
+    @property
+    def shared_addresses(self) -> dict[str, list[Member]]:
+        """The electors of each address that several have."""
+        pairs = [(key, elector) for elector in self.electors for key in dict.fromkeys(map(address_key, elector.addresses))]
+        return {group[0][0]: [elector for _, elector in group] for group in several(pairs, lambda pair: pair[0])}
+
+    @property
+    def alike_people(self) -> list[list[Member]]:
+        """Groups of electors who look like one person, by case, accents and blanks."""
+        return several(self.electors, lambda elector: alike(elector.who))
+
+
+def roll_of(members: Members, known: Sequence[Elector], language: str, *, is_called: bool = False) -> Roll:
+    """The roll of a list; `known` are all electors of the book. After the call addresses and keys alone may change."""
+    electors = with_proposals(with_known(members.rows, known), known, language)
+    numbers = {elector.known.number for elector in electors if elector.known}
+    gone = [elector for elector in known if elector.position is not None and elector.number not in numbers]
+    faults = list(members.faults)
+    if electors:
+        found = [*faults_of_people(members.rows, electors), *(faults_after_call(electors, gone) if is_called else ())]
+        faults += [bad_list(members.file, reason, cure, line) for line, reason, cure in found]
+    if is_called:
+        order = {elector.number: index for index, elector in enumerate(known)}
+        electors.sort(key=lambda elector: order[elector.known.number] if elector.known else len(order))
+    return Roll(tuple(electors), tuple(gone), tuple(faults))
+
+
+def with_known(rows: Sequence[Member], known: Sequence[Elector]) -> list[Member]:
+    """The members, each with the elector who is the same person, of the last list if possible, and with their name. If several would fit,
+    none of them does.
+    """
+    found: dict[int, Elector] = {}
+    last = [elector for elector in known if elector.position is not None]
+    for form, candidates in itertools.product(SAME_PERSON, (last, known)):
+        numbers = {elector.number for elector in found.values()}
+        rows_by_form = grouped((row for row in rows if row.line not in found), form)
+        for text, electors in grouped((elector for elector in candidates if elector.number not in numbers), form).items():
+            fitting = rows_by_form.get(text, [])
+            if text and len(fitting) == len(electors) == 1:
+                found[fitting[0].line] = electors[0]
+    return [
+        row._replace(name=row.name or found[row.line].name, known=found[row.line]) if row.line in found else row for row in rows
+    ]
+
+
+def grouped(entries: Iterable[Entry], form: Callable[[Entry], Hashable]) -> dict[Hashable, list[Entry]]:
+    groups: dict[Hashable, list[Entry]] = {}
+    for entry in entries:
+        groups.setdefault(form(entry), []).append(entry)
+    return groups
+
+
+def several(entries: Iterable[Entry], form: Callable[[Entry], Hashable]) -> list[list[Entry]]:
+    """The groups of entries that have a form in common. An empty form is shared with nobody."""
+    return [group for text, group in grouped(entries, form).items() if text and len(group) > 1]
+
+
+def with_proposals(electors: Sequence[Member], known: Sequence[Elector], language: str) -> list[Member]:
+    """The electors, each with a name, made of `who` or of an address if possible."""
+    bases = {}
+    for elector in electors:
+        mails = (address.partition("@")[0] for address in elector.addresses)
+        proposals = (elector_name(text, language) for text in (elector.who, *mails) if not elector.name)
+        if base := next(filter(None, proposals), None):
+            bases[elector.line] = base
+    taken = [*(elector.name for elector in electors if elector.name), *(elector.name for elector in known)]
+    names = dict(zip(bases, made_different(list(bases.values()), taken, ELECTOR_LIMIT, "-")))
+    return [
+        elector._replace(name=names[elector.line], is_proposed=True) if elector.line in names else elector for elector in electors
+    ]
+
+
+# ---------------------------------------------------------------- what is wrong: the line, the reason and the cure
+def faults_of_people(rows: Sequence[Member], electors: Sequence[Member]) -> Iterator[tuple[int | None, str, str]]:
+    """Members of whom nobody knows which name is whose, and names and keys that are missing or that several have."""
+    given = {row.line: row.name for row in rows}
+    by_who = grouped(electors, lambda elector: elector.who)
+    for who, group in by_who.items():
+        nameless = [elector.line for elector in group if not given[elector.line]]
+        if who and len(group) > 1 and nameless:
+            reason = f"{lines_in_words(group)} have the same `who`: {shown_text(group[0].who)}"
+            yield nameless[0], reason, "give each a name of their own under `name`, or take a line out if it is one person"
+    for elector in electors:
+        known = elector.known
+        if known is not None and known.name == elector.name and known.who not in ("", elector.who):
+            for owner in by_who.get(known.who, [])[:1]:
+                reason = f"`{elector.name}` is the name of {shown_text(owner.who)} (line {owner.line}) already"
+                yield elector.line, reason, "write another name"
+    for elector in electors:
+        if not elector.name and elector.who:
+            yield elector.line, f"no name can be made from {shown_text(elector.who)} or an address", "write one under `name`"
+    for group in several(electors, lambda elector: elector.name):
+        reason = f"{lines_in_words(group)} have the same name: {shown_text(group[0].name)}"
+        yield group[1].line, reason, "give each another one, or take a line out"
+    for group in several(electors, lambda elector: elector.key):
+        yield group[1].line, f"{lines_in_words(group)} have the same key", "leave it to the member who has it"
+    if len(electors) > ROLL_LIMIT:
+        yield None, f"it has {len(electors)} members, {ROLL_LIMIT} are the most", "take some out"
+
+
+def faults_after_call(electors: Sequence[Member], gone: Sequence[Elector]) -> Iterator[tuple[int | None, str, str]]:
+    """People who are not as the call has them."""
+    reasons = [("is missing", [f"{elector.name} ({shown_text(elector.who)})" for elector in gone])]
+    reasons.append(("is new", [f"{elector.label} on line {elector.line}" for elector in electors if elector.is_new]))
+    for elector in electors:
+        before = [shown_text(pair[0]) for what, pair in elector.changes.items() if what in ("name", "who")]
+        reasons += [(f"was {text}", [f"{elector.label} on line {elector.line}"]) for text in before]
+    for words, people in reasons:
+        if people:
+            cure = "put the list back as it was: after the call addresses and keys alone may change"
+            yield None, f"{named_in_words(people)} {words}", cure
+
+
+def lines_in_words(electors: Sequence[Member]) -> str:
+    return f"lines {named_in_words([str(elector.line) for elector in electors])}"
+
+
+def named_in_words(names: Sequence[str]) -> str:
+    """Names as they are in a sentence; of many the first."""
+    more = [f"{len(names) - NAMED_LIMIT} more"] if len(names) > NAMED_LIMIT else []
+    return ENGLISH.joined([*names[:NAMED_LIMIT], *more])

@@ -1,30 +1,28 @@
-"""What is published of an election, from its book."""
+"""What is published of an election, from its book: the call, the letter of the close, and the result."""
 
 import dataclasses
 import datetime
 import json
-from collections.abc import Mapping
-from typing import Final
+from collections.abc import Iterator, Mapping
+from typing import Any
 
 from debvote_tools.ballots import in_normal_form
-from debvote_tools.book import letters, lines_by_act, queries
+from debvote_tools.book import letters, queries
 from debvote_tools.book.acts import Detail
 from debvote_tools.book.book import Book, DoneAct, as_text, from_text
+from debvote_tools.call.data import CallData
 from debvote_tools.debvote import casting_words
-from debvote_tools.election import closing_letter
-from debvote_tools.election.election import Election, Sealed
-from debvote_tools.election.history import History
+from debvote_tools.election.election import Election, History, Sealed
 from debvote_tools.faults import Fault
 from debvote_tools.files import sha256_of
-from debvote_tools.language import language_of
+from debvote_tools.language import Language, language_of
 from debvote_tools.lines import ballot_file
 from debvote_tools.publish.doubts import Doubt, Kind
 from debvote_tools.publish.inputs import Act, CastingVote, Chronicle, Closed, Done, Publication, SecretVote
 from debvote_tools.publish.names import BALLOTS, PAGE, POLL
+from debvote_tools.rendering import render_letter
 from debvote_tools.sealed_poll import SealedPoll
 from debvote_tools.secret.aliases import aliased_ballots, sealed_checksum
-
-ACT: Final = "publish"
 
 
 @dataclasses.dataclass(frozen=True)
@@ -46,14 +44,42 @@ class Words:
         return CastingVote(self.casting, self.cast_by, datetime.date.fromisoformat(self.cast_on) if self.cast_on else None)
 
 
+def current_data(
+    election: Election, history: History | None = None, said: Detail | None = None, sealed: Sealed | None = None
+) -> CallData:
+    """What the page and the letter say as it is now, and with what an act would say or seal."""
+    now, saying, sealed = history or election.history(), said or {}, sealed or election.sealed()
+
+    def value_of(key: str) -> Any:
+        return saying.get(key) or now.announced(key)
+
+    return CallData(
+        language=election.language,
+        poll=sealed.public,
+        quorum_votes=value_of("quorum_votes"),
+        until=until_of(saying) or now.until,
+        to=value_of("to"),
+        at=value_of("at"),
+        real_names={elector.name: elector.who for elector in queries.electors(election.book)} if value_of("names") else None,
+        has_form=bool(value_of("form")),
+        is_signed=bool(value_of("signed")),
+        has_aliases=sealed.is_aliased,
+        has_codes_on_roll=bool(value_of("codes_on_roll")),
+    )
+
+
+def until_of(said: Detail) -> datetime.datetime | None:
+    """The end that the command line names."""
+    return datetime.datetime.fromisoformat(said["until"]) if "until" in said else None
+
+
 def last_publication(history: History) -> DoneAct | None:
     """The last publication since the last close."""
     close = history.closes[-1].number if history.closes else 0
-    return next((act for act in reversed(history.named(ACT)) if act.number > close), None)
+    return next((act for act in reversed(history.named("publish")) if act.number > close), None)
 
 
 def publication_of(election: Election, words: Words) -> Publication:
-    """What is published, by the book as it is now."""
     with election.book.snapshot():
         history, sealed, book = election.history(), election.sealed(), election.book
         ballots, late = (ballot_file(lines(book)) for lines in (queries.lines_in_time, queries.late_lines))
@@ -81,7 +107,7 @@ def publication_of(election: Election, words: Words) -> Publication:
         casting=words.vote,
         chronicle=chronicle,
         late=None if sealed.counted.secret else late,
-        closed=closing_letter.letter(history, sealed.public, election.language) if history.closes else None,
+        closed=closing_letter(history, sealed.public, election.language) if history.closes else None,
         real_names={elector.name: elector.who for elector in electors} if has_names else {},
         about=words.about,
         because=words.because,
@@ -90,6 +116,13 @@ def publication_of(election: Election, words: Words) -> Publication:
         secret=secret,
         has_codes=history.has_codes_on_roll,
     )
+
+
+def closing_letter(history: History, poll: SealedPoll, language: Language) -> bytes:
+    """The letter of the last close; the poll is the public one. The time is in the zone in which the end was announced."""
+    close, zone = history.closes[-1], history.until.tzinfo if history.until else datetime.UTC
+    time = close.time.astimezone(zone)
+    return render_letter("debvote_tools.letters_out", "closing.txt", language, close=close, time=time, poll=poll).encode()
 
 
 def demand_as_closed(history: History, ballots: bytes) -> None:
@@ -107,10 +140,10 @@ def shown_by_comparison(
     election: Election, sealed: Sealed, history: History, standing: Mapping[str, str], ballots: bytes
 ) -> list[str]:
     """The electors of a secret vote whose ballots differ from those of the last publication: a comparison shows theirs alone."""
-    earlier = history.named(ACT)
+    earlier = history.named("publish")
     if not earlier or earlier[-1].detail["checksums"][BALLOTS] == sha256_of(ballots):
         return []
-    lines = lines_by_act.lines_after(election.book, earlier[-1].number)
+    lines = queries.lines_after(election.book, earlier[-1].number)
     before = election.debvote.standing(sealed.counted.as_bytes(), ballot_file(lines))
     then, now = ({name: in_normal_form(ranks) for name, ranks in votes.items()} for votes in (before, standing))
     return [name for name in sealed.counted.roll if then.get(name) != now.get(name)]
@@ -126,42 +159,46 @@ def detail_of(words: Words, checksums: Mapping[str, str], doubts: list[Doubt], *
     }
 
 
-# ---------------------------------------------------------------- doubts
 def doubts_of(book: Book, history: History, poll: SealedPoll, casting: str | None) -> list[Doubt]:
-    """What there is to doubt before anything is counted."""
     found = [] if history.is_closed else [Doubt.of(Kind.NOT_CLOSED)]
     found += late_letters_in_time(book, history)
     names = dict(zip(poll.plain_names, poll.names))
-    earlier = dict.fromkeys(act.detail["casting"] for act in history.named(ACT))
+    earlier = dict.fromkeys(act.detail["casting"] for act in history.named("publish"))
     others = [option for option in earlier if option is not None and casting not in (None, option)]
     return found + [Doubt.of(Kind.OTHER_CASTING_VOTE, option=names[option]) for option in others]
 
 
 def late_letters_in_time(book: Book, history: History) -> list[Doubt]:
-    """A doubt for each letter that arrived before the end and the first close, and whose ballots are late alone."""
-    entered_letters = queries.envelopes(book, f"{queries.NOT_STRUCK} AND letter IS NOT NULL")
-    numbers = {envelope.letter for envelope in entered_letters} - {one.letter for one in entered_letters if not one.is_late}
-    if not numbers or not history.closes:
+    """A doubt for each letter that arrived before the end and the first close, and whose ballot is late and was not entered again."""
+    counting = {envelope.line: envelope.number for envelope in queries.envelopes(book, queries.IN_TIME)}
+    late = [
+        envelope
+        for envelope in queries.envelopes(book, f"{queries.LATE} AND letter IS NOT NULL")
+        if counting.get(envelope.line, 0) < envelope.number
+    ]
+    if not late or not history.closes:
         return []
     last = min(time for time in (history.closes[0].time, history.until) if time is not None)
     # the zone in which the end was announced
     zone = history.until.tzinfo if history.until else datetime.UTC
+    numbers = {envelope.letter for envelope in late}
     arrivals = {kept.number: json.loads(kept.known)["arrived"] for kept in letters.letters(book) if kept.number in numbers}
-    return [
-        Doubt.of(Kind.LATE_LETTER, letter=number, arrival=from_text(arrived).astimezone(zone).isoformat())
-        for number, arrived in arrivals.items()
-        if arrived is not None and from_text(arrived) <= last
-    ]
+    found = []
+    for number, arrived in arrivals.items():
+        if arrived is not None and from_text(arrived) <= last:
+            envelopes = " ".join(str(envelope.number) for envelope in late if envelope.letter == number)
+            arrival = from_text(arrived).astimezone(zone).isoformat()
+            found.append(Doubt.of(Kind.LATE_LETTER, letter=number, arrival=arrival, envelopes=envelopes))
+    return found
 
 
 # ---------------------------------------------------------------- acts
 def chronicle_of(book: Book, history: History, *, is_secret: bool) -> Chronicle:
-    """What the page tells of the course of the election."""
     acts: list[Act] = []
     for before, act in zip([None, *history.acts], history.acts):
         if before is not None and act.time < before.time:
             acts.append(Act(act.time, Done.CLOCK, {"before": before.time}))
-        acts += told_of(act, book, history, is_secret=is_secret)
+        acts += acts_of_page(act, book, history, is_secret=is_secret)
     # lines, rows and ballots of desks that came after the end, and count; what came in after a close had come before it, as its act says
     after_the_end = 0
     if history.until is not None:
@@ -171,34 +208,34 @@ def chronicle_of(book: Book, history: History, *, is_secret: bool) -> Chronicle:
     return Chronicle(tuple(acts), history.until, after_the_end)
 
 
-def told_of(act: DoneAct, book: Book, history: History, *, is_secret: bool) -> list[Act]:
-    """What is told of an act; nothing of most. In a secret vote the reasons of `strike` and `reopen` stay in the log."""
+def acts_of_page(act: DoneAct, book: Book, history: History, *, is_secret: bool) -> Iterator[Act]:
+    """What the page tells of an act; nothing of most. In a secret vote the reasons of `strike` and `reopen` stay in the log."""
     time, detail = act.time, act.detail
-    told: list[Act] = []
     until = {"until": from_text(detail["until"])} if detail.get("until") else {}
     reason = None if is_secret else detail.get("because")
     match act.name:
         case "call":
-            told = [Act(time, Done.CALLED_UNTIL if until else Done.CALLED, until)]
+            yield Act(time, Done.CALLED_UNTIL if until else Done.CALLED, until)
         case "take back":
-            told = [Act(time, Done.TAKEN_BACK)]
+            yield Act(time, Done.TAKEN_BACK)
         case "extend" if until:
-            told = [Act(time, Done.EXTENDED, until)]
+            yield Act(time, Done.EXTENDED, until)
         case "addresses":
-            told = [Act(time, Done.ROLL_CHANGED, {"number": detail["electors"]})]
+            yield Act(time, Done.ROLL_CHANGED, {"number": detail["electors"]})
         case "strike":
             done = Done.STRUCK_IN_SECRET if is_secret else Done.STRUCK
-            struck = queries.envelopes(book, "struck.act = ?", act.number)
-            told = [Act(time, done, {"envelope": envelope.number}, reason) for envelope in struck]
+            for envelope in queries.envelopes(book, "struck.act = ?", act.number):
+                yield Act(time, done, {"envelope": envelope.number}, reason)
         case "close":
-            told = [close_of(act, book, history)]
+            yield close_of(act, book, history)
         case "reopen":
-            told = [Act(time, Done.REOPENED, because=reason)]
+            yield Act(time, Done.REOPENED, because=reason)
         case "moved":
             noted, there = detail["noted"] and detail["noted"]["act"], detail["there"]["act"]
             done = Done.MOVED if noted else Done.MOVED_UNKNOWN
-            told = [Act(time, done, {"noted": noted, "there": there}, detail["because"])]
-    return [*told, Act(time, Done.KEYRING)] if detail.get("keyring") else told
+            yield Act(time, done, {"noted": noted, "there": there}, detail["because"])
+    if detail.get("keyring"):
+        yield Act(time, Done.KEYRING)
 
 
 def close_of(act: DoneAct, book: Book, history: History) -> Closed:

@@ -1,21 +1,30 @@
-"""The vote, as debvote is asked about its lines: what it says of each before it is entered, what it replies, and what stands."""
+"""The vote, as debvote is asked about its lines, and what is printed about them."""
 
 import collections
-import dataclasses
 import functools
 import re
-from collections.abc import Iterator, Sequence
+from collections.abc import Iterable, Iterator, Sequence
 from typing import NamedTuple
 
-from debvote_tools.debvote import Debvote, Finding
-from debvote_tools.election.election import Election
-from debvote_tools.election.history import History
+from debvote_tools.ballots import BallotWords
+from debvote_tools.debvote import Finding
+from debvote_tools.election.election import Election, History
+from debvote_tools.election.reporting import count_of
 from debvote_tools.faults import other_format
 from debvote_tools.files import BALLOTS_LIMIT, LINES_LIMIT
-from debvote_tools.lines import Line, ballot_file
+from debvote_tools.language import ENGLISH
+from debvote_tools.lines import CODE_WITHIN, Line, ballot_file, differences
+from debvote_tools.terminal_text import shown_line
+
+IS_CODE = " (it has 32 digits, as codes and aliases have: a ballot has the elector's name alone, and a code is shown to nobody)"
+
+# the reply to a line that came after the close
+LATE_REPLY = "late"
 
 # what debvote adds to a finding if names on the roll are near
 OFFER = re.compile(r"; did you mean (.+)\?\Z")
+# the number that makes a name different from others
+NUMBER = re.compile(r"-\d+\Z")
 
 
 class JudgedLine(NamedTuple):
@@ -43,19 +52,20 @@ class JudgedLine(NamedTuple):
         return self.as_entered.partition(b" ")[2].decode("ascii")
 
 
-@dataclasses.dataclass(frozen=True)
 class Vote:
-    """The vote that lines are entered for: its poll as ballots are counted by it, and debvote."""
+    """The vote that lines are entered for, as it was called. Stops before the call."""
 
-    debvote: Debvote
-    # the number of the act that called it
-    call: int
-    poll_bytes: bytes
-    # what people read as the names of all options, the default last
-    option_names: tuple[str, ...]
-    roll: tuple[str, ...]
-    # the roll has codes: none is printed that was not typed
-    has_codes: bool
+    def __init__(self, election: Election, history: History) -> None:
+        self.call, poll, self.debvote = election.called(history), election.sealed().counted, election.debvote
+        # the names of all options as people read them, the default last
+        self.poll_bytes, self.option_names, self.roll = poll.as_bytes(), poll.names, poll.roll
+        # the roll has codes: none is printed that was not typed
+        self.has_codes = bool(history.announced("codes_on_roll"))
+        self.is_signed = bool(history.announced("signed"))
+        # the call says that an empty cell of a web form is a hyphen
+        self.has_form = bool(history.announced("form"))
+        # most ballots have one of a few orders
+        self.ranks_in_words = functools.lru_cache(4096)(BallotWords(self.option_names).of)
 
     @functools.cached_property
     def names_on_roll(self) -> frozenset[str]:
@@ -63,58 +73,58 @@ class Vote:
 
     @property
     def right_line(self) -> str:
-        """A line that is right in this vote: of an elector of the roll, with a rank for each option."""
         return f"{'CODE' if self.has_codes else self.roll[0]} {','.join(str(rank + 1) for rank in range(len(self.option_names)))}"
 
-    # ------------------------------------------------------------ lines that came
     def read(self, lines: Sequence[Line]) -> list[JudgedLine]:
         """What debvote says of lines, none of them empty. It is started twice at most.
 
         The lines are the only input, so what is said of one depends on no other. If the changed line is refused, the line goes in as it
         came, and is refused too, since the changes leave a right line as it is; the reason may be another one.
         """
-        of_repaired = self.findings([line.repaired for line in lines])
-        indices = [index for index in of_repaired if lines[index].unframed != lines[index].repaired]
-        of_unframed = self.findings([lines[index].unframed for index in indices])
-        of_entered = of_repaired | {indices[at]: finding for at, finding in of_unframed.items()}
-        read = [JudgedLine(line, line.repaired) for line in lines]
-        for index, finding in of_repaired.items():
-            line, entered = lines[index], of_entered.get(index)
-            read[index] = JudgedLine(line, line.unframed, entered, finding, self.other_names(entered))
+        refused = self.findings([line.repaired for line in lines])
+        changed = [line.unframed for line in lines if line.repaired in refused and line.unframed != line.repaired]
+        refused_as_they_came = self.findings(changed)
+        read = []
+        for line in lines:
+            finding = refused.get(line.repaired)
+            if finding is None:
+                read.append(JudgedLine(line, line.repaired))
+            else:
+                entered = refused_as_they_came.get(line.unframed, finding)
+                read.append(JudgedLine(line, line.unframed, entered, finding, self.other_names(entered)))
         return read
 
     def answers(self, lines: Sequence[bytes]) -> dict[bytes, str | None]:
         """What debvote says of each line, as `bad rank count: ..`; None of a valid ballot. It is asked about so many at once as it takes."""
         answers: dict[bytes, str | None] = dict.fromkeys(lines)
         for part in parts_of(lines):
-            answers |= {part[index]: f"{finding.word}: {finding.hint}" for index, finding in self.findings(part).items()}
+            answers |= {line: f"{finding.word}: {finding.hint}" for line, finding in self.findings(part).items()}
         return answers
 
-    def findings(self, lines: Sequence[bytes]) -> dict[int, Finding]:
-        """Why debvote refuses some of these lines, by their index. Without lines it is not asked."""
+    def findings(self, lines: Sequence[bytes]) -> dict[bytes, Finding]:
+        """Why debvote refuses some of these lines. If the roll has codes, none is offered. Without lines debvote is not asked."""
         if not lines:
             return {}
-        refused = self.debvote.findings(self.poll_bytes, ballot_file(lines)).refused
-        return {finding.envelope - 1: self.without_codes(finding) for finding in refused}
+        found = {}
+        for finding in self.debvote.findings(self.poll_bytes, ballot_file(lines)).refused:
+            offers_none = finding._replace(hint=OFFER.sub("", finding.hint))
+            found[lines[finding.envelope - 1]] = offers_none if self.has_codes else finding
+        return found
 
-    def without_codes(self, finding: Finding) -> Finding:
-        """A finding that offers no name if the roll has codes."""
-        return finding._replace(hint=OFFER.sub("", finding.hint)) if self.has_codes else finding
-
-    def other_names(self, finding: Finding | None) -> tuple[str, ...]:
+    def other_names(self, finding: Finding) -> tuple[str, ...]:
         """All names that fit as well as the one that debvote offers, as `anna-meier-2` beside `anna-meier`."""
-        offer = OFFER.search(finding.hint) if finding else None
-        return () if offer is None else tuple(name for name in self.names_by_bare_name[bare_name(offer[1])] if name != offer[1])
+        offer = OFFER.search(finding.hint)
+        alike = [] if offer is None else self.names_by_bare_name[NUMBER.sub("", offer[1])]
+        return tuple(name for name in alike if offer and name != offer[1])
 
     @functools.cached_property
     def names_by_bare_name(self) -> dict[str, list[str]]:
         """The names of the roll by what they are without their number."""
         by_bare_name: dict[str, list[str]] = collections.defaultdict(list)
         for name in self.roll:
-            by_bare_name[bare_name(name)].append(name)
+            by_bare_name[NUMBER.sub("", name)].append(name)
         return by_bare_name
 
-    # ------------------------------------------------------------ lines that are in the book
     def replies(self, before: Sequence[bytes], new: Sequence[bytes]) -> list[str]:
         """The reply to each new line, after the lines before. Without new ones debvote is not asked."""
         if not new:
@@ -127,6 +137,44 @@ class Vote:
     def standing(self, lines: Sequence[bytes]) -> dict[str, str]:
         """The ranks of the ballots that stand if these lines are all, by elector. Without lines debvote is not asked."""
         return self.debvote.standing(self.poll_bytes, ballot_file(lines)) if lines else {}
+
+    # ------------------------------------------------------------ words
+    def report(
+        self, lines: Sequence[JudgedLine], numbers: Iterable[int], replies: Sequence[str], *, is_entered: bool
+    ) -> Iterator[str]:
+        yield from frame_words(line.line for line in lines)
+        for number, reply, line in zip(numbers, replies, lines):
+            if line.line.came != line.as_entered:
+                yield from change_words(line)
+            yield f"{number} {reply}  {self.in_words(line, reply)}"
+            finding, other = line.finding, line.finding_of_repaired
+            if finding and other and (other.word, other.hint) != (finding.word, finding.hint):
+                goes = "it went in" if is_entered else "it would go in"
+                written = f"written as `{shown_line(line.line.repaired)}` it is refused too"
+                yield f"  {goes} as it came; {written}: {other.word}: {other.hint}"
+        if not all(line.is_ballot for line in lines):
+            yield self.right_words()
+        if LATE_REPLY in replies:
+            yield f"{count_of(replies.count(LATE_REPLY), 'line')} came after the close, and late lines do not count."
+
+    def in_words(self, line: JudgedLine, reply: str = "") -> str:
+        """A ballot in words, or the line and why debvote refuses it."""
+        if line.finding is None:
+            return self.ballot_in_words(line.as_entered.decode("ascii"))
+        word = "" if line.finding.word == reply else f"{line.finding.word}: "
+        # so that nobody takes one elector for another
+        others = f" (or {ENGLISH.joined(list(line.other_names))})" if line.other_names else ""
+        code = IS_CODE if CODE_WITHIN.search(line.line.repaired) and not self.has_codes else ""
+        return f"{shown_line(line.as_entered)}: {word}{line.finding.hint}{others}{code}"
+
+    def ballot_in_words(self, ballot: str) -> str:
+        voter, _, ranks = ballot.partition(" ")
+        return f"{voter}: {self.ranks_in_words(ranks)}"
+
+    def right_words(self) -> str:
+        name = "a code of the roll" if self.has_codes else "an elector of the roll"
+        ranks = f"{len(self.option_names)} ranks with commas between, a rank or a hyphen for each option"
+        return f"A right line in this poll: {self.right_line} ({name}, a space, and {ranks})"
 
 
 def parts_of(lines: Sequence[bytes]) -> Iterator[list[bytes]]:
@@ -142,12 +190,46 @@ def parts_of(lines: Sequence[bytes]) -> Iterator[list[bytes]]:
     yield part
 
 
-def bare_name(name: str) -> str:
-    """A name without the number that makes it different from others."""
-    return re.sub(r"-\d+\Z", "", name)
+def frame_words(lines: Iterable[Line]) -> Iterator[str]:
+    """The byte-order marks and the line ends of Windows that were removed, once a file."""
+    by_source: dict[str, list[Line]] = {}
+    for line in lines:
+        if line.came != line.repaired:
+            by_source.setdefault(line.source, []).append(line)
+    for name, repaired_lines in by_source.items():
+        return_count = sum(line.had_return for line in repaired_lines)
+        if any(line.had_mark for line in repaired_lines):
+            yield f"{name}: it begins with a mark that Windows writes (byte-order mark); it was taken off"
+        if return_count:
+            verb, they = ("ends", "it") if return_count == 1 else ("end", "them")
+            yield f"{name}: {count_of(return_count, 'line')} {verb} as Windows ends {they} (carriage return); that was taken off"
 
 
-def vote_of(election: Election, history: History) -> Vote:
-    """The vote as it was called. Stops before the call."""
-    call, poll = election.called(history), election.sealed().counted
-    return Vote(election.debvote, call.number, poll.as_bytes(), poll.names, poll.roll, bool(history.announced("codes_on_roll")))
+def change_words(line: JudgedLine) -> Iterator[str]:
+    before = line.line.without_frame
+    if before != line.as_entered:
+        how = ", ".join(differences(before, line.as_entered))
+        yield f"{line.line.where}: `{shown_line(before)}` was changed to `{shown_line(line.as_entered)}` ({how})"
+
+
+def would_words(line: JudgedLine) -> str:
+    """A line that is not entered yet, and the one reason that stays after the changes that are allowed."""
+    finding = line.finding_of_repaired
+    why = "" if finding is None else f": {finding.word}: {finding.hint}"
+    return f"{shown_line(line.as_entered)}{why}"
+
+
+def summary(replies: Sequence[str]) -> str:
+    counts = collections.Counter(replies)
+    listed = ", ".join(f"{number} {reply}" for reply, number in counts.items())
+    return count_of(len(replies), "line") + (f" ({listed})" if listed else "")
+
+
+def standing_words(vote: Vote, before: dict[str, str], after: dict[str, str], none: str) -> list[str]:
+    """Whose ballot is another one afterwards, or is gone; `none` says that. In a vote with codes only how many."""
+    changed = {name: after.get(name) for name, ranks in before.items() if after.get(name) != ranks}
+    if vote.has_codes:
+        gone = sum(ranks is None for ranks in changed.values())
+        earlier = len(changed) - gone
+        return [f"  {count_of(gone, 'elector')}: {none}; {count_of(earlier, 'elector')}: an earlier ballot"] if changed else []
+    return [f"  {name}: {none if ranks is None else vote.ranks_in_words(ranks) + ', as before'}" for name, ranks in changed.items()]

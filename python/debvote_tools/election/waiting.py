@@ -3,8 +3,7 @@
 import enum
 
 from debvote_tools.book import letters
-from debvote_tools.election.election import Election
-from debvote_tools.election.history import History
+from debvote_tools.election.election import Election, History
 
 
 class Arrived(enum.Enum):
@@ -18,15 +17,14 @@ class Arrived(enum.Enum):
 
 def waiting_letters(election: Election, history: History) -> dict[int, Arrived]:
     """The letters that wait for the secretary, by their numbers: when each arrived."""
-    if not letters.have_come(election.book):
+    kept = letters.letters(election.book)
+    if not kept:
         return {}
-    from debvote_tools.election.letters_in import waiting_now
+    from debvote_tools.election.letters_in import judged
 
-    return {
-        letter.number: Arrived.BEFORE_THE_CALL
-        if letter.arrived_before_call
-        else Arrived.LATE
-        if letter.arrived_late
-        else Arrived.IN_TIME
-        for letter in waiting_now(election, history)
-    }
+    # where letters have to be signed, what was signed says which are copies, which the book may not have known when they came
+    if not history.announced("signed"):
+        kept = letters.undecided(kept)
+    waiting = {letter.number: letter for letter in judged(election, history, kept) if letter.waits}
+    arrived = {number: Arrived.LATE if letter.arrived_late else Arrived.IN_TIME for number, letter in waiting.items()}
+    return arrived | {number: Arrived.BEFORE_THE_CALL for number, letter in waiting.items() if letter.arrived_before_call}

@@ -65,7 +65,8 @@ class JudgedLetter:
         # the lines that read as ballots, the one that may go in first, and ranks without a name; each may be entered by its number
         self.ballots: tuple[BallotLine, ...] = tuple(dict.fromkeys((*filter(None, [self.ballot]), *readings.ballots())))
         self.offered = readings.offered
-        self.near: tuple[Near, ...] = () if self.ballots else readings.near
+        # of a letter that a program wrote it says nothing, since that quotes others
+        self.near: tuple[Near, ...] = () if self.ballots or letter.is_automatic else readings.near
         # without `why_not_latest`, by which a letter depends on others
         self.why_by_itself = next(filter(None, (rule(self, circumstances) for rule in RULES)), None)
 

@@ -8,7 +8,7 @@ import dataclasses
 import datetime
 import enum
 
-from debvote_tools.sentences import marked
+from debvote_tools.language import marked
 from debvote_tools.terminal_text import shown_text
 
 Value = str | int | datetime.datetime

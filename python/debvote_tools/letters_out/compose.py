@@ -14,13 +14,12 @@ from collections.abc import Iterator, Sequence
 
 from debvote_tools.book.queries import Elector
 from debvote_tools.book.sent import About
-from debvote_tools.call.data import CallData, gaps_of
-from debvote_tools.language import Language
+from debvote_tools.call.data import CallData
+from debvote_tools.language import Language, marked
 from debvote_tools.letters.readings import BALLOT, NAMED, Near, repaired
 from debvote_tools.letters.reasons import Because, for_elector
 from debvote_tools.letters_out.message import one_line
 from debvote_tools.rendering import render_letter
-from debvote_tools.sentences import marked
 from debvote_tools.times import time_in_words
 
 PACKAGE = "debvote_tools.letters_out"
@@ -104,20 +103,19 @@ class Composer:
 
     def reminder(self, elector: Elector, came: Sequence[Came]) -> str:
         """A letter to an elector without a ballot. If a letter of theirs waits, it says so, and reminds of nothing."""
-        is_reminding = all(one.became is Became.ELSEWHERE for one in came)
+        is_reminding = all(item.became is Became.ELSEWHERE for item in came)
         return self.text(Kind.REMINDERS, elector, came=came, is_reminding=is_reminding)
 
     def receipt(self, elector: Elector, came: Sequence[Came]) -> str:
         """What became of all that came of an elector. It has the right line if what came last was refused or waits."""
-        last = next((one.became for one in reversed(came) if one.became in (Became.COUNTS, *REFUSING)), None)
+        last = next((item.became for item in reversed(came) if item.became in (Became.COUNTS, *REFUSING)), None)
         is_refusing = not self.is_over and last in REFUSING
         return self.text(Kind.RECEIPTS, elector, came=came, is_refusing=is_refusing)
 
     def text(self, kind: Kind, elector: Elector, **values: object) -> str:
-        """The text of a letter, by the template of its kind."""
         call, options = self.call, len(self.call.poll.names)
         name = one_line(elector.who)[:200] or elector.name
-        own = {"call": call, "elector": elector, "gaps": gaps_of(options), "said_of": self.said_of}
+        own = {"call": call, "elector": elector, "said_of": self.said_of}
         greeting = call.language.say("Dear {name},", name=name)
         text = render_letter(PACKAGE, f"{kind}.txt", call.language, **own, greeting=greeting, **values)
         return without_ballots(text, options)
@@ -127,7 +125,7 @@ class Composer:
         language, zone = self.call.language, self.call.until.tzinfo if self.call.until else datetime.UTC
         said = [language.say(came.became.value, time=time_in_words(came.time.astimezone(zone), language))]
         if came.because is not None:
-            near = (fault for one in came.near for fault in faults_of_near(one, name, language))
+            near = (fault for line in came.near for fault in faults_of_near(line, name, language))
             said += [language.say(for_elector(came.because)), *dict.fromkeys(near)]
         elif came.became is Became.REFUSED:
             said.append(fault_of_line(came.answer, language))
@@ -154,7 +152,6 @@ def reads_as_ballot(line: str, options: int) -> bool:
 
 # ---------------------------------------------------------------- what is wrong with a line
 def fault_of_line(answer: str, language: Language) -> str:
-    """What is wrong with a line that was entered, by what debvote says of it."""
     count = RANK_COUNT.match(answer)
     if count is None:
         return language.say("It is not written as a ballot is.")

@@ -1,8 +1,8 @@
 """Sends letters by SMTP. Each is noted before the server gets it, and after it has answered, so a run that is cut off goes on."""
 
+import contextlib
 import dataclasses
 import ipaddress
-import pathlib
 import re
 import smtplib
 import ssl
@@ -39,7 +39,6 @@ class Server:
     password: str | None = None
 
     def stops(self, words: str, cure: str) -> Fault:
-        """The fault of a server that takes no letters."""
         done = "what was taken before is noted, and the next run goes on"
         return Fault(f"{self.host}:{self.port}", words, cure, Status.BAD_OUTPUT, done)
 
@@ -49,7 +48,6 @@ class NotNow(Exception):
 
 
 def server_of(text: str) -> Server:
-    """The server that `--server` names."""
     parts = SERVER.fullmatch(text)
     port = int(parts["port"]) if parts is not None and parts["port"] else None
     if parts is None or (port is not None and not 0 < port < 65536):
@@ -61,20 +59,10 @@ def server_of(text: str) -> Server:
 
 
 def is_loopback(host: str) -> bool:
-    """Whether a server is on this computer."""
     try:
         return ipaddress.ip_address(host).is_loopback
     except ValueError:
         return host.lower() == "localhost"
-
-
-def password_in(file: str) -> str:
-    """The password in a file, without the end of its line."""
-    try:
-        return pathlib.Path(file).read_text("utf-8").rstrip("\r\n")
-    except (OSError, UnicodeDecodeError) as error:
-        words = error.strerror if isinstance(error, OSError) else "it is no text in UTF-8"
-        raise Fault(file, words, "name the file that has the password", Status.BAD_WORDS, "nothing was sent") from None
 
 
 def send_all(
@@ -87,21 +75,21 @@ def send_all(
     """
     mailer = Mailer(server, sender)
     mailer.connection()
-    told: list[SentLetter] = []
+    answered: list[SentLetter] = []
     try:
         for letter, data in letters:
-            note([*told, dataclasses.replace(letter, state=BEGUN, reply="")])
-            told = []
+            note([*answered, dataclasses.replace(letter, state=BEGUN, reply="")])
+            answered = []
             try:
                 tried = mailer.send(letter, data)
             except NotNow as why:
-                told = [dataclasses.replace(letter, state=POSTPONED, reply=str(why))]
+                answered = [dataclasses.replace(letter, state=POSTPONED, reply=str(why))]
                 raise server.stops(f"it takes no letters now: {why}", "run the command again") from None
-            told = [tried]
+            answered = [tried]
             yield tried
     finally:
-        if told:
-            note(told)
+        if answered:
+            note(answered)
         mailer.close()
 
 
@@ -142,6 +130,7 @@ class Mailer:
 
     def transaction(self, letter: SentLetter, data: bytes) -> SentLetter:
         """One letter. If the connection is lost while the server gets it, nobody knows whether it has it: the run stops."""
+        reply: bytes | str
         try:
             smtp = self.connection()
             code, reply = smtp.mail(self.sender)
@@ -154,33 +143,24 @@ class Mailer:
             raise NotNow(reply_of(error)) from None
         if is_sender_refused or code == CLOSING:
             raise NotNow(shown(code, reply))
-        if code < 400:
-            code, reply = self.data(smtp, letter, data)
-        if code < 400:
-            return dataclasses.replace(letter, state=TAKEN, reply="")
-        self.begin_anew(code)
-        return dataclasses.replace(letter, state=REFUSED if code >= 500 else POSTPONED, reply=shown(code, reply))
-
-    def data(self, smtp: smtplib.SMTP, letter: SentLetter, data: bytes) -> tuple[int, bytes]:
-        """Hands a letter over, and gives back what the server says."""
         try:
-            return smtp.data(data.replace(b"\n", b"\r\n"))
+            if code < 400:
+                code, reply = smtp.data(data.replace(b"\n", b"\r\n"))
         except smtplib.SMTPDataError as error:
-            return error.smtp_code, as_bytes(error.smtp_error)
+            code, reply = error.smtp_code, error.smtp_error
         except LOST as error:
             self.close()
             words = f"the connection was lost while it got the letter to {letter.address}: {reply_of(error)}"
             raise self.server.stops(words, "run the command again; it says what to do about this letter") from None
-
-    def begin_anew(self, code: int) -> None:
-        """After a letter that was not taken: the next one may go out, unless the server closes the connection."""
-        try:
-            if code != CLOSING:
-                self.connection().rset()
-                return
-        except LOST:
-            pass
-        self.close()
+        if code < 400:
+            return dataclasses.replace(letter, state=TAKEN, reply="")
+        if code == CLOSING:
+            self.close()
+        else:
+            # if the connection is lost here, the next letter gets a new one
+            with contextlib.suppress(*LOST):
+                smtp.rset()
+        return dataclasses.replace(letter, state=REFUSED if code >= 500 else POSTPONED, reply=shown(code, reply))
 
 
 def connected(server: Server) -> smtplib.SMTP:
@@ -200,16 +180,12 @@ def connected(server: Server) -> smtplib.SMTP:
 
 # ---------------------------------------------------------------- what a server says
 def reply_of(error: Exception) -> str:
-    """What a server or the system said."""
     if isinstance(error, smtplib.SMTPResponseException):
-        return shown(error.smtp_code, as_bytes(error.smtp_error))
+        return shown(error.smtp_code, error.smtp_error)
     return " ".join(str(error).split())[:200] or type(error).__name__
 
 
-def as_bytes(reply: bytes | str) -> bytes:
-    return reply.encode() if isinstance(reply, str) else reply
-
-
-def shown(code: int, reply: bytes) -> str:
+def shown(code: int, reply: bytes | str) -> str:
     """The answer of a server on one line."""
-    return " ".join(f"{code} {reply.decode('utf-8', 'replace')}".split())[:200]
+    text = reply if isinstance(reply, str) else reply.decode("utf-8", "replace")
+    return " ".join(f"{code} {text}".split())[:200]

@@ -1,24 +1,34 @@
-"""The command line of debvote-publish."""
+"""The program debvote-publish: it publishes two files, a poll in any TOML and ballots."""
 
 import argparse
-import dataclasses
 import pathlib
+import re
 import signal
 import sys
+import tomllib
 from collections.abc import Sequence
+from typing import Any
 
 from debvote_tools import console
-from debvote_tools.arguments import add_arguments, arguments_of, option, positional
-from debvote_tools.faults import Fault, Status
+from debvote_tools.arguments import Options, add_arguments, arguments_of, option, positional
+from debvote_tools.debvote import Debvote
+from debvote_tools.faults import Fault, Status, other_format
+from debvote_tools.files import BALLOTS_LIMIT, POLL_LIMIT, read_at_most, sha256_of
 from debvote_tools.language import ENGLISH, LANGUAGES, language_of
-from debvote_tools.publish import result_folder, two_files
-from debvote_tools.publish.counting import Counted
+from debvote_tools.plain_names import bad_options, bad_title
+from debvote_tools.publish import result_folder
+from debvote_tools.publish.inputs import CastingVote, Publication
+from debvote_tools.sealed_poll import KEYS, REQUIRED, SealedPoll, poll_of
+from debvote_tools.secret.codes import CODE
 
 PROGRAM = "debvote-publish"
 
+# a line that has the shape of a ballot, and the beginning of one of a poll
+BALLOT = re.compile(rb"(?m)^[a-z0-9.-]{1,32} (?:-|\d\d?)(?:,(?:-|\d\d?))*\s*$")
+KEY = re.compile(rb"(?m)^\s*(?:%s)\s*=" % b"|".join(key.encode() for key in REQUIRED))
 
-@dataclasses.dataclass(frozen=True)
-class Arguments:
+
+class Arguments(Options):
     poll: str = option("FILE", "The poll file, in TOML", required=True)
     ballots: str = option("FILE", "The ballot file, one ballot a line: name 1,2,3", required=True)
     casting: str | None = option("NAME", "The exact name of the option that the casting vote chooses in a tie")
@@ -41,36 +51,106 @@ def parser() -> argparse.ArgumentParser:
 
 def main(program_folder: pathlib.Path, words: Sequence[str] | None = None) -> int:
     """Publishes, and returns the exit status. `program_folder` is that of the program."""
-    # where it is asked to end, it takes away what it has made
+    # if it is asked to end, it takes away what it has made
     for number in (signal.SIGHUP, signal.SIGINT, signal.SIGTERM):
         signal.signal(number, lambda number, _: sys.exit(128 + number))
     arguments = arguments_of(Arguments, parser().parse_args(words))
+    target_folder = pathlib.Path(arguments.target)
     console.prepare()
     try:
-        counted = publish_files(arguments, program_folder)
+        result_folder.demand_free(target_folder, can_replace=False)
+        publication = publication_of(arguments, program_folder)
+        with result_folder.made(publication, target_folder, program_folder) as made:
+            made.take_place(target_folder)
     except Fault as fault:
         return console.failed(PROGRAM, fault.words, fault.status)
     except OSError as error:
         return console.failed(PROGRAM, f"the folder can't be made ({error}): name one that you may make", Status.BAD_OUTPUT)
     try:
-        console.tell_as_it_is(f"{counted.sheet.last_line}\n{counted.verified}\n")
+        console.tell_as_it_is(f"{made.counted.sheet.last_line}\n{made.counted.verified}\n")
     except console.OutputFailed as fault:
         words = f"the output failed; the folder {arguments.target} is made all the same: look at its page index.html"
         return console.failed(PROGRAM, words, fault.status)
-    return counted.status
+    return made.counted.status
 
 
-def publish_files(arguments: Arguments, program_folder: pathlib.Path | None) -> Counted:
-    target_folder = pathlib.Path(arguments.target)
-    result_folder.demand_free(target_folder, can_replace=False)
-    publication = two_files.publication_of_files(
-        arguments.poll,
-        arguments.ballots,
+# ---------------------------------------------------------------- the publication of two files
+def publication_of(arguments: Arguments, program_folder: pathlib.Path) -> Publication:
+    """Each file is read once, so that all commands read the same bytes."""
+    poll_bytes = input_in(arguments.poll, POLL_LIMIT, "poll", Status.BAD_POLL)
+    ballots = input_in(arguments.ballots, BALLOTS_LIMIT, "ballots", Status.BAD_BALLOTS)
+    demand_in_order(poll_bytes, ballots, arguments, Debvote(pathlib.Path(), program_folder))
+    poll = sealed_of(poll_bytes, arguments.poll)
+    if poll.secret and not all(map(CODE.fullmatch, poll.roll)):
+        cure = "publish it from its election, with debvote-election publish"
+        words = "the vote is secret, and this would publish each name with its vote"
+        raise Fault(arguments.poll, words, cure, Status.DOUBT, None)
+    return Publication(
+        poll,
+        ballots,
         language_of(arguments.language),
-        casting=arguments.casting,
+        casting=None if arguments.casting is None else CastingVote(arguments.casting),
         desks=arguments.desks,
-        program_folder=program_folder,
+        given_checksum=sha256_of(poll_bytes),
     )
-    with result_folder.made(publication, target_folder, program_folder) as made:
-        made.take_place(target_folder)
-        return made.counted
+
+
+def input_in(file: str, limit: int, kind: str, status: int) -> bytes:
+    try:
+        return read_at_most(file, limit)
+    except OSError as error:
+        cure = f"give a file with --{kind} that you may read"
+        raise Fault(file, f"it can't be read ({error.strerror})", cure, status, "nothing was published") from None
+
+
+def demand_in_order(poll_bytes: bytes, ballots: bytes, arguments: Arguments, debvote: Debvote) -> None:
+    """Stops if debvote refuses the poll, and says so if one file is in the place of the other."""
+    answer = debvote.run("count", "--poll", "/dev/stdin", "--ballots", "/dev/null", given=poll_bytes)
+    if answer.text:
+        return
+    if answer.status == Status.DONE:
+        raise other_format("the sheet of this debvote")
+    said = answer.faults.strip().removeprefix("debvote: ")
+    cure = f"debvote explain --poll {arguments.poll} says what to put right"
+    if 2 * len(BALLOT.findall(poll_bytes)) > poll_bytes.count(b"\n"):
+        said += ", since it is a ballot file"
+        swapped = f"the two files are swapped: give --poll {arguments.ballots} --ballots {arguments.poll}"
+        cure = swapped if KEY.search(ballots) else "give the poll"
+    raise Fault(arguments.poll, said, cure, answer.status, "nothing was published")
+
+
+def sealed_of(poll_bytes: bytes, file: str) -> SealedPoll:
+    """A poll that debvote takes, for its plain form: the keys of a sealed poll, and no other.
+
+    Stops at shown names that people can't read or tell apart, or that are another option's.
+    """
+    try:
+        document = tomllib.loads(poll_bytes.decode("utf-8-sig"))
+    except (ValueError, RecursionError) as error:
+        cure = "write the poll as TOML 1.0"
+        raise Fault(file, f"it can't be read ({error})", cure, Status.BAD_POLL, "nothing was published") from None
+    values = {key: document[key] for key in KEYS if key in document}
+    strange = [key for key in values if not is_right(key, values[key], len(document["options"]))]
+    cure = "give the poll.toml of a call, or take the key out"
+    if strange:
+        words = f"no sealed poll has such a value of {', '.join(strange)}"
+        raise Fault(file, words, cure, Status.BAD_POLL, "nothing was published")
+    poll = poll_of(values)
+    bad = bad_title(poll.name) if poll.name != poll.title else []
+    bad += [name for name in bad_options(poll.names, poll.plain_names) if name.name != poll.plain_names[name.number - 1]]
+    if bad:
+        words = f"a shown name can't be published: {bad[0].reason}"
+        raise Fault(file, words, cure, Status.BAD_POLL, "nothing was published")
+    return poll
+
+
+def is_right(key: str, value: Any, options: int) -> bool:
+    """Whether a sealed poll of this number of options may have such a value. The keys that debvote reads it has looked at itself."""
+    if key in (*REQUIRED, "wording", "last_envelope"):
+        return True
+    if key == "secret":
+        return value is True
+    if key in ("shown_options", "explanations"):
+        is_list_of_texts = isinstance(value, list) and all(isinstance(text, str) for text in value)
+        return is_list_of_texts and len(value) == (options + 1 if key == "shown_options" else options)
+    return isinstance(value, str) and value != ""

@@ -1,12 +1,18 @@
-"""What debvote says of the poll and the ballots of a folder that is made. It is started at most six times, of a secret vote four times."""
+"""What debvote says of the poll and the ballots of a folder that is made, and a second count of them by `recount.py`.
+
+debvote is started at most six times, of a secret vote four times.
+"""
 
 import dataclasses
+import itertools
+import pathlib
+import runpy
 
 from debvote_tools.console import tell_aside_as_it_is
 from debvote_tools.debvote import Answer, Debvote, Finding, findings_in
 from debvote_tools.faults import Fault, Status, Told
 from debvote_tools.publish.inputs import Publication
-from debvote_tools.publish.names import FILES, SHEET
+from debvote_tools.publish.names import BALLOTS, FILES, POLL, RECOUNT, SHEET
 from debvote_tools.publish.picture import picture_of
 from debvote_tools.sheet import Sheet
 
@@ -36,7 +42,7 @@ def count_files(debvote: Debvote, publication: Publication) -> Answer:
 
 
 def ask_the_rest(debvote: Debvote, publication: Publication, answer: Answer, sheet: Sheet) -> Counted:
-    """All else, once the sheet lies in the folder. In a secret vote the ballots that stand are all that is published."""
+    """All else, once the sheet is in the folder. In a secret vote only the ballots that stand are published."""
     standing = answer_of(debvote, "standing").text if publication.secret is None else publication.ballots.decode()
     refused = findings_in(answer_of(debvote, "explain", also=(Status.DOUBT,)).text).refused if sheet.refused else []
     graph = answer_of(debvote, "picture", *desks_and_casting(publication), also=(Status.TIE,)).text
@@ -61,10 +67,7 @@ def desks_and_casting(publication: Publication) -> list[str]:
 
 
 def answer_of(debvote: Debvote, task: str, *words: str, also: tuple[int, ...] = ()) -> Answer:
-    """What debvote answers of poll and ballots. Stops unless its exit status is 0, or one of these with a text.
-
-    Its fault lines go to standard error as they are.
-    """
+    """What debvote answers, and its fault lines as they are. Stops unless its exit status is 0, or one of these with a text."""
     answer = debvote.run(task, *FILES, *words)
     tell_aside_as_it_is(answer.faults)
     if answer.status != Status.DONE and not (answer.text and answer.status in also):
@@ -72,31 +75,23 @@ def answer_of(debvote: Debvote, task: str, *words: str, also: tuple[int, ...] = 
     return answer
 
 
-def demand_left(sheet: Sheet, casting: str) -> None:
-    """Stops at a casting vote for an option that is not left."""
-    left = {sheet.names[option]: option for option in sheet.final_set()}
-    if casting not in left:
-        are = "is" if len(left) == 1 else "are"
-        shown = " and ".join(f"{option} {name}" for name, option in left.items())
-        words = f"no casting vote can choose {casting}, which is not left; left {are} {shown}"
-        raise Fault("--casting", words, "name one that is left", Status.CASTING_OUTSIDE, "nothing was published")
+# ---------------------------------------------------------------- the second count
+def demand_same(folder: pathlib.Path, casting_words: list[str], sheet_text: str, standing_text: str) -> None:
+    """Counts a folder by the program that is in it. Stops if it finds another sheet, or other ballots that stand."""
+    program = runpy.run_path(str(folder / RECOUNT))
+    files = ["--poll", str(folder / POLL), "--ballots", str(folder / BALLOTS)]
+    for words, wanted in ((["count", *files, *casting_words], sheet_text), (["standing", *files], standing_text)):
+        try:
+            text, _ = program["answer"](words)
+            said = "" if text == wanted else difference(text, wanted)
+        except program["Fault"] as fault:
+            said = f"it says `{fault.args[0]}`"
+        if said:
+            what = f"{RECOUNT}, the second count, does not find the same as debvote with its `{words[0]}`"
+            raise Fault(what, said, KEEP_FILES, Status.DOUBT, "nothing was published")
 
 
-# ---------------------------------------------------------------- a secret vote
-def demand_same_votes(private_text: str, public_text: str) -> None:
-    """Stops if the sheet under aliases is not that of the votes as they came, from its line `Voters:` on and in its title."""
-    if from_voters(private_text) != from_voters(public_text) or private_text.partition("\n")[0] != public_text.partition("\n")[0]:
-        words = "the sheet under aliases is not that of the votes as they came"
-        raise Fault(None, words, KEEP_FILES, Status.DOUBT, "nothing was published")
-
-
-def from_voters(sheet_text: str) -> str:
-    """The sheet from its line `Voters:` on; a title stands above."""
-    return sheet_text[sheet_text.index("\nVoters: ") :]
-
-
-def demand_all_count(sheet: Sheet) -> None:
-    """Stops unless each line of a secret vote counts, once."""
-    if sheet.last_envelope is not None or not sheet.lines == sheet.valid == sheet.voters:
-        words = "not each line of this secret vote counts, once"
-        raise Fault(None, words, KEEP_FILES, Status.DOUBT, "nothing was published")
+def difference(text: str, wanted: str) -> str:
+    lines = itertools.zip_longest(text.splitlines(), wanted.splitlines(), fillvalue="(end)")
+    number, (one, other) = next((number, pair) for number, pair in enumerate(lines, start=1) if pair[0] != pair[1])
+    return f"line {number} is `{one}`, where debvote has `{other}`"

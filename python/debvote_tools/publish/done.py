@@ -2,98 +2,76 @@
 
 import datetime
 
-from debvote_tools.publish.inputs import Act, Closed, Done, Publication
-from debvote_tools.rendering import InText
+from debvote_tools.language import Language, marked, numbered
+from debvote_tools.publish.inputs import Act, Chronicle, Closed, Done, Publication
 from debvote_tools.times import time_in_words
 
+ROLL_CHANGED = numbered("{number} elector got another address or key.", "{number} electors got other addresses or keys.")
+BALLOTS_AFTER_END = numbered(
+    "{number} ballot came after the end, and counts, since the vote was not closed yet.",
+    "{number} ballots came after the end, and count, since the vote was not closed yet.",
+)
+CLOSED = marked("The vote was closed. Lines in time: {lines}. Checksum: {checksum}.")
+EARLY = marked("That was before the time until which one could vote.")
+WAITING = numbered(
+    "{number} letter that had arrived in time was left waiting.",
+    "{number} letters that had arrived in time were left waiting.",
+)
+AFTER_END = numbered(
+    "{number} letter that had arrived after the end did not go in.",
+    "{number} letters that had arrived after the end did not go in.",
+)
+SINCE_BEFORE = marked("Since the close before this one, lines that came in: {came}; lines that were struck: {struck}.")
 
-# nothing is to be told of these but that they were done
+# the letter does not say these
 QUIET = (Done.CALLED, Done.CALLED_UNTIL, Done.TAKEN_BACK, Done.KEYRING)
 
 
-def all_acts(publication: Publication, speaker: InText) -> list[str]:
-    """All that was done, each act with its time."""
-    return [dated(act, publication, speaker) for act in acts_of(publication)]
+def all_acts(publication: Publication, language: Language) -> list[str]:
+    chronicle = publication.chronicle or Chronicle()
+    return [dated(act, chronicle, language) for act in chronicle.acts]
 
 
-def told_acts(publication: Publication, speaker: InText) -> list[str]:
-    """What is told beside the call and a plain close."""
-    told = [
-        dated(act, publication, speaker)
-        for act in acts_of(publication)
-        if not (act.is_plain if isinstance(act, Closed) else act.done in QUIET)
-    ]
-    return told + after_the_end(publication, speaker)
+def told_acts(publication: Publication, language: Language) -> list[str]:
+    """All but the call and a plain close."""
+    chronicle = publication.chronicle or Chronicle()
+    acts = [act for act in chronicle.acts if not (act.is_plain if isinstance(act, Closed) else act.done in QUIET)]
+    return [*(dated(act, chronicle, language) for act in acts), *after_the_end(publication, language)]
 
 
-def after_the_end(publication: Publication, speaker: InText) -> list[str]:
-    """How many ballots came after the end, if there are any."""
-    number = 0 if publication.chronicle is None else publication.chronicle.after_the_end
-    said = speaker.say_number(
-        "{number} ballot came after the end, and counts, since the vote was not closed yet.",
-        "{number} ballots came after the end, and count, since the vote was not closed yet.",
-        number,
-    )
-    return [said] if number else []
+def after_the_end(publication: Publication, language: Language) -> list[str]:
+    number = publication.chronicle.after_the_end if publication.chronicle else 0
+    return [language.say_number(*BALLOTS_AFTER_END, number)] if number else []
 
 
-def acts_of(publication: Publication) -> tuple[Act, ...]:
-    return () if publication.chronicle is None else publication.chronicle.acts
+def dated(act: Act, chronicle: Chronicle, language: Language) -> str:
+    """What was done, with its time, and with the reason if there is one."""
 
+    def in_words(time: datetime.datetime) -> str:
+        """A time in the zone in which the end was announced."""
+        return time_in_words(time.astimezone(chronicle.until.tzinfo if chronicle.until else datetime.UTC), language)
 
-def dated(act: Act, publication: Publication, speaker: InText) -> str:
-    """What was done, with its time, and with the reason where there is one."""
-    said = sentence_of(act, publication, speaker)
-    if act.because is not None:
-        quoted = speaker.quoted(act.because)
-        said = speaker.say("{said} The reason, in the secretary's words: {because}", said=said, because=quoted)
-    return speaker.say("{time}: {said}", time=time_of(act.time, publication, speaker), said=said)
-
-
-def time_of(time: datetime.datetime, publication: Publication, speaker: InText) -> str:
-    """A time in the zone in which the end was announced."""
-    until = None if publication.chronicle is None else publication.chronicle.until
-    return time_in_words(time.astimezone(datetime.UTC if until is None else until.tzinfo), speaker.language)
-
-
-def sentence_of(act: Act, publication: Publication, speaker: InText) -> str:
-    """What was done."""
     if isinstance(act, Closed):
-        return close_in_words(act, speaker)
-    if act.done is Done.ROLL_CHANGED:
-        return speaker.say_number(
-            "{number} elector got another address or key.", "{number} electors got other addresses or keys.", act.places["number"]
-        )
-    times = {name: value for name, value in act.places.items() if isinstance(value, datetime.datetime)}
-    return speaker.say(act.done.value, **act.places | {name: time_of(time, publication, speaker) for name, time in times.items()})
+        said = close_in_words(act, language)
+    elif act.done is Done.ROLL_CHANGED:
+        said = language.say_number(*ROLL_CHANGED, act.places["number"])
+    else:
+        places = {name: in_words(value) if isinstance(value, datetime.datetime) else value for name, value in act.places.items()}
+        said = language.say(act.done.value, **places)
+    if act.because is not None:
+        quoted = language.quoted(act.because)
+        said = language.say("{said} The reason, in the secretary's words: {because}", said=said, because=quoted)
+    return language.say("{time}: {said}", time=in_words(act.time), said=said)
 
 
-def close_in_words(close: Closed, speaker: InText) -> str:
-    """A close, with all that is to be told of it."""
-    said = speaker.say(
-        "The vote was closed. Lines in time: {lines}. Checksum: {checksum}.",
-        lines=close.lines,
-        checksum=speaker.code(close.checksum),
-    )
+def close_in_words(close: Closed, language: Language) -> str:
+    said = [language.say(CLOSED, lines=close.lines, checksum=language.exact(close.checksum))]
     if close.is_early:
-        said += " " + speaker.strong(speaker.say("That was before the time until which one could vote."))
+        said.append(language.strong(language.say(EARLY)))
     if close.waiting:
-        waiting = speaker.say_number(
-            "{number} letter that had arrived in time was left waiting.",
-            "{number} letters that had arrived in time were left waiting.",
-            close.waiting,
-        )
-        said += " " + speaker.strong(waiting)
+        said.append(language.strong(language.say_number(*WAITING, close.waiting)))
     if close.after_end:
-        said += " " + speaker.say_number(
-            "{number} letter that had arrived after the end did not go in.",
-            "{number} letters that had arrived after the end did not go in.",
-            close.after_end,
-        )
+        said.append(language.say_number(*AFTER_END, close.after_end))
     if close.came is not None:
-        said += " " + speaker.say(
-            "Since the close before this one, lines that came in: {came}; lines that were struck: {struck}.",
-            came=close.came,
-            struck=close.struck,
-        )
-    return said
+        said.append(language.say(SINCE_BEFORE, came=close.came, struck=close.struck))
+    return language.made(" ").join(said)

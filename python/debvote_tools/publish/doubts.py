@@ -1,13 +1,12 @@
-"""What stops a publication until it is forced with a reason: the page then tells each of these doubts."""
+"""What stops a publication until it is forced with a reason: the page then names each of these doubts."""
 
 import dataclasses
 import datetime
 import enum
 from collections.abc import Iterable, Mapping
+from typing import Any
 
-from debvote_tools.faults import Fault, Status
-from debvote_tools.language import Language
-from debvote_tools.sentences import marked
+from debvote_tools.language import Language, marked
 from debvote_tools.sheet import Sheet
 from debvote_tools.times import time_in_words
 
@@ -20,52 +19,18 @@ class Kind(enum.StrEnum):
     OTHER_CASTING_VOTE = "other casting vote"
 
 
-@dataclasses.dataclass(frozen=True)
-class Doubt:
-    """A doubt, with what stands at the places of its sentence."""
-
-    kind: Kind
-    places: tuple[tuple[str, str | int], ...] = ()
-
-    @classmethod
-    def of(cls, kind: Kind, **places: str | int) -> "Doubt":
-        return cls(kind, tuple(places.items()))
-
-    @classmethod
-    def from_data(cls, data: Mapping[str, str | int]) -> "Doubt":
-        """The doubt as an act of the book has it."""
-        return cls(Kind(str(data["kind"])), tuple((key, value) for key, value in data.items() if key != "kind"))
-
-    def as_data(self) -> dict[str, str | int]:
-        """The doubt as an act of the book keeps it."""
-        return {"kind": str(self.kind), **dict(self.places)}
-
-    def told(self) -> str:
-        """The doubt for the one who publishes, with what they can do about it."""
-        return FOR_SECRETARY[self.kind].format(**dict(self.places))
-
-    def said(self, language: Language, *, is_secret: bool) -> str:
-        """The doubt for the readers, in plain text. In a secret vote it tells no line and no number of one."""
-        text = IN_SECRET.get(self.kind, FOR_READERS[self.kind]) if is_secret else FOR_READERS[self.kind]
-        places = dict(self.places)
-        if "arrival" in places:
-            places["arrival"] = time_in_words(datetime.datetime.fromisoformat(str(places["arrival"])), language)
-        return language.say(text, **places)
-
-
 FOR_SECRETARY = {
     Kind.NO_BALLOT: "no elector has a ballot that counts; look whether these are the ballots of this poll",
     Kind.MOSTLY_REFUSED: "more than half of the lines are refused, {refused} of {lines}; debvote explain says why",
     Kind.NOT_CLOSED: "the vote is not closed; close it first",
     Kind.LATE_LETTER: (
-        "the ballot of letter {letter} is late, and the letter arrived at {arrival}, before the end and the close; reopen the vote "
-        "for it"
+        "the ballot of letter {letter} is late, and the letter arrived at {arrival}, before the end and the close; to count it run "
+        "debvote-election reopen --in-time {envelopes} --because TEXT"
     ),
     Kind.OTHER_CASTING_VOTE: (
         "an earlier publication has a casting vote for {option}; there is one casting vote, so find out which one was given"
     ),
 }
-
 FOR_READERS = {
     Kind.NO_BALLOT: marked("No elector has a ballot that counts: nobody's vote has decided this."),
     Kind.MOSTLY_REFUSED: marked("More than half of the lines of the ballot file are refused: {refused} of {lines}."),
@@ -75,9 +40,8 @@ FOR_READERS = {
     ),
     Kind.OTHER_CASTING_VOTE: marked("An earlier result of this vote was published with another casting vote, for {option}."),
 }
-
-# what would tell the number of a line, or when a letter came
-IN_SECRET = {
+# without the number of a line, and without the time of a letter
+IN_SECRET = FOR_READERS | {
     Kind.MOSTLY_REFUSED: marked("More than half of the lines that came are refused."),
     Kind.LATE_LETTER: marked(
         "A letter arrived before the end and the close, and was entered late, so that its ballot does not count."
@@ -85,20 +49,42 @@ IN_SECRET = {
 }
 
 
+@dataclasses.dataclass(frozen=True)
+class Doubt:
+    kind: Kind
+    places: Mapping[str, Any]
+
+    @classmethod
+    def of(cls, kind: Kind, **places: str | int) -> "Doubt":
+        return cls(kind, places)
+
+    @classmethod
+    def from_data(cls, data: Mapping[str, Any]) -> "Doubt":
+        """The doubt that an act of the book keeps as `as_data`."""
+        return cls(Kind(data["kind"]), data)
+
+    def as_data(self) -> dict[str, str | int]:
+        return {"kind": str(self.kind), **self.places}
+
+    def for_secretary(self) -> str:
+        """The doubt, with what to do about it."""
+        return FOR_SECRETARY[self.kind].format(**self.places)
+
+
 def doubts_about(sheet: Sheet) -> list[Doubt]:
-    """What there is to doubt about what came, by the sheet of all lines that came."""
+    """The doubts about what came, by the sheet of all lines that came."""
     found = [] if sheet.voters else [Doubt.of(Kind.NO_BALLOT)]
     if 2 * sheet.refused > sheet.lines:
         found.append(Doubt.of(Kind.MOSTLY_REFUSED, refused=sheet.refused, lines=sheet.lines))
     return found
 
 
-def stop(found: Iterable[Doubt]) -> Fault:
-    """The fault that ends the run at doubts; it tells all of them at once."""
-    cure = 'put it right, or publish it as it is with --force --because "TEXT", and the page tells it'
-    return Fault(None, "; ".join(doubt.told() for doubt in found), cure, Status.DOUBT, "nothing was published")
-
-
 def sentences_of(found: Iterable[Doubt], language: Language, *, is_secret: bool) -> list[str]:
-    """The doubts for the readers, each sentence once."""
-    return list(dict.fromkeys(doubt.said(language, is_secret=is_secret) for doubt in found))
+    """The doubts for the readers, in plain text, each sentence once."""
+    said: dict[str, None] = {}
+    for doubt in found:
+        places = dict(doubt.places)
+        if "arrival" in places:
+            places["arrival"] = time_in_words(datetime.datetime.fromisoformat(places["arrival"]), language)
+        said[language.say((IN_SECRET if is_secret else FOR_READERS)[doubt.kind], **places)] = None
+    return list(said)

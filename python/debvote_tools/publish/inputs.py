@@ -8,25 +8,61 @@ from collections.abc import Mapping
 from typing import Any
 
 from debvote_tools.debvote import casting_words
-from debvote_tools.language import ENGLISH, Language
+from debvote_tools.faults import Fault, Status
+from debvote_tools.files import file_text, read_whole
+from debvote_tools.language import ENGLISH, Language, marked
 from debvote_tools.publish.doubts import Doubt
 from debvote_tools.sealed_poll import SealedPoll
-from debvote_tools.sentences import marked
 from debvote_tools.sheet import Sheet, sheet_in
+from debvote_tools.terminal_text import odd_sign
+
+# of the text for the page in bytes, and of the name of who gave the casting vote in characters
+TEXT_LIMIT, NAME_LIMIT = 65_536, 200
+
+# the name is between quotation marks, so that nothing in it reads as words of the program
+REFUSED_IN_NAME = '"\u201c\u201d\u201e\u201f\u2033\uff02\u00ab\u00bb'
+
+
+# ---------------------------------------------------------------- words of those who publish
+def text_in(file: str) -> str:
+    """The text of the file that --about was given."""
+    data = read_whole(file, TEXT_LIMIT, "give a file that you may read with --about")
+    return file_text(data, file, "write it, or leave --about out")
 
 
 @dataclasses.dataclass(frozen=True)
 class CastingVote:
-    """The plain name of the option that it chooses; whose it was, and the day on which it was given, where that is said."""
+    """The plain name of the option that it chooses; whose it was and on which day, if that is said. No count can show it."""
 
     option: str
     by: str | None = None
     on: datetime.date | None = None
 
 
+def casting_vote_of(option: str, by: str | None, on: str | None, today: datetime.date) -> CastingVote:
+    """The casting vote of the command line. Raises `Fault` unless it says whose it was, and a day that is not to come."""
+    if by is None or on is None:
+        cure = 'say it with --cast-by "NAME" --cast-on 2026-12-05'
+        raise bad_words("--casting", "the page has to say whose casting vote it was, and when it was given", cure)
+    if not by.strip() or odd_sign(by, refused=REFUSED_IN_NAME) is not None or len(by) > NAME_LIMIT:
+        reason = f"it has to be a name on one line, of at most {NAME_LIMIT} characters, and without quotation marks"
+        raise bad_words("--cast-by", reason, "write it anew")
+    try:
+        day = datetime.date.fromisoformat(on)
+    except ValueError:
+        raise bad_words("--cast-on", f"`{on}` is no day", "write it as 2026-12-05") from None
+    if day > today:
+        raise bad_words("--cast-on", f"{day} is to come, and it was given already", "write the day on which it was given")
+    return CastingVote(option, by.strip(), day)
+
+
+def bad_words(option: str, reason: str, cure: str) -> Fault:
+    return Fault(option, reason, cure, Status.BAD_WORDS, "nothing was published")
+
+
 # ---------------------------------------------------------------- acts
 class Done(enum.Enum):
-    """What can be done in an election, as it is said; two are said in a form for their numbers."""
+    """What can be done in an election, in words; `done.py` says two of them in a form for their numbers."""
 
     CALLED = marked("The call was made; it named no time until which one could vote.")
     CALLED_UNTIL = marked("The call was made; one could vote until {until}.")
@@ -52,7 +88,7 @@ class Done(enum.Enum):
 class Act:
     """Something that was done in an election, at a time by the clock of the secretary's computer.
 
-    `places` has what stands at the places of its sentence. `because` is None where no reason was given, or it is not published.
+    `places` fill its sentence. `because` is None if no reason was given, or it is not published.
     """
 
     time: datetime.datetime
@@ -65,8 +101,8 @@ class Act:
 class Closed(Act):
     """A close: the lines in time, and the checksum that it fixed.
 
-    `waiting` are the letters that had arrived in time and were left waiting, `after_end` those that had arrived after the end. `came` and
-    `struck` are the lines that came in or were struck since the close before, if there was one.
+    `waiting` letters had arrived in time and did not go in, `after_end` letters had arrived after the end. `came` and `struck` are the
+    numbers of lines that came in or were struck since the close before, if there was one.
     """
 
     done: Done = Done.CLOSED
@@ -80,7 +116,7 @@ class Closed(Act):
 
     @property
     def is_plain(self) -> bool:
-        """Whether nothing else is to be told of it."""
+        """Whether there is nothing else to say of it."""
         return not (self.is_early or self.waiting or self.after_end or self.because or self.came is not None)
 
 
@@ -89,8 +125,8 @@ class Closed(Act):
 class Chronicle:
     """What the book of an election says of its course."""
 
-    acts: tuple[Act, ...]
-    # the end as it is, with the offset in which it was announced; None if none was
+    acts: tuple[Act, ...] = ()
+    # the end as it is, with the offset in which it was announced
     until: datetime.datetime | None = None
     # lines that came after the end, and count since the vote was not closed
     after_the_end: int = 0
@@ -100,7 +136,7 @@ class Chronicle:
 class SecretVote:
     """What is known of a secret vote, and is not published as it is."""
 
-    # the codes beside the names, of which none gets into the folder
+    # the codes of the electors; none gets into the folder
     codes: frozenset[str]
     # the random line of the last close, if it made one
     seal: str | None
@@ -113,11 +149,6 @@ class SecretVote:
     @functools.cached_property
     def sheet(self) -> Sheet:
         return sheet_in(self.sheet_text)
-
-    @property
-    def uncounted(self) -> int:
-        """How many lines that came count for nothing."""
-        return self.sheet.refused + self.late
 
 
 @dataclasses.dataclass(frozen=True)
@@ -138,7 +169,7 @@ class Publication:
     late: bytes | None = None
     # the letter of the last close
     closed: bytes | None = None
-    # the real names by the names on the roll, where they are published
+    # by the names on the roll, if they are published
     real_names: Mapping[str, str] = dataclasses.field(default_factory=dict)
     # texts of those who publish
     about: str | None = None
@@ -147,17 +178,12 @@ class Publication:
     is_forced: bool = False
     doubts: tuple[Doubt, ...] = ()
     secret: SecretVote | None = None
-    # whether the names on the roll are codes, of which nobody has a list
+    # whether the names on the roll are codes, and nobody has a list of them
     has_codes: bool = False
 
     @property
-    def is_secret(self) -> bool:
-        """Whether the ballots stand under aliases or codes."""
-        return self.poll.secret
-
-    @property
     def has_aliases(self) -> bool:
-        return self.is_secret and not self.has_codes
+        return self.poll.secret and not self.has_codes
 
     @property
     def seal(self) -> str:
@@ -166,5 +192,4 @@ class Publication:
 
     @property
     def casting_words(self) -> list[str]:
-        """The words of the casting vote for debvote."""
-        return casting_words(None if self.casting is None else self.casting.option)
+        return casting_words(self.casting.option if self.casting else None)

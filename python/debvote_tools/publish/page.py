@@ -1,117 +1,114 @@
-"""The page of an election: what stands on it, as values for its templates."""
+"""The page of an election: what its templates are filled with."""
 
+import base64
+import html
+import re
 import shlex
 from collections.abc import Mapping
 
-from debvote_tools import pages
+from markupsafe import Markup
+
 from debvote_tools.call.data import explanations_of, paragraphs_of
 from debvote_tools.debvote import standing_in
 from debvote_tools.language import ENGLISH, Language
 from debvote_tools.publish import done, names, scripts
-from debvote_tools.publish.ballots import COLON, ballots_of
-from debvote_tools.publish.bars import in_order, marks_of, whole_width
-from debvote_tools.publish.casting_vote import told_if_it_decides
+from debvote_tools.publish.ballots import late_lines, refused_lines, words_by_ranks
 from debvote_tools.publish.counting import Counted
 from debvote_tools.publish.doubts import Doubt, sentences_of
 from debvote_tools.publish.inputs import Publication
 from debvote_tools.publish.options import Options
-from debvote_tools.publish.picture import ShownPicture, shown_picture
-from debvote_tools.publish.recounting import PACKAGE
-from debvote_tools.publish.refused import late_lines, refused_lines
-from debvote_tools.publish.why import MOST, entry, reasons
-from debvote_tools.rendering import InHtml, render_page
+from debvote_tools.publish.picture import MOST_IN_PAGE, drawing_words, picture_in_page
+from debvote_tools.publish.result_letter import told_if_it_decides
+from debvote_tools.publish.why import Why
+from debvote_tools.rendering import InHtml, render_page, resources
 from debvote_tools.secret.aliases import sealed_checksum
 from debvote_tools.secret.words import ALIAS, BY_OPENSSL, BY_PYTHON, REMAINS
+
+# in bytes; larger files are not carried by the page, and the reader chooses them. Those of a secret vote, which the finding of
+# one's own ballot needs too, never come to more: a poll has at most 1,048,576 bytes, and each of 10,000 ballots at most 129
+CARRIED_LIMIT = 4_000_000
 
 
 def page_of(publication: Publication, counted: Counted, doubts: list[Doubt], checksums: Mapping[str, str]) -> bytes:
     """The page, whole. `checksums` are those of the files beside it, by their names."""
     language, sheet, poll = publication.language, counted.sheet, publication.poll
-    speaker = InHtml(language)
-    options = Options(sheet, poll, speaker)
-    in_words = language.say("The defeats as a graph. The list above says the same in words.")
-    picture = shown_picture(counted.picture, len(sheet.names), in_words)
+    in_html = InHtml(language.code, language.catalog)
+    options = Options(sheet, poll, in_html)
+    why = Why(options)
     standing = standing_in(counted.standing_text)
+    ballot_words, have_names = words_by_ranks(options, standing, language)
+    style, picture = resources(__package__, "fields.css", "given.css", "page.css"), None
+    if counted.picture is not None and len(sheet.names) <= MOST_IN_PAGE:
+        in_words = language.say("The defeats as a graph. The list above says the same in words.")
+        picture, least_width = picture_in_page(counted.picture, in_words)
+        style += f".picture svg {{ min-width: {least_width}px; }}\n"
     return render_page(
-        PACKAGE,
+        __package__,
         "page.html",
         language,
-        style=style_of(picture),
-        script="".join(pages.resource(PACKAGE, name) for name in (names.SCRIPT, "count_again.js", "find.js", "fold.js")),
-        head=speaker.say("Result: {title}", title=poll.name),
+        style=style,
+        script=resources(__package__, names.SCRIPT, "count_again.js", "find.js", "fold.js"),
+        head=in_html.say("Result: {title}", title=poll.name),
         title=poll.name,
-        code=speaker.code,
-        colon=language.between(COLON),
+        colon=language.between(scripts.COLON),
+        plain_name=scripts.PLAIN_NAME,
         publication=publication,
+        poll=poll,
         counted=counted,
         sheet=sheet,
         options=options,
-        is_english=language.is_english,
-        is_secret=publication.is_secret,
-        has_aliases=publication.has_aliases,
-        winner=sheet.winner(),
-        numbers=deciding_numbers(options),
+        numbers=why.deciding(),
         casting_vote=told_if_it_decides(publication, sheet),
         share=share(sheet.voters, sheet.electors, language),
-        doubts=sentences_of(doubts, language, is_secret=publication.is_secret),
+        doubts=sentences_of(doubts, language, is_secret=poll.secret),
         because=paragraphs_of(publication.because or ""),
         about=paragraphs_of(publication.about or ""),
         given_checksum=None if publication.given_checksum == checksums[names.POLL] else publication.given_checksum,
-        in_order=in_order(sheet),
-        marks={option: marks_of(options, option) for option in sheet.ratios},
-        whole_width=whole_width(sheet),
-        why=[entry(options, option) for option in sheet.names],
+        why=[why.entry(option) for option in sheet.names],
         explanations=explanations_of(poll),
         picture=picture,
-        ballots=ballots_of(options, standing),
+        picture_command=shlex.join(drawing_words(len(sheet.names))),
+        ballot_words=ballot_words,
+        have_names=have_names,
         standing=standing,
-        refused=refused_lines(counted.refused, publication.ballots, speaker),
-        late=late_lines(publication.late or b"", speaker),
-        acts=done.all_acts(publication, speaker),
-        after_the_end=done.after_the_end(publication, speaker),
+        refused=refused_lines(counted.refused, publication.ballots, in_html),
+        late=late_lines(publication.late or b"", in_html),
+        acts=done.all_acts(publication, in_html),
+        after_the_end=done.after_the_end(publication, in_html),
         remains=[language.say(text) for text in REMAINS] if publication.has_aliases else [],
+        alias=language.say(ALIAS),
+        by_python=BY_PYTHON,
+        by_openssl=BY_OPENSSL,
         checksums=checksums,
         # in a secret vote that of the close has the line of the seal, too
         sealed_checksum=sealed_checksum(publication.seal, publication.ballots) if publication.seal else None,
         files={*checksums, names.LETTER, names.CHECKSUMS},
         casting="".join(f" {word}" for word in map(shlex.quote, publication.casting_words)),
         example=next(iter(standing), "NAME"),
-        **script_values(publication, counted),
+        find_words=scripts.find_words(publication),
+        find_letters=scripts.find_letters(language),
+        again_words=scripts.again_words(language),
+        carried=carried_files(poll.as_bytes(), publication.ballots, counted.sheet_text.encode()),
     )
 
 
-def style_of(picture: ShownPicture) -> str:
-    """The style of the page. A picture may become smaller than it was drawn, but not too small to be read."""
-    style = pages.FIELDS_STYLE + pages.GIVEN_STYLE + pages.resource(PACKAGE, "page.css")
-    return f"{style}.picture svg {{ min-width: {picture.least_width}px; }}\n" if picture.svg else style
+def carried_files(poll: bytes, ballots: bytes, sheet: bytes) -> dict[str, tuple[str, bool]]:
+    """The files at the end of the page that the browser gives back byte for byte, or the sheet alone if they are too large.
 
-
-def script_values(publication: Publication, counted: Counted) -> dict[str, object]:
-    """What the scripts say and count, and what an elector of a secret vote does without them."""
-    carried = scripts.carried_files(publication.poll.as_bytes(), publication.ballots, counted.sheet_text.encode())
-    return {
-        "find_words": scripts.find_words(publication),
-        "find_letters": scripts.find_letters(publication.language),
-        "again_words": scripts.again_words(publication.language),
-        "carried": carried,
-        "is_carried": len(carried) > 1,
-        "alias": publication.language.say(ALIAS),
-        "by_python": BY_PYTHON,
-        "by_openssl": BY_OPENSSL,
-    }
-
-
-# ---------------------------------------------------------------- the result
-def deciding_numbers(options: Options) -> list[str]:
-    """Why the winner has won, or why options are tied; where many are tied the part `Why` alone has it."""
-    winner, left = options.sheet.winner(), options.sheet.final_set()
-    if winner is not None:
-        return [options.speaker.say("In numbers: {reasons}.", reasons=reasons(options, winner.option))]
-    return [entry(options, option) for option in left] if len(left) <= MOST else []
+    Each by its place (no elector's name has a capital letter) is text, or base64 if it is not plain: a browser changes carriage returns.
+    """
+    are_small = len(poll) + len(ballots) <= CARRIED_LIMIT
+    files = ({"Poll-file": poll, "Ballots-file": ballots} if are_small else {}) | {"Sheet-file": sheet}
+    carried: dict[str, tuple[str, bool]] = {}
+    for place, data in files.items():
+        is_plain = re.fullmatch(rb"[\t\n\x20-\x7e]*", data) is not None
+        text = html.escape(data.decode("ascii"), quote=False) if is_plain else base64.b64encode(data).decode("ascii")
+        carried[place] = Markup(text), not is_plain
+    return carried
 
 
 def share(voters: int, electors: int, language: Language = ENGLISH) -> str:
-    """How many of the electors have voted, in per cent; all of them alone are 100 %, and none alone is 0 %."""
+    """How many of the electors have voted, in per cent; only all of them are 100 %, and only none is 0 %."""
     tenths = (2000 * voters + electors) // (2 * electors)
     if 0 < voters < electors:
         tenths = min(max(tenths, 1), 999)

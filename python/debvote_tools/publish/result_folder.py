@@ -12,14 +12,22 @@ from debvote_tools.debvote import Debvote
 from debvote_tools.faults import Fault, Status
 from debvote_tools.files import sha256_of, sync_folder, temporary_folder, write_public
 from debvote_tools.lines import CODE_WITHIN
-from debvote_tools.publish import names, recounting
-from debvote_tools.publish.counting import Counted, ask_the_rest, count_files, demand_all_count, demand_left, demand_same_votes
-from debvote_tools.publish.doubts import Doubt, doubts_about, stop
+from debvote_tools.publish import names
+from debvote_tools.publish.counting import KEEP_FILES, Counted, ask_the_rest, count_files, demand_same
+from debvote_tools.publish.doubts import Doubt, doubts_about
 from debvote_tools.publish.inputs import Publication
 from debvote_tools.publish.page import page_of
 from debvote_tools.publish.result_letter import letter_of
-from debvote_tools.publish.sheet_data import result_json, votes_csv
-from debvote_tools.sheet import Sheet, sheet_in
+from debvote_tools.sheet import Sheet, result_json, sheet_in, votes_csv
+
+# of the programs and the guide: where the package has them, and where a checkout has them
+HERE = pathlib.Path(__file__).resolve().parent
+TOP = HERE.parents[1]
+BESIDE = {
+    names.RECOUNT: ("the second count", [TOP / names.RECOUNT, TOP.parent / "tests" / "reference.py"]),
+    names.SCRIPT: ("the third count", [HERE / names.SCRIPT]),
+    names.GUIDE: ("the guide for electors", [TOP / names.GUIDE, TOP.parent / "docs" / names.GUIDE]),
+}
 
 
 @dataclasses.dataclass(frozen=True)
@@ -50,7 +58,7 @@ class Made:
 
 
 def real_place(target_folder: pathlib.Path) -> pathlib.Path:
-    """Where the folder will lie: a link to it stays."""
+    """Where the folder will be: a link to it stays."""
     return pathlib.Path(os.path.realpath(target_folder))
 
 
@@ -69,9 +77,9 @@ def demand_free(target_folder: pathlib.Path, *, can_replace: bool) -> None:
 
 @contextlib.contextmanager
 def made(publication: Publication, target_folder: pathlib.Path, program_folder: pathlib.Path | None) -> Iterator[Made]:
-    """Makes the folder beside its place. It goes with all that is in it unless it is moved.
+    """Makes the folder beside its place, and removes it at the end unless it was moved.
 
-    `program_folder` is that of the program that runs this: debvote may lie beside it.
+    `program_folder` is that of the program that runs this: debvote may be beside it.
     """
     folder = temporary_folder(real_place(target_folder).parent)
     try:
@@ -85,7 +93,6 @@ def made(publication: Publication, target_folder: pathlib.Path, program_folder: 
 
 # ---------------------------------------------------------------- what is in it
 def fill(folder: pathlib.Path, publication: Publication, program_folder: pathlib.Path | None) -> Made:
-    """Writes all files of a folder, and counts them."""
     debvote, checksums = Debvote(folder, program_folder), dict[str, str]()
 
     def write(files: dict[str, bytes]) -> None:
@@ -101,7 +108,7 @@ def fill(folder: pathlib.Path, publication: Publication, program_folder: pathlib
     write({names.SHEET: answer.text.encode()})
     counted = ask_the_rest(debvote, publication, answer, sheet)
     write(further_files(publication, counted))
-    recounting.demand_same(folder, publication.casting_words, answer.text, counted.standing_text)
+    demand_same(folder, publication.casting_words, answer.text, counted.standing_text)
     # each of these has checksums of those above
     write({names.PAGE: page_of(publication, counted, doubts, checksums)})
     write({names.LETTER: letter_of(publication, sheet, checksums)})
@@ -112,39 +119,51 @@ def fill(folder: pathlib.Path, publication: Publication, program_folder: pathlib
 
 def demand_publishable(publication: Publication, sheet: Sheet, sheet_text: str) -> list[Doubt]:
     """All doubts. Stops at those of an election that are not forced, and at what is never published."""
-    if publication.casting is not None:
-        demand_left(sheet, publication.casting.option)
-    if publication.is_secret:
-        demand_all_count(sheet)
+    left = {sheet.names[option]: option for option in sheet.left}
+    if publication.casting is not None and publication.casting.option not in left:
+        shown = " and ".join(f"{option} {name}" for name, option in left.items())
+        are = "is" if len(left) == 1 else "are"
+        words = f"no casting vote can choose {publication.casting.option}, which is not left; left {are} {shown}"
+        raise Fault("--casting", words, "name one that is left", Status.CASTING_OUTSIDE, "nothing was published")
+    if publication.poll.secret and not (sheet.last_envelope is None and sheet.lines == sheet.valid == sheet.voters):
+        words = "not each line of this secret vote counts, once"
+        raise Fault(None, words, KEEP_FILES, Status.DOUBT, "nothing was published")
     if publication.secret is not None:
-        demand_same_votes(publication.secret.sheet_text, sheet_text)
+        if title_and_votes(publication.secret.sheet_text) != title_and_votes(sheet_text):
+            words = "the sheet under aliases is not that of the votes as they came"
+            raise Fault(None, words, KEEP_FILES, Status.DOUBT, "nothing was published")
         sheet = publication.secret.sheet
     doubts = [*doubts_about(sheet), *publication.doubts]
     if doubts and publication.chronicle is not None and not publication.is_forced:
-        raise stop(doubts)
-    tell_aside(*(f"Note: {doubt.told()}; the page tells it" for doubt in doubts))
+        cure = 'put it right, or publish it as it is with --force --because "TEXT", and the page tells it'
+        raise Fault(None, "; ".join(doubt.for_secretary() for doubt in doubts), cure, Status.DOUBT, "nothing was published")
+    tell_aside(*(f"Note: {doubt.for_secretary()}; the page tells it" for doubt in doubts))
     return doubts
 
 
+def title_and_votes(sheet_text: str) -> tuple[str, str]:
+    """What of a sheet is the same under names and under aliases: its title, and all from its line `Voters:` on."""
+    head, _, votes = sheet_text.partition("\nVoters: ")
+    return head.partition("\n")[0], votes
+
+
 def further_files(publication: Publication, counted: Counted) -> dict[str, bytes]:
-    """The files that follow from poll, ballots and sheet, and those that the book has beside them."""
+    """The files that follow from poll, ballots and sheet, those of the book, and the programs and the guide beside them."""
     files = {
         names.STANDING: counted.standing_text.encode(),
         names.DATA: result_json(counted.sheet, publication.poll, counted.version).encode(),
         names.TABLE: votes_csv(counted.sheet).encode(),
-        names.RECOUNT: recounting.recount_program(),
-        names.SCRIPT: recounting.recount_script(),
-        names.GUIDE: recounting.guide(),
+        names.PICTURE: counted.picture,
+        names.LATE: publication.late,
+        names.CLOSED: publication.closed,
+        names.SEAL: f"{publication.seal}\n".encode() if publication.seal else None,
     }
-    if counted.picture is not None:
-        files[names.PICTURE] = counted.picture
-    if publication.late is not None:
-        files[names.LATE] = publication.late
-    if publication.closed is not None:
-        files[names.CLOSED] = publication.closed
-    if publication.seal:
-        files[names.SEAL] = f"{publication.seal}\n".encode()
-    return files
+    for name, (what, places) in BESIDE.items():
+        file = next((place for place in places if place.is_file()), None)
+        if file is None:
+            raise Fault(places[0], f"{what} is not there", "install the package debvote again", Status.NOT_FOUND, None)
+        files[name] = file.read_bytes()
+    return {name: data for name, data in files.items() if data is not None}
 
 
 def demand_no_code(name: str, data: bytes, publication: Publication) -> None:

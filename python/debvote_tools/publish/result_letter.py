@@ -3,35 +3,45 @@
 from collections.abc import Mapping
 
 from debvote_tools.call.data import OPTION
-from debvote_tools.publish import names
-from debvote_tools.publish.casting_vote import told_if_it_decides
-from debvote_tools.publish.inputs import Publication
-from debvote_tools.publish.recounting import PACKAGE
-from debvote_tools.rendering import InText, render_letter
+from debvote_tools.language import Language, marked
+from debvote_tools.publish.inputs import CastingVote, Publication
+from debvote_tools.rendering import render_letter
 from debvote_tools.sheet import Sheet
+from debvote_tools.times import date_in_words
+
+WHOSE = marked('The secretary says that the casting vote was that of "{name}", given on {date}. No count can show this.')
+NOBODYS = marked("Those who publish this page do not say whose casting vote it was, or when it was given.")
 
 
 def letter_of(publication: Publication, sheet: Sheet, checksums: Mapping[str, str]) -> bytes:
     """The letter, in plain text, with checksums of the files by their names."""
     text = render_letter(
-        PACKAGE,
+        __package__,
         "letter.txt",
         publication.language,
         title=publication.poll.name,
         ended=outcome_in_words(publication, sheet),
         casting=told_if_it_decides(publication, sheet),
         is_of_call=publication.given_checksum is None,
-        poll_checksum=checksums[names.POLL],
-        ballots_checksum=checksums[names.BALLOTS],
-        page_checksum=checksums[names.PAGE],
+        checksums=checksums,
     )
     return text.encode()
 
 
 def outcome_in_words(publication: Publication, sheet: Sheet) -> str:
-    speaker, winner = InText(publication.language), sheet.winner()
-    left = sheet.final_set() if winner is None else [winner.option]
-    options = speaker.joined(speaker.say(OPTION, number=option, name=publication.poll.names[option - 1]) for option in left)
-    if winner is None:
-        return speaker.say("Tie: {options}", options=options)
-    return speaker.say("Winner: {option} by casting vote" if winner.is_by_casting else "Winner: {option}", option=options)
+    language, names = publication.language, publication.poll.names
+    left = sheet.left if sheet.winner is None else [sheet.winner]
+    options = language.joined(language.say(OPTION, number=option, name=names[option - 1]) for option in left)
+    if sheet.winner is None:
+        return language.say("Tie: {options}", options=options)
+    return language.say("Winner: {option} by casting vote" if sheet.is_by_casting else "Winner: {option}", option=options)
+
+
+def casting_in_words(vote: CastingVote, language: Language) -> str:
+    if vote.by is None or vote.on is None:
+        return language.say(NOBODYS)
+    return language.say(WHOSE, name=vote.by, date=date_in_words(vote.on, language))
+
+
+def told_if_it_decides(publication: Publication, sheet: Sheet) -> str:
+    return casting_in_words(publication.casting, publication.language) if sheet.is_by_casting and publication.casting else ""

@@ -1,24 +1,15 @@
-"""The scripts of the page: what they say, and the files that the page carries for them. A word in braces is a place."""
+"""What the scripts of the page say. A word in braces is a place."""
 
-import base64
-import dataclasses
-import html
 import json
-import re
 
-from markupsafe import Markup
-
+from debvote_tools.ballots import IN_A_LIST
 from debvote_tools.call.data import OPTION
-from debvote_tools.language import Language
+from debvote_tools.language import Language, marked
 from debvote_tools.plain_names import PLAIN_LETTERS, PUNCTUATION, SPELLINGS
-from debvote_tools.publish.ballots import script_words
 from debvote_tools.publish.inputs import Publication
-from debvote_tools.publish.options import PLAIN_NAME
-from debvote_tools.sentences import marked
 
-# in bytes; larger files are not carried by the page, and the reader chooses them. Those of a secret vote, which the finding of
-# one's own ballot needs too, never come to more: a poll has at most 1,048,576 bytes, and each of 10,000 ballots at most 129
-CARRIED_LIMIT = 4_000_000
+PLAIN_NAME = marked("plain name, on the result sheet: {name}")
+COLON = marked("{before}: {after}")
 
 FIND = {
     "unread": marked("The files of this page can't be counted: {fault}. Tell the other electors."),
@@ -94,10 +85,9 @@ COUNT_AGAIN = {
 
 
 def find_words(publication: Publication) -> str:
-    """What the script says that finds a ballot, as JSON."""
-    if publication.has_codes:
-        return publication.language.words(FIND | FIND_BY_CODE)
-    return publication.language.words(FIND | (FIND_IN_SECRET if publication.is_secret else FIND_IN_OPEN))
+    """For the script that finds a ballot, as JSON."""
+    own = FIND_BY_CODE if publication.has_codes else FIND_IN_SECRET if publication.poll.secret else FIND_IN_OPEN
+    return publication.language.words(FIND | own)
 
 
 def find_letters(language: Language) -> str:
@@ -106,32 +96,7 @@ def find_letters(language: Language) -> str:
 
 
 def again_words(language: Language) -> str:
-    """What the script says that counts again, as JSON."""
-    said = {name: language.catalog.gettext(text) for name, text in COUNT_AGAIN.items()}
-    return json.dumps(said | script_words(language), ensure_ascii=False)
-
-
-@dataclasses.dataclass(frozen=True)
-class CarriedFile:
-    """A file at the end of the page that the browser gives back byte for byte; nobody sees it. No elector's name has a capital letter.
-
-    It stands as it is where it is plain, else in base 64: a browser changes carriage returns.
-    """
-
-    place: str
-    text: Markup
-    is_base64: bool
-
-
-def carried_files(poll: bytes, ballots: bytes, sheet: bytes) -> list[CarriedFile]:
-    """The files that are counted, or the sheet alone where they are too large."""
-    files = {"Sheet-file": sheet}
-    if len(poll) + len(ballots) <= CARRIED_LIMIT:
-        files = {"Poll-file": poll, "Ballots-file": ballots, "Sheet-file": sheet}
-    return [carried(place, data) for place, data in files.items()]
-
-
-def carried(place: str, data: bytes) -> CarriedFile:
-    is_plain = re.fullmatch(rb"[\t\n\x20-\x7e]*", data) is not None
-    text = html.escape(data.decode("ascii"), quote=False) if is_plain else base64.b64encode(data).decode("ascii")
-    return CarriedFile(place, Markup(text), not is_plain)
+    """For the script that counts again, as JSON; it says a ballot as the page does."""
+    ballots = {"equally": IN_A_LIST.equally, "unranked": IN_A_LIST.unranked, "nothing": IN_A_LIST.nothing}
+    between = {"then": IN_A_LIST.then, "and": "{entries} and {last}", "colon": COLON, "semicolon": "{before}; {after}"}
+    return language.words(COUNT_AGAIN | ballots, **{name: language.between(text) for name, text in between.items()})

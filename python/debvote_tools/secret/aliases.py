@@ -11,12 +11,10 @@ from debvote_tools.ballots import in_normal_form
 from debvote_tools.files import sha256_of
 from debvote_tools.sealed_poll import SealedPoll, with_roll
 
-ALIAS_LENGTH = 32
-
 
 def alias_of(code: str, name: str) -> str:
     """The alias of an elector: the first 32 hex digits of HMAC-SHA-256, with the code's text as key and the name as message."""
-    return hmac.new(code.encode(), name.encode(), "sha256").hexdigest()[:ALIAS_LENGTH]
+    return hmac.new(code.encode(), name.encode(), "sha256").hexdigest()[:32]
 
 
 def aliased_poll(poll: SealedPoll, aliases: Mapping[str, str]) -> SealedPoll:
@@ -25,7 +23,7 @@ def aliased_poll(poll: SealedPoll, aliases: Mapping[str, str]) -> SealedPoll:
 
 
 def aliased_ballots(standing: Mapping[str, str], aliases: Mapping[str, str]) -> bytes:
-    """The ballots that stand, in the order of the aliases, with their ranks in normal form.
+    """The current ballots, in the order of the aliases, with their ranks in normal form.
 
     `standing` has the ranks by name. Ranks such as 17,33,99 would be a mark by which a buyer of votes finds the ballot again.
     """

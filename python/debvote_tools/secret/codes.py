@@ -1,11 +1,11 @@
 """The codes of a secret vote: how one is drawn, how one is recognised, and the table of them."""
 
 import csv
-import dataclasses
 import io
 import re
 import secrets
 from collections.abc import Iterable
+from typing import NamedTuple
 
 from debvote_tools.secret.aliases import alias_of
 
@@ -19,8 +19,7 @@ NUMBER = re.compile(r"\d*e?\d*")
 FORMULA = re.compile(r"(^|[,;\t|])(?=[\s\u200b\ufeff]*(?:[=@\uff1d\uff20]|[+\uff0b\uff0d-](?![\d\s()./-]*(?:[,;\t|]|$))))")
 
 
-@dataclasses.dataclass(frozen=True)
-class CodeRow:
+class CodeRow(NamedTuple):
     """An elector with a code. The real name and the address are empty where the secretary's list does not have them."""
 
     name: str
@@ -47,11 +46,11 @@ def looks_like_code(text: str) -> bool:
 
 
 def codes_csv(rows: Iterable[CodeRow]) -> bytes:
-    """The table of the codes, for a spreadsheet or a mail merge. Electors give their names, so no cell is run as a formula."""
+    """The table of the codes, for a spreadsheet or a mail merge. Electors give their names, so each cell is made harmless."""
     text = io.StringIO()
     table = csv.writer(text, lineterminator="\n")
-    table.writerow(field.name for field in dataclasses.fields(CodeRow))
-    table.writerows(map(harmless, dataclasses.astuple(row)) for row in rows)
+    table.writerow(CodeRow._fields)
+    table.writerows(map(harmless, row) for row in rows)
     return text.getvalue().encode()
 
 

@@ -1,6 +1,6 @@
 """How an elector checks in a secret vote, and what a secret vote cannot hide: the page, the slips and the call say the same."""
 
-from debvote_tools.sentences import marked
+from debvote_tools.language import marked
 
 # what an elector types to find their alias; the first asks for both, so that no history of commands keeps the code
 BY_PYTHON = "python3 -I -c \"import hmac; print(hmac.new(input('Code: ').replace(' ', '').encode(), input('Name: ').encode(), 'sha256').hexdigest()[:32])\""

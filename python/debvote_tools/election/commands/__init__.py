@@ -1,1 +1,1 @@
-"""The commands of debvote-election, a module each: `HELP`, `Arguments`, and `run(election, arguments)`, which gives the exit status."""
+"""The commands of debvote-election, a module each: its help, `Arguments`, and `run(election, arguments)`, which may return a status."""

@@ -1,4 +1,4 @@
-"""`add`: ballots from files of lines, tables or standard input, all that are new or none; and letters that plainly are ballots."""
+"""Enter ballots from letters, files, tables or standard input, and print the reply to each."""
 
 import os
 from collections.abc import Sequence
@@ -7,31 +7,27 @@ from debvote_tools.arguments import given
 from debvote_tools.console import tell
 from debvote_tools.election import acting, adding, came
 from debvote_tools.election.adding import Arguments
-from debvote_tools.election.vote import Vote, vote_of
+from debvote_tools.election.vote import Vote
 from debvote_tools.election.came import HYPHEN, NOTHING_ADDED, CameFile
-from debvote_tools.election.csv_ballots import Columns, columns_of
+from debvote_tools.election.csv_ballots import columns_of
 from debvote_tools.election.election import Election
 from debvote_tools.faults import Fault, Status
 
-HELP = "Enter ballots from letters, files, tables or standard input, and print the reply to each"
 
-
-def run(election: Election, arguments: Arguments) -> int:
+def run(election: Election, arguments: Arguments) -> None:
     demand_words(arguments)
-    vote = vote_of(election, election.history())
+    vote = Vote(election, election.history())
     found = came.read_files(election, arguments.files, is_table=arguments.csv)
     if came.are_all_letters(found):
         # what reads letters takes a while to be imported
-        from debvote_tools.election.adding_letters import take_letters
+        from debvote_tools.election.letters_in import take_letters
 
         take_letters(election, vote, found, arguments)
     else:
         take_lines(election, vote, [file for file in found.values() if file is not None], arguments)
-    return Status.DONE
 
 
 def demand_words(arguments: Arguments) -> None:
-    """Stops if the options do not go together."""
     of_table = given(arguments, "name", "ranks", "blank_is_unranked", "oldest_first", "newest_first")
     if of_table and not arguments.csv:
         raise Fault(", ".join(of_table), "it is about a table", "write --csv with it", Status.BAD_WORDS, NOTHING_ADDED)
@@ -46,26 +42,19 @@ def demand_words(arguments: Arguments) -> None:
         raise Fault("--csv", reason, cure, Status.BAD_WORDS, NOTHING_ADDED)
 
 
-# ---------------------------------------------------------------- lines and tables
 def take_lines(election: Election, vote: Vote, came_files: Sequence[CameFile], arguments: Arguments) -> None:
-    columns = columns_in(vote, arguments)
+    columns = None
+    if arguments.name is not None and arguments.ranks is not None:
+        blank, names = arguments.blank_is_unranked, vote.names_on_roll
+        columns = columns_of(arguments.name, arguments.ranks, vote.option_names, names, is_blank_unranked=blank)
+    files = adding.read_lines(vote, came_files, columns, arguments)
     if arguments.look:
-        files = adding.read_lines(vote, came_files, columns, arguments)
         acting.tell_strangeness(election.book)
         adding.look(election, vote, files, arguments)
         return
-    book = acting.book_for_act(election, arguments)
-    plan = adding.add(election, book, vote, adding.read_lines(vote, came_files, columns, arguments), arguments)
+    plan = adding.add(election, acting.book_for_act(election, arguments), vote, files, arguments)
     if plan.openness.is_closed:
         tell(f"Next: {election.command('count')}")
         return
     more = f"add what comes with {election.command('add', 'FILE')}"
     tell(f"Next: {election.command('status')}; {more}, and when the vote is over: {election.command('close')}")
-
-
-def columns_in(vote: Vote, arguments: Arguments) -> Columns | None:
-    """The columns of a table; there are as many ranks as the poll has options."""
-    if arguments.name is None or arguments.ranks is None:
-        return None
-    blank = arguments.blank_is_unranked
-    return columns_of(arguments.name, arguments.ranks, vote.option_names, vote.names_on_roll, is_blank_unranked=blank)

@@ -1,29 +1,24 @@
-"""`backup`: a copy of the book."""
+"""Write a copy of the book into a new file."""
 
-import dataclasses
 import pathlib
 
-from debvote_tools.arguments import positional
+from debvote_tools.arguments import Options, positional
 from debvote_tools.console import tell
 from debvote_tools.election import acting
 from debvote_tools.election.election import Election
 from debvote_tools.faults import Fault, Status
 
-HELP = "Write a copy of the book into a new file"
 
-
-@dataclasses.dataclass(frozen=True)
-class Arguments:
+class Arguments(Options):
     file: str = positional("FILE", "The file to make; best on another disk")
 
 
-def run(election: Election, arguments: Arguments) -> int:
-    acting.tell_strangeness(election.book)
-    target = pathlib.Path(arguments.file)
+def run(election: Election, arguments: Arguments) -> None:
+    book, target = election.book, pathlib.Path(arguments.file)
+    acting.tell_strangeness(book)
     if target.exists():
         raise Fault(target, "it is there already", "name a new file", Status.BAD_WORDS, "nothing was written")
     election.demand_private(target)
-    last = election.book.last_act()
-    election.book.back_up(target)
-    tell(f"Copied the book up to act {last.number} into {target}. Nobody but you can read it; it has all that the election has.")
-    return Status.DONE
+    last = book.last_number()
+    book.back_up(target)
+    tell(f"Copied the book up to act {last} into {target}. Nobody but you can read it; it has all that the election has.")

@@ -1,32 +1,28 @@
-"""`call`: the call for votes. It seals the poll, which never changes again."""
+"""Make the call for votes, a page and a letter; the poll never changes again."""
 
-import dataclasses
 import pathlib
 
 from debvote_tools import times
 from debvote_tools.arguments import flag, option
 from debvote_tools.book import queries
 from debvote_tools.book.acts import Detail
-from debvote_tools.book.book import Book, NewAct
+from debvote_tools.book.book import NewAct
 from debvote_tools.call.data import CallData, demand_mail_address, demand_web_address
 from debvote_tools.call.files import call_files, extension_letter
 from debvote_tools.console import tell
 from debvote_tools.election import acting
-from debvote_tools.election.call_now import call_data, current_data, until_of
+from debvote_tools.election.publication import current_data, until_of
 from debvote_tools.election.commands.codes import SLIPS, write_slips
 from debvote_tools.election.commands.roll import demand_read
-from debvote_tools.election.election import CALL, KEYRING, LETTERS, POLL, POLL_WITH_NAMES, PRIVATE, Election, Sealed
-from debvote_tools.election.history import History
+from debvote_tools.election.election import CALL, KEYRING, LETTERS, POLL, POLL_WITH_NAMES, PRIVATE, Election, History, Sealed
 from debvote_tools.election.made_files import OWN, PUBLIC, write_made
-from debvote_tools.election.poll_checks import checked_poll, lacks_codes, tell_poll
+from debvote_tools.election.draft_poll import checked_poll, lacks_codes, tell_poll
 from debvote_tools.election.reporting import act_time
-from debvote_tools.election.until import demand_future, parse_until
+from debvote_tools.election.in_time import demand_future, parse_until
 from debvote_tools.faults import Fault, Status, stop_at
 from debvote_tools.files import read_at_most
 from debvote_tools.letters.signatures import read_keyring
 from debvote_tools.secret.aliases import aliased_poll
-
-HELP = "Make the call for votes, a page and a letter; the poll never changes again"
 
 EXTENSION = "extension.txt"
 
@@ -37,10 +33,11 @@ FILES = ("index.html", "call.txt", "poll.toml", "SHA256SUMS")
 KEYRING_LIMIT = 134_217_728
 
 
-@dataclasses.dataclass(frozen=True)
 class Arguments(acting.Arguments):
     until: str | None = option("TIME", 'The end of the vote, as "2026-12-04 18:00"; a later time in a second call extends it')
-    zone: str | None = option("ZONE", "The time zone of --until, as Europe/Berlin; that of this computer if it is not given")
+    zone: str | None = option(
+        "ZONE", "The time zone of --until, as Europe/Berlin; if it is not given that of the end before, or of this computer"
+    )
     to: str | None = option("ADDRESS", "The mail address to which ballots are sent")
     at: str | None = option("URL", "The web address of the page: of the call, and later of the result")
     form: bool = flag("Say that in a web form an empty cell counts as a hyphen, as add --blank-is-unranked takes it")
@@ -51,20 +48,21 @@ class Arguments(acting.Arguments):
     take_back: bool = flag("Take the call back, as long as nothing has come")
 
 
-def run(election: Election, arguments: Arguments) -> int:
+def run(election: Election, arguments: Arguments) -> None:
     if arguments.take_back:
         take_back(election, arguments)
-    elif election.history().call is None:
+        return
+    if election.history().call is None:
         call(election, arguments)
     else:
         call_again(election, arguments)
-    return Status.DONE
+    make_folders(election)
+    report(election, current_data(election))
 
 
-# ---------------------------------------------------------------- the first call
+# ---------------------------------------------------------------- the acts
 def call(election: Election, arguments: Arguments) -> None:
-    """Seals the poll, and makes the folder of the call."""
-    said = announced(arguments)
+    said = announced(arguments, None)
     book = acting.book_for_act(election, arguments)
     history = election.history()
     demand_read(election, history)
@@ -79,112 +77,28 @@ def call(election: Election, arguments: Arguments) -> None:
     public = poll
     if poll.secret and not history.has_codes_on_roll:
         public = aliased_poll(poll, queries.public_names(queries.electors(book)))
-    detail = said.copy()
-    detail.update(
-        {
-            "form": arguments.form,
-            "names": arguments.names,
-            "codes_on_roll": history.has_codes_on_roll,
-            "quorum_votes": sheet.quorum,
-            "signed": arguments.keyring is not None,
-        }
-    )
+    said.update({"form": arguments.form, "names": arguments.names, "codes_on_roll": history.has_codes_on_roll})
+    said.update({"quorum_votes": sheet.quorum, "signed": arguments.keyring is not None})
     keyring = keyring_in(election, arguments.keyring)
-    data = call_data(election, Sealed(public, poll), detail, until_of(said))
-    with book.act("call", detail, seen=history.last.number) as act:
+    data = current_data(election, history, said, Sealed(public, poll))
+    with book.act("call", said, seen=history.last.number) as act:
         act.insert("sealed", name=POLL, data=public.as_bytes())
         if public != poll:
             act.insert("sealed", name=POLL_WITH_NAMES, data=poll.as_bytes())
         seal(act, data, keyring)
     tell_poll(poll, sheet)
-    make_folders(election)
-    report(election, data)
 
 
-def announced(arguments: Arguments) -> Detail:
-    """What the act keeps of the words of the command line, looked through."""
-    said: Detail = {}
-    if arguments.until is not None:
-        until = parse_until(arguments.until, arguments.zone)
-        demand_future(until, times.now())
-        said["until"] = until.isoformat()
-    if arguments.to is not None:
-        demand_mail_address(arguments.to)
-        said["to"] = arguments.to
-    if arguments.at is not None:
-        demand_web_address(arguments.at)
-        said["at"] = arguments.at
-    return said
-
-
-def keyring_in(election: Election, file: str | None) -> bytes | None:
-    """The keyring, as gpgv reads it. Stops if the key of an elector is not in it."""
-    if file is None:
-        return None
-    try:
-        data = read_at_most(pathlib.Path(file), KEYRING_LIMIT)
-    except OSError as error:
-        raise Fault(file, error.strerror, "name the file that gpg --export wrote", Status.BAD_WORDS) from None
-    keyring, electors = read_keyring(file, data), queries.electors(election.book)
-    missing = [elector.name for elector in electors if elector.key and elector.key not in keyring.fingerprints]
-    if missing:
-        words = f"it lacks the keys that the list of members has for: {', '.join(missing)}"
-        raise Fault(file, words, "export these keys, too")
-    without = [elector.name for elector in electors if not elector.key]
-    if without:
-        tell(f"Note: no key is in the list of members for {', '.join(without)}; their letters wait.")
-    return keyring.data
-
-
-# ---------------------------------------------------------------- the folder
-def seal(act: NewAct, data: CallData, keyring: bytes | None) -> None:
-    """Keeps the keyring, and the files of the call, so that they can be made again with the same bytes."""
-    if keyring is not None:
-        act.insert("sealed", name=KEYRING, data=keyring)
-    for name, content in call_files(data).items():
-        act.insert("sealed", name=f"{CALL}/{name}", data=content)
-
-
-def make_folders(election: Election) -> None:
-    history = election.history()
-    files = {name: queries.sealed(election.book, f"{CALL}/{name}") for name in FILES}
-    write_made(election.path(CALL), {name: data for name, data in files.items() if data is not None}, PUBLIC, FILES)
-    extension = queries.sealed(election.book, f"{LETTERS}/{EXTENSION}")
-    if extension is not None and history.since_call("extend"):
-        write_made(election.path(LETTERS), {EXTENSION: extension}, OWN)
-    if election.sealed().counted.secret:
-        write_slips(election, history, election.sealed().counted)
-
-
-# ---------------------------------------------------------------- calling again
 def call_again(election: Election, arguments: Arguments) -> None:
-    """Extends the vote, adds what the call did not say yet, or makes the folder again."""
-    said = announced(arguments)
+    """Extends the vote, or adds what the call did not say yet. No end counts after a close, nor one before that which electors know."""
+    history = election.history()
+    said = announced(arguments, history.announced("zone"))
     is_act = bool(said) or arguments.keyring is not None
     book = acting.book_for_act(election, arguments) if is_act else election.book
     history = election.history()
     demand_no_change(election, history, arguments)
-    if is_act:
-        add_to_call(election, book, history, said, arguments.keyring)
-    make_folders(election)
-    report(election, current_data(election))
-
-
-def demand_no_change(election: Election, history: History, arguments: Arguments) -> None:
-    """Stops at words that would change what was called."""
-    changed = [f"--{name}" for name in ("form", "names") if getattr(arguments, name) and not history.announced(name)]
-    if arguments.to not in (None, history.announced("to")):
-        changed.append("--to")
-    if arguments.keyring is not None and not history.announced("signed"):
-        changed.append("--keyring")
-    if changed:
-        cure = f"as long as nothing has come, take the call back and call anew: {election.command('call', '--take-back')}"
-        words = "the call was made without it" if changed != ["--to"] else "the call has sealed the address"
-        raise Fault(", ".join(changed), words, cure)
-
-
-def add_to_call(election: Election, book: Book, history: History, said: Detail, keyring_file: str | None) -> None:
-    """The act that extends the vote or adds to the call. No end counts after a close, nor one before that which electors know."""
+    if not is_act:
+        return
     if history.is_closed:
         raise Fault(None, "the vote is closed", f"see {election.command('status')}")
     until = until_of(said)
@@ -194,7 +108,7 @@ def add_to_call(election: Election, book: Book, history: History, said: Detail, 
     if until is not None and history.until is not None and until <= history.until:
         words = f"electors rely on {times.time_in_words(history.until)}, and {times.time_in_words(until)} is not later"
         raise Fault("--until", words, "name a later time", Status.BAD_WORDS)
-    keyring = keyring_in(election, keyring_file)
+    keyring = keyring_in(election, arguments.keyring)
     data = current_data(election, history, said)
     if keyring is not None:
         said["keyring"] = True
@@ -204,7 +118,6 @@ def add_to_call(election: Election, book: Book, history: History, said: Detail, 
             act.insert("sealed", name=f"{LETTERS}/{EXTENSION}", data=extension_letter(data).encode())
 
 
-# ---------------------------------------------------------------- taking back
 def take_back(election: Election, arguments: Arguments) -> None:
     book = acting.book_for_act(election, arguments)
     history = election.history()
@@ -223,7 +136,74 @@ def take_back(election: Election, arguments: Arguments) -> None:
     tell(f"Next: put right what was wrong, then run {election.command('call')}")
 
 
-# ---------------------------------------------------------------- what is printed
+def seal(act: NewAct, data: CallData, keyring: bytes | None) -> None:
+    """Keeps the keyring, and the files of the call, so that they can be made again with the same bytes."""
+    if keyring is not None:
+        act.insert("sealed", name=KEYRING, data=keyring)
+    for name, content in call_files(data).items():
+        act.insert("sealed", name=f"{CALL}/{name}", data=content)
+
+
+# ---------------------------------------------------------------- the words of the command line
+def announced(arguments: Arguments, earlier_zone: str | None) -> Detail:
+    """What the act keeps of them, looked through. An extension is in the zone of the end before, unless it names another."""
+    said: Detail = {}
+    if arguments.until is not None:
+        until, zone = parse_until(arguments.until, arguments.zone, earlier_zone)
+        demand_future(until, times.now())
+        said["until"] = until.isoformat()
+        if zone is not None:
+            said["zone"] = zone
+    if arguments.to is not None:
+        demand_mail_address(arguments.to)
+        said["to"] = arguments.to
+    if arguments.at is not None:
+        demand_web_address(arguments.at)
+        said["at"] = arguments.at
+    return said
+
+
+def demand_no_change(election: Election, history: History, arguments: Arguments) -> None:
+    changed = [f"--{name}" for name in ("form", "names") if getattr(arguments, name) and not history.announced(name)]
+    if arguments.to not in (None, history.announced("to")):
+        changed.append("--to")
+    if arguments.keyring is not None and not history.announced("signed"):
+        changed.append("--keyring")
+    if changed:
+        cure = f"as long as nothing has come, take the call back and call anew: {election.command('call', '--take-back')}"
+        words = "the call was made without it" if changed != ["--to"] else "the call has sealed the address"
+        raise Fault(", ".join(changed), words, cure)
+
+
+def keyring_in(election: Election, file: str | None) -> bytes | None:
+    """The keyring, as gpgv reads it. Stops if the key of an elector is not in it."""
+    if file is None:
+        return None
+    try:
+        data = read_at_most(pathlib.Path(file), KEYRING_LIMIT)
+    except OSError as error:
+        raise Fault(file, error.strerror, "name the file that gpg --export wrote", Status.BAD_WORDS) from None
+    keyring, electors = read_keyring(file, data), queries.electors(election.book)
+    if missing := [elector.name for elector in electors if elector.key and elector.key not in keyring.fingerprints]:
+        words = f"it lacks the keys that the list of members has for: {', '.join(missing)}"
+        raise Fault(file, words, "export these keys, too")
+    if without := [elector.name for elector in electors if not elector.key]:
+        tell(f"Note: no key is in the list of members for {', '.join(without)}; their letters wait.")
+    return keyring.data
+
+
+# ---------------------------------------------------------------- the folders
+def make_folders(election: Election) -> None:
+    history = election.history()
+    files = {name: queries.sealed(election.book, f"{CALL}/{name}") for name in FILES}
+    write_made(election.path(CALL), {name: data for name, data in files.items() if data is not None}, PUBLIC, FILES)
+    extension = queries.sealed(election.book, f"{LETTERS}/{EXTENSION}")
+    if extension is not None and history.since_call("extend"):
+        write_made(election.path(LETTERS), {EXTENSION: extension}, OWN)
+    if election.sealed().counted.secret:
+        write_slips(election, history, election.sealed().counted)
+
+
 def report(election: Election, data: CallData) -> None:
     folder = election.path(CALL)
     tell(f"Made the folder {folder} with the page index.html and the letter call.txt.")
@@ -238,10 +218,11 @@ def report(election: Election, data: CallData) -> None:
     if data.until is not None:
         tell(f"Until when: {times.time_in_words(data.until)}")
     if data.is_extended:
-        tell(f"Made {election.path(LETTERS) / EXTENSION}: send it to all electors.")
+        tell(f"Made {election.path(LETTERS) / EXTENSION}: tell it to all electors.")
     missing = [words for words, value in (("until when (--until)", data.until), ("where to (--to)", data.to)) if value is None]
     if missing:
         tell(f"The call does not say {' nor '.join(missing)}.")
     tell("The poll is sealed: poll.toml and texts/ of this folder are no longer read; members.csv only for addresses, by roll.")
-    where = f"put {folder} on the web site, or send {folder / 'call.txt'} to each elector"
-    tell(f"Next: {where}; enter the ballots that come with: {election.command('add', 'FILE')} or {election.command('desk')}")
+    write = f"send {folder / 'call.txt'} to all electors" if data.has_codes_on_roll else election.command("letters", "call")
+    enter = f"{election.command('add', 'FILE')} or {election.command('desk')}"
+    tell(f"Next: put {folder} on the web site, and write to the electors: {write}; enter the ballots that come: {enter}")

@@ -1,32 +1,25 @@
-"""`check`: all that is wrong with the poll, or what the electors will vote on."""
+"""Say all that is wrong with the poll, or what is voted on."""
 
-import dataclasses
-
-from debvote_tools.arguments import flag
+from debvote_tools.arguments import Options, flag
 from debvote_tools.console import tell
-from debvote_tools.election.election import Election
-from debvote_tools.election.history import History
-from debvote_tools.election.poll_checks import checked_poll, lacks_codes, tell_poll
+from debvote_tools.election.election import Election, History
+from debvote_tools.election.draft_poll import checked_poll, lacks_codes, tell_poll
 from debvote_tools.election.reporting import quorum_words, wrapped
-from debvote_tools.faults import Status
 from debvote_tools.sealed_poll import SealedPoll
-
-HELP = "Say all that is wrong with the poll, or what is voted on"
 
 # how many names are printed; with --all all of them
 MAX_SHOWN = 200
 
 
-@dataclasses.dataclass(frozen=True)
-class Arguments:
+class Arguments(Options):
     all: bool = flag("Print all names on the roll, however many there are")
 
 
-def run(election: Election, arguments: Arguments) -> int:
+def run(election: Election, arguments: Arguments) -> None:
     history = election.history()
     if history.call is not None:
         tell(f"The poll is sealed by the call, and this file is no longer read. Next: {election.command('status')}")
-        return Status.DONE
+        return
     poll, sheet = checked_poll(election)
     roll = poll.roll
     tell(f"The poll is in order: {len(poll.names)} options, {len(roll)} electors.")
@@ -38,7 +31,6 @@ def run(election: Election, arguments: Arguments) -> int:
         if len(names) < len(roll):
             tell(f"  and {len(roll) - len(names)} more (--all prints them)")
     tell(f"Next: {what_next(election, history, poll)}")
-    return Status.DONE
 
 
 def what_next(election: Election, history: History, poll: SealedPoll) -> str:

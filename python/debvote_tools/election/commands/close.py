@@ -1,60 +1,76 @@
-"""`close`: the end of the vote. The time, the number of lines and the checksum of the ballots are fixed."""
+"""End the vote: lines that are entered later are late."""
 
 import collections
-import dataclasses
 
 from debvote_tools import times
 from debvote_tools.arguments import flag
 from debvote_tools.book import queries
 from debvote_tools.book.acts import Detail
-from debvote_tools.book.book import DoneAct
 from debvote_tools.console import tell
-from debvote_tools.election import acting, closing_letter
+from debvote_tools.election import acting
 from debvote_tools.election.election import LETTERS, Election, Sealed
-from debvote_tools.election.history import History
 from debvote_tools.election.made_files import OWN, write_made
 from debvote_tools.election.reporting import act_time, count_of
 from debvote_tools.election.waiting import Arrived, waiting_letters
-from debvote_tools.faults import Fault, Status, stop_at
+from debvote_tools.election.publication import closing_letter
+from debvote_tools.faults import Fault, stop_at
 from debvote_tools.files import sha256_of
 from debvote_tools.lines import ballot_file
+from debvote_tools.publish.names import CLOSED
 from debvote_tools.secret.aliases import aliased_ballots, seal_line, sealed_checksum
 
-HELP = "End the vote: lines that are entered later are late"
 
-
-@dataclasses.dataclass(frozen=True)
 class Arguments(acting.Arguments):
     early: bool = flag("Close before the end of the vote; the result page says so")
     force: bool = flag("With --because: close although letters wait that arrived in time; the result page says how many")
 
 
-def run(election: Election, arguments: Arguments) -> int:
+def run(election: Election, arguments: Arguments) -> None:
     sealed = election.sealed()
     is_new = not election.history().is_closed
     if is_new:
         close(election, sealed, arguments)
     history = election.history()
-    letter = closing_letter.letter(history, sealed.public, election.language)
-    written = write_made(election.path(LETTERS), {closing_letter.NAME: letter}, OWN)
-    report(election, history.closes[-1], is_new=is_new, has_made_letter=bool(written))
-    return Status.DONE
+    folder, letter = election.path(LETTERS), closing_letter(history, sealed.public, election.language)
+    written = write_made(folder, {CLOSED: letter}, OWN)
+    act, path = history.closes[-1], folder / CLOSED
+    detail = act.detail
+    lines = count_of(detail["lines"], "line")
+    if is_new:
+        if detail["early"]:
+            tell("Note: one could still vote by the time that was announced; the page of the result tells it.")
+        tell(f"Closed: {lines} came in time. What is entered from now on is late, and does not count.")
+        if detail["waiting"]:
+            tell(f"{count_of(detail['waiting'], 'letter')} that arrived in time did not go in; the page of the result tells it.")
+        if detail.get("before_call"):
+            tell(f"{count_of(detail['before_call'], 'letter')} that arrived before the call did not go in.")
+    else:
+        tell(f"The vote was closed at {act_time(act.time)}, with {lines} in time. Nothing was changed.")
+    if written:
+        tell(f"Made {path}.")
+    tell(f"Checksum of the ballots{' with the random line' if 'seal' in detail else ''}: {detail['checksum']}")
+    tell(f"Send {path} to all electors before you count anything.", f"Next: {election.command('count')}")
 
 
 def close(election: Election, sealed: Sealed, arguments: Arguments) -> None:
-    """The act. Stops at what stands against it."""
     book = acting.book_for_act(election, arguments)
     acting.demand_whole(book)
     history, now = election.history(), times.now()
     letters = waiting_letters(election, history)
     in_time = [number for number, arrived in letters.items() if arrived is Arrived.IN_TIME]
     counts = collections.Counter(letters.values())
-    is_early = history.until is not None and now < history.until
-    faults = []
-    if is_early and not arguments.early:
-        faults.append(still_open(election, history))
+    faults, until = [], history.until
+    is_early = until is not None and now < until
+    if until is not None and is_early and not arguments.early:
+        here = times.minute_in_words(now, until.tzinfo)
+        words = f"one can vote until {times.time_in_words(until)}, and by the clock of this computer it is {here}"
+        how = f"{election.command('close', '--early')}, which the page of the result tells"
+        faults.append(Fault(None, words, f"close when that time is over, or now with {how}"))
     if in_time and not (arguments.force and acting.has_reason(arguments.because)):
-        faults.append(letters_wait(election, in_time))
+        words = f"letters wait that arrived in time: {', '.join(map(str, in_time))}"
+        look = f"look at them with {election.command('held')}"
+        force = "or close all the same with --force --because TEXT, which the page tells"
+        faults.append(Fault(None, words, f"add the mailbox once more, then {look}; {force}"))
     stop_at(faults)
     detail = fixed(election, sealed)
     detail.update({"waiting": len(in_time), "after_end": counts[Arrived.LATE], "before_call": counts[Arrived.BEFORE_THE_CALL]})
@@ -75,39 +91,3 @@ def fixed(election: Election, sealed: Sealed) -> Detail:
     standing = election.debvote.standing(sealed.counted.as_bytes(), ballots)
     public, seal = aliased_ballots(standing, queries.public_names(queries.electors(election.book))), seal_line()
     return {"lines": len(lines), "checksum": sealed_checksum(seal, public), "seal": seal}
-
-
-def still_open(election: Election, history: History) -> Fault:
-    """That one can still vote by the time that was announced."""
-    assert history.until is not None
-    here = times.minute_in_words(times.now(), history.until.tzinfo)
-    words = f"one can vote until {times.time_in_words(history.until)}, and by the clock of this computer it is {here}"
-    how = f"{election.command('close', '--early')}, which the page of the result tells"
-    return Fault(None, words, f"close when that time is over, or now with {how}")
-
-
-def letters_wait(election: Election, numbers: list[int]) -> Fault:
-    """That letters wait which arrived in time."""
-    words = f"letters wait that arrived in time: {', '.join(map(str, numbers))}"
-    how = f"look at them with {election.command('held')}; or close all the same with --force --because TEXT, which the page tells"
-    return Fault(None, words, f"add the mailbox once more, then {how}")
-
-
-def report(election: Election, act: DoneAct, *, is_new: bool, has_made_letter: bool) -> None:
-    """Says what was closed, now or before, and what comes next."""
-    detail, letter, lines = act.detail, election.path(LETTERS) / closing_letter.NAME, count_of(act.detail["lines"], "line")
-    if is_new:
-        if detail["early"]:
-            tell("Note: one could still vote by the time that was announced; the page of the result tells it.")
-        tell(f"Closed: {lines} came in time. What is entered from now on is late, and does not count.")
-        if detail["waiting"]:
-            tell(f"{count_of(detail['waiting'], 'letter')} that arrived in time did not go in; the page of the result tells it.")
-        if detail.get("before_call"):
-            tell(f"{count_of(detail['before_call'], 'letter')} that arrived before the call did not go in.")
-    else:
-        tell(f"The vote was closed at {act_time(act.time)}, with {lines} in time. Nothing was changed.")
-    if has_made_letter:
-        tell(f"Made {letter}.")
-    tell(f"Checksum of the ballots{' with the random line' if 'seal' in detail else ''}: {detail['checksum']}")
-    tell(f"Send {letter} to all electors before you count anything.")
-    tell(f"Next: {election.command('count')}")

@@ -1,37 +1,33 @@
-"""`codes`: a secret code for each elector of a secret vote, and the slips on which they are handed out."""
-
-import dataclasses
+"""Make a secret code for each elector, for a secret vote; it comes before the call."""
 
 from debvote_tools.arguments import flag
 from debvote_tools.book import queries
 from debvote_tools.book.acts import Detail
+from debvote_tools.call.data import CallData
 from debvote_tools.console import tell
 from debvote_tools.election import acting
+from debvote_tools.election.publication import current_data
 from debvote_tools.election.commands.check import what_next
 from debvote_tools.election.commands.roll import demand_read
-from debvote_tools.election.election import POLL_FILE, PRIVATE, Election
-from debvote_tools.election.history import History
+from debvote_tools.election.election import POLL_FILE, PRIVATE, Election, History
 from debvote_tools.election.made_files import OWN, write_made
-from debvote_tools.election.poll_checks import checked_poll
+from debvote_tools.election.draft_poll import checked_poll
 from debvote_tools.election.reporting import count_of
-from debvote_tools.faults import Fault, Status
+from debvote_tools.faults import Fault
 from debvote_tools.sealed_poll import SealedPoll
 from debvote_tools.secret.aliases import alias_of
 from debvote_tools.secret.codes import CodeRow, codes_csv, new_code
-from debvote_tools.secret.slips import Slip, SlipsData, slips
-
-HELP = "Make a secret code for each elector, for a secret vote; it comes before the call"
+from debvote_tools.secret.slips import slips
 
 SLIPS, CODES = "slips.html", "codes.csv"
 NOT_SECRET = "the vote is not secret, so it needs no codes"
 
 
-@dataclasses.dataclass(frozen=True)
 class Arguments(acting.Arguments):
     on_roll: bool = flag("Put the codes on the roll in place of the names, so that nobody knows who votes under which")
 
 
-def run(election: Election, arguments: Arguments) -> int:
+def run(election: Election, arguments: Arguments) -> None:
     if election.history().call is None:
         poll, number = make_codes(election, arguments)
         tell(f"Made {count_of(number, 'code')}.")
@@ -39,10 +35,17 @@ def run(election: Election, arguments: Arguments) -> int:
         poll = election.sealed().counted
         if not poll.secret:
             raise Fault(None, NOT_SECRET, f"see {election.command('status')}")
-    history = election.history()
+    history, private = election.history(), election.path(PRIVATE)
     write_slips(election, history, poll)
-    report(election, history, poll)
-    return Status.DONE
+    when = "The call writes into them until when one can vote and where to, so print them after it."
+    tell(f"The slips: {private / SLIPS}. {when}")
+    if history.has_codes_on_roll:
+        tell("Nobody may have a list of who gets which code. Destroy the slips that are left over, and the file.")
+    else:
+        tell(f"The table of the codes: {private / CODES}. Nobody but you may see it.")
+        if without := [elector.name for elector in queries.electors(election.book) if not elector.code]:
+            tell(f"Without a code: {', '.join(without)}")
+    tell(f"Next: {what_next(election, history, poll)}")
 
 
 def make_codes(election: Election, arguments: Arguments) -> tuple[SealedPoll, int]:
@@ -76,36 +79,15 @@ def make_codes(election: Election, arguments: Arguments) -> tuple[SealedPoll, in
     return poll, len(without)
 
 
-# ---------------------------------------------------------------- slips
 def write_slips(election: Election, history: History, poll: SealedPoll) -> None:
     """Makes the folder `private`, with what the call says if there is one. With codes on the roll the names are the codes."""
-    electors, is_on_roll = queries.electors(election.book), history.has_codes_on_roll
-    data = SlipsData(
-        language=election.language,
-        poll=poll,
-        slips=[Slip(elector.name, elector.who, elector.name if is_on_roll else elector.code) for elector in electors],
-        until=history.until,
-        to=history.announced("to"),
-        at=history.announced("at"),
-        has_codes_on_roll=is_on_roll,
-    )
-    files = {SLIPS: slips(data)}
+    is_on_roll = history.has_codes_on_roll
+    call = current_data(election, history) if history.call else CallData(election.language, poll, 0, has_codes_on_roll=is_on_roll)
+    rows = [
+        CodeRow(name, who, " ".join(addresses), name if is_on_roll else code, alias)
+        for _, name, _, who, addresses, _, code, alias in queries.electors(election.book)
+    ]
+    files = {SLIPS: slips(call, rows)}
     if not is_on_roll:
-        files[CODES] = codes_csv(
-            CodeRow(elector.name, elector.who, " ".join(elector.addresses), elector.code, elector.alias) for elector in electors
-        )
+        files[CODES] = codes_csv(rows)
     write_made(election.path(PRIVATE), files, OWN)
-
-
-def report(election: Election, history: History, poll: SealedPoll) -> None:
-    private = election.path(PRIVATE)
-    when = "The call writes into them until when one can vote and where to, so print them after it."
-    tell(f"The slips: {private / SLIPS}. {when}")
-    if history.has_codes_on_roll:
-        tell("Nobody may have a list of who gets which code. Destroy the slips that are left over, and the file.")
-    else:
-        tell(f"The table of the codes: {private / CODES}. Nobody but you may see it.")
-        without = [elector.name for elector in queries.electors(election.book) if not elector.code]
-        if without:
-            tell(f"Without a code: {', '.join(without)}")
-    tell(f"Next: {what_next(election, history, poll)}")

@@ -1,21 +1,17 @@
-"""`count`: the result sheet."""
+"""Print the result sheet."""
 
-import dataclasses
 import shlex
 from collections.abc import Iterable
 
-from debvote_tools.arguments import option
+from debvote_tools.arguments import Options, option
 from debvote_tools.book import queries
 from debvote_tools.console import tell_as_it_is, tell_aside
 from debvote_tools.debvote import casting_words
-from debvote_tools.election.election import Election, Sealed
-from debvote_tools.election.history import History
+from debvote_tools.election.election import Election, History, Sealed
 from debvote_tools.faults import Fault, Status
 from debvote_tools.lines import ballot_file
 from debvote_tools.sealed_poll import SealedPoll
 from debvote_tools.sheet import Sheet, sheet_in
-
-HELP = "Print the result sheet"
 
 CASTING = (
     "NAME",
@@ -23,8 +19,7 @@ CASTING = (
 )
 
 
-@dataclasses.dataclass(frozen=True)
-class Arguments:
+class Arguments(Options):
     casting: str | None = option(*CASTING)
 
 
@@ -48,7 +43,6 @@ def demand_countable(election: Election, history: History, sealed: Sealed) -> No
 
 
 def demand_option(poll: SealedPoll, casting: str | None) -> None:
-    """Stops if a casting vote is for no option of the poll, and says which names there are."""
     if casting is not None and casting not in poll.plain_names:
         where = f"--casting={shlex.quote(casting)}"
         cure = f"give one of these, exactly as it stands here: {in_shell(poll.plain_names)}"
@@ -59,16 +53,13 @@ def what_next(election: Election, history: History, sheet: Sheet, casting: str |
     """What the secretary does with this sheet. Before the close it is no result yet."""
     over = "" if history.is_closed else f"this is no result yet: when the vote is over {election.command('close')}, then "
     cast = ("--cast-by", "WHO", "--cast-on", "DATE")
-    winner = sheet.winner()
-    if winner is not None:
-        return over + election.command("publish", *((*casting_words(casting), *cast) if winner.is_by_casting else ()))
-    names = [sheet.names[option] for option in sheet.final_set()]
-    outside = sheet.casting_outside()
+    if sheet.winner is not None:
+        return over + election.command("publish", *((*casting_words(casting), *cast) if sheet.is_by_casting else ()))
+    names, outside = [sheet.names[option] for option in sheet.left], sheet.casting_outside
     why = f"; {in_shell([sheet.names[outside]])} is not among them" if outside is not None else ""
     commands = " or ".join(election.command("publish", *casting_words(name), *cast) for name in names)
     return f"{over}it is a tie between {in_shell(names)}{why}; who has the casting vote chooses one of them: {commands}"
 
 
 def in_shell(names: Iterable[str]) -> str:
-    """Some names, each as it is typed in a shell."""
     return ", ".join(map(shlex.quote, names))

@@ -1,52 +1,42 @@
-"""`desk`: ballots entered by hand at a terminal, or line by line from a pipe; any number of desks at once."""
+"""Enter ballots by hand, and print the reply to each; several desks can run at once, each in its own terminal."""
 
 import contextlib
-import dataclasses
 import os
 import sys
 from collections.abc import Iterator
+from typing import NamedTuple
 
-from debvote_tools.book import lines_by_act
 from debvote_tools.book import queries
 from debvote_tools.book.acts import Detail
 from debvote_tools.book.book import Book, Overtaken
-from debvote_tools.book.queries import NewEnvelope
 from debvote_tools.console import is_yes, tell, typed
 from debvote_tools.election import acting, in_time
-from debvote_tools.election.vote import JudgedLine, Vote, vote_of
-from debvote_tools.election.line_words import LineWords, change_words, summary, would_words
-from debvote_tools.election.election import Election, is_signed
-from debvote_tools.election.entering import electors_of, entered, is_too_long, long_words
-from debvote_tools.election.history import History
-from debvote_tools.election.in_time import Openness, openness_of
+from debvote_tools.election.vote import JudgedLine, Vote, change_words, summary, would_words
+from debvote_tools.election.election import Election, History
+from debvote_tools.election.entering import electors_of, entered, too_long
 from debvote_tools.election.reporting import listed
 from debvote_tools.faults import Fault, Status
 from debvote_tools.files import BALLOTS_LIMIT
 from debvote_tools.lines import Line, lines_in, name_in
 
-HELP = "Enter ballots by hand, and print the reply to each; several desks can run at once, each in its own terminal"
-
 QUIT = b"q"
-
 NOTHING_CAST = "nothing was cast"
 
 # in bytes; what one read of a pipe brings at most
 READ = 65_536
-
 # how many names are listed that a typed name may begin
 MAX_NAMES = 5
 
 Arguments = in_time.Arguments
 
 
-@dataclasses.dataclass(frozen=True)
-class Shown:
+class Shown(NamedTuple):
     """What a ballot was shown by, before the question, and at a pipe before it is cast."""
 
-    decided_at: int = dataclasses.field(compare=False)
-    openness: Openness
-    # number of each envelope of the elector, and the act that struck it
-    envelopes: tuple[tuple[int, int | None], ...] = ()
+    decided_at: int
+    openness: History
+    # those of the elector
+    envelopes: list[queries.Envelope]
 
 
 class Desk:
@@ -54,8 +44,7 @@ class Desk:
 
     def __init__(self, election: Election, book: Book, answer: str | None) -> None:
         self.election, self.book = election, book
-        self.vote = vote_of(election, election.history())
-        self.words = LineWords(self.vote)
+        self.vote = Vote(election, election.history())
         # what --came-before-close says, and what was said of the ballots of this desk
         self.answer = answer
         self.came_before_close: bool | None = None
@@ -66,19 +55,17 @@ class Desk:
     def now(self, elector: int | None = None) -> Shown:
         """What a ballot of an elector is shown by now."""
         history = History(self.book.acts())
-        openness = openness_of(history)
+        openness = history.openness()
         if openness.call != self.vote.call:
             raise Fault(None, "the vote was called anew meanwhile", "start the desk again", Status.DOUBT, NOTHING_CAST)
-        envelopes = queries.envelopes(self.book, "elector = ?", elector)
-        return Shown(history.last.number, openness, tuple((envelope.number, envelope.struck) for envelope in envelopes))
+        return Shown(history.last.number, openness, queries.envelopes(self.book, "elector = ?", elector))
 
     def ask_if_reopened(self, elector: int | None = None) -> Shown:
         """The same. After the vote was opened again it is asked once whether what is cast came before the first close."""
         shown = self.now(elector)
         if shown.openness.is_reopened and self.came_before_close is None:
-            self.came_before_close = in_time.came_before_close(
-                shown.openness, self.answer, "what was told is cast, and nothing else"
-            )
+            done = "what was told is cast, and nothing else"
+            self.came_before_close = in_time.came_before_close(shown.openness, self.answer, done)
         return shown
 
     def lines_of(self, data: bytes) -> list[Line]:
@@ -96,26 +83,24 @@ class Desk:
             self.vote,
             "desk",
             detail,
-            lambda _: [NewEnvelope(line.as_entered, line.line.place) for line in lines],
+            lambda _: [queries.NewEnvelope(line.as_entered, line.line.place) for line in lines],
             decided_at=shown.decided_at,
             is_late=shown.openness.is_late(self.came_before_close),
-            is_same=lambda: self.now(elector) == shown,
+            is_same=lambda: self.now(elector)[1:] == shown[1:],
             done="what was to be told is cast",
         ) as now:
             replies = now.replies()
             self.replies += replies
-            tell(*self.words.report(lines, now.numbers, replies, is_entered=True))
+            tell(*self.vote.report(lines, now.numbers, replies, is_entered=True))
 
 
-def run(election: Election, arguments: Arguments) -> int:
+def run(election: Election, arguments: Arguments) -> None:
     if sys.stdin is None:
         raise Fault("standard input", "it is closed", "run it at a terminal", Status.BAD_BALLOTS, NOTHING_CAST)
-    election.sealed()
-    book = acting.book_for_act(election, arguments)
-    desk = Desk(election, book, arguments.came_before_close)
+    desk = Desk(election, acting.book_for_act(election, arguments), arguments.came_before_close)
     openness = desk.now().openness
     tell(*in_time.notes(election, openness, "what is cast"))
-    if is_signed(book, desk.vote.call):
+    if desk.vote.is_signed:
         words = "letters have to be signed in this vote, and a desk asks for no signature"
         tell(f"Note: {words}: enter what comes on paper, or is spoken.")
     try:
@@ -127,7 +112,6 @@ def run(election: Election, arguments: Arguments) -> int:
     except KeyboardInterrupt:
         tell("")
     tell(f"This desk has cast {summary(desk.replies)}.", f"Next: {election.command('status')}")
-    return Status.DONE
 
 
 # ---------------------------------------------------------------- from a pipe
@@ -138,9 +122,9 @@ def from_pipe(desk: Desk) -> None:
         for line in desk.lines_of(data):
             if line.is_empty:
                 tell(f"{line.where}: it is empty, and was left out")
-            elif is_too_long(line):
+            elif why := too_long(line):
                 add = desk.election.command("add", "--force", "FILE")
-                tell(f"{line.where}: {long_words(line)}; it was not cast.", f"  To add it from a file: {add}")
+                tell(f"{line.where}: {why}; it was not cast.", f"  To add it from a file: {add}")
             else:
                 lines.append(line)
         read = desk.vote.read(lines)
@@ -151,33 +135,24 @@ def from_pipe(desk: Desk) -> None:
 
 
 def whole_lines() -> Iterator[bytes]:
-    """What each read of standard input brings, up to its last line end. A carriage return and a line feed are one end, also if two reads
-    part them.
-    """
-    waiting: list[bytes] = []
-    after_return = False
+    """The lines that each read of standard input ends. A carriage return and a line feed are one end, also if two reads part them."""
+    waiting, ended_with_return = bytearray(), False
     while data := os.read(sys.stdin.fileno(), READ):
-        end = max(data.rfind(b"\n"), data.rfind(b"\r")) + 1
-        if end == 0 and sum(map(len, waiting)) <= BALLOTS_LIMIT:
-            waiting.append(data)
-            continue
+        waiting += data.removeprefix(b"\n") if ended_with_return else data
+        ended_with_return = data.endswith(b"\r")
+        end = max(waiting.rfind(b"\n"), waiting.rfind(b"\r")) + 1
         # a line that is too long for debvote ends here
-        end = end or len(data)
-        came = b"".join([*waiting, data[:end]])
-        waiting = [data[end:]]
-        whole = came.removeprefix(b"\n") if after_return else came
-        after_return = came.endswith(b"\r")
-        if whole:
-            yield whole
-    rest = b"".join(waiting)
-    rest = rest.removeprefix(b"\n") if after_return else rest
-    if rest:
-        yield rest
+        if len(waiting) - end > BALLOTS_LIMIT:
+            end = len(waiting)
+        if end:
+            yield bytes(waiting[:end])
+            del waiting[:end]
+    if waiting:
+        yield bytes(waiting)
 
 
 # ---------------------------------------------------------------- at a terminal
 def at_terminal(desk: Desk) -> None:
-    """Asks for ballots until there are no more."""
     tell(*(f"  {number} {name}" for number, name in enumerate(desk.vote.option_names, start=1)))
     who = "the code" if desk.vote.has_codes else "the elector"
     tell(f"Type a ballot as {desk.vote.right_line} ({who}, then a rank for each option in this order); q ends.")
@@ -234,13 +209,13 @@ def show(desk: Desk, line: JudgedLine, shown: Shown, elector: int | None) -> str
     """Shows what a ballot would be, in words, or why debvote would refuse it. Returns the question whether to cast it."""
     tell(*change_words(line))
     if not line.is_ballot:
-        tell(f"It would be refused: {would_words(line)}", desk.words.right_words())
+        tell(f"It would be refused: {would_words(line)}", desk.vote.right_words())
         return "It would not count. Cast it anyway?"
-    tell(desk.words.of(line))
+    tell(desk.vote.in_words(line))
     if shown.openness.is_late(desk.came_before_close):
         tell("It is late, and will not count.")
     elif elector is not None:
-        earlier = desk.vote.standing(lines_by_act.lines_of_electors(desk.book, {elector})).get(line.voter)
+        earlier = desk.vote.standing(queries.lines_of_electors(desk.book, {elector})).get(line.voter)
         if earlier is not None:
-            tell(f"{line.voter} has a ballot: {desk.words.ranks(earlier)}. It will be replaced.")
+            tell(f"{line.voter} has a ballot: {desk.vote.ranks_in_words(earlier)}. It will be replaced.")
     return "Cast it?"

@@ -1,11 +1,10 @@
-"""`export`: the poll, the ballots and all that came, as files."""
+"""Write the poll, the ballots and all that came into a new folder, which only you can read."""
 
-import dataclasses
 import os
 import pathlib
 import re
 
-from debvote_tools.arguments import positional
+from debvote_tools.arguments import Options, positional
 from debvote_tools.book import queries
 from debvote_tools.console import tell
 from debvote_tools.election import acting
@@ -14,44 +13,32 @@ from debvote_tools.faults import Fault, Status
 from debvote_tools.files import whole_folder, write_whole
 from debvote_tools.lines import ballot_file
 
-HELP = "Write the poll, the ballots and all that came into a new folder, which only you can read"
-
 # what a file name keeps of the name under which something came
 UNSAFE = re.compile(r"[^A-Za-z0-9._-]+")
 LONGEST_FILE_NAME = 100
 
 
-@dataclasses.dataclass(frozen=True)
-class Arguments:
+class Arguments(Options):
     target_folder: str = positional("FOLDER", "The folder to make")
 
 
-def run(election: Election, arguments: Arguments) -> int:
-    acting.tell_strangeness(election.book)
-    acting.demand_whole(election.book)
-    target_folder = pathlib.Path(arguments.target_folder)
+def run(election: Election, arguments: Arguments) -> None:
+    book, target_folder = election.book, pathlib.Path(arguments.target_folder)
+    acting.tell_strangeness(book)
+    acting.demand_whole(book)
     if os.path.lexists(target_folder):
         raise Fault(target_folder, "it is there already", "name a new folder", Status.BAD_WORDS, "nothing was written")
     election.demand_private(target_folder)
-    with election.book.snapshot():
-        files = files_of(election)
+    with book.snapshot():
+        files = {"poll.toml": election.sealed().counted.as_bytes()}
+        files["ballots.txt"] = ballot_file(queries.lines_in_time(book))
+        files["late.txt"] = ballot_file(queries.late_lines(book))
+        # what came has its number before its name, which is no path and has no characters that a shell reads
+        for number, name, data in queries.sources(book):
+            safe_name = UNSAFE.sub("-", name.rpartition("/")[2])[-LONGEST_FILE_NAME:].strip(".") or "file"
+            files[f"came/{number:05}-{safe_name}"] = data
     with whole_folder(target_folder) as folder:
         (folder / "came").mkdir(mode=0o700)
         for name, data in files.items():
             write_whole(folder / name, data, 0o600)
     tell(f"Made the folder {target_folder}: poll.toml, ballots.txt, late.txt, and in came/ all that came. Only you can read it.")
-    return Status.DONE
-
-
-def files_of(election: Election) -> dict[str, bytes]:
-    """The files of the folder, by their names; what came has its number before its name."""
-    book = election.book
-    files = {"poll.toml": election.sealed().counted.as_bytes()}
-    files["ballots.txt"] = ballot_file(queries.lines_in_time(book))
-    files["late.txt"] = ballot_file(queries.late_lines(book))
-    return files | {f"came/{number:05}-{safe_name(name)}": data for number, name, data in queries.sources(book)}
-
-
-def safe_name(name: str) -> str:
-    """A name that is no path and has no characters that a shell reads."""
-    return UNSAFE.sub("-", name.rpartition("/")[2])[-LONGEST_FILE_NAME:].strip(".") or "file"

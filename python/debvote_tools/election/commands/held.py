@@ -1,31 +1,25 @@
-"""`held`: the letters that wait until the secretary has looked at them."""
+"""List the letters that wait; show one, enter its ballot, or set letters aside."""
 
 import collections
-import dataclasses
 from collections.abc import Iterator, Sequence
 
 from debvote_tools.arguments import flag, given, option, positional
 from debvote_tools.book import letters, queries
 from debvote_tools.book.acts import ActName, Detail
 from debvote_tools.book.book import NewAct
-from debvote_tools.book.lines_by_act import NOT_UNDONE
-from debvote_tools.book.queries import NewEnvelope
 from debvote_tools.console import tell
 from debvote_tools.election import acting, letter_words, letters_in
-from debvote_tools.election.vote import vote_of
-from debvote_tools.election.line_words import LineWords
+from debvote_tools.election.vote import Vote
 from debvote_tools.election.election import Election
 from debvote_tools.election.entering import entered
+from debvote_tools.election.reporting import count_of
 from debvote_tools.faults import Fault, Status
 from debvote_tools.letters.judge import JudgedLetter, Outcome
 from debvote_tools.letters.readings import BallotLine
 from debvote_tools.lines import name_in
 from debvote_tools.terminal_text import shown_text
 
-HELP = "List the letters that wait; show one, enter its ballot, or set letters aside"
 
-
-@dataclasses.dataclass(frozen=True)
 class Arguments(acting.Arguments):
     numbers: list[int] = positional("NUMBER", "The numbers of letters", type=int, nargs="*")
     enter: str | None = option("LINE,..", "Enter these lines of the letter, by their numbers as held NUMBER shows them")
@@ -34,22 +28,38 @@ class Arguments(acting.Arguments):
     force: bool = flag("Enter it although its elector has voted since")
 
 
-def run(election: Election, arguments: Arguments) -> int:
-    demand_words(arguments)
-    vote_of(election, election.history())
+def run(election: Election, arguments: Arguments) -> None:
+    chosen = demand_words(arguments)
+    # stops before the call
+    vote = Vote(election, election.history())
     if arguments.enter is not None:
-        enter(election, arguments, arguments.numbers[0], arguments.enter)
+        enter(election, vote, arguments, arguments.enter)
     elif arguments.set_aside or arguments.wait:
         decide(election, arguments)
-    elif arguments.numbers:
-        show(election, arguments.numbers)
+    found = all_letters(election)
+    waiting = [letter for letter in found if letter.waits]
+    if arguments.numbers and not chosen:
+        for letter in chosen_letters(found, arguments.numbers):
+            tell(*letter_words.whole(letter))
+    elif not chosen:
+        for letter in waiting:
+            tell(*letter_words.waiting(letter))
+        if aside := [str(letter.number) for letter in found if letter.outcome is Outcome.SET_ASIDE]:
+            tell(f"Set aside: {', '.join(aside)}")
+    if waiting:
+        numbers = [letter.number for letter in waiting]
+        shown = [] if chosen else [number for number in arguments.numbers if number in numbers]
+        command = election.command("held", str((shown or numbers)[0]))
+        tell(f"{count_of(len(waiting), 'letter waits', 'letters wait')}.")
+        tell(
+            f"Next: {command} {'with' if shown else 'shows one;'} --enter LINE enters a line of it, --set-aside says that it is dealt with"
+        )
     else:
-        list_waiting(election)
-    return Status.DONE
+        tell("No letter waits.", f"Next: {election.command('status')}")
 
 
-def demand_words(arguments: Arguments) -> None:
-    """Stops if the options do not go together."""
+def demand_words(arguments: Arguments) -> list[str]:
+    """The one option that was given, or none. Stops if the options do not go together."""
     chosen = given(arguments, "enter", "set_aside", "wait")
     if len(chosen) > 1:
         raise Fault("held", "it does one thing at a time", "give one of --enter, --set-aside and --wait", Status.BAD_WORDS, None)
@@ -57,94 +67,64 @@ def demand_words(arguments: Arguments) -> None:
         raise Fault("--enter", "it takes one letter", "name one number", Status.BAD_WORDS)
     if chosen and not arguments.numbers:
         raise Fault("held", "no letter is named", "name its number", Status.BAD_WORDS)
+    return chosen
 
 
 def all_letters(election: Election) -> list[JudgedLetter]:
-    """All letters that came, as they are judged now."""
     return letters_in.judged(election, election.history(), letters.letters(election.book))
 
 
 def chosen_letters(found: Sequence[JudgedLetter], numbers: Sequence[int]) -> list[JudgedLetter]:
     by_number = {letter.number: letter for letter in found}
-    unknown = [str(number) for number in numbers if number not in by_number]
-    if unknown:
+    if unknown := [str(number) for number in numbers if number not in by_number]:
         raise Fault(f"letter {', '.join(unknown)}", "there is none", "held lists the letters", Status.BAD_WORDS)
     return [by_number[number] for number in dict.fromkeys(numbers)]
 
 
-# ---------------------------------------------------------------- looking
-def list_waiting(election: Election) -> None:
-    """Lists the letters that wait, and those that were set aside."""
-    found = all_letters(election)
-    for letter in found:
-        if letter.waits:
-            tell(*letter_words.waiting(letter))
-    aside = [str(letter.number) for letter in found if letter.outcome is Outcome.SET_ASIDE]
-    if aside:
-        tell(f"Set aside: {', '.join(aside)}")
-    tell_waiting(election, found)
-
-
-def tell_waiting(election: Election, found: Sequence[JudgedLetter]) -> None:
-    """Says how many letters wait, and what can be done."""
-    waiting = [letter for letter in found if letter.waits]
-    if not waiting:
-        tell("No letter waits.", f"Next: {election.command('status')}")
-        return
-    first = str(waiting[0].number)
-    tell(
-        f"{len(waiting)} letter{' waits' if len(waiting) == 1 else 's wait'}.",
-        f"Next: {election.command('held', first)} shows one; --enter LINE enters a line of it, --set-aside says that it is dealt with",
-    )
-
-
-def show(election: Election, numbers: Sequence[int]) -> None:
-    """Shows letters line by line."""
-    found = all_letters(election)
-    for letter in chosen_letters(found, numbers):
-        tell(*letter_words.whole(letter))
-    tell_waiting(election, found)
-
-
-# ---------------------------------------------------------------- acts
 def decide(election: Election, arguments: Arguments) -> None:
     """The act that sets letters aside, or has them wait again."""
     book = acting.book_for_act(election, arguments)
     decided_at = book.last_number()
-    for letter in chosen_letters(all_letters(election), arguments.numbers):
-        if letter.outcome is Outcome.ENTERED:
-            cure = "strike takes an envelope out, undo the last act"
-            raise Fault(f"letter {letter.number}", "its ballot was entered", cure)
+    chosen = chosen_letters(all_letters(election), arguments.numbers)
+    if entered_before := [letter.number for letter in chosen if letter.outcome is Outcome.ENTERED]:
+        cure = "strike takes an envelope out, undo the last act"
+        raise Fault(f"letter {entered_before[0]}", "its ballot was entered", cure)
     state: ActName = letters.SET_ASIDE if arguments.set_aside else letters.PUT_BACK
     with book.act(state, {"letters": arguments.numbers}, seen=decided_at) as act:
-        for number in dict.fromkeys(arguments.numbers):
-            letters.decide(act, number, state)
-    tell_waiting(election, all_letters(election))
+        for letter in chosen:
+            letters.decide(act, letter.number, state)
 
 
-def enter(election: Election, arguments: Arguments, number: int, lines: str) -> None:
+def enter(election: Election, vote: Vote, arguments: Arguments, lines: str) -> None:
     """The act that enters lines of a letter; it waits no longer once each elector who has a ballot in it has one entered."""
     book = acting.book_for_act(election, arguments)
     history = election.history()
-    vote = vote_of(election, history)
-    [letter] = chosen_letters(all_letters(election), [number])
-    ballots = chosen_ballots(letter, lines)
-    demand_waits(letter, has_force=arguments.force)
+    [letter] = chosen_letters(all_letters(election), arguments.numbers)
+    ballots, name = chosen_ballots(letter, lines), f"letter {letter.number}"
+    if letter.outcome is Outcome.ENTERED:
+        late = queries.envelopes(book, f"letter = ? AND {queries.LATE}", letter.number)
+        numbers = [str(envelope.number) for envelope in late]
+        reopen = election.command("reopen", "--in-time", *numbers, "--because", "TEXT")
+        how = f"if it came in time, {'' if history.is_closed else 'close again and '}run {reopen}"
+        raise Fault(name, "it was entered" + (", and is late" if late else ""), how if late else "nothing is to be done")
+    if letter.has_voted_since and not arguments.force:
+        raise Fault(name, "its elector has voted since", "if this one has to count all the same, repeat it with --force")
+    if letter.outcome is Outcome.COPY:
+        cure = "if its ballot has to be entered once more, have it wait with --wait first"
+        raise Fault(name, "it is a copy of another letter", cure)
     # a ballot of the letter that was struck was entered, too
-    before = queries.envelopes(book, f"letter = ? AND envelope.{NOT_UNDONE}", number)
+    before = queries.envelopes(book, f"letter = ? AND envelope.{queries.NOT_UNDONE}", letter.number)
     done = {name_in(envelope.line).decode("ascii") for envelope in before} | {line.elector for line in ballots}
-    is_done = all(line.elector in done for line in letter.ballots)
 
-    def envelopes(act: NewAct) -> Iterator[NewEnvelope]:
+    def envelopes(act: NewAct) -> Iterator[queries.NewEnvelope]:
         yield from (letters_in.new_envelope(letter, line) for line in ballots)
-        if is_done:
-            letters.decide(act, number, letters.ENTERED)
+        if all(line.elector in done for line in letter.ballots):
+            letters.decide(act, letter.number, letters.ENTERED)
 
-    detail: Detail = {"letter": number, "lines": [line.number for line in ballots]}
+    detail: Detail = {"letter": letter.number, "lines": [line.number for line in ballots]}
     is_late = letters_in.is_late(history, letter)
     with entered(book, vote, "enter", detail, envelopes, decided_at=history.last.number, is_late=is_late) as now:
-        tell(*letter_words.reply_words(LineWords(vote), now, [line.ballot for line in ballots]))
-    tell_waiting(election, all_letters(election))
+        tell(*letter_words.reply_words(vote, now, [line.ballot for line in ballots]))
 
 
 def chosen_ballots(letter: JudgedLetter, lines: str) -> list[BallotLine]:
@@ -159,15 +139,3 @@ def chosen_ballots(letter: JudgedLetter, lines: str) -> list[BallotLine]:
     if count > 1:
         raise Fault("--enter", f"{count} of these lines are of {twice}", "name the one that counts")
     return found
-
-
-def demand_waits(letter: JudgedLetter, *, has_force: bool) -> None:
-    """Stops at a letter that does not wait, and if its elector has voted since."""
-    if letter.outcome is Outcome.ENTERED:
-        raise Fault(f"letter {letter.number}", "it was entered", "nothing is to be done")
-    if letter.has_voted_since and not has_force:
-        cure = "if this one has to count all the same, repeat it with --force"
-        raise Fault(f"letter {letter.number}", "its elector has voted since", cure)
-    if letter.outcome is Outcome.COPY:
-        cure = "if its ballot has to be entered once more, have it wait with --wait first"
-        raise Fault(f"letter {letter.number}", "it is a copy of another letter", cure)

@@ -1,4 +1,4 @@
-"""`letters`: what goes to the electors, as files that a mail program sends, or sent to a mail server."""
+"""Write letters to the electors, or send them: the call, receipts, reminders, the close, the result."""
 
 import dataclasses
 import getpass
@@ -23,15 +23,12 @@ from debvote_tools.letters_out.compose import Kind
 from debvote_tools.letters_out.send import Server
 from debvote_tools.terminal_text import shown_text
 
-HELP = "Write letters to the electors, or send them: the call, receipts, reminders, the close, the result"
-
 # how many electors without an address are named
 MOST = 20
 # in characters
 BAR = 40
 
 
-@dataclasses.dataclass(frozen=True)
 class Arguments(acting.Arguments):
     kind: str = positional("KIND", "call, receipts, reminders, closed or result", choices=[*map(str, Kind)])
     send: bool = flag("Send them to a mail server, and go on where a run was cut off")
@@ -62,18 +59,41 @@ def run(election: Election, arguments: Arguments) -> int:
         place = election.path(LETTERS) / due.kind / str(due.for_act)
         files = write(book, due, place)
         tried = [] if server is None else send_waiting(book, due, [*again, *due.waiting], server)
-    report_paper(due, place)
-    if server is None:
-        report_written(election, due, place, files)
+    if names := [due.elector(letter).name for letter in (*due.written, *due.new) if not letter.address]:
+        tell(f"Without an address: {listed(names, MOST)}. Print {place}/{letter_files.TO_PRINT}.")
+    if server is not None:
+        return report_sent(election, due, tried, [letter for letter in due.cut_off if letter not in again])
+    if files:
+        command = election.command("letters", due.kind, "--send", "--server", "HOST")
+        tell(f"Wrote {count_of(files, 'letter')}: {place}", f"Next: send them with your mail program, or by {command}")
+    else:
+        tell("There is no letter to send.")
+    return Status.DONE
+
+
+def report_sent(election: Election, due: LettersDue, tried: Sequence[SentLetter], cut_off: Sequence[SentLetter]) -> Status:
+    """Says what the server took, what it did not, and in which letters a run was cut off."""
+    if not tried and not cut_off:
+        refused = ", ".join(due.elector(letter).name for letter in due.written if letter.state == REFUSED)
+        but = f" but those that it has refused: {refused}" if refused else ""
+        tell(f"There is no letter to send: the server has taken all that are due{but}.")
         return Status.DONE
-    cut_off = [letter for letter in due.cut_off if letter not in again]
-    report_sent(election, due, tried, cut_off)
-    return Status.DOUBT if cut_off or any(letter.state != TAKEN for letter in tried) else Status.DONE
+    by_state = {state: [letter for letter in tried if letter.state == state] for state in (TAKEN, REFUSED, POSTPONED)}
+    tell(f"Sent {len(by_state[TAKEN])} of {count_of(len(tried), 'letter')}.")
+    for letter in (*by_state[REFUSED], *by_state[POSTPONED]):
+        tell(f"{letter.state.title()}: {due.elector(letter).name}, {letter.address}: {shown_text(letter.reply)}")
+    send_again = ["letters", due.kind, "--send", "--server", "HOST"]
+    if by_state[POSTPONED]:
+        tell(f"Next: in a quarter of an hour, send what was postponed: {election.command(*send_again)}")
+    for letter in cut_off:
+        name = due.elector(letter).name
+        tell(f"A run was cut off in the letter to {name}, {letter.address}: the server may have it.")
+        tell(f"Next: ask, or send it again: {election.command(*send_again, '--again', name)}")
+    return Status.DOUBT if cut_off or len(by_state[TAKEN]) < len(tried) else Status.DONE
 
 
 # ---------------------------------------------------------------- the words of the command line
 def demand_words(arguments: Arguments) -> None:
-    """Stops if the options do not go together."""
     alone = {"--server": arguments.server, "--user": arguments.user, "--again": arguments.again}
     given = ", ".join(name for name, value in alone.items() if value)
     if arguments.send and arguments.server is None:
@@ -87,11 +107,15 @@ def demand_words(arguments: Arguments) -> None:
 
 
 def with_password(server: Server, arguments: Arguments) -> Server:
-    """The server with user and password, which is read from a file or asked at a terminal."""
     if arguments.user is None:
         return server
     if arguments.password_file is not None:
-        password = send.password_in(arguments.password_file)
+        try:
+            password = pathlib.Path(arguments.password_file).read_text("utf-8").rstrip("\r\n")
+        except (OSError, UnicodeDecodeError) as error:
+            words = error.strerror if isinstance(error, OSError) else "it is no text in UTF-8"
+            cure = "name the file that has the password"
+            raise Fault(arguments.password_file, words, cure, Status.BAD_WORDS, "nothing was sent") from None
     elif console.is_terminal():
         password = getpass.getpass(f"The password of {arguments.user} on {server.host}: ")
     else:
@@ -101,7 +125,6 @@ def with_password(server: Server, arguments: Arguments) -> Server:
 
 
 def sender_of(election: Election, arguments: Arguments) -> str:
-    """The address that sends the letters."""
     sender = arguments.sender or election.history().announced("to")
     if sender is None:
         cure = "write the address that sends the letters"
@@ -121,10 +144,8 @@ def announce(election: Election, book: Book, address: str) -> None:
 
 
 def chosen_again(due: LettersDue, names: Sequence[str]) -> list[SentLetter]:
-    """The letters of these electors that a run was cut off in."""
     by_name = {due.elector(letter).name: letter for letter in due.cut_off}
-    unknown = [shown_text(name) for name in names if name not in by_name]
-    if unknown:
+    if unknown := [shown_text(name) for name in names if name not in by_name]:
         words = f"no run was cut off in the letter to {', '.join(unknown)}"
         cure = f"it may be: {', '.join(by_name)}" if by_name else "leave it out"
         raise Fault("--again", words, cure, Status.BAD_WORDS, "nothing was sent")
@@ -138,7 +159,7 @@ def write(book: Book, due: LettersDue, place: pathlib.Path) -> int:
     with letter_files.in_place(files, place):
         if due.new:
             with book.act("letters out", {"kind": due.kind, "letters": len(due.new)}, seen=due.history.last.number) as act:
-                sent.note_written(act, due.new)
+                sent.note(act, due.new)
     return len(files.keys() - {letter_files.TO_PRINT})
 
 
@@ -147,8 +168,7 @@ def send_waiting(book: Book, due: LettersDue, letters: Sequence[SentLetter], ser
 
     def note(noted: Sequence[SentLetter]) -> None:
         with uninterrupted(), book.act("letter sent", {"kind": due.kind}) as act:
-            for letter in noted:
-                sent.note_state(act, letter)
+            sent.note(act, noted)
 
     tried: list[SentLetter] = []
     if not letters:
@@ -169,45 +189,6 @@ def send_waiting(book: Book, due: LettersDue, letters: Sequence[SentLetter], ser
 
 
 def show_progress(count: int, total: int) -> None:
-    """A progress bar, where somebody sees it."""
     if console.shows():
         done = BAR * count // total
         console.tell_as_it_is(f"\r[{'#' * done}{'.' * (BAR - done)}] {count} of {total}")
-
-
-# ---------------------------------------------------------------- what is printed
-def report_paper(due: LettersDue, place: pathlib.Path) -> None:
-    """Says who has no address."""
-    names = [due.elector(letter).name for letter in (*due.written, *due.new) if not letter.address]
-    if names:
-        tell(f"Without an address: {listed(names, MOST)}. Print {place}/{letter_files.TO_PRINT}.")
-
-
-def report_written(election: Election, due: LettersDue, place: pathlib.Path, files: int) -> None:
-    """Says what was written, and what comes next."""
-    if not files:
-        tell("There is no letter to send.")
-        return
-    command = election.command("letters", due.kind, "--send", "--server", "HOST")
-    tell(f"Wrote {count_of(files, 'letter')}: {place}", f"Next: send them with your mail program, or by {command}")
-
-
-def report_sent(election: Election, due: LettersDue, tried: Sequence[SentLetter], cut_off: Sequence[SentLetter]) -> None:
-    """Says what the server took, what it did not, and in which letters a run was cut off."""
-    if not tried and not cut_off:
-        refused = ", ".join(due.elector(letter).name for letter in due.written if letter.state == REFUSED)
-        but = f" but those that it has refused: {refused}" if refused else ""
-        tell(f"There is no letter to send: the server has taken all that are due{but}.")
-        return
-    tell(f"Sent {sum(letter.state == TAKEN for letter in tried)} of {count_of(len(tried), 'letter')}.")
-    for state, words in ((REFUSED, "Refused"), (POSTPONED, "Postponed")):
-        for letter in tried:
-            if letter.state == state:
-                tell(f"{words}: {due.elector(letter).name}, {letter.address}: {shown_text(letter.reply)}")
-    send_again = ["letters", due.kind, "--send", "--server", "HOST"]
-    if any(letter.state == POSTPONED for letter in tried):
-        tell(f"Next: in a quarter of an hour, send what was postponed: {election.command(*send_again)}")
-    for letter in cut_off:
-        name = due.elector(letter).name
-        tell(f"A run was cut off in the letter to {name}, {letter.address}: the server may have it.")
-        tell(f"Next: ask, or send it again: {election.command(*send_again, '--again', name)}")

@@ -1,32 +1,27 @@
-"""`log`: the acts of the book, and whether the chain of their digests is whole."""
+"""List the acts of the election; with --check compute their digests anew."""
 
-import dataclasses
 import itertools
 import json
 
-from debvote_tools.arguments import flag
+from debvote_tools.arguments import Options, flag
 from debvote_tools.console import tell
 from debvote_tools.election import acting
 from debvote_tools.election.election import Election
 from debvote_tools.election.reporting import act_time, count_of
-from debvote_tools.faults import Status
-
-HELP = "List the acts of the election; with --check compute their digests anew"
 
 
-@dataclasses.dataclass(frozen=True)
-class Arguments:
+class Arguments(Options):
     check: bool = flag("Compute the chain of digests anew over all that is in the book")
 
 
-def run(election: Election, arguments: Arguments) -> int:
+def run(election: Election, arguments: Arguments) -> None:
     acting.tell_strangeness(election.book)
     if arguments.check:
         acting.demand_whole(election.book)
     acts = election.history().acts
     if arguments.check:
         tell(f"The chain is whole: {count_of(len(acts), 'act')}, the last digest is {acts[-1].digest}")
-        return Status.DONE
+        return
     lines = []
     for before, act in itertools.pairwise([acts[0], *acts]):
         # the random line of a close stays in the book: with it few ballots can be guessed from the checksum
@@ -35,4 +30,3 @@ def run(election: Election, arguments: Arguments) -> int:
         if act.time < before.time:
             lines.append("  the clock went back: the act before it has a later time")
     tell(*lines)
-    return Status.DONE

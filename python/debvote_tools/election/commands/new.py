@@ -1,12 +1,11 @@
-"""`new`: the folder of an election, with a poll and a list of members to fill in."""
+"""Make the folder of an election, with a poll and a list of members to fill in."""
 
 import contextlib
-import dataclasses
 import os
 import pathlib
 import shlex
 
-from debvote_tools.arguments import option, positional
+from debvote_tools.arguments import Options, option, positional
 from debvote_tools.book import book
 from debvote_tools.console import tell
 from debvote_tools.election.draft_poll import NEW_POLL
@@ -16,11 +15,8 @@ from debvote_tools.faults import Fault, Status
 from debvote_tools.files import uninterrupted, whole_folder, write_whole
 from debvote_tools.language import ENGLISH, LANGUAGES
 
-HELP = "Make the folder of an election, with a poll and a list of members to fill in"
 
-
-@dataclasses.dataclass(frozen=True)
-class Arguments:
+class Arguments(Options):
     language: str = option(
         "CODE",
         "The language of what electors read, pages and letters: de, en, es or fr; English if it is not given",
@@ -30,11 +26,14 @@ class Arguments:
     target: str = positional("FOLDER", "The folder to make; one that is there must be empty")
 
 
-def run(election: Election, arguments: Arguments) -> int:
+def run(election: Election, arguments: Arguments) -> None:
     if election.is_named:
         raise Fault("--folder", "new makes the folder that it is given", "leave --folder out", Status.BAD_WORDS, None)
     folder, language = pathlib.Path(arguments.target), arguments.language
-    demand_free(folder)
+    # an empty folder is replaced
+    if os.path.lexists(folder) and not (folder.is_dir() and not folder.is_symlink() and not any(folder.iterdir())):
+        what = "an election already" if (folder / book.NAME).exists() else "not empty" if folder.is_dir() else "no folder"
+        raise Fault(folder, f"it is there, and it is {what}", "choose another name", Status.BAD_WORDS)
     with uninterrupted():
         make(folder, language)
         disk = "Keep it on a disk of this computer, in no folder that is shared or synced."
@@ -43,15 +42,6 @@ def run(election: Election, arguments: Arguments) -> int:
             tell(f"What electors read will be in {LANGUAGES[language]}.")
         steps = f"write the members into {MEMBERS_FILE} with a spreadsheet, fill in {POLL_FILE} with an editor"
         tell(f"Next: cd {shlex.quote(str(folder))}, {steps}, then run: debvote-election roll")
-    return Status.DONE
-
-
-def demand_free(folder: pathlib.Path) -> None:
-    """Stops if there is something in the place of the folder, unless that is an empty folder."""
-    if not os.path.lexists(folder) or (folder.is_dir() and not folder.is_symlink() and not any(folder.iterdir())):
-        return
-    what = "an election already" if (folder / book.NAME).exists() else "not empty" if folder.is_dir() else "no folder"
-    raise Fault(folder, f"it is there, and it is {what}", "choose another name", Status.BAD_WORDS)
 
 
 def make(folder: pathlib.Path, language: str) -> None:

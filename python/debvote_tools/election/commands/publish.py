@@ -1,7 +1,6 @@
-"""`publish`: the folder of the result, for a web site."""
+"""Make the folder of the result for a web site; without options, make the last one again."""
 
 import contextlib
-import dataclasses
 import pathlib
 from collections.abc import Iterator
 
@@ -13,21 +12,16 @@ from debvote_tools.debvote import casting_words
 from debvote_tools.election import acting
 from debvote_tools.election.commands import count
 from debvote_tools.election.election import RESULT, Election
-from debvote_tools.election.publication import ACT, Words, detail_of, last_publication, publication_of
+from debvote_tools.election.publication import Words, detail_of, last_publication, publication_of
 from debvote_tools.election.reporting import act_time
 from debvote_tools.faults import Fault, Status
 from debvote_tools.files import locked
 from debvote_tools.language import LANGUAGES
 from debvote_tools.publish import result_folder
-from debvote_tools.publish.casting_vote import casting_vote_of
 from debvote_tools.publish.counting import Counted
-from debvote_tools.publish.inputs import Publication
-from debvote_tools.publish.texts import text_in
-
-HELP = "Make the folder of the result for a web site; without options, make the last one again"
+from debvote_tools.publish.inputs import Publication, casting_vote_of, text_in
 
 
-@dataclasses.dataclass(frozen=True)
 class Arguments(acting.Arguments):
     casting: str | None = option(*count.CASTING)
     cast_by: str | None = option("NAME", "Whose the casting vote was; the page says it in your name")
@@ -46,13 +40,18 @@ class Arguments(acting.Arguments):
 
 
 def run(election: Election, arguments: Arguments) -> int:
-    target_folder = pathlib.Path(arguments.target) if arguments.target else election.path(RESULT)
-    counted, is_new = publish(election, arguments, target_folder)
-    report(election, counted, target_folder, is_new=is_new)
+    folder = pathlib.Path(arguments.target) if arguments.target else election.path(RESULT)
+    counted, is_new = publish(election, arguments, folder)
+    as_before = "" if is_new else ", as it was published before; nothing was changed in the book"
+    tell(counted.sheet.last_line, counted.verified, f"Made the folder {folder}{as_before}.")
+    if counted.sheet.winner is not None:
+        tell(f"Next: put the folder {folder} on the web site as it is, then {election.command('letters', 'result')}")
+    else:
+        chosen = election.command("publish", *casting_words("NAME"), "--cast-by", "WHO", "--cast-on", "DATE")
+        tell(f"Next: it is a tie: ask for the casting vote, and write its option, whose it was and its day: {chosen}")
     return counted.status
 
 
-# ---------------------------------------------------------------- the act
 def publish(election: Election, arguments: Arguments, target_folder: pathlib.Path) -> tuple[Counted, bool]:
     """Makes the folder. Returns what was counted, and whether it is another publication than the last.
 
@@ -76,7 +75,7 @@ def publish(election: Election, arguments: Arguments, target_folder: pathlib.Pat
         is_new = before is None or before.detail != detail
         with alone(election):
             if is_new:
-                with book.act(ACT, detail, seen=history.last.number):
+                with book.act("publish", detail, seen=history.last.number):
                     pass
             elif book.last_number() != history.last.number:
                 raise Overtaken
@@ -96,7 +95,6 @@ def alone(election: Election) -> Iterator[None]:
 
 
 def words_of(arguments: Arguments) -> Words:
-    """The words of the command line, looked through."""
     vote = None
     if arguments.casting is not None:
         today = times.now().astimezone().date()
@@ -147,16 +145,3 @@ def demand_yes(question: str, why: str) -> None:
         raise Fault(None, f"the vote is secret, and {why}", cure, done="nothing was published")
     if not is_yes(f"The vote is secret. {question}"):
         raise Fault(None, "the answer was not yes", "put it right, then publish", done="nothing was published")
-
-
-# ---------------------------------------------------------------- what is printed
-def report(election: Election, counted: Counted, folder: pathlib.Path, *, is_new: bool) -> None:
-    """Says how the vote ended, what was made, and what comes next."""
-    tell(counted.sheet.last_line, counted.verified)
-    as_before = "" if is_new else ", as it was published before; nothing was changed in the book"
-    tell(f"Made the folder {folder}{as_before}.")
-    if counted.sheet.winner() is not None:
-        tell(f"Next: put the folder {folder} on the web site as it is, then {election.command('letters', 'result')}")
-        return
-    chosen = election.command("publish", *casting_words("NAME"), "--cast-by", "WHO", "--cast-on", "DATE")
-    tell(f"Next: it is a tie: ask for the casting vote, and write its option, whose it was and its day: {chosen}")

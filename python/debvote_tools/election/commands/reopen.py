@@ -1,22 +1,18 @@
-"""`reopen`: the vote is open again after a close, for what had come in time."""
+"""Open the vote again after a close, for ballots that had come in time; the page of the result tells it."""
 
-import dataclasses
-import datetime
+import operator
 from collections.abc import Sequence
 
 from debvote_tools.arguments import flag, option
-from debvote_tools.book import lines_by_act
 from debvote_tools.book import queries
 from debvote_tools.book.acts import Detail
 from debvote_tools.book.book import Book
-from debvote_tools.book.queries import Envelope, NewEnvelope
 from debvote_tools.console import is_terminal, tell, typed
 from debvote_tools.election import acting
 from debvote_tools.election.commands.strike import without_code
-from debvote_tools.election.vote import vote_of
+from debvote_tools.election.vote import Vote
 from debvote_tools.election.election import Election
 from debvote_tools.election.entering import entered
-from debvote_tools.election.history import History
 from debvote_tools.election.reporting import act_time, count_of
 from debvote_tools.faults import Fault, Status, stop_at
 from debvote_tools.terminal_text import shown_line
@@ -24,10 +20,10 @@ from debvote_tools.terminal_text import shown_line
 # of the number of an envelope
 MAX_DIGITS = 9
 
-HELP = "Open the vote again after a close, for ballots that had come in time; the page of the result tells it"
+# of two ballots the later one has the later time, and within a second the greater number
+ORDER = operator.attrgetter("time", "number")
 
 
-@dataclasses.dataclass(frozen=True)
 class Arguments(acting.Arguments):
     in_time: list[int] | None = option(
         "NUMBER",
@@ -38,13 +34,17 @@ class Arguments(acting.Arguments):
     force: bool = flag("Enter them although their electors have later ballots in time")
 
 
-def run(election: Election, arguments: Arguments) -> int:
+def run(election: Election, arguments: Arguments) -> None:
     because = acting.demand_reason(arguments.because, "reopen")
     election.sealed()
     book = acting.book_for_act(election, arguments)
     history = election.history()
-    demand_closed(election, history)
-    vote = vote_of(election, history)
+    if not history.is_closed:
+        raise Fault(None, "the vote is not closed", f"see {election.command('status')}")
+    if history.announced("codes_on_roll") and history.named("publish"):
+        words = "the result has the codes of the roll, so now everybody could vote for everybody"
+        raise Fault(None, words, "hold the vote anew, with new codes")
+    vote = Vote(election, history)
     offered = chosen(book, arguments.in_time, has_codes=vote.has_codes)
     older = faults_of_older(book, offered)
     if not arguments.force:
@@ -52,31 +52,25 @@ def run(election: Election, arguments: Arguments) -> int:
     detail: Detail = {"because": because, "in_time": [envelope.number for envelope in offered]}
     if older:
         detail["force"] = True
-    again = [NewEnvelope(late.line, late.place, late.source, late.letter, late.time) for late in offered]
+    again = [queries.NewEnvelope(late.line, late.place, late.source, late.letter, late.time) for late in offered]
     with entered(book, vote, "reopen", detail, lambda _: again, decided_at=history.last.number, is_late=False) as now:
         tell(f"The vote is open again; the close at {act_time(history.closes[-1].time)} stays in the log, and the page tells it.")
         for number, envelope in zip(now.numbers, offered):
             tell(f"{number} entered, which was late as {envelope.number}: {without_code(envelope.line, has_codes=vote.has_codes)}")
+    if left := late_lines_left(book):
+        words = f"envelopes {', '.join(map(str, left))} stay late"
+        cure = f"if one had come before the first close, close again and run {election.command('reopen', '--in-time', 'NUMBER', '--because', 'TEXT')}"
+        tell(f"Note: {words}; {cure}")
     tell("Only what arrived before the first close goes in as in time: add and desk ask.")
     tell(f"Next: {election.command('add', 'FILE')}, then {election.command('close')}")
-    return Status.DONE
 
 
-def demand_closed(election: Election, history: History) -> None:
-    """Stops if the vote is open, or if codes of the roll are published with its result: then everybody could vote for everybody."""
-    if not history.is_closed:
-        raise Fault(None, "the vote is not closed", f"see {election.command('status')}")
-    if history.announced("codes_on_roll") and history.named("publish"):
-        words = "the result has the codes of the roll, so now everybody could vote for everybody"
-        raise Fault(None, words, "hold the vote anew, with new codes")
-
-
-def chosen(book: Book, in_time: list[int] | None, *, has_codes: bool) -> list[Envelope]:
+def chosen(book: Book, in_time: list[int] | None, *, has_codes: bool) -> list[queries.Envelope]:
     """The late envelopes that had come in time, as the secretary says, in the order of their times."""
     late = {envelope.number: envelope for envelope in queries.envelopes(book, queries.LATE)}
-    entered_before = lines_by_act.entered_anew(book)
     if in_time is None and is_terminal():
-        in_time = asked([envelope for number, envelope in late.items() if number not in entered_before], has_codes=has_codes)
+        in_time = asked([late[number] for number in late_lines_left(book)], has_codes=has_codes)
+    entered_before = queries.entered_anew(book)
     numbers = in_time or []
     if unknown := [str(number) for number in numbers if number not in late]:
         words = f"envelope {', '.join(unknown)} is not one of the late lines"
@@ -85,10 +79,16 @@ def chosen(book: Book, in_time: list[int] | None, *, has_codes: bool) -> list[En
     if again := [str(number) for number in numbers if number in entered_before]:
         words = f"envelope {', '.join(again)} was entered as in time by an earlier reopen"
         raise Fault("--in-time", words, "leave it out")
-    return sorted((late[number] for number in set(numbers)), key=order)
+    return sorted((late[number] for number in set(numbers)), key=ORDER)
 
 
-def asked(late: Sequence[Envelope], *, has_codes: bool) -> list[int]:
+def late_lines_left(book: Book) -> list[int]:
+    """The late envelopes that no reopen entered as in time."""
+    entered_before = queries.entered_anew(book)
+    return [envelope.number for envelope in queries.envelopes(book, queries.LATE) if envelope.number not in entered_before]
+
+
+def asked(late: Sequence[queries.Envelope], *, has_codes: bool) -> list[int]:
     """The numbers that are typed at a terminal, where the late envelopes are listed; none if there are none."""
     if not late:
         return []
@@ -97,27 +97,19 @@ def asked(late: Sequence[Envelope], *, has_codes: bool) -> list[int]:
     answer = typed("Which of them had come before the first close? Their numbers, or Enter for none: ") or b""
     numbers = answer.replace(b",", b" ").split()
     if wrong := next((number for number in numbers if not number.isdigit() or len(number) > MAX_DIGITS), None):
-        raise Fault(
-            None, f"{shown_line(wrong)} is not the number of an envelope", "run it again, and type numbers with spaces between"
-        )
+        cure = "run it again, and type numbers with spaces between"
+        raise Fault(None, f"{shown_line(wrong)} is not the number of an envelope", cure)
     return list(map(int, numbers))
 
 
-def order(envelope: Envelope) -> tuple[datetime.datetime, int]:
-    """What decides which of two ballots is the later one: their times, and within a second the numbers of their envelopes."""
-    return envelope.time, envelope.number
-
-
-def faults_of_older(book: Book, offered: Sequence[Envelope]) -> list[Fault]:
+def faults_of_older(book: Book, offered: Sequence[queries.Envelope]) -> list[Fault]:
     """A fault for each envelope that would replace a later ballot of its elector, since the last one that is entered counts."""
     last = {late.elector: late for late in offered if late.elector is not None}
     faults = []
     for elector, late in last.items():
-        newest = max(queries.envelopes(book, f"elector = ? AND {queries.IN_TIME}", elector), key=order, default=late)
-        if order(newest) > order(late):
-            words = (
-                f"envelope {late.number} would replace envelope {newest.number}, a later one of the same elector that is in time"
-            )
+        newest = max(queries.envelopes(book, f"elector = ? AND {queries.IN_TIME}", elector), key=ORDER, default=late)
+        if ORDER(newest) > ORDER(late):
+            later = f"envelope {newest.number}, a later one of the same elector that is in time"
             cure = "leave it out; or if it has to count all the same, repeat it with --force"
-            faults.append(Fault("--in-time", words, cure))
+            faults.append(Fault("--in-time", f"envelope {late.number} would replace {later}", cure))
     return faults

@@ -1,6 +1,5 @@
-"""`roll`: from the list of members to the electors. The list is read, and never written."""
+"""Read the list of members, and give each elector a name."""
 
-import dataclasses
 from collections.abc import Sequence
 
 from debvote_tools.arguments import flag
@@ -9,43 +8,39 @@ from debvote_tools.book.book import Book
 from debvote_tools.call.data import is_mail_address
 from debvote_tools.console import is_terminal, is_yes, tell
 from debvote_tools.election import acting
-from debvote_tools.election.election import MEMBERS_FILE, Election
-from debvote_tools.election.electors import Roll, roll_of
-from debvote_tools.election.history import History
-from debvote_tools.election.members import Member, members_in
+from debvote_tools.election.election import MEMBERS_FILE, Election, History
+from debvote_tools.election.members import Member, Roll, members_in, roll_of
 from debvote_tools.election.reporting import count_of, listed
-from debvote_tools.faults import Fault, Status, stop_at
+from debvote_tools.faults import Fault, stop_at
 from debvote_tools.plain_names import alike
 from debvote_tools.terminal_text import shown_text
-
-HELP = "Read the list of members, and give each elector a name"
 
 # how many electors are printed: of more the list itself is easier to read
 MAX_SHOWN = 200
 
 
-@dataclasses.dataclass(frozen=True)
 class Arguments(acting.Arguments):
     all: bool = flag("Print all electors, however many there are")
     yes: bool = flag("After the call: take the new addresses and keys without a question")
 
 
-def run(election: Election, arguments: Arguments) -> int:
+def run(election: Election, arguments: Arguments) -> None:
     book = acting.book_for_act(election, arguments)
     history = election.history()
     if history.has_codes_on_roll:
         raise Fault(None, "codes are on the roll, and nobody knows whose they are", "for another roll begin anew in another folder")
     roll = read_roll(election, history)
     if history.call is not None:
-        change_addresses(election, book, roll, history.last.number, is_agreed=arguments.yes)
+        is_changed = change_addresses(book, roll, history.last.number, is_agreed=arguments.yes)
+        write = f"{election.command('letters', 'call')}, for the new addresses" if is_changed and not history.closes else ""
+        tell(f"Next: {write or election.command('status')}")
     else:
         keep_electors(book, roll, history.last.number)
-        report(election, roll, has_all=arguments.all)
-    return Status.DONE
+        report(roll, has_all=arguments.all)
+        tell(f"Next: {election.command('check')}")
 
 
 def read_roll(election: Election, history: History) -> Roll:
-    """The roll by the list as it is now. All that is wrong with it is said at once."""
     members, known = members_in(election.path(MEMBERS_FILE)), queries.all_electors(election.book)
     roll = roll_of(members, known, election.language.code, is_called=history.call is not None)
     stop_at(roll.faults)
@@ -69,67 +64,58 @@ def keep_electors(book: Book, roll: Roll, seen: int) -> None:
     """The act: the electors are those of the list. If they are already, it is no act."""
     if is_kept(book, roll):
         return
-    before = {elector.number: elector for elector in queries.all_electors(book)}
-    by_name = {elector.name: elector for elector in before.values()}
+    before = {elector.name: elector for elector in queries.all_electors(book)}
     with book.act("roll", {"electors": len(roll.electors)}, seen=seen) as act:
-        after = {number: elector._replace(position=None) for number, elector in before.items()}
+        after = {name: elector._replace(position=None) for name, elector in before.items()}
         for position, elector in enumerate(roll.electors, start=1):
-            known = by_name.get(elector.name) or queries.new_elector(act, elector.name)
+            known = before.get(elector.name) or queries.new_elector(act, elector.name)
             if alike(known.who) != alike(elector.who):
                 # a code that somebody else got shows this person nothing
                 known = known._replace(code="", alias="")
-            now = known._replace(position=position, who=elector.who, addresses=elector.addresses, key=elector.key)
-            after[known.number] = now
-        queries.put_electors(act, (now for number, now in after.items() if before.get(number) != now))
+            after[elector.name] = known._replace(position=position, who=elector.who, addresses=elector.addresses, key=elector.key)
+        queries.put_electors(act, (now for name, now in after.items() if before.get(name) != now))
 
 
-# ---------------------------------------------------------------- what is printed
-def report(election: Election, roll: Roll, *, has_all: bool) -> None:
+def report(roll: Roll, *, has_all: bool) -> None:
     electors = roll.electors
     shown = electors if has_all else electors[:MAX_SHOWN]
     tell(f"{count_of(len(electors), 'elector')}, each with the name on the roll:")
     tell(*(f"  {elector.name}: {shown_text(elector.who)} {', '.join(elector.addresses)}".rstrip() for elector in shown))
     if len(shown) < len(electors):
         tell(f"  and {len(electors) - len(shown)} more (--all prints them)")
-    proposed = sum(elector.is_proposed for elector in electors)
-    if proposed:
+    if proposed := sum(elector.is_proposed for elector in electors):
         how = f"To change one, write it into a column `name` of {MEMBERS_FILE}, and run this again."
         tell(f"{count_of(proposed, 'name was', 'names were')} proposed. {how}")
     for address, sharing in roll.shared_addresses.items():
         tell(f"Note: several electors have the address {address}: {names_of(sharing)}. Is that one person?")
     for group in roll.alike_people:
         tell(f"Note: these real names look alike: {names_of(group)}. Is that one person?")
-    without = [elector for elector in electors if not elector.addresses]
-    if without:
+    if without := [elector for elector in electors if not elector.addresses]:
         tell(f"Without an address, so letters in their name wait, and what goes out is printed: {names_of(without)}")
-    unusual = [elector for elector in electors if elector.addresses and not any(map(is_mail_address, elector.addresses))]
-    if unusual:
+    if unusual := [elector for elector in electors if elector.addresses and not any(map(is_mail_address, elector.addresses))]:
         tell(f"With no address that every mail server takes, so what goes out to them is printed: {names_of(unusual)}")
     tell(*(f"No longer on the list: {gone.name} ({shown_text(gone.who)})" for gone in roll.gone))
-    tell(f"Next: {election.command('check')}")
 
 
 def names_of(electors: Sequence[Member]) -> str:
     return listed([elector.name for elector in electors], MAX_SHOWN)
 
 
-# ---------------------------------------------------------------- after the call
-def change_addresses(election: Election, book: Book, roll: Roll, seen: int, *, is_agreed: bool) -> None:
-    """The act after the call: new addresses and keys of the same people, each of them asked about."""
+def change_addresses(book: Book, roll: Roll, seen: int, *, is_agreed: bool) -> bool:
+    """The act after the call: new addresses and keys of the same people, each of them asked about. Returns whether there were any."""
     changed = [elector for elector in roll.electors if elector.changes and (is_agreed or agreed(elector))]
-    if changed:
-        with book.act("addresses", {"electors": len(changed)}, seen=seen) as act:
-            pairs = ((elector, elector.known) for elector in changed if elector.known)
-            queries.put_electors(act, (known._replace(addresses=now.addresses, key=now.key) for now, known in pairs))
-        tell(*(f"{elector.name}: {changes_in_words(elector)}" for elector in changed))
-        tell(f"{count_of(len(changed), 'elector')} changed; the page of the result tells how many.")
-    else:
+    if not changed:
         tell("Nothing was changed.")
-    tell(f"Next: {election.command('status')}")
+        return False
+    with book.act("addresses", {"electors": len(changed)}, seen=seen) as act:
+        pairs = ((elector, elector.known) for elector in changed if elector.known)
+        queries.put_electors(act, (known._replace(addresses=now.addresses, key=now.key) for now, known in pairs))
+    tell(*(f"{elector.name}: {changes_in_words(elector)}" for elector in changed))
+    tell(f"{count_of(len(changed), 'elector')} changed; the page of the result tells how many.")
+    return True
 
 
 def agreed(elector: Member) -> bool:
-    """Whether the secretary agrees to a change, which is shown."""
     question = f"{elector.label}: {changes_in_words(elector)}. Is that right?"
     if not is_terminal():
         raise Fault(None, question, "run it at a terminal, or with --yes")
@@ -137,5 +123,4 @@ def agreed(elector: Member) -> bool:
 
 
 def changes_in_words(elector: Member) -> str:
-    """What of an elector is another than it was."""
     return "; ".join(f"{what} {before or '(none)'} becomes {now or '(none)'}" for what, (before, now) in elector.changes.items())

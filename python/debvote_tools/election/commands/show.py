@@ -1,53 +1,48 @@
-"""`show`: one elector, with the ballots that came, and what stands."""
+"""Show one elector: the ballots and letters that came, the current ballot, and what was sent."""
 
-import dataclasses
-
-from debvote_tools.arguments import positional
-from debvote_tools.book import letters, queries
-from debvote_tools.book.queries import Elector, Envelope
-from debvote_tools.book.sent import sent_to
+from debvote_tools.arguments import Options, positional
+from debvote_tools.book import letters, queries, sent
 from debvote_tools.console import tell
 from debvote_tools.election import acting, letter_words, letters_in
-from debvote_tools.election.vote import JudgedLine, Vote, vote_of
-from debvote_tools.election.line_words import LineWords
-from debvote_tools.election.election import Election
-from debvote_tools.election.history import History
+from debvote_tools.election.vote import JudgedLine, Vote
+from debvote_tools.election.election import Election, History
 from debvote_tools.election.reporting import act_time
-from debvote_tools.faults import Fault, Status
-from debvote_tools.letters.judge import JudgedLetter
+from debvote_tools.faults import Fault
 from debvote_tools.letters.reasons import for_secretary
 from debvote_tools.lines import Line
 from debvote_tools.terminal_text import shown_text
 
-HELP = "Show one elector: the ballots and letters that came, the current ballot, and what was sent"
 
-
-@dataclasses.dataclass(frozen=True)
-class Arguments:
+class Arguments(Options):
     name: str = positional("NAME", "The elector's name on the roll, or the real name")
 
 
-def run(election: Election, arguments: Arguments) -> int:
+def run(election: Election, arguments: Arguments) -> None:
     history = election.history()
-    vote = vote_of(election, history)
+    vote = Vote(election, history)
     acting.tell_strangeness(election.book)
     elector = elector_named(election, vote, arguments.name)
     who = f": {shown_text(elector.who)} {', '.join(map(shown_text, elector.addresses))}".rstrip(": ")
     # of a code nobody knows whose it is
     tell(elector.name if vote.has_codes else f"{elector.name}{who}")
-    tell_ballots(election, vote, history, elector)
+    envelopes = queries.envelopes(election.book, "elector = ?", elector.number)
+    read = vote.read([Line("", "", envelope.line, envelope.line, envelope.line) for envelope in envelopes])
+    tell(*(ballot_words(vote, history, envelope, line) for envelope, line in zip(envelopes, read)))
+    counted = [envelope.line for envelope in envelopes if not envelope.is_struck and not envelope.is_late]
+    ranks = vote.standing(counted).get(elector.name)
+    tell(f"The current ballot: {'none' if ranks is None else vote.ranks_in_words(ranks)}")
     for letter in letters_in.judged(election, history, letters.letters(election.book)):
         if elector.name in letter.electors:
-            tell(*(f"  {line}" for line in letter_lines(letter)))
-    for sent in sent_to(election.book, elector.number):
-        where = f"to {sent.address}" if sent.address else "to be printed"
-        reply = f" ({shown_text(sent.reply)})" if sent.reply else ""
-        tell(f"  {sent.kind.removesuffix('s')}, {act_time(sent.time)}, {where}: {sent.state}{reply}")
-    return Status.DONE
+            why = letter.outcome.value if letter.reason is None else for_secretary(letter.reason)
+            lines = letter_words.waiting(letter) if letter.waits else [f"{letter_words.who_and_when(letter)}: {why}"]
+            tell(*(f"  {line}" for line in lines))
+    for out in sorted(sent.sent_letters(election.book, elector=elector.number), key=lambda letter: letter.time):
+        where = f"to {out.address}" if out.address else "to be printed"
+        reply = f" ({shown_text(out.reply)})" if out.reply else ""
+        tell(f"  {out.kind.removesuffix('s')}, {act_time(out.time)}, {where}: {out.state}{reply}")
 
 
-def elector_named(election: Election, vote: Vote, name: str) -> Elector:
-    """The elector with this name on the roll, or with this real name."""
+def elector_named(election: Election, vote: Vote, name: str) -> queries.Elector:
     electors = [elector for elector in queries.electors(election.book) if elector.name in vote.names_on_roll]
     found = [elector for elector in electors if elector.name == name.strip().lower()]
     found = found or [elector for elector in electors if elector.who and elector.who.casefold() == name.strip().casefold()]
@@ -61,19 +56,8 @@ def elector_named(election: Election, vote: Vote, name: str) -> Elector:
     raise Fault("show", f"no {what} on the roll is `{shown_text(name)}`", cure, done=None)
 
 
-def tell_ballots(election: Election, vote: Vote, history: History, elector: Elector) -> None:
-    """Shows the lines that came of an elector, and what stands."""
-    envelopes, words = queries.envelopes(election.book, "elector = ?", elector.number), LineWords(vote)
-    read = vote.read([Line("", "", envelope.line, envelope.line, envelope.line) for envelope in envelopes])
-    counted = [envelope.line for envelope in envelopes if envelope.struck is None and not envelope.is_late]
-    ranks = vote.standing(counted).get(elector.name)
-    tell(*(ballot_words(words, history, envelope, line) for envelope, line in zip(envelopes, read)))
-    tell(f"The current ballot: {'none' if ranks is None else words.ranks(ranks)}")
-
-
-def ballot_words(words: LineWords, history: History, envelope: Envelope, line: JudgedLine) -> str:
-    """A ballot that came: its envelope, its time, what it says, and whether it counts."""
-    said = words.ranks(line.ranks) if line.is_ballot else words.of(line)
+def ballot_words(vote: Vote, history: History, envelope: queries.Envelope, line: JudgedLine) -> str:
+    said = vote.ranks_in_words(line.ranks) if line.is_ballot else vote.in_words(line)
     marks = ["late"] if envelope.is_late else []
     if envelope.struck is not None:
         act = history.act(envelope.struck)
@@ -81,12 +65,3 @@ def ballot_words(words: LineWords, history: History, envelope: Envelope, line: J
         marks.append(f"struck by {act.name} at {act_time(act.time)}{because}")
     marked = f" ({'; '.join(marks)})" if marks else ""
     return f"  envelope {envelope.number}, {act_time(envelope.time)}: {said}{marked}"
-
-
-def letter_lines(letter: JudgedLetter) -> list[str]:
-    """A letter, and what became of it."""
-    if letter.waits:
-        return list(letter_words.waiting(letter))
-    reason = letter.reason
-    why = letter.outcome.value if reason is None else for_secretary(reason)
-    return [f"{letter_words.who_and_when(letter)}: {why}"]

@@ -1,25 +1,20 @@
-"""`status`: how far the election is, who has no ballot yet, and which lines were refused."""
+"""Say how far the election is: lines, ballots, who has none yet, what was refused."""
 
-import dataclasses
 import json
 import re
 from typing import NamedTuple
 
 from debvote_tools import times
-from debvote_tools.arguments import flag
+from debvote_tools.arguments import Options, flag
 from debvote_tools.book import queries
 from debvote_tools.console import shows, tell
 from debvote_tools.debvote import Finding, Findings, Totals
 from debvote_tools.election import acting
-from debvote_tools.election.election import Election
-from debvote_tools.election.history import History, Stage
+from debvote_tools.election.election import Election, History, Stage
 from debvote_tools.election.reporting import act_time, count_of, quorum_words, wrapped
 from debvote_tools.election.waiting import waiting_letters
-from debvote_tools.faults import Status
 from debvote_tools.lines import ballot_file
 from debvote_tools.terminal_text import shown_line
-
-HELP = "Say how far the election is: lines, ballots, who has none yet, what was refused"
 
 # how many characters the bar of those who have voted has
 BAR = 50
@@ -30,8 +25,7 @@ FIRST_WORD = re.compile(rb"(?:\xef\xbb\xbf)?[\s\"']*([A-Za-z0-9.-]{1,32})(?=[\s\
 NO_FINDINGS = Findings([], Totals(lines=0, valid=0, refused=0, late=0, voters=0, electors=0))
 
 
-@dataclasses.dataclass(frozen=True)
-class Arguments:
+class Arguments(Options):
     json: bool = flag("Print the numbers as JSON, for programs")
 
 
@@ -40,24 +34,21 @@ class State(NamedTuple):
 
     stage: Stage
     electors: int
-    # those in time that are not struck: valid and refused ones
+    # the lines in time that are not struck, and of them the valid and the refused ones; those that are late
     lines: int
     valid: int
     refused: int
-    # those that were entered while the vote was closed
     late: int
     voters: int
     # letters that wait for the secretary
     waiting: int
     without_ballot: list[str] | None
-    # the last act of the book, and its digest
+    # the last one of the book
     act: int
     digest: str
 
 
 class Refused(NamedTuple):
-    """A line that debvote refuses, in its envelope."""
-
     envelope: int
     line: bytes
     finding: Finding
@@ -69,19 +60,32 @@ class Refused(NamedTuple):
         return word[1].decode("ascii").lower() if word else None
 
 
-def run(election: Election, arguments: Arguments) -> int:
+def run(election: Election, arguments: Arguments) -> None:
     with election.book.snapshot():
         history = election.history()
         state, refused = state_of(election, history)
     if arguments.json:
         tell(json.dumps(state._asdict(), ensure_ascii=False))
-    else:
-        report(election, history, state, refused)
-    return Status.DONE
+        return
+    acting.tell_strangeness(election.book)
+    tell_stage(election, history)
+    tell(f"Lines: {state.lines} ({state.valid} valid, {state.refused} refused)")
+    if state.late:
+        tell(f"Late, and not counted: {state.late}")
+    tell(f"Electors with a valid ballot: {state.voters} of {state.electors}")
+    if shows() and state.electors:
+        tell(f"  {bar_of(state.voters, state.electors)}")
+    if state.without_ballot:
+        tell(f"Electors without one ({len(state.without_ballot)}):", wrapped(state.without_ballot))
+    tell_refused(refused, state.without_ballot)
+    if state.waiting:
+        wait = count_of(state.waiting, "letter waits", "letters wait")
+        tell(f"{wait} until you have looked: {election.command('held')}")
+    tell(f"Last act: {state.act}, digest {state.digest}", f"Next: {what_next(election, state)}")
 
 
 def state_of(election: Election, history: History) -> tuple[State, list[Refused]]:
-    """The numbers of an election, and the lines that debvote refuses, but for those of electors whose ballot stands.
+    """The numbers of an election, and the lines that debvote refuses, but for those of electors who have a ballot.
 
     With codes on the roll these are all refused lines.
     """
@@ -94,55 +98,28 @@ def state_of(election: Election, history: History) -> tuple[State, list[Refused]
         findings, roll = election.debvote.findings(poll.as_bytes(), ballot_file(line for _, line in lines)), poll.roll
         waiting = len(waiting_letters(election, history))
     refused = [Refused(*lines[finding.envelope - 1], finding) for finding in findings.refused]
-    refused_numbers = {one.envelope for one in refused}
-    # who has a line that debvote does not refuse has a ballot that stands
+    refused_numbers = {line.envelope for line in refused}
+    # who has a line that debvote does not refuse has a ballot
     names = {line.partition(b" ")[0] for number, line in lines if number not in refused_numbers}
     voters = {name.decode("ascii") for name in names}
+    totals, has_codes = findings.totals, history.has_codes_on_roll
     state = State(
         stage=history.stage,
         electors=len(roll),
-        lines=findings.totals.lines,
-        valid=findings.totals.valid,
-        refused=findings.totals.refused,
+        lines=totals.lines,
+        valid=totals.valid,
+        refused=totals.refused,
         late=len(queries.late_lines(election.book)),
-        voters=findings.totals.voters,
+        voters=totals.voters,
         waiting=waiting,
-        without_ballot=None if history.has_codes_on_roll else [name for name in roll if name not in voters],
+        without_ballot=None if has_codes else [name for name in roll if name not in voters],
         act=history.last.number,
         digest=history.last.digest,
     )
-    return state, refused if history.has_codes_on_roll else [one for one in refused if one.name not in voters]
-
-
-# ---------------------------------------------------------------- what is printed
-def report(election: Election, history: History, state: State, refused: list[Refused]) -> None:
-    acting.tell_strangeness(election.book)
-    tell_stage(election, history)
-    tell(f"Lines: {state.lines} ({state.valid} valid, {state.refused} refused)")
-    if state.late:
-        tell(f"Late, and not counted: {state.late}")
-    tell(f"Electors with a valid ballot: {state.voters} of {state.electors}")
-    if shows() and state.electors:
-        tell(f"  {bar_of(state.voters, state.electors)}")
-    if state.without_ballot:
-        tell(f"Electors without one ({len(state.without_ballot)}):", wrapped(state.without_ballot))
-    if state.without_ballot is None:
-        # a line would tell a code
-        if refused:
-            tell(f"Refused: envelopes {', '.join(str(one.envelope) for one in refused)}")
-    else:
-        known = set(state.without_ballot)
-        tell_refused("Refused lines of electors without a ballot", [one for one in refused if one.name in known])
-        tell_refused("Refused lines of which no elector is known", [one for one in refused if one.name not in known])
-    if state.waiting:
-        wait = count_of(state.waiting, "letter waits", "letters wait")
-        tell(f"{wait} until you have looked: {election.command('held')}")
-    tell(f"Last act: {state.act}, digest {state.digest}")
-    tell(f"Next: {what_next(election, state)}")
+    return state, refused if has_codes else [line for line in refused if line.name not in voters]
 
 
 def tell_stage(election: Election, history: History) -> None:
-    """Says what is voted on, until when, and whether the election is called and closed."""
     if history.call is None:
         tell("Call for votes: not made yet", "Closed: not yet")
         return
@@ -176,10 +153,16 @@ def bar_of(part: int, whole: int) -> str:
     return f"[{'#' * full}{'.' * (BAR - full)}] {part * 100 // whole} %"
 
 
-def tell_refused(title: str, refused: list[Refused]) -> None:
-    """Tells lines, each with its envelope and what debvote says of it."""
-    if refused:
-        tell(f"{title} ({len(refused)}):")
-    for one in refused:
-        line = shown_line(one.line) or "(empty)"
-        tell(f"  envelope {one.envelope}: {line}", f"    {one.finding.word}: {one.finding.hint}")
+def tell_refused(refused: list[Refused], without_ballot: list[str] | None) -> None:
+    """Prints lines, each with its envelope and what debvote says of it. With codes on the roll a line would tell a code."""
+    if without_ballot is None:
+        if refused:
+            tell(f"Refused: envelopes {', '.join(str(line.envelope) for line in refused)}")
+        return
+    known = set(without_ballot)
+    for whose, is_known in (("electors without a ballot", True), ("which no elector is known", False)):
+        found = [line for line in refused if (line.name in known) == is_known]
+        if found:
+            tell(f"Refused lines of {whose} ({len(found)}):")
+        for envelope, line, finding in found:
+            tell(f"  envelope {envelope}: {shown_line(line) or '(empty)'}", f"    {finding.word}: {finding.hint}")

@@ -1,68 +1,50 @@
-"""`strike`: takes one envelope out of the ballots, before the close."""
+"""Take one envelope out of the ballots, before the close; the page of the result says how many, and why."""
 
-import dataclasses
 import re
 
 from debvote_tools.arguments import positional
-from debvote_tools.book import letters, lines_by_act, queries
+from debvote_tools.book import letters, queries
 from debvote_tools.book.book import Book
-from debvote_tools.book.queries import Envelope
 from debvote_tools.console import tell
 from debvote_tools.election import acting
-from debvote_tools.election.vote import vote_of
-from debvote_tools.election.line_words import LineWords
+from debvote_tools.election.vote import Vote
 from debvote_tools.election.commands.undo import demand_open
 from debvote_tools.election.election import Election
 from debvote_tools.election.reporting import act_time
-from debvote_tools.faults import Fault, Status
+from debvote_tools.faults import Fault
 from debvote_tools.lines import name_in
 from debvote_tools.terminal_text import shown_line
-
-HELP = "Take one envelope out of the ballots, before the close; the page of the result says how many, and why"
 
 # what can be a code of the roll or the most of one, as if a digit was left out
 LIKE_A_CODE = re.compile(rb"[0-9a-fA-F]{16,}")
 
 
-@dataclasses.dataclass(frozen=True)
 class Arguments(acting.Arguments):
     number: int = positional("NUMBER", "The number of the envelope, as add, desk and show print it", type=int)
 
 
-def run(election: Election, arguments: Arguments) -> int:
+def run(election: Election, arguments: Arguments) -> None:
     because = acting.demand_reason(arguments.because, "strike")
-    vote = vote_of(election, election.history())
-    demand_envelope(election, election.book, arguments.number)
+    vote = Vote(election, election.history())
     book = acting.book_for_act(election, arguments)
-    envelope, act = strike(election, book, arguments.number, because)
+    with book.act("strike", {"envelope": arguments.number, "because": because}) as act:
+        envelope = demand_envelope(election, book, arguments.number)
+        queries.strike_envelopes(act, [envelope.number])
+        kept = next((kept for kept in letters.letters(book) if kept.number == envelope.letter), None)
+        # a letter waits on if it has ballots of others that were not entered
+        if kept is not None and kept.state in (letters.ENTERED, letters.STRUCK):
+            letters.decide(act, kept.number, letters.STRUCK)
     late = " (late)" if envelope.is_late else ""
     tell(f"Struck envelope {envelope.number}{late}: `{without_code(envelope.line, has_codes=vote.has_codes)}`, because: {because}")
     if envelope.elector is not None:
         elector = name_in(envelope.line).decode("ascii")
-        ranks = vote.standing(lines_by_act.lines_after(book, act, {envelope.elector})).get(elector)
+        ranks = vote.standing(queries.lines_after(book, act.number, {envelope.elector})).get(elector)
         whose = "that code" if vote.has_codes else elector
-        tell(f"The current ballot of {whose}: {'none' if ranks is None else LineWords(vote).ranks(ranks)}")
+        tell(f"The current ballot of {whose}: {'none' if ranks is None else vote.ranks_in_words(ranks)}")
     tell("A strike cannot be undone: if it was a mistake, enter the line again.", f"Next: {election.command('status')}")
-    return Status.DONE
 
 
-def strike(election: Election, book: Book, number: int, because: str) -> tuple[Envelope, int]:
-    """The act: the envelope, and the number of the act."""
-    with book.act("strike", {"envelope": number, "because": because}) as act:
-        envelope = demand_envelope(election, book, number)
-        queries.strike_envelopes(act, [number])
-        if envelope.letter is not None and is_done(book, envelope.letter):
-            letters.decide(act, envelope.letter, letters.STRUCK)
-    return envelope, act.number
-
-
-def is_done(book: Book, number: int) -> bool:
-    """Whether a letter waits for nothing: each elector who has a ballot in it has had one entered. Else it waits on for the others."""
-    [state] = [kept.state for kept in letters.letters(book) if kept.number == number]
-    return state in (letters.ENTERED, letters.STRUCK)
-
-
-def demand_envelope(election: Election, book: Book, number: int) -> Envelope:
+def demand_envelope(election: Election, book: Book, number: int) -> queries.Envelope:
     """The envelope of a number. Stops if there is none, if it is struck, or if the vote is closed."""
     history = election.history()
     demand_open(election, history)
@@ -73,8 +55,7 @@ def demand_envelope(election: Election, book: Book, number: int) -> Envelope:
         raise Fault(None, f"there is no envelope {number}; {there}", "see show NAME for the numbers of one elector")
     [envelope] = found
     if envelope.struck is not None:
-        time = act_time(history.act(envelope.struck).time)
-        words = f"envelope {number} is struck already, by act {envelope.struck} at {time}"
+        words = f"envelope {number} is struck already, by act {envelope.struck} at {act_time(history.act(envelope.struck).time)}"
         raise Fault(None, words, f"see {election.command('log')}")
     return envelope
 

@@ -1,40 +1,34 @@
-"""`undo`: takes back the last act that entered lines."""
+"""Take back the last act that entered lines; once more, and the one before."""
 
-import dataclasses
+import contextlib
+from collections.abc import Iterator
+from typing import NamedTuple
 
 from debvote_tools.arguments import flag
-from debvote_tools.book import letters, lines_by_act, queries
-from debvote_tools.book.sent import sent_letters
+from debvote_tools.book import letters, queries, sent
 from debvote_tools.book.book import Book, DoneAct, Overtaken
-from debvote_tools.book.queries import Envelope
 from debvote_tools.console import is_terminal, is_yes, tell
 from debvote_tools.election import acting
-from debvote_tools.election.vote import Vote, vote_of
-from debvote_tools.election.line_words import LineWords, standing_words
-from debvote_tools.election.election import Election
+from debvote_tools.election.vote import Vote, standing_words
+from debvote_tools.election.election import Election, History
 from debvote_tools.election.entering import envelope_words
-from debvote_tools.election.history import History
 from debvote_tools.election.reporting import act_time, count_of
-from debvote_tools.faults import Fault, Status
+from debvote_tools.faults import Fault
 from debvote_tools.letters_out.compose import Kind
 
-HELP = "Take back the last act that entered lines; once more, and the one before"
 
-
-@dataclasses.dataclass(frozen=True)
 class Arguments(acting.Arguments):
     yes: bool = flag("Take it back without a question")
 
 
-@dataclasses.dataclass(frozen=True)
-class UndoPlan:
+class UndoPlan(NamedTuple):
     """What an `undo` takes back, or would, and what it changes."""
 
-    decided_at: int = dataclasses.field(compare=False)
+    decided_at: int
     act: DoneAct
     # those of the act that are not struck yet
-    envelopes: tuple[Envelope, ...]
-    # the ballots that stand now and then, of the electors whose envelopes they are
+    envelopes: tuple[queries.Envelope, ...]
+    # the current ballots now and then, of the electors whose envelopes they are
     before: dict[str, str]
     after: dict[str, str]
     # the electors whose receipts tell of one of these ballots
@@ -52,35 +46,31 @@ class UndoPlan:
         return f"{count_of(len(numbers), 'line')} (act {self.act.number}: {self.act.name}{files}, {which})"
 
 
-def run(election: Election, arguments: Arguments) -> int:
-    vote = vote_of(election, election.history())
+def run(election: Election, arguments: Arguments) -> None:
+    vote = Vote(election, election.history())
     book = acting.book_for_act(election, arguments)
-    words = LineWords(vote)
     is_asked = is_terminal() and not arguments.yes
-    undone = undo(election, book, words, is_asked=is_asked)
-    ballots = [] if is_asked else standing_words(words, undone.before, undone.after, "no ballot is left")
-    tell(f"Took back {undone.what}.", *ballots, *waiting_words(undone), *receipt_words(undone))
+    undone = undo(election, book, vote, is_asked=is_asked)
+    tell(f"Took back {undone.what}.", *consequences(vote, undone, None if is_asked else "no ballot is left"))
     tell(f"Next: {election.command('status')}; once more {election.command('undo')} takes back the act before")
-    return Status.DONE
 
 
-# ---------------------------------------------------------------- the act
-def undo(election: Election, book: Book, words: LineWords, *, is_asked: bool) -> UndoPlan:
-    """Takes back the last act. If another act changes what was shown, it is shown and asked anew."""
-    agreed: UndoPlan | None = None
+def undo(election: Election, book: Book, vote: Vote, *, is_asked: bool) -> UndoPlan:
+    """The act that takes back the last one. If another act changes what was shown, it is shown and asked anew."""
+    agreed: tuple[object, ...] = ()
     while True:
-        found = what_is_taken_back(election, book, words.vote)
-        if is_asked and found != agreed:
-            ask(words, found)
-            agreed = found
-        try:
+        found = what_is_taken_back(election, book, vote)
+        if is_asked and found[1:] != agreed:
+            tell(*consequences(vote, found, "no ballot would be left"))
+            if not is_yes(f"Take back {found.what}?"):
+                raise Fault("undo", "you did not say yes", "run the command again when you want to take it back")
+            agreed = found[1:]
+        with contextlib.suppress(Overtaken):
             with book.act("undo", {"act": found.act.number}, seen=found.decided_at) as act:
                 queries.strike_envelopes(act, (envelope.number for envelope in found.envelopes))
                 for letter in found.letters:
                     letters.decide(act, letter, letters.TAKEN_BACK)
             return found
-        except Overtaken:
-            continue
 
 
 def what_is_taken_back(election: Election, book: Book, vote: Vote) -> UndoPlan:
@@ -88,17 +78,17 @@ def what_is_taken_back(election: Election, book: Book, vote: Vote) -> UndoPlan:
     with book.snapshot():
         history = History(book.acts())
         demand_open(election, history)
-        number = lines_by_act.last_entering_act(book)
+        number = queries.last_entering_act(book)
         if number is None:
             words = "nothing was entered that could be taken back"
             raise Fault("undo", words, f"see {election.command('status')}")
         envelopes = tuple(queries.envelopes(book, f"envelope.act = ? AND {queries.NOT_STRUCK}", number))
         electors = {envelope.elector for envelope in envelopes if envelope.elector is not None}
-        lines = lines_by_act.lines_of_electors(book, electors)
-        lines_without = lines_by_act.lines_of_electors(book, electors, without=number)
+        lines = queries.lines_of_electors(book, electors)
+        lines_without = queries.lines_of_electors(book, electors, without=number)
     before, after = vote.standing(lines), vote.standing(lines_without)
-    told = {("envelope", envelope.number, False) for envelope in envelopes}
-    receipts = [letter.elector for letter in sent_letters(book, Kind.RECEIPTS) if told & set(letter.about)]
+    about = {("envelope", envelope.number, False) for envelope in envelopes}
+    receipts = [letter.elector for letter in sent.sent_letters(book, Kind.RECEIPTS) if about & set(letter.about)]
     names = [elector.name for elector in queries.electors(book) if elector.number in receipts]
     return UndoPlan(history.last.number, history.act(number), envelopes, before, after, tuple(names))
 
@@ -110,22 +100,12 @@ def demand_open(election: Election, history: History) -> None:
         raise Fault(None, words, cure)
 
 
-# ---------------------------------------------------------------- what is printed
-def ask(words: LineWords, found: UndoPlan) -> None:
-    """Shows what would be taken back, and asks. Stops unless the answer is yes."""
-    tell(*standing_words(words, found.before, found.after, "no ballot would be left"), *waiting_words(found), *receipt_words(found))
-    if not is_yes(f"Take back {found.what}?"):
-        raise Fault("undo", "you did not say yes", "run the command again when you want to take it back")
-
-
-def waiting_words(found: UndoPlan) -> list[str]:
-    """The letters whose ballots are taken back: they wait again."""
-    if not found.letters:
-        return []
-    verb = "waits" if len(found.letters) == 1 else "wait"
-    return [f"{count_of(len(found.letters), 'letter')} then {verb} as taken back: {', '.join(map(str, found.letters))}"]
-
-
-def receipt_words(found: UndoPlan) -> list[str]:
-    """Whose receipts say that a ballot counts which no longer does."""
-    return [f"These have receipts that no longer hold: {', '.join(found.receipts)}"] if found.receipts else []
+def consequences(vote: Vote, found: UndoPlan, none: str | None) -> Iterator[str]:
+    """The ballots that change, where `none` says that none is left; the letters that wait again; the receipts that no longer hold."""
+    if none is not None:
+        yield from standing_words(vote, found.before, found.after, none)
+    if found.letters:
+        verb = "waits" if len(found.letters) == 1 else "wait"
+        yield f"{count_of(len(found.letters), 'letter')} then {verb} as taken back: {', '.join(map(str, found.letters))}"
+    if found.receipts:
+        yield f"These have receipts that no longer hold: {', '.join(found.receipts)}"

@@ -1,5 +1,6 @@
 use Rattle.std.proofs.Common.{rules, ◌≡◌, ◌∙◌, ap, map, string_bytes, sym}
 use Rattle.std.proofs.lemmas.List.{drop-map}
+use Rattle.vote_files.specs.Sources.{HasRead}
 use Rattle.vote_command_line.specs.Words.{texts_of}
 use Rattle.vote_program.specs.ProgramAnswers.{words_in}
 use Rattle.vote_program.proofs.Sheets.{of_words}
@@ -13,4 +14,5 @@ returns-in-Ok-clause-worded g c some =
     rw texts at c.answer_words.ensures.answers
 
 pub returns-in-Ok-clause-sheet : goal.returns-in-Ok-clause-sheet
-returns-in-Ok-clause-sheet g c some = of_words _ _ _ _ _ (returns-in-Ok-clause-worded g c some)
+returns-in-Ok-clause-sheet g c some =
+    of_words _ (HasRead g.S.Sources.readings c.args.files.now c.answer_words.new.files) _ _ _ _ (returns-in-Ok-clause-worded g c some)

@@ -1,0 +1,2 @@
+pub mod LinePrefixes
+pub mod Nearest
