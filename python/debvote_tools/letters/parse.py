@@ -35,7 +35,7 @@ AS_WINDOWS = {number: bytes([number]).decode("cp1252", "replace") for number in 
 # other control characters but tab and line feed, which some programs leave out, or end a line at
 CONTROL = re.compile("[\0-\x08\v\f\x0e-\x1f\x7f\x85\u2028\u2029]|\r(?!\n)")
 # what mail servers write into the head of each letter
-RECEIVED = re.compile(rb"(?im)^received[ \t]*:")
+RECEIVED = re.compile(r"received[ \t]*:", re.IGNORECASE)
 
 # the line that ends a letter
 END = "-- "
@@ -224,14 +224,14 @@ def body_of(letter: Part) -> Body:
             letter.found(Reason.TOO_LONG(length=length, what=f"bytes in {what}", limit=limit))
             return Body(trouble=letter.trouble)
     first, is_own = texts[0] if texts else (letter, False)
-    # around the parts no program shows a text, but a letter may be there that a mailbox did not part
-    if letter.fields and any(RECEIVED.search(data) for data in (first.below, *(part.around for part, _ in parts))):
-        letter.found(Reason.PARTED_OFF())
     if not is_own or (first.kind != "text/plain" and (first.kind != "text/html" or len(texts) > 1)):
         first.found(Reason.NO_PLAIN_TEXT())
     read = [text_of(part, is_first=part is first) for part, _ in texts]
-    text = read[0][0] if read else Body()
+    text, pieces = read[0] if read else (Body(), [])
+    # around the parts no program shows a text, but a letter may be there that a mailbox did not part; or below a text that is coded
     outside = [line for part, _ in parts for line in decoded_bytes(part.around, "utf-8").splitlines()]
+    below = decoded_bytes(first.below, "utf-8").splitlines()
+    has_others = bool(letter.fields) and any(map(RECEIVED.match, (*text.lines, *pieces, *outside, *below)))
     lines = [line for other, _ in read[1:] for line in other.lines] + [line for _, pieces in read for line in pieces]
     own, others = ({" ".join(line.split()): None for line in some} for some in (text.lines, lines + outside))
     other_lines = [line for line in others if line not in own and may_be_ballot(line)]
@@ -239,8 +239,8 @@ def body_of(letter: Part) -> Body:
     if count > MAX_LINES:
         letter.found(Reason.TOO_LONG(length=count, what="lines with numbers", limit=MAX_LINES))
         text, other_lines = Body(text.lines[:SHOWN_LINES]), []
-    trouble = next((part.trouble for part, _ in parts if part.trouble is not None), None)
-    return dataclasses.replace(text, other_lines=tuple(other_lines), trouble=trouble)
+    troubles = [Reason.PARTED_OFF()] if has_others else [part.trouble for part, _ in parts if part.trouble is not None]
+    return dataclasses.replace(text, other_lines=tuple(other_lines), trouble=next(iter(troubles), None))
 
 
 def may_be_ballot(line: str) -> bool:
