@@ -238,8 +238,8 @@ class Places(BookTest):
         self.assert_fault(self.election("status"), 2, "another program")
         with sqlite3.connect(self.book) as connection:
             connection.execute(f"PRAGMA application_id = {0x64627674}")
-            connection.execute("PRAGMA user_version = 3")
-        self.assert_fault(self.election("status"), 2, "version 3")
+            connection.execute("PRAGMA user_version = 2")
+        self.assert_fault(self.election("status"), 2, "it is a book of version 2, and this program writes version 3")
 
     def test_damaged(self) -> None:
         data = self.book.read_bytes()

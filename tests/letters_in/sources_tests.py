@@ -105,6 +105,8 @@ class Files(unittest.TestCase):
             "plain text": ADA,
             "parts": letter("ada", f"--b\n\nada {RANKS}\n--b--\n", kind="multipart/mixed; boundary=b"),
             "HTML": letter("ada", f"<p>ada {RANKS}</p><br>\n", kind="text/html"),
+            "coded": letter("ada", "YWRhIDEsMiw0LDMK\n", head="Content-Transfer-Encoding: base64\n"),
+            "a PDF": letter("ada", "JVBERi0x\n", kind="application/pdf", head="Content-Transfer-Encoding: base64\n"),
         }
         for what, data in above.items():
             for between in (b"", b"\n", b"Return-Path: <ben@club.example>\n"):

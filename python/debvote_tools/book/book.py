@@ -26,8 +26,8 @@ NAME = "election.db"
 # the act that takes another book than that of the note
 MOVED: Final = "moved"
 
-# "dbvt": what tells a book from other databases of SQLite, and the version of its schema
-APPLICATION_ID, VERSION = 0x64627674, 2
+# "dbvt": what tells a book from other databases of SQLite; and the version of its schema, and of what it keeps of letters as JSON
+APPLICATION_ID, VERSION = 0x64627674, 3
 
 # how many seconds an act waits for those of others
 PATIENCE = 120

@@ -11,7 +11,7 @@ from debvote_tools.debvote import Finding
 from debvote_tools.election.election import Election, History
 from debvote_tools.election.reporting import count_of
 from debvote_tools.faults import other_format
-from debvote_tools.files import LINES_LIMIT
+from debvote_tools.files import BALLOTS_LIMIT, LINES_LIMIT
 from debvote_tools.language import ENGLISH
 from debvote_tools.lines import CODE_WITHIN, Line, ballot_file, differences
 from debvote_tools.terminal_text import shown_line
@@ -97,9 +97,8 @@ class Vote:
     def answers(self, lines: Sequence[bytes]) -> dict[bytes, str | None]:
         """What debvote says of each line, as `bad rank count: ..`; None of a valid ballot. It is asked about so many at once as it takes."""
         answers: dict[bytes, str | None] = dict.fromkeys(lines)
-        for start in range(0, len(lines), LINES_LIMIT):
-            refused = self.findings(lines[start : start + LINES_LIMIT])
-            answers |= {line: f"{finding.word}: {finding.hint}" for line, finding in refused.items()}
+        for part in parts_of(lines):
+            answers |= {line: f"{finding.word}: {finding.hint}" for line, finding in self.findings(part).items()}
         return answers
 
     def findings(self, lines: Sequence[bytes]) -> dict[bytes, Finding]:
@@ -176,6 +175,19 @@ class Vote:
         name = "a code of the roll" if self.has_codes else "an elector of the roll"
         ranks = f"{len(self.option_names)} ranks with commas between, a rank or a hyphen for each option"
         return f"A right line in this poll: {self.right_line} ({name}, a space, and {ranks})"
+
+
+def parts_of(lines: Sequence[bytes]) -> Iterator[list[bytes]]:
+    """Lines in parts, each of as many as debvote takes at once."""
+    part: list[bytes] = []
+    size = 0
+    for line in lines:
+        if len(part) == LINES_LIMIT or size + len(line) + 1 > BALLOTS_LIMIT:
+            yield part
+            part, size = [], 0
+        part.append(line)
+        size += len(line) + 1
+    yield part
 
 
 def frame_words(lines: Iterable[Line]) -> Iterator[str]:

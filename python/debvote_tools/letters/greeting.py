@@ -21,7 +21,7 @@ MAX_ABOVE, MAX_CHARACTERS = 5, 200
 OPENING = ("¡", "¿")
 # what a greeting has: letters of any script with their marks, blanks, dashes and quotation marks; these signs, which join pictures or
 # turn nothing but themselves, too; and pictures
-CATEGORIES = ("Lu", "Ll", "Lt", "Lm", "Lo", "Mn", "Mc", "Me", "Zs", "Pd", "Pi", "Pf")
+CATEGORIES = ("Lu", "Ll", "Lt", "Lm", "Lo", "Mn", "Mc", "Zs", "Pd", "Pi", "Pf")
 SIGNS = "\t,.;!?'\"()/&*+…·¡¿、。，！？،؟।\u200d\u200e\u200f"
 PICTURES = re.compile("[\u2600-\u2767\u2794-\u27bf\U0001f300-\U0001faff]")
 # letters that look like a colon

@@ -67,6 +67,8 @@ BLOCKS = frozenset(
 CELLS = ("td", "th")
 # a text in a table but in none of its cells is shown above the table
 TABLE = ("table", "thead", "tbody", "tfoot", "tr")
+# the number of a character: noughts, so many digits that it may be one, and others
+NUMBER = re.compile("&#0*([0-9]{1,8})[0-9]*+")
 # what end a line in some programs, or are left out
 ODD_CHARACTERS = re.compile("[\0-\x08\v\x0e-\x1f\x7f\x85\u2028\u2029]")
 
@@ -77,7 +79,7 @@ def read_html(text: str) -> "HtmlText":
         if token["text"] is not None:
             reader.read_text(token["text"])
         elif reader.holder and not (token["end"] and token["tag"].lower() == reader.holder):
-            reader.read_text(token[0])
+            reader.read_declaration(token[0])
         elif token["other"] is not None:
             reader.read_declaration(token["other"])
         elif token["end"]:
@@ -158,14 +160,16 @@ class HtmlText:
             self.holder = ""
 
     def read_declaration(self, text: str) -> None:
-        """A comment or a declaration comes. A comment may be shown by some programs."""
+        """A comment or a declaration comes, or a mark in a title, where it is none. Some programs show a comment, and in such a mark the title may
+        end.
+        """
         if not DOCTYPE.fullmatch(text) or self.lines or self.parts:
             self.found_other(text, may_be_below=False)
-        self.pieces += re.split(r"(?:[\n\r<>]|!?--|!)+", html.unescape(text))
+        self.pieces += re.split(r"(?:[\n\r<>]|!?--|!)+", unescaped(text))
 
     def read_text(self, text: str) -> None:
         """A text comes. A sign < that begins no mark is not plain."""
-        shown = html.unescape(text)
+        shown = unescaped(text)
         is_turned = not shown.isascii() and any(unicodedata.bidirectional(character) in RIGHT_TO_LEFT for character in shown)
         if text == "<" or ODD_CHARACTERS.search(shown) or is_turned:
             self.found_other(text, may_be_below=True)
@@ -187,13 +191,18 @@ class HtmlText:
             self.lines.append(self.quotation + text.strip())
 
 
+def unescaped(text: str) -> str:
+    """A text with the characters that it names. Python reads no number of thousands of digits."""
+    return html.unescape(NUMBER.sub(r"&#\1", text))
+
+
 def are_plain(given: str, names: Collection[str], styles: Mapping[str, re.Pattern[str]]) -> bool:
     """Whether the attributes of a mark are among these, and its style among those."""
     bare = given.rstrip().removesuffix("/").rstrip()
     if ATTRIBUTE.sub("", bare):
         return False
     for name, *values in ATTRIBUTE.findall(bare.lower()):
-        value = html.unescape("".join(values))
+        value = unescaped("".join(values))
         if (
             name not in names
             or (name == "dir" and value not in DIRECTIONS)

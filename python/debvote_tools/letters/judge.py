@@ -280,13 +280,14 @@ def set_copies(group: Sequence[JudgedLetter], may_go_in: JudgedLetter | None, bo
     """
     hiding = [case for case in group if case.hides]
     is_hidden = any(case.decision is not None or case.outcome is Outcome.GOES_IN for case in hiding)
+    first = min(hiding, key=lambda case: (case.parsed.arrived is None, case.parsed.arrived), default=None)
     waiting: dict[tuple[Because | None, Body], JudgedLetter] = {}
     for case in sorted(group, key=lambda case: case.decision is None):
         before = waiting.setdefault((case.why_by_itself, case.parsed.body), case)
         if case.decision is not None or case is may_go_in:
             continue
-        if is_hidden or case.why_by_itself is None:
-            set_copy(case, min(hiding, key=lambda case: (case.parsed.arrived is None, case.parsed.arrived)), box)
+        if first is not None and (is_hidden or case.why_by_itself is None):
+            set_copy(case, first, box)
         elif before is not case:
             set_copy(case, before, box)
         else:

@@ -228,10 +228,10 @@ def body_of(letter: Part) -> Body:
         first.found(Reason.NO_PLAIN_TEXT())
     read = [text_of(part, is_first=part is first) for part, _ in texts]
     text, pieces = read[0] if read else (Body(), [])
-    # around the parts no program shows a text, but a letter may be there that a mailbox did not part
+    # around the parts no program shows a text, but a letter may be there that a mailbox did not part; or below a text that is coded
     outside = [line for part, _ in parts for line in decoded_bytes(part.around, "utf-8").splitlines()]
-    if letter.fields and any(RECEIVED.match(line) for line in (*text.lines, *pieces, *outside)):
-        letter.found(Reason.PARTED_OFF())
+    below = decoded_bytes(first.below, "utf-8").splitlines()
+    has_others = bool(letter.fields) and any(map(RECEIVED.match, (*text.lines, *pieces, *outside, *below)))
     lines = [line for other, _ in read[1:] for line in other.lines] + [line for _, pieces in read for line in pieces]
     own, others = ({" ".join(line.split()): None for line in some} for some in (text.lines, lines + outside))
     other_lines = [line for line in others if line not in own and may_be_ballot(line)]
@@ -239,8 +239,8 @@ def body_of(letter: Part) -> Body:
     if count > MAX_LINES:
         letter.found(Reason.TOO_LONG(length=count, what="lines with numbers", limit=MAX_LINES))
         text, other_lines = Body(text.lines[:SHOWN_LINES]), []
-    trouble = next((part.trouble for part, _ in parts if part.trouble is not None), None)
-    return dataclasses.replace(text, other_lines=tuple(other_lines), trouble=trouble)
+    troubles = [Reason.PARTED_OFF()] if has_others else [part.trouble for part, _ in parts if part.trouble is not None]
+    return dataclasses.replace(text, other_lines=tuple(other_lines), trouble=next(iter(troubles), None))
 
 
 def may_be_ballot(line: str) -> bool:

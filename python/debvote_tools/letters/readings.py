@@ -103,13 +103,14 @@ class Readings:
 
 def readings_of(letter: ParsedLetter, circumstances: Circumstances) -> Readings:
     """What the lines of a letter may read as, before debvote has answered."""
-    body, reader = letter.body, Reader(circumstances, circumstances.elector_of(letter))
-    lines = tuple(reader.ballot_line(number, line) for number, line in enumerate(body.lines, start=1))
-    numbered = [(number, line) for number, line in enumerate(letter.shown_lines, start=1) if is_own(line)]
-    others = [reader.ballot_line(number, line) for number, line in numbered if number > len(lines)]
-    found = Readings(lines, tuple(filter(None, others)))
+    reader, count = Reader(circumstances, circumstances.elector_of(letter)), len(letter.body.lines)
+    read = [reader.ballot_line(number, line) for number, line in enumerate(letter.shown_lines, start=1)]
+    numbered = [
+        (number, line) for number, line in enumerate(letter.shown_lines, start=1) if is_own(line) and read[number - 1] is None
+    ]
+    found = Readings(tuple(read[:count]), tuple(filter(None, read[count:])))
     if found.ballot_count > MAX_BALLOTS:
-        return Readings((None,) * len(lines), crowd=found.ballot_count)
+        return Readings((None,) * count, crowd=found.ballot_count)
     if found.ballot_count:
         beside = filter(None, (reader.line_of_other(number, line) for number, line in numbered))
         return dataclasses.replace(found, others=(*found.others, *itertools.islice(beside, MAX_BALLOTS)))
@@ -147,7 +148,7 @@ class Reader:
     def line_of_other(self, number: int, line: str) -> BallotLine | None:
         """The ballot of a line with the real name of somebody else, as in the letter of a family. It never goes in by itself."""
         named = NAMED.fullmatch(unicodedata.normalize("NFC", repaired(line)))
-        if named is None or self.ballot_line(number, line) is not None:
+        if named is None:
             return None
         by_real_name = self.circumstances.electors_by_real_name
         name = next((by_real_name[fold] for fold in sorted(self.circumstances.folds(named[1])) if fold in by_real_name), None)
