@@ -56,6 +56,8 @@ BELOW_STYLES = PLAIN_STYLES | {
     "border-style border-width font-weight font-style text-decoration white-space word-wrap word-break overflow-wrap vertical-align "
     "width max-width".split()
 }
+# where lines wrap, as GMX and web.de say of a quotation
+BELOW_STYLES |= {"-webkit-nbsp-mode": re.compile("space"), "-webkit-line-break": re.compile("after-white-space")}
 
 # what they hold is no text of the letter
 HOLDING = frozenset(("title", "style", "script"))
