@@ -151,7 +151,7 @@ class Adding(LettersTest):
         self.assert_fault(self.election("publish"), 9, "the ballot of letter 1 is late", f"to count it {how}")
         self.assert_fault(self.election("held", 1, "--enter", 1), 9, "it was entered, and is late", f"if it came in time, {how}")
         ended = self.done("reopen", "--because", "a letter was forgotten")
-        self.assertIn("Note: envelopes 2 stay late; if one had come before the first close, close again and run", ended.output)
+        self.assertIn("Note: still late: 2; if one had come before the first close, close again and run", ended.output)
         self.assert_fault(self.election("held", 1, "--enter", 1), 9, f"if it came in time, close again and {how}")
 
     def assert_published(self) -> None:
