@@ -59,7 +59,9 @@ def run(election: Election, arguments: Arguments) -> None:
             tell(f"{number} entered, which was late as {envelope.number}: {without_code(envelope.line, has_codes=vote.has_codes)}")
     if left := late_lines_left(book):
         again_command = election.command("reopen", "--in-time", "NUMBER", "--because", "TEXT")
-        tell(f"Note: still late: {', '.join(map(str, left))}; if one had come before the first close, close again and run {again_command}")
+        tell(
+            f"Note: still late: {', '.join(map(str, left))}; if one had come before the first close, close again and run {again_command}"
+        )
     tell("Only what arrived before the first close goes in as in time: add and desk ask.")
     tell(f"Next: {election.command('add', 'FILE')}, then {election.command('close')}")
 
