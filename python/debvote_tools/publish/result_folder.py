@@ -118,7 +118,7 @@ def fill(folder: pathlib.Path, publication: Publication, program_folder: pathlib
 
 
 def demand_publishable(publication: Publication, sheet: Sheet, sheet_text: str) -> list[Doubt]:
-    """All doubts. Stops at those of an election that are not forced, and at what is never published."""
+    """All doubts. Stops at doubts of an election that are not forced, and at what is never published."""
     left = {sheet.names[option]: option for option in sheet.left}
     if publication.casting is not None and publication.casting.option not in left:
         shown = " and ".join(f"{option} {name}" for name, option in left.items())
@@ -142,7 +142,7 @@ def demand_publishable(publication: Publication, sheet: Sheet, sheet_text: str) 
 
 
 def title_and_votes(sheet_text: str) -> tuple[str, str]:
-    """What of a sheet is the same under names and under aliases: its title, and all from its line `Voters:` on."""
+    """The parts of a sheet that are the same under names and under aliases: its title, and all from its line `Voters:` on."""
     head, _, votes = sheet_text.partition("\nVoters: ")
     return head.partition("\n")[0], votes
 
