@@ -68,6 +68,6 @@ class Told(Fault):
 
 
 def other_format(what: str) -> Fault:
-    """The fault of what debvote writes, if it can't be read by its format."""
+    """The fault of an output of debvote that does not have its format."""
     cure = "install debvote and these programs from one package"
     return Fault(None, f"{what} has another format", cure, Status.BAD_SHEET, None)

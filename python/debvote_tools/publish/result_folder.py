@@ -41,7 +41,7 @@ class Made:
     checksums: dict[str, str]
 
     def take_place(self, target_folder: pathlib.Path) -> None:
-        """Moves the folder to its place; a published folder that is there goes."""
+        """Moves the folder to its place, and removes a published folder that is there."""
         place = real_place(target_folder)
         if place.is_dir():
             aside = temporary_folder(place.parent)
@@ -58,7 +58,7 @@ class Made:
 
 
 def real_place(target_folder: pathlib.Path) -> pathlib.Path:
-    """Where the folder will be: a link to it stays."""
+    """Where the folder will be. If the place is a link, the link stays."""
     return pathlib.Path(os.path.realpath(target_folder))
 
 
