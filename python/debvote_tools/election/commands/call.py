@@ -148,8 +148,7 @@ def seal(act: NewAct, data: CallData, keyring: bytes | None) -> None:
 
 # ---------------------------------------------------------------- the words of the command line
 def announced(arguments: Arguments, earlier_zone: str | None) -> Detail:
-    """What the act keeps of these options, after a check. An extension is in the zone of the end before, unless it names another.
-    """
+    """What the act keeps of these options, after a check. An extension is in the zone of the end before, unless it names another."""
     said: Detail = {}
     if arguments.until is not None:
         until, zone = parse_until(arguments.until, arguments.zone, earlier_zone)
