@@ -49,7 +49,8 @@ def run(election: Election, arguments: Arguments) -> None:
 
 
 def make_codes(election: Election, arguments: Arguments) -> tuple[SealedPoll, int]:
-    """The act: a code for each elector who has none, beside the name, or in its place, where nothing ties it to a person.
+    """The act that makes a code for each elector who has none. The code is added to the name or takes its place, and then nothing
+    ties it to a person.
 
     Returns the poll as it would be sealed, and how many codes were made.
     """
