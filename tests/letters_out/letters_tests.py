@@ -1,5 +1,6 @@
 """`letters`: what goes to the electors as files, to whom, and that nothing of it reads as a ballot."""
 
+import pathlib
 import re
 import shutil
 import stat
@@ -9,7 +10,7 @@ import unittest
 
 import support
 from letters_support import letter
-from out_support import AT, OTHER_RANKS, RANKS, TITLE, OutTest, one_line
+from out_support import AT, OTHER_RANKS, RANKS, TITLE, OutTest, one_line, parsed
 
 from debvote_tools.lines import changed
 
@@ -245,6 +246,35 @@ class Receipts(OutTest):
             self.assertNotRegex(text, r"(?i)envelope|number \d")
             self.assertFalse([other for other in support.NAMES if other != name and re.search(rf"\b{other}\b", text)], text)
         self.assertEqual(self.texts("receipts"), {})
+
+    def test_a_folder_that_is_removed_is_made_again(self) -> None:
+        """With the same bytes, as long as what they say holds; a receipt of a ballot that is struck since says so."""
+        place = self.folder / "letters" / "receipts"
+
+        def there() -> dict[pathlib.Path, bytes]:
+            return {file: file.read_bytes() for file in place.rglob("*.eml")}
+
+        self.add_lines(f"ada {RANKS}", f"ben {RANKS}")
+        self.done("letters", "receipts")
+        self.add_lines(f"cleo {RANKS}")
+        self.done("letters", "receipts")
+        before, rows = there(), self.rows("receipts")
+        [ada, ben, cleo] = sorted(before, key=lambda file: file.name)
+        self.assertEqual([ada.stem, ben.stem, cleo.stem], ["ada", "ben", "cleo"])
+        shutil.rmtree(place)
+        output = self.done("letters", "receipts").output
+        self.assertEqual((there(), self.rows("receipts")), (before, rows))
+        for file, said in ((ada, "2 earlier letters"), (cleo, "1 earlier letter")):
+            self.assertIn(f"Wrote {said}, since the folder was not there: letters/receipts/{file.parent.name}\n", output)
+        # a file that was taken out may have been sent
+        ada.unlink()
+        self.assertEqual(self.done("letters", "receipts").output, "There is no letter to send.\n")
+        self.assertFalse(ada.exists())
+        self.done("strike", 2, "--because", "not his")
+        shutil.rmtree(place)
+        self.done("letters", "receipts")
+        self.assertIn("the secretary has struck it", one_line(parsed(there()[ben])))
+        self.assertEqual([there()[ada], there()[cleo]], [before[ada], before[cleo]])
 
     def test_late_and_after_the_close(self) -> None:
         self.add_lines(f"ada {RANKS}")

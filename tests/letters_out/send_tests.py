@@ -2,6 +2,7 @@
 
 import datetime
 import os
+import shutil
 import ssl
 import subprocess
 import sys
@@ -12,7 +13,7 @@ import unittest.mock
 import support
 import terminal
 from letters_support import letter
-from out_support import RANKS, MailServer, SendTest, one_line, parsed
+from out_support import OTHER_RANKS, RANKS, MailServer, SendTest, one_line, parsed
 
 from debvote_tools.book.sent import TAKEN, SentLetter
 from debvote_tools.faults import Fault
@@ -106,6 +107,30 @@ class Sending(SendTest):
         for _ in range(2):
             self.assertEqual(self.send("receipts").status, 0)
             self.assertEqual(sorted(self.server.addresses()), ["ada@club.example", "ada@new.example"])
+
+    def test_a_receipt_on_paper_is_printed_once(self) -> None:
+        """Ada has no address any longer."""
+        self.write("members.csv", support.members_of(support.NAMES).replace("ada@club.example", ""))
+        self.done("roll", "--yes")
+        self.add_lines(f"ada {RANKS}", f"ben {RANKS}")
+        place = self.folder / "letters" / "receipts"
+        self.assertIn("Without an address: ada. Print letters/receipts/", self.send("receipts").output)
+        [page] = place.rglob("to-print.html")
+        data, rows = page.read_bytes(), self.rows("receipts")
+        for _ in range(2):
+            said = "There is no letter to send: the server has taken all that are due.\n"
+            self.assertEqual(self.send("receipts").output, said)
+        self.assertEqual((list(place.rglob("*.html")), self.rows("receipts")), ([page], rows))
+        # a page that is lost is made again
+        shutil.rmtree(place)
+        self.assertIn(f"Print {page.relative_to(self.folder)}.\n", self.send("receipts").output)
+        self.assertEqual((page.read_bytes(), self.rows("receipts")), (data, rows))
+        # the address that she had before gets the first, too
+        self.assertEqual(sorted(self.server.addresses()), ["ada@club.example", "ben@club.example"])
+        # what comes of her later is on a new page
+        self.add_lines(f"ada {OTHER_RANKS}")
+        self.assertIn("Without an address: ada. Print letters/receipts/", self.send("receipts").output)
+        self.assertEqual(len(list(place.rglob("*.html"))), 2)
 
     def test_files_to_a_new_address_and_to_the_old_one_are_sent_once_each(self) -> None:
         self.write("members.csv", support.members_of(support.NAMES).replace("ada@club", "ada@new"))

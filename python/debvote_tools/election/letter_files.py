@@ -4,7 +4,7 @@ import contextlib
 import os
 import pathlib
 import shutil
-from collections.abc import Iterator, Mapping
+from collections.abc import Iterator, Mapping, Sequence
 
 from debvote_tools.book.sent import TAKEN, SentLetter
 from debvote_tools.election.letters_due import LettersDue
@@ -24,11 +24,11 @@ def message(due: LettersDue, letter: SentLetter, *, is_draft: bool) -> bytes:
     )
 
 
-def letter_files(due: LettersDue) -> dict[str, bytes]:
-    """The files by their names. Letters that are sent, or that a server has taken, have none."""
+def letter_files(due: LettersDue, letters: Sequence[SentLetter]) -> dict[str, bytes]:
+    """The files of letters by their names. Letters that are sent, or that a server has taken, have none."""
     files: dict[str, bytes] = {}
     printed = []
-    for letter in (*due.written, *due.new):
+    for letter in letters:
         elector = due.elector(letter)
         if not letter.address:
             printed.append((one_line(elector.who) or elector.name, due.text(letter)))

@@ -50,6 +50,8 @@ class LettersDue:
         self.letters = sent.sent_letters(election.book, kind)
         # those who have the call, each at an address, where the letter of an extension is due
         self.had_call: set[tuple[int, str]] = set()
+        # the receipts of earlier runs that have files, or had them
+        self.earlier: list[SentLetter] = []
         self.electors = {elector.number: elector for elector in queries.electors(election.book)}
         # each kind has a method of its name
         plan: Plan = getattr(self, kind)()
@@ -134,11 +136,11 @@ class LettersDue:
             same = [one for one in (*self.letters, *new) if (one.elector, one.address) == (letter.elector, letter.address)]
             return any(one.for_act > letter.for_act and set(letter.about) <= set(one.about) for one in same)
 
-        waiting = [one for one in self.letters if can_be_sent(one) or one.state == BEGUN]
-        waiting = [one for one in waiting if not (self.failed_elsewhere(one) and is_written_anew(one))]
+        out = [one for one in self.letters if one.state != TAKEN and not (self.failed_elsewhere(one) and is_written_anew(one))]
         # not to people who left the list, nor about a letter that has become a ballot: a new receipt is about that
-        there = [one for one in waiting if one.elector in self.electors and about_now(one.about, came[one.elector])]
-        return for_act, new, there if self.is_sending else [], text_of
+        self.earlier = [one for one in out if one.elector in self.electors and about_now(one.about, came[one.elector])]
+        waiting = [one for one in self.earlier if can_be_sent(one) or one.state == BEGUN]
+        return for_act, new, waiting if self.is_sending else [], text_of
 
     def old_addresses(self) -> dict[int, list[str]]:
         """The addresses that electors had before the list was changed after the call, if no receipt was written to them since."""
@@ -151,10 +153,11 @@ class LettersDue:
 
     def failed_elsewhere(self, letter: SentLetter) -> bool:
         """Whether no server has taken it, and its elector has the address no longer. A file may have gone out by a mail program, unless it
-        is the server that is to send it now.
+        is the server that is to send it now; and one to be printed has no address, and is on paper.
         """
         elector, states = self.electors.get(letter.elector), (REFUSED, POSTPONED, *([WRITTEN] if self.is_sending else []))
-        return letter.state in states and elector is not None and letter.address not in elector.addresses
+        is_elsewhere = bool(letter.address) and elector is not None and letter.address not in elector.addresses
+        return is_elsewhere and letter.state in states
 
     def closed(self) -> Plan:
         if not self.history.is_closed:

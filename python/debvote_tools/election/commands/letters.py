@@ -2,8 +2,9 @@
 
 import dataclasses
 import getpass
+import itertools
 import pathlib
-from collections.abc import Sequence
+from collections.abc import Mapping, Sequence
 
 from debvote_tools import console
 from debvote_tools.arguments import flag, option, positional
@@ -58,17 +59,28 @@ def run(election: Election, arguments: Arguments) -> int:
         again = chosen_again(due, arguments.again)
         place = election.path(LETTERS) / due.kind / str(due.for_act)
         files = write(book, due, place)
+        lost = write_lost(due, place.parent)
         tried = [] if server is None else send_waiting(book, due, [*again, *due.waiting], server)
-    if names := [due.elector(letter).name for letter in (*due.written, *due.new) if not letter.address]:
-        tell(f"Without an address: {listed(names, MOST)}. Print {place}/{letter_files.TO_PRINT}.")
+    report_printed(due, {place: [*due.written, *due.new], **lost})
     if server is not None:
         return report_sent(election, due, tried, [letter for letter in due.cut_off if letter not in again])
+    for folder, letters in lost.items():
+        if number := sum(bool(letter.address) for letter in letters):
+            tell(f"Wrote {count_of(number, 'earlier letter')}, since the folder was not there: {folder}")
     if files:
         command = election.command("letters", due.kind, "--send", "--server", "HOST")
         tell(f"Wrote {count_of(files, 'letter')}: {place}", f"Next: send them with your mail program, or by {command}")
+    elif lost:
+        tell("No other letter is to be sent.")
     else:
         tell("There is no letter to send.")
     return Status.DONE
+
+
+def report_printed(due: LettersDue, by_folder: Mapping[pathlib.Path, Sequence[SentLetter]]) -> None:
+    for folder, letters in by_folder.items():
+        if names := [due.elector(letter).name for letter in letters if not letter.address]:
+            tell(f"Without an address: {listed(names, MOST)}. Print {folder}/{letter_files.TO_PRINT}.")
 
 
 def report_sent(election: Election, due: LettersDue, tried: Sequence[SentLetter], cut_off: Sequence[SentLetter]) -> Status:
@@ -155,12 +167,26 @@ def chosen_again(due: LettersDue, names: Sequence[str]) -> list[SentLetter]:
 # ---------------------------------------------------------------- the acts
 def write(book: Book, due: LettersDue, place: pathlib.Path) -> int:
     """Writes and notes the letters that are due; returns how many files there are for a mail program."""
-    files = letter_files.letter_files(due)
+    files = letter_files.letter_files(due, [*due.written, *due.new])
     with letter_files.in_place(files, place):
         if due.new:
             with book.act("letters out", {"kind": due.kind, "letters": len(due.new)}, seen=due.history.last.number) as act:
                 sent.note(act, due.new)
     return len(files.keys() - {letter_files.TO_PRINT})
+
+
+def write_lost(due: LettersDue, kind_folder: pathlib.Path) -> dict[pathlib.Path, list[SentLetter]]:
+    """Makes the folders of earlier receipts that are not there; returns them, each with its letters. What they say holds now. A folder
+    from which files were taken out is left alone: they may have been sent.
+    """
+    lost = {}
+    for act, letters in itertools.groupby(due.earlier, key=lambda letter: letter.for_act):
+        folder, its_letters = kind_folder / str(act), list(letters)
+        files = letter_files.letter_files(due, its_letters)
+        if files and not folder.exists():
+            with letter_files.in_place(files, folder):
+                lost[folder] = its_letters
+    return lost
 
 
 def send_waiting(book: Book, due: LettersDue, letters: Sequence[SentLetter], server: Server) -> list[SentLetter]:
