@@ -237,6 +237,14 @@ class NamesAreCompleted(CalledTest):
         self.assertNotIn("begin so", shown)
         desk.type("n\nclara x\n")
         self.assertIn("completed to `clara-maria-lange`\nIt would be refused: clara-maria-lange x: ", desk.until(CAST_REFUSED))
+        desk.type("n\nclara 1 2 4 3\n")
+        self.assertIn("completed to `clara-maria-lange`\nIt would be refused: clara-maria-lange 1 2 4 3: ", desk.until(CAST_REFUSED))
+        # a real name is left whole: no line goes in that nobody typed
+        for typed in ("Clara Lange", "Clara Müller-Lange"):
+            desk.type(f"n\n{typed} 1,2,4,3\n")
+            shown = desk.until(CAST_REFUSED)
+            self.assertIn(f"It would be refused: {typed} 1,2,4,3: bad shape: ", shown)
+            self.assertNotIn("was completed", shown)
         desk.type("n\nq\n")
         desk.end()
 

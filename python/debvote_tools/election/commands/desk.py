@@ -194,10 +194,13 @@ def ask_and_cast(desk: Desk, line: Line) -> bool:
 def completed(vote: Vote, line: Line) -> Line:
     """A line whose name was typed in part is completed if one name on the roll begins so; if several do, they are listed.
 
-    Codes are never completed.
+    Codes are never completed, nor is the first word of several: the others would be left in the line.
     """
     name = name_in(line.repaired).decode("ascii")
     if vote.has_codes or not name or name in vote.names_on_roll or not line.repaired.startswith(f"{name} ".encode()):
+        return line
+    words = line.repaired.split()
+    if len(words) > 2 and not words[1][:1].isdigit():
         return line
     names = [other for other in vote.roll if other.startswith(name)]
     if len(names) > 1:
