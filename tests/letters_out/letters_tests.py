@@ -295,6 +295,26 @@ class Receipts(OutTest):
         self.assertEqual(list(texts), ["ada"])
         self.assertIn("the secretary has struck it", texts["ada"])
 
+    def test_a_ballot_that_counts_is_told_again_beside_what_does_not(self) -> None:
+        """A letter without a ballot, a line that is refused, a ballot that is taken back, and after the close one that is late."""
+        self.add_lines(*(f"{name} {RANKS}" for name in ("ada", "ben", "cleo", "dan")))
+        first = self.texts("receipts")
+        self.add_letters(letter("ada", "Thank you, all is right.\n"))
+        self.add_lines("ben 1,2")
+        self.add_lines(f"cleo {OTHER_RANKS}")
+        self.done("undo", "--yes")
+        found = self.texts("receipts")
+        self.done("held", 1, "--set-aside")
+        self.done("close", "--early")
+        self.add_lines(f"dan {OTHER_RANKS}")
+        found |= self.texts("receipts")
+        self.assertEqual(sorted(found), ["ada", "ben", "cleo", "dan"])
+        said = {"ada": "No ballot from it is entered yet", "ben": "has 2 ranks", "cleo": "taken it back", "dan": "it is late"}
+        for name, text in found.items():
+            self.assertNotIn(said[name], first[name])
+            counts = "and it counts." if name == "dan" else "It counts unless you send a later one."
+            self.assertRegex(text, rf"{re.escape(counts)} It was read as: \({name} {RANKS}\).* {said[name]}")
+
     def test_one_refuses_if_what_came_last_was_refused(self) -> None:
         self.add_lines("ada 1,2", f"ada {RANKS}", f"ben {RANKS}", "ben 1,2")
         texts = self.texts("receipts")

@@ -129,7 +129,7 @@ class LettersDue:
             new += [self.letter_to(elector, for_act, address, keys) for address in addresses]
 
         def text_of(elector: Elector, letter: SentLetter) -> str:
-            return self.composer.receipt(elector, about_now(letter.about, came[elector.number]))
+            return self.composer.receipt(elector, beside_what_counts(letter.about, came[elector.number]))
 
         def is_written_anew(letter: SentLetter) -> bool:
             """Whether a later receipt to the same address says all that this one does."""
@@ -276,6 +276,14 @@ def came_of_letter(letter: JudgedLetter, elector: Elector, kept: datetime.dateti
     if not is_own:
         return [Came(key, Became.ELSEWHERE_SET_ASIDE if is_aside else Became.ELSEWHERE, time)]
     return [Came(key, Became.SET_ASIDE if is_aside else Became.WAITS, time, because=letter.reason, near=letter.near)]
+
+
+def beside_what_counts(about: Sequence[About], came: Sequence[Came]) -> list[Came]:
+    """What a receipt says: what it is about, and the ballot that counts, too. Who reads that a letter waits, or that a ballot is late or was
+    taken back, learns that an earlier ballot counts.
+    """
+    now, counting = about_now(about, came), (Became.COUNTS, Became.COUNTS_AT_THE_END)
+    return [one for one in came if one in now or one.became in counting]
 
 
 def about_now(about: Sequence[About], came: Sequence[Came]) -> list[Came]:
