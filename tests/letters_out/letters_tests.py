@@ -333,6 +333,24 @@ class Receipts(OutTest):
         shown = {name: "letter 1, from " in self.done("show", name).output for name in ("ada", "ben", "cleo")}
         self.assertEqual(shown, {"ada": True, "ben": True, "cleo": False})
 
+    def test_letters_that_are_in_no_receipt_are_named(self) -> None:
+        """Letters of a couple and of a stranger. Not a ballot in an elector's name, who is told, and not what a program wrote."""
+        self.write("members.csv", support.members_of(support.NAMES).replace("ben@club", "ada@club"))
+        self.done("roll", "--yes")
+        self.add_letters(letter("ada", f"Benjamin Lind {RANKS}\n"), letter("x", "Who are you?\n"))
+        self.add_letters(
+            letter("x", f"eve {RANKS}\n"), letter("x", "away\n", head="Auto-Submitted: auto-replied\n"), letter("cleo", "Thank you.\n")
+        )
+        said = "No receipt is about these letters that wait, since no elector alone has the sender's address: 1, 2\n"
+        output = self.done("letters", "receipts").output
+        self.assertTrue(output.startswith(said), output)
+        self.assertEqual([file.stem for file in self.files("receipts")], ["cleo", "eve"])
+        self.assertEqual(self.done("letters", "receipts").output, f"{said}There is no letter to send.\n")
+        self.assertIn("no ballot found\n  other words: Who are you?\n", self.done("held").output)
+        self.assertIn(f"no ballot found\n  other words: Benjamin Lind {RANKS}\n  the address is that of ada, ben\n", self.done("held").output)
+        self.done("held", 1, 2, "--set-aside")
+        self.assertEqual(self.done("letters", "receipts").output, "There is no letter to send.\n")
+
     def test_undo_names_those_whose_receipts_no_longer_hold(self) -> None:
         self.add_lines(f"ada {RANKS}")
         self.add_lines(f"ben {RANKS}", f"cleo {RANKS}")

@@ -26,8 +26,7 @@ def going_in(letter: JudgedLetter, vote: Vote, *, is_late: bool) -> Iterator[str
     yield f"  {vote.ballot_in_words(ballot.ballot)}"
     if letter.other_words:
         yield f"  other words: {letter.other_words}"
-    if letter.shared_with:
-        yield f"  the address is that of {', '.join(letter.shared_with)}, too"
+    yield from shared_words(letter)
     yield from code_words(letter)
 
 
@@ -43,7 +42,13 @@ def waiting(letter: JudgedLetter) -> Iterator[str]:
     yield from (f"  {line}" for line in near_words(letter))
     if letter.other_words:
         yield f"  other words: {letter.other_words}"
+    yield from shared_words(letter)
     yield from code_words(letter)
+
+
+def shared_words(letter: JudgedLetter) -> Iterator[str]:
+    if letter.shared_with:
+        yield f"  the address is that of {', '.join(letter.shared_with)}{', too' if letter.electors else ''}"
 
 
 def code_words(letter: JudgedLetter) -> Iterator[str]:

@@ -50,8 +50,9 @@ class LettersDue:
         self.letters = sent.sent_letters(election.book, kind)
         # those who have the call, each at an address, where the letter of an extension is due
         self.had_call: set[tuple[int, str]] = set()
-        # the receipts of earlier runs that have files, or had them
+        # the receipts of earlier runs that have files, or had them; and the letters that wait and are in no elector's receipt, by number
         self.earlier: list[SentLetter] = []
+        self.in_no_receipt: list[int] = []
         self.electors = {elector.number: elector for elector in queries.electors(election.book)}
         # each kind has a method of its name
         plan: Plan = getattr(self, kind)()
@@ -99,7 +100,7 @@ class LettersDue:
     def reminders(self) -> Plan:
         """A letter to each elector whose ballot does not count yet. A run of this day that was cut off goes on; else each run is a new one."""
         self.demand_not_over()
-        came = what_came(self.election, self.history, is_over=False)
+        came, _ = what_came(self.election, self.history, is_over=False)
         voted = {number for number, items in came.items() if any(one.became is Became.COUNTS for one in items)}
         silent = {number: elector for number, elector in self.electors.items() if number not in voted}
         last = max((letter.for_act for letter in self.letters), default=0)
@@ -119,7 +120,7 @@ class LettersDue:
 
     def receipts(self) -> Plan:
         """A letter to each elector about all that came since the last one, also to an address that they had before."""
-        came = what_came(self.election, self.history, is_over=self.composer.is_over)
+        came, self.in_no_receipt = what_came(self.election, self.history, is_over=self.composer.is_over)
         for_act, new = self.history.last.number + 1, []
         told = {(letter.elector, key) for letter in self.letters if not self.failed_elsewhere(letter) for key in letter.about}
         old = self.old_addresses()
@@ -225,8 +226,10 @@ def address_in(addresses: Sequence[str]) -> str:
 
 
 # ---------------------------------------------------------------- what came, and what became of it
-def what_came(election: Election, history: History, *, is_over: bool) -> dict[int, list[Came]]:
-    """Judges all letters and all lines as they are now: what came of each elector, in the order of its times. debvote is started twice."""
+def what_came(election: Election, history: History, *, is_over: bool) -> tuple[dict[int, list[Came]], list[int]]:
+    """Judges all letters and all lines as they are now: what came of each elector, in the order of its times; and the numbers of the letters
+    that people wrote, that wait, and that no elector learns of. debvote is started twice.
+    """
     envelopes, kept, electors = queries.envelopes(election.book), letters.letters(election.book), queries.electors(election.book)
     came: dict[int, list[Came]] = {elector.number: [] for elector in electors}
     answers = Vote(election, history).answers([envelope.line for envelope in envelopes])
@@ -253,14 +256,17 @@ def what_came(election: Election, history: History, *, is_over: bool) -> dict[in
     by_name = {elector.name: elector for elector in electors}
     entered_of = {(envelope.letter, envelope.elector) for envelope in envelopes}
     kept_at = {letter.number: history.act(letter.act).time for letter in kept}
+    of_nobody = []
     for letter in letters_in.judged(election, history, kept):
         # whoever sent it gets to know, too, if its ballot is in another's name
         sender = letter.circumstances.elector_of(letter.parsed)
-        concerned = [*letter.electors, *([sender] if sender else [])]
-        for elector in dict.fromkeys(filter(None, map(by_name.get, concerned))):
+        concerned = list(dict.fromkeys(filter(None, map(by_name.get, [*letter.electors, *([sender] if sender else [])]))))
+        for elector in concerned:
             if (letter.number, elector.number) not in entered_of:
                 came[elector.number] += came_of_letter(letter, elector, kept_at[letter.number])
-    return {number: sorted(items, key=lambda one: one.time) for number, items in came.items()}
+        if letter.outcome is Outcome.WAITS and not concerned and not letter.parsed.is_automatic:
+            of_nobody.append(letter.number)
+    return {number: sorted(items, key=lambda one: one.time) for number, items in came.items()}, of_nobody
 
 
 def came_of_letter(letter: JudgedLetter, elector: Elector, kept: datetime.datetime) -> list[Came]:

@@ -62,6 +62,9 @@ def run(election: Election, arguments: Arguments) -> int:
         lost = write_lost(due, place.parent)
         tried = [] if server is None else send_waiting(book, due, [*again, *due.waiting], server)
     report_printed(due, {place: [*due.written, *due.new], **lost})
+    if due.in_no_receipt:
+        numbers = listed([str(number) for number in due.in_no_receipt], MOST)
+        tell(f"No receipt is about these letters that wait, since no elector alone has the sender's address: {numbers}")
     if server is not None:
         return report_sent(election, due, tried, [letter for letter in due.cut_off if letter not in again])
     for folder, letters in lost.items():
