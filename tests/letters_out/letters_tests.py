@@ -347,7 +347,7 @@ class Receipts(OutTest):
         self.assertEqual([file.stem for file in self.files("receipts")], ["cleo", "eve"])
         self.assertEqual(self.done("letters", "receipts").output, f"{said}There is no letter to send.\n")
         self.assertIn("no ballot found\n  other words: Who are you?\n", self.done("held").output)
-        self.assertIn(f"no ballot found\n  other words: Benjamin Lind {RANKS}\n  the address is that of ada, ben\n", self.done("held").output)
+        self.assertIn(f"no ballot found\n  other words: Benjamin Lind {RANKS}\n  same address: ada, ben\n", self.done("held").output)
         self.done("held", 1, 2, "--set-aside")
         self.assertEqual(self.done("letters", "receipts").output, "There is no letter to send.\n")
 
@@ -544,8 +544,9 @@ class Reminders(OutTest):
         self.add_letters(letter("cleo", "I want the lake\n"), letter("dan", f"dan {RANKS}\n", sender="x@x.example"))
         texts = self.texts("reminders")
         self.assertEqual(sorted(texts), [name for name in support.NAMES if name != "ada"])
-        begin = f"Dear Ben, {FORM}No ballot of yours that counts has come yet in the vote: {TITLE} "
-        self.assertTrue(texts["ben"].startswith(begin + "Until when: Friday, 4 December 2026, 18:00 (UTC)"), texts["ben"])
+        begin = f"Dear Ben, No ballot of yours that counts has come yet in the vote: {TITLE} "
+        until = "Until when: Friday, 4 December 2026, 18:00 (UTC) "
+        self.assertTrue(texts["ben"].startswith(f"{begin}{until}{FORM}A ballot of yours looks like this"), texts["ben"])
         self.assertIn("ben _,_,_,_", texts["ben"])
         # whose letter waits is told so, and not reminded
         self.assertIn("No ballot from it is entered yet: the secretary has to look at it first.", texts["cleo"])

@@ -48,7 +48,7 @@ def waiting(letter: JudgedLetter) -> Iterator[str]:
 
 def shared_words(letter: JudgedLetter) -> Iterator[str]:
     if letter.shared_with:
-        yield f"  the address is that of {', '.join(letter.shared_with)}{', too' if letter.electors else ''}"
+        yield f"  same address: {', '.join(letter.shared_with)}"
 
 
 def code_words(letter: JudgedLetter) -> Iterator[str]:

@@ -80,8 +80,8 @@ def run(election: Election, arguments: Arguments) -> int:
     return Status.DONE
 
 
-def report_printed(due: LettersDue, by_folder: Mapping[pathlib.Path, Sequence[SentLetter]]) -> None:
-    for folder, letters in by_folder.items():
+def report_printed(due: LettersDue, placed: Mapping[pathlib.Path, Sequence[SentLetter]]) -> None:
+    for folder, letters in placed.items():
         if names := [due.elector(letter).name for letter in letters if not letter.address]:
             tell(f"Without an address: {listed(names, MOST)}. Print {folder}/{letter_files.TO_PRINT}.")
 
