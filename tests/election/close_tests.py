@@ -47,6 +47,7 @@ class Close(CloseTest):
         self.assertLess(letter.index(poll), letter.index(checksum))
         self.assertLess(letter.index(checksum), letter.index(digest))
         self.assertIn(f"Checksum of the ballots: {checksum}", ended.output)
+        self.assertTrue(ended.output.endswith("\nNext: debvote-election letters closed, then debvote-election count\n"), ended)
         self.assertIn("1 line came in time", letter)
         (self.folder / "letters" / "closed.txt").write_text("another")
         log = self.done("log").output

@@ -170,6 +170,8 @@ class CodesOnRoll(OutTest):
         self.done("call", "--to", "vote@club.example")
         for kind in ("call", "receipts", "reminders"):
             self.assert_fault(self.election("letters", kind), 9, "codes are on the roll", "call/call.txt")
+        # so the close goes on to no letters
+        self.assertTrue(self.done("close").output.endswith(" before you count anything.\nNext: debvote-election count\n"))
 
 
 class Paper(OutTest):

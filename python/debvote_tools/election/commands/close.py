@@ -49,7 +49,9 @@ def run(election: Election, arguments: Arguments) -> None:
     if written:
         tell(f"Made {path}.")
     tell(f"Checksum of the ballots{' with the random line' if 'seal' in detail else ''}: {detail['checksum']}")
-    tell(f"Send {path} to all electors before you count anything.", f"Next: {election.command('count')}")
+    # where nobody knows whose each code is, no letter can be written to an elector
+    sending = "" if history.has_codes_on_roll else f"{election.command('letters', 'closed')}, then "
+    tell(f"Send {path} to all electors before you count anything.", f"Next: {sending}{election.command('count')}")
 
 
 def close(election: Election, sealed: Sealed, arguments: Arguments) -> None:
