@@ -26,20 +26,16 @@ abbrev pub IsSaidOfLines : PollContent → List Text → Text → TextAndEnd →
 IsSaidOfLines poll lines findings told =
     (rest : Text) × IsExplained poll lines rest × (told.text ≡ findings ++ rest) × (told.end ≡ ended_by_findings findings (refused_count poll lines))
 
--- after the findings of a poll in order all that is said of its ballots, or where none are given the line of `check`
-abbrev pub IsSaid : PollContent → Option Text → Text → TextAndEnd → Type 0
-IsSaid poll None findings told = (told.text ≡ findings ++ check_text poll) × (told.end ≡ ended_by_findings findings 0)
-IsSaid poll (Some ballots) findings told = IsSaidOfLines poll (lines_of ballots) findings told
-
--- after the findings of a poll that is refused nothing
-abbrev pub IsSaidAfter : Result PollContent PollFault → Option Text → Text → TextAndEnd → Type 0
-IsSaidAfter (Err fault) ballots findings told = (told.text ≡ findings) × (told.end ≡ ended.PollRefused)
-IsSaidAfter (Ok poll) ballots findings told = IsSaid poll ballots findings told
+-- after the findings of a poll: nothing, if it is refused; else all that is said of its ballots, or where none are given the line of `check`
+abbrev pub IsSaid : Result PollContent PollFault → Option Text → Text → TextAndEnd → Type 0
+IsSaid (Err fault) ballots findings told = (told.text ≡ findings) × (told.end ≡ ended.PollRefused)
+IsSaid (Ok poll) None findings told = (told.text ≡ findings ++ check_text poll) × (told.end ≡ ended_by_findings findings 0)
+IsSaid (Ok poll) (Some ballots) findings told = IsSaidOfLines poll (lines_of ballots) findings told
 
 -- all that is wrong with a poll file, and with its ballots where they are given
 abbrev pub IsExplanation : Text → Option Text → TextAndEnd → Type 0
 IsExplanation poll_text ballots told =
-    (findings : Text) × AreFindingsOf poll_text (document poll_text) findings × IsSaidAfter (poll_in poll_text) ballots findings told
+    (findings : Text) × AreFindingsOf poll_text (document poll_text) findings × IsSaid (poll_in poll_text) ballots findings told
 
 -- too many lines stop it, where the poll is in order and ballots are given
 abbrev pub StopsExplanation : Result PollContent PollFault → Option Text → Option RunFault → Type 0

@@ -1,7 +1,6 @@
 -- The words of the faults of a run, as its fault line has them, and which fault of a run those of its parts are.
 use Rattle.std.specs.Prelude.{◌++◌, codes}
 use Rattle.vote_poll_keys.specs.FaultWords as poll
-use Rattle.vote_poll_text.specs.FaultWords as lines
 use Rattle.vote_poll_keys.specs.declared.fault.PollFault.{PollFault}
 use Rattle.vote_poll_keys.specs.declared.fault.PollFault.TheVariants as poll_fault
 use Rattle.vote_poll_text.specs.declared.lines.LinesFault.{LinesFault}
@@ -28,12 +27,12 @@ abbrev pub input_words : InputFault → Text
 input_words input.Unreadable = codes "unreadable"
 input_words input.TooLong = codes "too long"
 
--- a run that did not come to its end: the words for a poll, its lines and its votes are those of the crates that refuse them
+-- a run that did not come to its end: the words for a poll and its votes are those of the crates that refuse them
 abbrev pub fault_words : RunFault → Text
 fault_words (run.Input file fault) = file_words file ++ codes " " ++ input_words fault
 fault_words (run.Poll fault) = poll.fault_line fault
 fault_words run.NoSuchOption = codes "casting option is not in the poll"
-fault_words run.TooManyLines = lines.fault_line lines_fault.TooMany
+fault_words run.TooManyLines = codes "ballots refused: too many lines"
 fault_words (run.Vote fault) = votes.fault_words fault
 fault_words run.Memory = codes "out of memory"
 fault_words run.Output = codes "output failed"

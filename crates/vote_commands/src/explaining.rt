@@ -41,7 +41,7 @@ fn appended(first: String, rest: String) -> Result<String, AllocError>
 
 /// The findings of a poll in order, and after them the line of `check`.
 fn with_sizes(alloc: Global, poll: &Poll, findings: String) -> Result<RunText, AllocError>
-    ensures { IfOk result (IsSaid poll.now None (string_bytes findings)) }
+    ensures { IfOk result (IsSaid (Ok poll.now) None (string_bytes findings)) }
 {
     let ended = ended_by_findings(&findings, 0);
     let sizes = check_text(alloc, poll)?;
@@ -79,7 +79,7 @@ fn with_rest(
     file: Option<&str>,
     found: String,
 ) -> Result<RunText, RunFault>
-    ensures ok { IfOk result (IsSaid poll.now (option_copied ballots.entry) (string_bytes found)) }
+    ensures ok { IfOk result (IsSaid (Ok poll.now) (option_copied ballots.entry) (string_bytes found)) }
     ensures stops { Stops (StopsExplanation (Ok poll.now) (option_copied ballots.entry)) (result_err result) }
     ensures unwritten { result ≢ Err RunFault.Output }
 {
