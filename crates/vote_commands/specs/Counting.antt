@@ -45,7 +45,7 @@ pub record IsNamed (poll : PollContent) (named : Option Text) (option : Option �
   pub option_is : option ≡ casting_option poll named
   pub range : IfSome option (IsOption (option_count poll))
 
--- Both are allowed: the votes are taken, or a fault stops them that they can have at this many desks, with a gate that may stop these desks. If the fault is the audit's, there is some legal box, with the slips of each desk, in which the audit finds it.
+-- Both are allowed: the votes are taken, or they are stopped by a fault that they can have at this many desks with a gate that may stop these desks. If the fault is the audit's, there is some legal box, with the slips of each desk, in which the audit finds it.
 abbrev pub StopsAtVotes : (ℕ → Bool) → ℕ → PollContent → List Text → Option RunFault → Type 0
 StopsAtVotes bars desks poll lines (Some (run.Vote fault)) =
     (fault ≢ vote.Memory) × CanStopVotes bars fault × IsOfDesk desks fault × IsFoundIn (AreSheetsOf desks) poll lines fault

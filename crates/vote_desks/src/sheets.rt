@@ -20,7 +20,7 @@ pub(crate) struct Compared {
 }
 
 impl Compared {
-    /// How far it was compared after the casts have given one more slip.
+    /// How far the sheet was compared after the casts have given one more slip.
     fn with(self, sheet: &[Slip], slip: &Slip) -> Compared
         requires { self.alike ≤ length sheet.now }
         ensures { AgreesWithOneMore sheet.now self slip.now result }

@@ -34,7 +34,7 @@ step_line (Cast desk stamp reading reply) = line (decimal stamp ∷ codes " " �
 abbrev pub step_lines : List Step → Text
 step_lines steps = flat_map step_line steps
 
--- the text of a box that holds the lines, if desk 1 cast them in their order
+-- the text of the steps of a box that holds the lines, which desk 1 cast in their order
 abbrev pub IsStepsText : PollContent → List Text → Text → Type 0
 IsStepsText poll lines text = (b : BoxState) × HoldsLines poll lines b × AreCastInOrder (readings poll lines) b.steps × (text ≡ step_lines b.steps)
 
