@@ -22,7 +22,7 @@ use Rattle.vote_request.specs.declared.Request.TheVariants as request
 abbrev pub NamedRequest : Type 0
 NamedRequest = Request (Bor Text)
 
--- the value of a subcommand's option
+-- the subcommand's option with this name has this value
 abbrev pub HasText : List Row → Text → Text → Type 0
 HasText rows name text = first_of name rows ≡ Some text
 

@@ -182,7 +182,7 @@ seen_is_line text at within here =
       begins = begins-from_seen (drop at text) rest;
     }
 
--- no line is `%%`, and no separator is seen
+-- if no separator is seen, no line is `%%`; and the other way round
 lacks_from_nowhere : (text : Text) → ((at : ℕ) → at < length text → is_separator_at text at ≡ false) → LacksSeparator text
 lacks_from_nowhere text nowhere =
     other_lines text (All-from_get_or IsOther (pieces_of text) [] (λ k within same.

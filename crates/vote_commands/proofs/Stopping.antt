@@ -25,7 +25,7 @@ use Rattle.vote_commands.specs.declared.fault.RunFault.{RunFault}
 use Rattle.vote_commands.specs.declared.fault.RunFault.TheVariants as run
 use Rattle.vote_commands.specs.declared.votes.TakenVotes.{TakenVotes}
 
--- ---- a file that gives nothing
+-- ---- a file that gives no poll or no lines
 pub no_poll : (meaning : Result PollContent PollFault) (fault : PollFault) → Fails fault meaning → GivesNoPoll meaning (poll_refused fault)
 no_poll meaning poll_fault.Memory failed = refl
 no_poll meaning fault failed = failed

@@ -10,7 +10,7 @@ pub enum Purpose<T> {
     Sheet,
     /// The outcome as a graph for Graphviz.
     Picture,
-    /// Whether this file is a sheet of the count, whatever the casting vote.
+    /// Whether this file is a sheet of the count, with any casting vote or none.
     Verification(T),
 }
 
@@ -19,7 +19,7 @@ pub enum Purpose<T> {
 pub enum Listing {
     /// The reply to each ballot.
     Steps,
-    /// The ballots that count: the last valid one of each elector.
+    /// The ballots that count: the last valid ballot of each elector.
     Standing,
 }
 

@@ -215,7 +215,7 @@ module _ (read : EachLineIsRead) (unique : ReadingsAreUnique) (distinct : NamesA
       All-permutation P (renamed_lines written mapped poll lines again) others are.ballots
       (subst (All P) spelled_there (each_line P entry_of 0 (other_names mapped poll again) line_stands))
 
-  -- none or the ballot that stands
+  -- a reading that is a ballot that stands gives each elector None, or the ballot of this elector that stands
   of_one : (r : Reading) → Stands r → (v : ℕ) → v < elector_count poll → IsNoneOr (entry_of v) (ranks_read (mapped v) r)
   of_one r (u, ranks, below_u, here, is) v below =
       let read : ranks_read (mapped v) r ≡ ranks_read (mapped v) (Ballot (mapped u) ranks) = ap (ranks_read (mapped v)) is in

@@ -42,7 +42,7 @@ count_the_same-back poll lines again others options same = record {
   };
 }
 
--- files of one poll with the same last valid ballots, as many lines and as many valid ones count the same
+-- files of one poll count the same if they have the same last valid ballots, as many lines and as many valid lines
 pub from_last_ballots : (poll : PollContent) (lines others : List Text) → length others ≡ length lines → valid_count poll others ≡ valid_count poll lines
     → last_valid_ballots poll others ≡ last_valid_ballots poll lines → CountTheSame poll lines poll others
 from_last_ballots poll lines others long valid last = record {

@@ -16,7 +16,7 @@ abbrev pub ballot_line : Text → Option (List (Option ℕ)) → List Text
 ballot_line voter None = []
 ballot_line voter (Some ranks) = line_text voter ranks ∷ []
 
--- this line with its line feed
+-- this line with its line feed; empty if there is no ballot
 abbrev pub ballot_text : Text → Option (List (Option ℕ)) → Text
 ballot_text voter ballot = text_of_lines (ballot_line voter ballot)
 

@@ -24,7 +24,7 @@ pub fn liked_options_stay()
     raised_winners_win();
 }
 
-/// Monotonicity of the winner that a sheet names without a casting vote.
+/// Monotonicity for the winner that a sheet without a casting vote names: it stays in the last round.
 pub fn liked_winners_stay()
     ensures { LikedWinnersStay }
 {
