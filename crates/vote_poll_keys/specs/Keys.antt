@@ -69,7 +69,7 @@ abbrev pub Fails : {Y : Type 0} → PollFault → Result Y PollFault → Type 0
 Fails fault.Memory meaning = Unit {0}
 Fails e meaning = meaning ≡ Err e
 
--- the result is the one that is meant, unless memory ran out
+-- the result is the meaning, unless memory ran out
 abbrev pub Gives : {X Y : Type 0} → (X → Y) → Result X PollFault → Result Y PollFault → Type 0
 Gives view (Ok x) meaning = meaning ≡ Ok (view x)
 Gives view (Err e) meaning = Fails e meaning

@@ -1,4 +1,4 @@
--- What a box that holds the lines of a poll says of the voters follows from the lines, whatever the order in which they were cast.
+-- If a box holds the lines of a poll, what it says of the voters follows from the lines, whatever the order in which they were cast.
 use Rattle.std.specs.Prelude.{◌≡◌, ℕ, ◌+◌, List, is_some, length, map, take, count_by}
 use Rattle.std.specs.List.{range_with_len}
 use Rattle.vote_poll.specs.PollContent.{PollContent}
