@@ -17,7 +17,7 @@ from typing import Any, TypeVar
 
 
 class Options:
-    """The values of the options, by their fields. In the class itself a field has what its parser needs."""
+    """The values of the options, by their fields. On the class itself a field has what the parser needs."""
 
     def __init__(self, **values: Any) -> None:
         self.__dict__.update(values)
@@ -58,5 +58,5 @@ def given(arguments: Options, *names: str) -> list[str]:
 
 
 def arguments_of(kind: type[Arguments], namespace: argparse.Namespace) -> Arguments:
-    """The values of the options; from there on they have their types."""
+    """The values of the options, which have their types from here on."""
     return kind(**vars(namespace))

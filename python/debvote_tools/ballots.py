@@ -13,7 +13,7 @@ NUMBERS = {str(rank): rank for rank in range(1, 100)} | {UNRANKED: 100}
 
 
 class Phrases(NamedTuple):
-    """The sentences of which the words of a ballot are made."""
+    """The sentences that describe a ballot in words."""
 
     then: str
     equally: str
@@ -36,7 +36,7 @@ IN_A_LIST = Phrases(
 
 
 def in_normal_form(ranks: str) -> str:
-    """The ranks 1, 2 and so on that say the same: equal ones stay equal, and what is not ranked stays so."""
+    """The same order with ranks 1, 2 and so on: equal ranks stay equal, and options that are not ranked stay so."""
     given = ranks.split(",")
     in_order = enumerate(sorted({*given} - {UNRANKED}, key=int), start=1)
     normal = {UNRANKED: UNRANKED} | {rank: str(number) for number, rank in in_order}
@@ -74,5 +74,5 @@ class BallotWords:
         return self.language.say(self.phrases.unranked, ranked=said, unranked=self.language.joined(unranked))
 
     def step_in_words(self, names: tuple[str, ...]) -> str:
-        """The options that have one rank."""
+        """The options that share one rank, in words."""
         return names[0] if len(names) == 1 else self.language.say(self.phrases.equally, options=self.language.joined(names))

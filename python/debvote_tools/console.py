@@ -18,7 +18,7 @@ LINES_AT_ONCE = 1_000
 
 
 class OutputFailed(Fault):
-    """Standard output takes nothing more. What was told before is done."""
+    """Standard output takes nothing more. What was printed before is done."""
 
     def __init__(self, *, is_closed_pipe: bool = False) -> None:
         super().__init__(None, "the output failed", "ask debvote-election status", Status.BAD_OUTPUT, "what was told is done")
@@ -27,7 +27,7 @@ class OutputFailed(Fault):
 
 
 def prepare() -> None:
-    """Before anything is told: a character that the terminal can't show is no reason to stop."""
+    """Runs before anything is printed. A character that the terminal can't show must not stop the program."""
     if isinstance(sys.stdout, io.TextIOWrapper):
         sys.stdout.reconfigure(errors="backslashreplace")
 
@@ -38,7 +38,7 @@ def has_output() -> bool:
 
 
 def is_terminal() -> bool:
-    """Whether a person is there, who sees what is told, and can answer."""
+    """Whether a person is there, who sees the output and can answer."""
     return sys.stdin is not None and sys.stdin.isatty() and shows()
 
 
@@ -53,7 +53,7 @@ def tell(*lines: str) -> None:
 
 
 def tell_many(lines: Iterable[str]) -> None:
-    """The same with many lines, in parts, so that they are not all in memory."""
+    """Writes many lines, in parts, so that they are not all in memory."""
     waiting = iter(lines)
     while part := list(itertools.islice(waiting, LINES_AT_ONCE)):
         tell(*part)
@@ -69,7 +69,7 @@ def tell_as_it_is(text: str) -> None:
 
 
 def tell_aside(*lines: str) -> None:
-    """Writes lines to standard error, at once. If that fails, the exit status says what there is to say."""
+    """Writes lines to standard error, at once. If that fails, the exit status still says how the run ended."""
     tell_aside_as_it_is("".join(f"{written(line)}\n" for line in lines))
 
 
@@ -80,8 +80,9 @@ def tell_aside_as_it_is(text: str) -> None:
 
 
 def write(output: TextIO, text: str) -> None:
-    """Writes a text at once. If this fails, the rest of it is dropped: else Python would try again as it ends, and end with a status of
-    its own."""
+    """Writes a text at once. If this fails, the rest of the text is dropped. Otherwise Python would try again at its end, and exit
+    with a status of its own.
+    """
     try:
         output.write(text)
         output.flush()
@@ -93,7 +94,7 @@ def write(output: TextIO, text: str) -> None:
 
 
 def failed(program: str, words: str | None, status: int) -> int:
-    """Says why a program did not come to its end, unless that is told, and returns its exit status."""
+    """Says why a program did not come to its end, unless that was said already, and returns its exit status."""
     if words is not None:
         tell_aside(f"{program}: {words}")
     return status

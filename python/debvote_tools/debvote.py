@@ -44,7 +44,9 @@ class Findings(NamedTuple):
 
 
 class Debvote:
-    """debvote runs in a folder, and the names of its files begin there. It may be beside the program that runs it, in `program_folder`."""
+    """Runs debvote in a folder; the names of its files are relative to this folder. debvote may be in `program_folder`, beside the
+    program that runs it.
+    """
 
     def __init__(self, folder: pathlib.Path, program_folder: pathlib.Path | None = None) -> None:
         path = (shutil.which("debvote", path=str(program_folder)) if program_folder else None) or shutil.which("debvote")
@@ -102,7 +104,9 @@ def refusal(answer: Answer) -> Fault:
 
 
 def casting_words(name: str | None) -> list[str]:
-    """The words of a casting vote. A name that begins with a hyphen would be read as another option."""
+    """The arguments for a casting vote. As an argument of its own, a name that begins with a hyphen would be read as another
+    option.
+    """
     if name is None:
         return []
     return [f"--casting={name}"] if name.startswith("-") else ["--casting", name]

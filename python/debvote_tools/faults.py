@@ -22,7 +22,8 @@ class Status(enum.IntEnum):
 
 
 class Fault(Exception):
-    """What ends the run: the file that it is about, if any, the reason, the cure, the exit status, and what was done or was not.
+    """The fault that ends a run: the file that it is about, if any, the reason, the cure, the exit status, and what was done or was
+    not.
 
     Most faults stop a command until a person has looked, before it has changed anything. `done` is None if the reason says it.
     """
@@ -43,7 +44,7 @@ class Fault(Exception):
 
 
 class Several(Fault):
-    """Several faults that stop one act, all told at once. The exit status is the first one's."""
+    """Several faults that stop one act, all reported at once. The exit status is that of the first."""
 
     def __init__(self, faults: Sequence[Fault]) -> None:
         Exception.__init__(self, faults)
@@ -67,6 +68,6 @@ class Told(Fault):
 
 
 def other_format(what: str) -> Fault:
-    """The fault of what debvote writes, if it can't be read by its format."""
+    """The fault of an output of debvote that does not have its format."""
     cure = "install debvote and these programs from one package"
     return Fault(None, f"{what} has another format", cure, Status.BAD_SHEET, None)

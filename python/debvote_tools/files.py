@@ -170,7 +170,7 @@ def in_memory(data: bytes) -> Iterator[str]:
 
 @contextlib.contextmanager
 def uninterrupted() -> Iterator[None]:
-    """Interrupts wait until this is done, so that what is done is told too."""
+    """Interrupts wait until this is done, so that whatever is done is also reported."""
     before = signal.pthread_sigmask(signal.SIG_BLOCK, {signal.SIGINT, signal.SIGTERM, signal.SIGHUP})
     try:
         yield

@@ -20,12 +20,12 @@ QUOTATION_MARKS = {"en": "\u201c{}\u201d", "de": "\u201e{}\u201c", "fr": "\u00ab
 
 
 def marked(text: str) -> str:
-    """The same text, known to be a sentence that has translations; it is said elsewhere."""
+    """Returns the text as it is. It marks a sentence that has translations, and is said elsewhere."""
     return text
 
 
 def numbered(one: str, many: str) -> tuple[str, str]:
-    """The same for a sentence with a form for one and a form for many."""
+    """Does the same for a sentence with a singular and a plural."""
     return one, many
 
 

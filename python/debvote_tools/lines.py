@@ -77,12 +77,12 @@ class Line(NamedTuple):
 
     @property
     def had_mark(self) -> bool:
-        """Whether all that it lost is a byte-order mark, and perhaps a carriage return."""
+        """Whether the line lost only a byte-order mark, and perhaps a carriage return."""
         return not self.unframed.startswith(MARK) and self.came.removesuffix(b"\r") == MARK + self.unframed
 
     @property
     def had_return(self) -> bool:
-        """Whether all that it lost is a carriage return, and perhaps a byte-order mark."""
+        """Whether the line lost only a carriage return, and perhaps a byte-order mark."""
         return self.came == self.unframed + b"\r" or (self.had_mark and self.came.endswith(b"\r"))
 
     @property

@@ -79,9 +79,9 @@ def plain_text(text: str, language: str, limit: int) -> str:
 
 
 def made_different(bases: Sequence[str], taken: Collection[str], limit: int, joint: str) -> list[str]:
-    """A name for each base, none of which looks like another or one that is taken.
+    """A name for each base. No name looks like another, or like a name that is taken.
 
-    Of equal bases each gets a number: a ballot for the bare name could be meant for either.
+    Equal bases all get a number, since a ballot for the bare name could be meant for any of them.
     """
     used = {alike(name) for name in taken}
     several = {form for form, count in collections.Counter(map(alike, bases)).items() if count > 1}

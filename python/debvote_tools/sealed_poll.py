@@ -1,7 +1,7 @@
 """The sealed poll: what the call announces and the result publishes, in plain form.
 
 Plain form is TOML that a simple reader understands, too: one `key = value` a line in the order of `KEYS`, each value as JSON writes
-it, each line ended by a line feed, without comments and tables. So one SHA-256 of the file binds all that electors were told.
+it, each line ended by a line feed, without comments and tables. So one SHA-256 of the file covers all that the call announces.
 """
 
 import dataclasses

@@ -44,7 +44,7 @@ REFUSE = """CREATE TRIGGER {table}_{verb} BEFORE {verb} ON {table} BEGIN SELECT 
 
 
 class Overtaken(Exception):
-    """Another act came between: what this one was decided by may have changed."""
+    """Another act came between, and may have changed what this act was decided by."""
 
 
 class DoneAct(NamedTuple):
@@ -97,7 +97,7 @@ class Book:
             return self.connection.execute(words, values).fetchall()
 
     def acts(self) -> Sequence[DoneAct]:
-        """All acts, in their order. An act never changes, so only those are read that came since they were asked for last."""
+        """All acts, in their order. An act never changes, so a call reads only the acts that came since the last call."""
         words = "SELECT act, time, name, detail, digest FROM act WHERE act > ? ORDER BY act"
         for number, time, name, detail, digest in self.rows(words, self.read_acts[-1].number if self.read_acts else 0):
             self.read_acts.append(DoneAct(number, from_text(time), name, detail, digest))
@@ -142,10 +142,10 @@ class Book:
     # ------------------------------------------------------------ acts
     @contextlib.contextmanager
     def act(self, name: ActName, detail: Detail | None = None, *, seen: int | None = None) -> Iterator[NewAct]:
-        """One act: what is inserted within is committed at its end, and an exception leaves the book as it was.
+        """One act: its rows are committed at the end, and an exception leaves the book as it was.
 
-        `seen` is the last act when this one was decided; if others came since, `Overtaken` is raised. Nobody is asked and no program runs
-        within. The act `moved` makes this book the one that the machine knows.
+        `seen` is the last act that was known when this act was decided. If others came since, `Overtaken` is raised. Within the act
+        nobody is asked and no program runs. The act `moved` makes this book the one that the machine knows.
         """
         note = self.note()
         with note.under_lock():
@@ -161,7 +161,7 @@ class Book:
             yield act
             with uninterrupted():
                 digest = self.finish(act, before.digest)
-        # a note that can't be written is one of an earlier act, as after a kill
+        # a note that can't be written stays at an earlier act, as after a kill
         with contextlib.suppress(Fault, OSError):
             note.write(Note(act.number, digest), is_moved=name == MOVED)
 
@@ -179,7 +179,7 @@ class Book:
         return MachineNote(self.path.resolve(), self.acts()[0].digest)
 
     def note_seen(self) -> None:
-        """Notes the last act, if this is the book that this machine knows: an act that was seen must not be gone later."""
+        """Notes the last act, if this is the book that this machine knows. Then nobody can remove this act unnoticed."""
         with contextlib.suppress(Fault, OSError):
             if self.strangeness() is None:
                 last = self.last_act()
@@ -223,7 +223,7 @@ class Book:
                 raise Fault(self.path, words, "move the folder to a disk of this computer")
 
     def demand_alone(self) -> None:
-        """Stops if another book in the folder is no beginning of this one, as the copy that a sync tool leaves."""
+        """Stops if the folder has another book with acts that this book lacks, such as a copy that a sync tool leaves."""
         for file in sorted(self.path.parent.iterdir()):
             # a file that is gone by now was the journal of another command
             with contextlib.suppress(OSError):
@@ -233,7 +233,7 @@ class Book:
                     raise Fault(file, words, cure)
 
     def begins_with(self, file: pathlib.Path) -> bool:
-        """Whether this book has all acts of another one, which can be read."""
+        """Whether this book has all acts of another book. False if the other book can't be read."""
         try:
             with contextlib.closing(connected(file, "ro")) as other:
                 [(number, digest)] = other.execute("SELECT act, digest FROM act ORDER BY act DESC LIMIT 1")
@@ -252,7 +252,7 @@ def is_locked_for_others(path: pathlib.Path) -> bool:
     """Whether a second process is refused the lock of SQLite that an act holds."""
     second = os.fork()
     if second == 0:
-        # only the second process may open the file: to close it ends all locks that a process has there
+        # only the second process may open the file: a process that closes it loses all its locks on it
         status = 1
         try:
             handle = os.open(path, os.O_RDWR)
@@ -286,7 +286,7 @@ def create(path: pathlib.Path, detail: Detail, final_path: pathlib.Path) -> None
 
 
 def open_book(path: pathlib.Path) -> Book:
-    """Opens the book of an election. What is no book of this version is a fault that says what it is."""
+    """Opens the book of an election. If the file is no book of this version, the fault says what it is."""
     is_read_only = not os.access(path, os.W_OK) or not os.access(path.parent, os.W_OK)
     with sqlite_faults(path):
         connection = connected(path, "ro" if is_read_only else "rw")

@@ -61,7 +61,7 @@ def digest_of_lines(before: str, lines: Iterable[str]) -> str:
 
 
 def broken_act(connection: sqlite3.Connection) -> int | None:
-    """The first act whose digest is not that of its rows, or that rows name and the book lacks; None if the chain is whole."""
+    """The first act whose digest does not match its rows, or that rows name but the book lacks; None if the chain is whole."""
     tables = [itertools.groupby(connection.execute(f"{rows} ORDER BY act, rowid"), operator.itemgetter(0)) for rows in ROWS]
     waiting = [next(table, NO_ROWS) for table in tables]
     before, number = BEGINNING, 0

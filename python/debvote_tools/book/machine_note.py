@@ -52,7 +52,7 @@ class MachineNote:
 
     @contextlib.contextmanager
     def under_lock(self) -> Iterator[None]:
-        """Nobody else writes a note. Stops if none could be written."""
+        """Keeps others from writing a note. Stops if no note could be written."""
         try:
             self.folder.mkdir(mode=0o700, parents=True, exist_ok=True)
             if not os.access(self.folder, os.W_OK):

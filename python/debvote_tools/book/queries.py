@@ -42,7 +42,7 @@ def electors(book: Book) -> list[Elector]:
 
 
 def public_names(electors: Iterable[Elector]) -> dict[str, str]:
-    """What the public of a secret vote sees in place of each name: the alias; a code of the roll is a name that it sees."""
+    """What the public of a secret vote sees in place of each name: the alias, or the name itself if it is a code of the roll."""
     return {elector.name: elector.alias or elector.name for elector in electors}
 
 
@@ -61,7 +61,7 @@ def put_electors(act: NewAct, electors: Iterable[Elector]) -> None:
 
 # ---------------------------------------------------------------- what is sealed
 def sealed(book: Book, name: str, act: int | None = None) -> bytes | None:
-    """What an act sealed under a name; of all acts the last that did."""
+    """What was sealed under a name by the last act that did so."""
     rows = book.rows("SELECT data FROM sealed WHERE name = ?1 AND act = coalesce(?2, act) ORDER BY act DESC LIMIT 1", name, act)
     return rows[0][0] if rows else None
 

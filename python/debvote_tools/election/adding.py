@@ -68,7 +68,7 @@ class Plan:
         return [line for file in self.files for line in file.new]
 
     def envelopes(self, act: NewAct) -> Iterator[NewEnvelope]:
-        """What goes in, while the act is written: each file is kept whole before its lines."""
+        """The envelopes to enter, made while the act is written. Each file is stored whole before its lines."""
         for file in self.files:
             source = queries.keep_source(act, file.came.kept_name, file.came.data)
             yield from (NewEnvelope(line.as_entered, line.line.place, source) for line in file.new)
@@ -95,7 +95,7 @@ def read_lines(vote: Vote, files: Sequence[CameFile], columns: Columns | None, a
 
 # ---------------------------------------------------------------- the plan, and what speaks against it
 def plan_of(book: Book, vote: Vote, files: Sequence[FileLines], arguments: Arguments) -> Plan:
-    """Which lines are new by the book. It takes no time, so it is done again if another act came between."""
+    """Which lines are new by the book. It takes no time, so it is repeated if another act came between."""
     history = History(book.acts())
     openness = history.openness()
     if openness.call != vote.call:
@@ -105,7 +105,7 @@ def plan_of(book: Book, vote: Vote, files: Sequence[FileLines], arguments: Argum
 
 
 def demand_nothing_against(vote: Vote, plan: Plan, arguments: Arguments) -> None:
-    """Stops at what a person has to look at first; all of it is said at once."""
+    """Stops at what a person has to look at first, and says all of it at once."""
     stop_at(list(doubts(vote, plan, arguments)))
 
 
@@ -138,7 +138,7 @@ def doubts(vote: Vote, plan: Plan, arguments: Arguments) -> Iterator[Fault]:
 
 
 def of_unknown_order(file: FileLines) -> tuple[JudgedLine, JudgedLine] | None:
-    """Two ballots of one elector that differ, one of them new at least: nobody has said which one is newer."""
+    """Two different ballots of one elector, at least one of them new. Nobody has said which is newer."""
     new = {line.line.place for line in file.new}
     above: dict[str, list[JudgedLine]] = collections.defaultdict(list)
     for line in filter(lambda line: line.is_ballot, file.lines):
@@ -150,7 +150,9 @@ def of_unknown_order(file: FileLines) -> tuple[JudgedLine, JudgedLine] | None:
 
 
 def new_one_above(file: FileLines) -> tuple[JudgedLine, JudgedLine] | None:
-    """A new ballot and one below it that came before, of one elector, which differ. By this order the new one is older, and would count."""
+    """A new ballot, and a different ballot of the same elector below it that came before. By the order of the file the new ballot
+    is older, but it would count.
+    """
     new = {line.line.place for line in file.new} if file.repeated else set()
     above: dict[str, JudgedLine] = {}
     for line in file.lines if new else ():
@@ -168,8 +170,8 @@ def place_in(line: JudgedLine) -> str:
 
 
 def few_ballots(vote: Vote, files: Sequence[FileLines], arguments: Arguments) -> Iterator[Fault]:
-    """A fault for each file of which fewer than half of the lines are ballots; if none has so few, all of them together are looked at. If
-    some are ballots, it tells the first of the others.
+    """A fault for each file in which fewer than half of the lines are ballots. If no file has so few, all files together are looked
+    at. If some lines are ballots, it prints the first of the others.
     """
     all_lines = tuple(line for file in files for line in file.lines)
     few = [file for file in files if has_few_ballots(file.lines)]
@@ -209,7 +211,7 @@ def cure_of(file: FileLines, refused: JudgedLine, arguments: Arguments) -> str:
 
 # ---------------------------------------------------------------- adding
 def add(election: Election, book: Book, vote: Vote, files: Sequence[FileLines], arguments: Arguments) -> Plan:
-    """Enters what is new, and prints it. If another act changes what that is, all is looked at anew, and asked anew."""
+    """Enters what is new, and prints it. If another act changes what is new, it looks and asks again."""
     while True:
         plan = plan_of(book, vote, files, arguments)
         demand_nothing_against(vote, plan, arguments)

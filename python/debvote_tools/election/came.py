@@ -91,7 +91,7 @@ def read_file(election: Election, path: str) -> CameFile:
         if sys.stdin.isatty():
             tell("Type the ballots, a line each; Ctrl-D on an empty line ends them.")
         return CameFile(STANDARD_INPUT, bytes_in(sys.stdin.buffer))
-    # no other handle may be opened on the book: to close it would end the locks of this process
+    # no other handle may be opened on the book: closing it would end the locks of this process
     if os.path.exists(path) and os.path.samefile(path, election.book.path):
         raise Fault(path, "it is the book of this election", "name a file of ballots that came", Status.BAD_BALLOTS, NOTHING_ADDED)
     try:
@@ -102,7 +102,7 @@ def read_file(election: Election, path: str) -> CameFile:
 
 
 def bytes_in(file: BinaryIO) -> bytes:
-    """All that a file has if it has letters; of another that is too long one byte more than the limit."""
+    """All bytes of a file with letters. Of another file that is too long, one byte more than the limit."""
     data = file.read(BALLOTS_LIMIT + 1)
     return data + file.read() if are_letters(data) else data
 
@@ -125,7 +125,7 @@ def demand_lines(file: CameFile, *, is_table: bool) -> None:
 
 
 class FileLines(NamedTuple):
-    """A file and its lines, in the order in which they are entered; and which of them go in now, and which came before."""
+    """A file and its lines in the order of entering: which of them go in now, and which came before."""
 
     came: CameFile
     lines: tuple[JudgedLine, ...]
@@ -138,14 +138,15 @@ class FileLines(NamedTuple):
 
 
 def sorted_out(book: Book, files: Sequence[FileLines], *, takes_again: bool, is_reopened: bool) -> tuple[FileLines, ...]:
-    """The files, with what is new in each. The k-th of equal lines in a file came before if k of them came in earlier files that no `undo`
-    took back: counted, refused, struck or late. A file that goes in counts as an earlier one of those after it.
+    """The files, with the new lines of each. Of equal lines in a file, the k-th came before if k of them came in earlier files,
+    whether they were counted, refused, struck or late. Files that an `undo` took back do not count. A file that goes in now counts
+    as an earlier file for those after it.
     """
     counts = queries.lines_that_came(book)
     is_known = any(line.as_entered in counts for file in files for line in file.lines)
     by_line = queries.came_in_files(book) if is_known else {}
     with_envelopes = [envelopes_of(file.lines, by_line) for file in files]
-    # a later row of the same file is nothing that came since
+    # a later row of the same file did not come since
     own = {envelope.number for lines in with_envelopes for _, envelope, _ in lines if envelope is not None}
     numbers = queries.last_numbers(book).items() if is_known else ()
     last = {elector: (number, line) for elector, (number, line) in numbers if number not in own}

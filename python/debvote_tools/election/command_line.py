@@ -27,7 +27,9 @@ QUIET = ("check", "show", "status", "count", "log")
 
 
 def parser(words: Sequence[str] = ()) -> argparse.ArgumentParser:
-    """The command line. If these words begin with a command, that one alone: the module of each takes a while to be read."""
+    """The parser of the command line. If these words begin with a command, it knows only this command, since the module of each
+    command takes a while to be read.
+    """
     # --folder may come before the command and after it
     folder = argparse.ArgumentParser(add_help=False)
     folder.add_argument(

@@ -63,9 +63,9 @@ def head_form(head: str) -> str:
 def read_table(
     data: bytes, wanted_heads: Collection[str], file: object, bad_table: BadTable, *, skips_spaces: bool = False
 ) -> Table:
-    """The table of a file, with the delimiter by which most of the wanted heads are found in its first line that is not blank.
+    """The table of a file. Its delimiter is the one that finds most of the wanted heads in the first line that is not blank.
 
-    Spaces before a cell may be skipped: then quotation marks after them count as such.
+    Spaces before a cell may be skipped, so that a quotation mark after them encloses the cell.
     """
     text = decoded(data, file, bad_table)
     head_line = next((line for line in re.split(r"[\r\n]+", text) if line.strip(' \t,;"')), "")

@@ -48,7 +48,7 @@ class History:
         return [act for act in self.acts if act.name in names]
 
     def since_call(self, *names: ActName) -> list[DoneAct]:
-        """The acts of these names from the call that holds on, itself among them; none before it."""
+        """The acts of these names from the call that holds on, with this call itself; empty before a call."""
         call = self.call
         return [] if call is None else [act for act in self.named(*names) if act.number >= call.number]
 

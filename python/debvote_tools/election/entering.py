@@ -23,7 +23,7 @@ LONGEST_LINE = 500
 
 
 class Entered(NamedTuple):
-    """What an act entered: the numbers of the envelopes, and the reply to each line, by all lines as the act left them."""
+    """What an act entered: the numbers of the envelopes, and the reply to each line, by all lines as they are after the act."""
 
     numbers: range
     replies: Callable[[], list[str]]
@@ -44,8 +44,8 @@ def entered(
 ) -> Iterator[Entered]:
     """The act of this name: `envelopes` gives what goes in, and may write rows of its own.
 
-    Interrupts wait until what was entered is told, which is done within. `decided_at` was the last act when this was decided. If others
-    came since, `is_same` says whether it would be decided so again.
+    Interrupts wait until the caller has reported what was entered, which it does within. `decided_at` is the last act that was
+    known when this was decided. If others came since, `is_same` says whether the decision would be the same.
     """
     with contextlib.ExitStack() as stack:
         with book.act(name, detail) as act:
@@ -80,7 +80,7 @@ def entered(
 
 
 def electors_of(book: Book, vote: Vote, lines: Sequence[bytes]) -> list[int | None]:
-    """The elector of the roll with whose name each line begins."""
+    """For each line, the elector whose name it begins with."""
     names = list(map(name_in, lines))
     numbers = queries.elector_numbers(book, vote.names_on_roll & {name.decode("ascii") for name in set(names)})
     return list(map({name.encode(): number for name, number in numbers.items()}.get, names))

@@ -44,8 +44,9 @@ def letter_files(due: LettersDue) -> dict[str, bytes]:
 
 @contextlib.contextmanager
 def in_place(files: Mapping[str, bytes], place: pathlib.Path) -> Iterator[None]:
-    """The files are in their folder, whole, while what notes them is done; if that fails, the folder is as it was. The caller holds the
-    lock."""
+    """Puts the files into their folder, whole, while the caller notes them. If that fails, the folder is as it was. The caller
+    holds the lock.
+    """
     if not files:
         yield
         return

@@ -1,4 +1,4 @@
-"""What is told of letters: what goes in, what waits and why, and a letter line by line."""
+"""What the secretary reads about letters: what goes in, what waits and why, and a letter line by line."""
 
 from collections.abc import Iterator, Sequence
 

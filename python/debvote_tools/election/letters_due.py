@@ -27,7 +27,7 @@ from debvote_tools.secret.words import BY_PYTHON
 from debvote_tools.sheet import sheet_in
 from debvote_tools.times import now
 
-# so long a run of reminders goes on: what a server postpones for longer holds up no new one
+# how long a run of reminders goes on: letters that a server postpones for longer hold up no new run
 LASTING = datetime.timedelta(days=1)
 
 # the act to which letters belong, new ones, those that were written before and belong to the same, and the text of each
@@ -61,7 +61,7 @@ class LettersDue:
 
     @property
     def cut_off(self) -> list[SentLetter]:
-        """The letters that a server may have or not: a run was cut off in them."""
+        """The letters that a server may have got or not, because a run was cut off while it sent them."""
         return [one for one in self.written if one.state == BEGUN]
 
     def elector(self, letter: SentLetter) -> Elector:
@@ -71,7 +71,7 @@ class LettersDue:
         return self.text_of(self.elector(letter), letter)
 
     def is_extension(self, letter: SentLetter) -> bool:
-        """Whether a letter tells no more than that the vote ends later."""
+        """Whether a letter says only that the vote ends later."""
         return (letter.elector, letter.address) in self.had_call
 
     # ------------------------------------------------------------ each kind
@@ -130,13 +130,13 @@ class LettersDue:
             return self.composer.receipt(elector, about_now(letter.about, came[elector.number]))
 
         def is_written_anew(letter: SentLetter) -> bool:
-            """Whether a later receipt to the same address tells all that this one does."""
+            """Whether a later receipt to the same address says all that this one does."""
             same = [one for one in (*self.letters, *new) if (one.elector, one.address) == (letter.elector, letter.address)]
             return any(one.for_act > letter.for_act and set(letter.about) <= set(one.about) for one in same)
 
         waiting = [one for one in self.letters if can_be_sent(one) or one.state == BEGUN]
         waiting = [one for one in waiting if not (self.failed_elsewhere(one) and is_written_anew(one))]
-        # not to those who are no longer on the list, nor about a letter that is a ballot now, of which a new one tells
+        # not to people who left the list, nor about a letter that has become a ballot: a new receipt is about that
         there = [one for one in waiting if one.elector in self.electors and about_now(one.about, came[one.elector])]
         return for_act, new, there if self.is_sending else [], text_of
 

@@ -79,7 +79,7 @@ def read(files: Mapping[str, CameFile | None]) -> tuple[list[RawLetter], list[Pa
 
 def new_of(election: Election, raws: Sequence[RawLetter]) -> list[RawLetter]:
     known = letters.known_digests(election.book)
-    # of the same bytes the first letter, but rather one that is not parted off
+    # of letters with the same bytes the first that is not parted off, or else the first
     chosen: dict[str, RawLetter] = {}
     for raw in raws:
         digest = sha256_of(raw.data)
@@ -89,7 +89,7 @@ def new_of(election: Election, raws: Sequence[RawLetter]) -> list[RawLetter]:
 
 
 def is_new(digest: str, is_parted_off: bool, known: Collection[tuple[str, bool]]) -> bool:
-    """Whether a letter did not come before, byte for byte. One that was parted off comes anew as a letter of its own."""
+    """Whether a letter with these bytes is new. If it only came parted off, it is new when it comes as a letter of its own."""
     return (digest, False) not in known and not (is_parted_off and (digest, True) in known)
 
 
@@ -141,7 +141,7 @@ def enter_letters(election: Election, vote: Vote, *, is_agreed: bool) -> None:
 
 
 def agreed(ballots: str) -> bool:
-    """Whether the secretary agrees to what goes in. Elsewhere than at a terminal it stops."""
+    """Whether the secretary agrees to what goes in. Stops if there is no terminal."""
     if not is_terminal():
         done = f"{NOTHING_ADDED}, and the letters are kept"
         raise Fault(None, f"{ballots} would go in", "agree with --yes, or run it at a terminal", Status.DOUBT, done)
@@ -195,8 +195,8 @@ def has_code(line: str) -> bool:
 
 
 def kept_letters(election: Election, kept: Sequence[KeptLetter]) -> list[ParsedLetter]:
-    """What is known of the letters; of those that came before the keyring that holds their signatures are checked anew, and of those for
-    which gpgv was too slow, which their bytes do not decide.
+    """What is known of the letters. Signatures are checked anew for letters that came before the present keyring, and for letters
+    for which gpgv was too slow, since their bytes do not decide that.
     """
     found = [from_json(letter.known) for letter in kept]
     sealed = queries.last_act_that_sealed(election.book, KEYRING)

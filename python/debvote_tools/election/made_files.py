@@ -12,7 +12,7 @@ PUBLIC, OWN = (0o755, 0o644), (0o700, 0o600)
 def write_made(
     folder: pathlib.Path, files: Mapping[str, bytes], modes: tuple[int, int], outdated: Collection[str] = ()
 ) -> list[pathlib.Path]:
-    """Writes the files that are not there as they have to be, and returns them; removes outdated ones. Others are left alone."""
+    """Writes the files that are missing or differ, and returns them. Removes outdated files, and leaves all others alone."""
     folder_mode, file_mode = modes
     folder.mkdir(exist_ok=True)
     folder.chmod(folder_mode)

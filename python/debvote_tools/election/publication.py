@@ -209,7 +209,9 @@ def chronicle_of(book: Book, history: History, *, is_secret: bool) -> Chronicle:
 
 
 def acts_of_page(act: DoneAct, book: Book, history: History, *, is_secret: bool) -> Iterator[Act]:
-    """What the page tells of an act; nothing of most. In a secret vote the reasons of `strike` and `reopen` stay in the log."""
+    """What the page says of an act, which is nothing for most acts. In a secret vote the reasons of `strike` and `reopen` stay in
+    the log.
+    """
     time, detail = act.time, act.detail
     until = {"until": from_text(detail["until"])} if detail.get("until") else {}
     reason = None if is_secret else detail.get("because")

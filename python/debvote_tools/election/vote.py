@@ -95,7 +95,9 @@ class Vote:
         return read
 
     def answers(self, lines: Sequence[bytes]) -> dict[bytes, str | None]:
-        """What debvote says of each line, as `bad rank count: ..`; None of a valid ballot. It is asked about so many at once as it takes."""
+        """What debvote says of each line, such as `bad rank count: ..`; None for a valid ballot. It gets as many lines at once as
+        it takes.
+        """
         answers: dict[bytes, str | None] = dict.fromkeys(lines)
         for part in parts_of(lines):
             answers |= {line: f"{finding.word}: {finding.hint}" for line, finding in self.findings(part).items()}

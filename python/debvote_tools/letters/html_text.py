@@ -69,7 +69,7 @@ BLOCKS = frozenset(
 CELLS = ("td", "th")
 # a text in a table but in none of its cells is shown above the table
 TABLE = ("table", "thead", "tbody", "tfoot", "tr")
-# the number of a character: noughts, so many digits that it may be one, and others
+# the number of a character: leading zeros, up to eight digits, and any further digits, which make it too great
 NUMBER = re.compile("&#0*([0-9]{1,8})[0-9]*+")
 # what end a line in some programs, or are left out
 ODD_CHARACTERS = re.compile("[\0-\x08\v\x0e-\x1f\x7f\x85\u2028\u2029]")
@@ -162,8 +162,8 @@ class HtmlText:
             self.holder = ""
 
     def read_declaration(self, text: str) -> None:
-        """A comment or a declaration comes, or a mark in a title, where it is none. Some programs show a comment, and in such a mark the title may
-        end.
+        """Reads a comment, a declaration, or what looks like a mark within a title. Some programs show a comment, and what looks
+        like a mark may end the title.
         """
         if not DOCTYPE.fullmatch(text) or self.lines or self.parts:
             self.found_other(text, may_be_below=False)

@@ -18,7 +18,7 @@ from debvote_tools.letters.readings import MAX_BALLOTS, BallotLine, LineReader, 
 from debvote_tools.letters.reasons import Because, Reason
 from debvote_tools.terminal_text import shown_text
 
-# so much may the clock of a mail server or of an elector be ahead
+# how far the clock of a mail server or of an elector may be ahead
 AHEAD = datetime.timedelta(minutes=10)
 
 
@@ -275,8 +275,8 @@ def why_not_latest(case: JudgedLetter, box: Box, at_once: set[str]) -> Because |
 
 
 def set_copies(group: Sequence[JudgedLetter], may_go_in: JudgedLetter | None, box: Box) -> None:
-    """Sets what becomes of the other letters with one identity. They are copies of one that went in or may have gone in; one that waits
-    hides no other, but of those that wait for one reason, with one body, the first is told.
+    """Sets what becomes of the other letters with one identity. They are copies of a letter that went in or may have gone in. A
+    letter that waits hides no other, but of several that wait for one reason with one body only the first is shown.
     """
     hiding = [case for case in group if case.hides]
     is_hidden = any(case.decision is not None or case.outcome is Outcome.GOES_IN for case in hiding)
@@ -295,7 +295,7 @@ def set_copies(group: Sequence[JudgedLetter], may_go_in: JudgedLetter | None, bo
 
 
 def set_copy(case: JudgedLetter, first: JudgedLetter, box: Box) -> None:
-    """A copy of a letter that arrived before it is passed over, unless another ballot of its elector came between."""
+    """Passes over a copy of a letter that arrived before it, unless another ballot of its elector came between."""
     arrived, before = case.parsed.arrived, first.parsed.arrived
     case.outcome, case.reason = Outcome.COPY, None
     if first.time is not None and before is not None and arrived is not None and arrived > before:

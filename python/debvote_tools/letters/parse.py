@@ -113,7 +113,9 @@ class ParsedLetter:
 
     @property
     def key(self) -> str:
-        """Which letter it is: that of its bytes. The same bytes may come parted off and later as a letter of their own, which are two."""
+        """Identifies the letter by its bytes. The same bytes may come parted off, and later as a letter of their own: these are two
+        letters.
+        """
         return f"{self.digest}, parted off" if self.is_parted_off else self.digest
 
     @property

@@ -67,7 +67,9 @@ class NotRead(enum.Enum):
 
 @dataclasses.dataclass(frozen=True)
 class RawLetter:
-    """A letter as it came. One that was parted off may be text of the letter above it in the mailbox, or have others in it, so it waits."""
+    """A letter as it came. A letter that was parted off waits, since it may be text of the letter above it in the mailbox, or have
+    other letters in it.
+    """
 
     where: str
     data: bytes
@@ -109,9 +111,11 @@ def are_letters(data: bytes) -> bool:
 
 
 def letters_of_file(name: str, data: bytes) -> Source:
-    """The letters of a file that was read whole. One is parted off if it has others, or may be text of the letter above it: no empty line is
-    between, it is within the Content-Length of a letter above, or the parts of that letter do not end. A length that goes beyond the
-    end of the file is not that of a letter in it.
+    """The letters of a file that was read whole.
+
+    A letter is parted off if it has others in it, or may be text of the letter above it: no empty line is between, it is within the
+    Content-Length of a letter above, or the parts of that letter do not end. A Content-Length that goes beyond the end of the file
+    counts for no letter.
     """
     kind = kind_not_read(data) or (None if are_letters(data) else NotRead.NO_LETTER)
     if kind is not None:
@@ -192,7 +196,7 @@ def parts_letters(line: bytes) -> bool:
 
 
 def has_others(letter: bytes) -> bool:
-    """Whether other letters may be in a letter: below a line that parts no letters, since it has no date or was changed, or that is not in
-    an mbox.
+    """Whether other letters may be in a letter: it has a line that may begin a letter, but parts none, since it has no date, was
+    changed, or is not in an mbox.
     """
     return any(DATED.match(line[0]) or FIELD.match(letter, line.end()) for line in FROM_LINE.finditer(letter))

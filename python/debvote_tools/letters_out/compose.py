@@ -121,7 +121,9 @@ class Composer:
         return without_ballots(text, options)
 
     def said_of(self, came: Came, name: str) -> str:
-        """What became of something that came, at a time in the zone in which the end was announced, and what is wrong with it."""
+        """Says what became of something that came, with its time in the zone in which the end was announced, and what is wrong with
+        it.
+        """
         language, zone = self.call.language, self.call.until.tzinfo if self.call.until else datetime.UTC
         said = [language.say(came.became.value, time=time_in_words(came.time.astimezone(zone), language))]
         if came.because is not None:
@@ -141,7 +143,7 @@ def without_ballots(text: str, options: int) -> str:
 # most letters of a run have the same lines
 @functools.lru_cache(maxsize=10_000)
 def reads_as_ballot(line: str, options: int) -> bool:
-    """Whether a line, repaired, is a name of whomever and a rank for each option."""
+    """Whether a line, after repairs, has any name and a rank for each option."""
     if line.count(",") + line.count(";") < options - 1:
         return False
     text = unicodedata.normalize("NFC", repaired(line))

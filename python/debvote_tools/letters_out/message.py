@@ -53,7 +53,7 @@ def subject_field(subject: str) -> str:
 
 
 def body_of(text: str) -> tuple[str, bytes]:
-    """The text as it is where every program leaves it so, and otherwise coded; with the name of the coding."""
+    """The name of the coding, and the coded text. A text that every program leaves as it is stays as it is."""
     data = text.encode("utf-8", "replace")
     if text.isascii() and CHANGED_ON_THE_WAY.search(data) is None and all(len(line) <= LONGEST_LINE for line in text.split("\n")):
         return "7bit", data

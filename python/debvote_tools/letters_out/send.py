@@ -30,7 +30,7 @@ LOST = (smtplib.SMTPException, OSError)
 
 @dataclasses.dataclass(frozen=True)
 class Server:
-    """The server that takes letters, and how one gets in. To all but a loopback the connection is encrypted."""
+    """The server that takes letters, with user and password. The connection is encrypted, except to a loopback address."""
 
     host: str
     port: int
@@ -44,7 +44,7 @@ class Server:
 
 
 class NotNow(Exception):
-    """The server takes no letter: it did not get this one."""
+    """The server takes no letters now, and did not get this one."""
 
 
 def server_of(text: str) -> Server:
@@ -94,14 +94,14 @@ def send_all(
 
 
 class Mailer:
-    """The connection to a server; a new one where it was closed between two letters."""
+    """The connection to a server. If it was closed between two letters, a new one is made."""
 
     def __init__(self, server: Server, sender: str) -> None:
         self.server, self.sender = server, sender
         self.smtp: smtplib.SMTP | None = None
 
     def connection(self) -> smtplib.SMTP:
-        """The connection. Stops if there is none, or the server does not let us in."""
+        """Returns the connection. Stops if there is none, or if the server refuses the login."""
         if self.smtp is None:
             try:
                 self.smtp = connected(self.server)
@@ -121,7 +121,7 @@ class Mailer:
         self.smtp = None
 
     def send(self, letter: SentLetter, data: bytes) -> SentLetter:
-        """Sends a letter; if the connection was closed before it, by a new one. Raises `NotNow`."""
+        """Sends a letter. If the connection was closed before, it makes a new one. Raises `NotNow`."""
         try:
             return self.transaction(letter, data)
         except NotNow:
@@ -164,7 +164,7 @@ class Mailer:
 
 
 def connected(server: Server) -> smtplib.SMTP:
-    """A connection that is encrypted unless the server is on this computer, and let in."""
+    """A connection after the login. It is encrypted unless the server is on this computer."""
     smtp: smtplib.SMTP
     if server.is_encrypted and server.port == ENCRYPTED:
         smtp = smtplib.SMTP_SSL(server.host, server.port, OWN_NAME, timeout=PATIENCE, context=ssl.create_default_context())

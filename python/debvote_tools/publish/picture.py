@@ -27,7 +27,7 @@ def drawing_words(options: int) -> list[str]:
 
 
 def picture_of(graph: str, options: int) -> bytes | None:
-    """The picture of a graph; if there is none it says why."""
+    """Draws a graph as a picture. If it can't, it says why, and returns None."""
     dot = shutil.which("dot")
     if dot is None:
         tell_aside("Note: no picture: Graphviz (its program dot) is not installed")

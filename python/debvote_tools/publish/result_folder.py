@@ -41,7 +41,7 @@ class Made:
     checksums: dict[str, str]
 
     def take_place(self, target_folder: pathlib.Path) -> None:
-        """Moves the folder to its place; a published folder that is there goes."""
+        """Moves the folder to its place, and removes a published folder that is there."""
         place = real_place(target_folder)
         if place.is_dir():
             aside = temporary_folder(place.parent)
@@ -58,7 +58,7 @@ class Made:
 
 
 def real_place(target_folder: pathlib.Path) -> pathlib.Path:
-    """Where the folder will be: a link to it stays."""
+    """Where the folder will be. If the place is a link, the link stays."""
     return pathlib.Path(os.path.realpath(target_folder))
 
 
@@ -118,7 +118,7 @@ def fill(folder: pathlib.Path, publication: Publication, program_folder: pathlib
 
 
 def demand_publishable(publication: Publication, sheet: Sheet, sheet_text: str) -> list[Doubt]:
-    """All doubts. Stops at those of an election that are not forced, and at what is never published."""
+    """All doubts. Stops at doubts of an election that are not forced, and at what is never published."""
     left = {sheet.names[option]: option for option in sheet.left}
     if publication.casting is not None and publication.casting.option not in left:
         shown = " and ".join(f"{option} {name}" for name, option in left.items())
@@ -142,7 +142,7 @@ def demand_publishable(publication: Publication, sheet: Sheet, sheet_text: str) 
 
 
 def title_and_votes(sheet_text: str) -> tuple[str, str]:
-    """What of a sheet is the same under names and under aliases: its title, and all from its line `Voters:` on."""
+    """The parts of a sheet that are the same under names and under aliases: its title, and all from its line `Voters:` on."""
     head, _, votes = sheet_text.partition("\nVoters: ")
     return head.partition("\n")[0], votes
 

@@ -31,10 +31,12 @@ def aliased_ballots(standing: Mapping[str, str], aliases: Mapping[str, str]) -> 
 
 
 def seal_line() -> str:
-    """Draws the line that keeps the checksum of the close from telling the ballots: without it, few ballots could be guessed."""
+    """Draws the random line that the checksum of the close covers. Without this line the ballots, if they are few, could be guessed
+    from the checksum.
+    """
     return secrets.token_hex(16)
 
 
 def sealed_checksum(seal: str, ballots: bytes) -> str:
-    """The checksum that the close tells: that of the line of the seal, followed by the ballots."""
+    """The checksum that the close publishes: that of the seal's line, followed by the ballots."""
     return sha256_of(seal.encode() + b"\n" + ballots)

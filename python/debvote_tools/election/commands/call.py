@@ -90,7 +90,9 @@ def call(election: Election, arguments: Arguments) -> None:
 
 
 def call_again(election: Election, arguments: Arguments) -> None:
-    """Extends the vote, or adds what the call did not say yet. No end counts after a close, nor one before that which electors know."""
+    """Extends the vote, or adds what the call did not say yet. A new end is refused after a close, and if it is not later than the
+    end that electors know.
+    """
     history = election.history()
     said = announced(arguments, history.announced("zone"))
     is_act = bool(said) or arguments.keyring is not None
@@ -146,7 +148,7 @@ def seal(act: NewAct, data: CallData, keyring: bytes | None) -> None:
 
 # ---------------------------------------------------------------- the words of the command line
 def announced(arguments: Arguments, earlier_zone: str | None) -> Detail:
-    """What the act keeps of them, looked through. An extension is in the zone of the end before, unless it names another."""
+    """What the act keeps of these options, after a check. An extension is in the zone of the end before, unless it names another."""
     said: Detail = {}
     if arguments.until is not None:
         until, zone = parse_until(arguments.until, arguments.zone, earlier_zone)

@@ -37,7 +37,7 @@ def run(election: Election, arguments: Arguments) -> None:
             raise Fault(None, NOT_SECRET, f"see {election.command('status')}")
     history, private = election.history(), election.path(PRIVATE)
     write_slips(election, history, poll)
-    when = "The call writes into them until when one can vote and where to, so print them after it."
+    when = "The call adds when the vote ends and where ballots go, so print them after it."
     tell(f"The slips: {private / SLIPS}. {when}")
     if history.has_codes_on_roll:
         tell("Nobody may have a list of who gets which code. Destroy the slips that are left over, and the file.")
@@ -49,7 +49,8 @@ def run(election: Election, arguments: Arguments) -> None:
 
 
 def make_codes(election: Election, arguments: Arguments) -> tuple[SealedPoll, int]:
-    """The act: a code for each elector who has none, beside the name, or in its place, where nothing ties it to a person.
+    """The act that makes a code for each elector who has none. The code is added to the name or takes its place, and then nothing
+    ties it to a person.
 
     Returns the poll as it would be sealed, and how many codes were made.
     """

@@ -36,7 +36,7 @@ def run(election: Election, arguments: Arguments) -> int:
 
 
 def demand_countable(election: Election, history: History, sealed: Sealed) -> None:
-    """Stops at a secret vote that is not closed: who sees its numbers grow sees who voted what."""
+    """Stops at a secret vote that is not closed: a person who sees its numbers grow sees who voted what."""
     if sealed.counted.secret and not history.is_closed:
         words, cure = "the vote is secret, and it is counted after the close alone", f"close it first: {election.command('close')}"
         raise Fault(None, words, cure, done="nothing was counted")

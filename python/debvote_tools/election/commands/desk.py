@@ -31,7 +31,7 @@ Arguments = in_time.Arguments
 
 
 class Shown(NamedTuple):
-    """What a ballot was shown by, before the question, and at a pipe before it is cast."""
+    """The state of the book by which a ballot was shown before the question, or at a pipe before it is cast."""
 
     decided_at: int
     openness: History
@@ -53,7 +53,7 @@ class Desk:
         self.next_line = 1
 
     def now(self, elector: int | None = None) -> Shown:
-        """What a ballot of an elector is shown by now."""
+        """The state of the book by which a ballot of an elector is shown now."""
         history = History(self.book.acts())
         openness = history.openness()
         if openness.call != self.vote.call:
@@ -61,7 +61,7 @@ class Desk:
         return Shown(history.last.number, openness, queries.envelopes(self.book, "elector = ?", elector))
 
     def ask_if_reopened(self, elector: int | None = None) -> Shown:
-        """The same. After the vote was opened again it is asked once whether what is cast came before the first close."""
+        """Returns the same. If the vote was opened again, it asks once whether what is cast came before the first close."""
         shown = self.now(elector)
         if shown.openness.is_reopened and self.came_before_close is None:
             done = "what was told is cast, and nothing else"
@@ -74,7 +74,7 @@ class Desk:
         return lines
 
     def cast(self, lines: list[JudgedLine], shown: Shown, elector: int | None = None) -> None:
-        """The act, and the replies to it. If it is not as it was shown, this raises `Overtaken`."""
+        """The act, and the replies to it. Raises `Overtaken` if the state is not the one that was shown."""
         detail: Detail = {"lines": len(lines)}
         if shown.openness.is_reopened:
             detail["came_before_close"] = self.came_before_close
@@ -116,7 +116,7 @@ def run(election: Election, arguments: Arguments) -> None:
 
 # ---------------------------------------------------------------- from a pipe
 def from_pipe(desk: Desk) -> None:
-    """Casts what comes, unasked: the whole lines that each read has brought."""
+    """Casts without asking what comes: the whole lines that each read brings."""
     for data in whole_lines():
         lines = []
         for line in desk.lines_of(data):
@@ -135,7 +135,9 @@ def from_pipe(desk: Desk) -> None:
 
 
 def whole_lines() -> Iterator[bytes]:
-    """The lines that each read of standard input ends. A carriage return and a line feed are one end, also if two reads part them."""
+    """The lines that each read of standard input completes. A carriage return and a line feed are one line end, even if they come
+    in two reads.
+    """
     waiting, ended_with_return = bytearray(), False
     while data := os.read(sys.stdin.fileno(), READ):
         waiting += data.removeprefix(b"\n") if ended_with_return else data
@@ -167,7 +169,9 @@ def at_terminal(desk: Desk) -> None:
 
 
 def ask_and_cast(desk: Desk, line: Line) -> bool:
-    """Shows a ballot, and casts it on a yes. It is asked anew if another act has changed what was shown. False at the end of the input."""
+    """Shows a ballot, and casts it on a yes. If another act changed what was shown, it asks again. Returns False at the end of the
+    input.
+    """
     [read] = desk.vote.read([completed(desk.vote, line)])
     [elector] = electors_of(desk.book, desk.vote, [read.as_entered])
     while True:

@@ -96,7 +96,7 @@ def decide(election: Election, arguments: Arguments) -> None:
 
 
 def enter(election: Election, vote: Vote, arguments: Arguments, lines: str) -> None:
-    """The act that enters lines of a letter; it waits no longer once each elector who has a ballot in it has one entered."""
+    """The act that enters lines of a letter. The letter waits no longer once each elector who has a ballot in it has one entered."""
     book = acting.book_for_act(election, arguments)
     history = election.history()
     [letter] = chosen_letters(all_letters(election), arguments.numbers)

@@ -53,10 +53,10 @@ def run(election: Election, arguments: Arguments) -> int:
 
 
 def publish(election: Election, arguments: Arguments, target_folder: pathlib.Path) -> tuple[Counted, bool]:
-    """Makes the folder. Returns what was counted, and whether it is another publication than the last.
+    """Makes the folder. Returns what was counted, and whether this publication differs from the last.
 
-    It is whole and counted before the act, and takes its place after it: so a kill leaves no folder that the book does not know,
-    and `publish` without words makes the folder of the last act anew.
+    The folder is whole and counted before the act, and takes its place after the act. So a kill leaves no folder that the book does
+    not know, and `publish` without options makes the folder of the last act again.
     """
     result_folder.demand_free(target_folder, can_replace=True)
     book = acting.book_for_act(election, arguments)
@@ -85,7 +85,7 @@ def publish(election: Election, arguments: Arguments, target_folder: pathlib.Pat
 
 @contextlib.contextmanager
 def alone(election: Election) -> Iterator[None]:
-    """No other publication comes between the act and the folder that takes its place."""
+    """Lets no other publication come between the act and the folder that takes its place."""
     try:
         with locked(election.folder, is_directory=True):
             yield

@@ -48,7 +48,9 @@ def read_roll(election: Election, history: History) -> Roll:
 
 
 def demand_read(election: Election, history: History) -> None:
-    """Stops if the list of members is not the one that `roll` read; codes on the roll are of no list."""
+    """Stops if the list of members is not the one that `roll` read. Codes on the roll come from no list, so nothing is compared
+    then.
+    """
     if not history.has_codes_on_roll and not is_kept(election.book, read_roll(election, history)):
         cure = f"run {election.command('roll')} first"
         raise Fault(election.path(MEMBERS_FILE), "it is not the list that was read last", cure)
@@ -61,7 +63,7 @@ def is_kept(book: Book, roll: Roll) -> bool:
 
 
 def keep_electors(book: Book, roll: Roll, seen: int) -> None:
-    """The act: the electors are those of the list. If they are already, it is no act."""
+    """The act after which the electors are those of the list. If they already are, there is no act."""
     if is_kept(book, roll):
         return
     before = {elector.name: elector for elector in queries.all_electors(book)}

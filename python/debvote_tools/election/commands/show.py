@@ -23,7 +23,7 @@ def run(election: Election, arguments: Arguments) -> None:
     acting.tell_strangeness(election.book)
     elector = elector_named(election, vote, arguments.name)
     who = f": {shown_text(elector.who)} {', '.join(map(shown_text, elector.addresses))}".rstrip(": ")
-    # of a code nobody knows whose it is
+    # nobody knows whose code it is
     tell(elector.name if vote.has_codes else f"{elector.name}{who}")
     envelopes = queries.envelopes(election.book, "elector = ?", elector.number)
     read = vote.read([Line("", "", envelope.line, envelope.line, envelope.line) for envelope in envelopes])
