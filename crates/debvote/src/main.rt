@@ -1,13 +1,13 @@
 //! Counts votes by the Debian Constitution.
 //!
-//! `debvote count` counts the ballots of a file by a poll file and writes the result sheet, and `debvote picture` the outcome as
-//! a graph. `debvote steps` writes the reply of the ballot box to each line, `debvote standing` the ballots that count, and
-//! `debvote verify` whether a published sheet is that of the count. `debvote check` checks a poll file, and `debvote explain`
-//! reports every problem in it and in the ballots. Without arguments the program reads a poll and its ballots from
+//! `debvote count` counts the ballots of a file by a poll file and writes the result sheet. `debvote picture` writes the outcome as
+//! a graph. `debvote steps` writes the reply of the ballot box to each line, `debvote standing` writes the ballots that count, and
+//! `debvote verify` writes whether a published sheet is a sheet of the count. `debvote check` checks a poll file, and `debvote
+//! explain` reports every problem in it and in the ballots. Without arguments the program reads a poll and its ballots from
 //! standard input, joined by a line `%%`, and acts as `steps`.
 //!
-//! The program gives what the system has to one call of `vote_program`, which answers it: its words, the files and standard input,
-//! which can be read and nothing else, and standard output and standard error.
+//! The program passes what the system has to one call of `vote_program`: its words, the files and standard input, which can only be
+//! read, and standard output and standard error.
 #![tactic(auto)]
 
 ghost use Rattle.std.specs.Prelude.{◌≡◌, IfErr};
@@ -36,8 +36,8 @@ fn words_given<R: Env + AllocGlobal>(rt: &R) -> Result<Vec<String>, ArgsFault>
     }
 }
 
-/// Runs on what the system has, of which no contract can say what it is, and returns the exit status. Standard output and standard
-/// error count by these blanks.
+/// Runs on what the system has, and returns the exit status. No contract can say what the system has. Standard output and standard
+/// error count with these blanks.
 fn run_on_system<
     R: Env + Files + Input + Print + AllocGlobal + Threads + Wait + Sync,
     P: Print,

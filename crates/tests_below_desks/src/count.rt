@@ -34,7 +34,7 @@ fn ranks(poll: &Poll, line: &str) -> Result<Ranks, LineFault>
     }
 }
 
-/// Adds the ballots of these lines.
+/// Appends the ballots of these lines.
 fn push_ballots(poll: &Poll, lines: &[&str], ballots: &mut Vec<Option<Ranks>>) -> Result<(), Fail>
     requires { All (IsBallotOf (option_count poll.now)) ballots.old.items }
     ensures { All (IsBallotOf (option_count poll.now)) ballots.new.items }
@@ -46,7 +46,7 @@ fn push_ballots(poll: &Poll, lines: &[&str], ballots: &mut Vec<Option<Ranks>>) -
     Ok(())
 }
 
-/// The matrix of ballots, of which there can be as many as electors.
+/// The matrix of these ballots, or an error if there are more than [`MAX_ELECTORS`].
 fn recounted(poll: &Poll, ballots: &[Option<Ranks>]) -> Result<Matrix, Fail>
     requires { All (IsBallotOf (option_count poll.now)) ballots.now }
     ensures { IfOk result (λ matrix. matrix.options ≡ option_count poll.now) }
@@ -79,7 +79,7 @@ const CYCLE: &[&str] = &[
     "v0 2,3,1,4",
 ];
 
-/// The defeats of a count that drops no option.
+/// The defeats of a count, which must drop no option.
 fn kept_defeats(poll: &Poll, matrix: &Matrix) -> Result<Defeats, Fail>
     requires { matrix.now.options ≡ option_count poll.now }
 {
@@ -90,7 +90,7 @@ fn kept_defeats(poll: &Poll, matrix: &Matrix) -> Result<Defeats, Fail>
     Ok(Defeats::of(&standing, matrix))
 }
 
-/// Whether none of three options and the default is dropped.
+/// Whether three options and the default are all kept.
 fn are_kept(verdict: &Verdict) -> bool {
     let causes = [
         verdict.dropped(1),
@@ -119,7 +119,7 @@ fn is_verdict_of_three(verdict: &Verdict) -> bool {
         && set.len() == 1
 }
 
-/// How many defeats there are, and what each of four options reaches by them.
+/// The number of defeats, and for each of four options the options that it reaches by them.
 fn words_of_four(defeats: &Defeats) -> (usize, [Word; 4]) {
     let chains = reach(defeats);
     let words = [chains.row(1), chains.row(2), chains.row(3), chains.row(4)];
@@ -134,13 +134,13 @@ fn left_by_first_round(verdict: &Verdict) -> Defeats {
     }
 }
 
-/// The outcome of the cycle by a poll.
+/// The outcome of the cycle, by this poll.
 fn outcome_by(alloc: Global, poll: &Poll) -> Result<Result<Verdict, AllocError>, Fail> {
     let matrix = count(alloc, poll, CYCLE)?;
     Ok(outcome(alloc, poll, &matrix))
 }
 
-/// The outcome of the cycle.
+/// The outcome of the cycle, by the poll of three options.
 fn outcome_of_cycle(alloc: Global) -> Result<Result<Verdict, AllocError>, Fail> {
     let poll = Poll::from_text(alloc, THREE_OPTIONS.as_bytes())?;
     let outcome = outcome_by(alloc, &poll);
@@ -148,7 +148,7 @@ fn outcome_of_cycle(alloc: Global) -> Result<Result<Verdict, AllocError>, Fail> 
     outcome
 }
 
-/// Where a growth is refused, the call says so, or gives the right answer.
+/// If memory is refused, the call reports this, or returns the right result.
 #[test]
 fn memory_of_outcome(rt: HostRuntime) -> Result<(), Fail> {
     match outcome_of_cycle(rt.alloc())? {
@@ -163,8 +163,9 @@ fn memory_of_outcome(rt: HostRuntime) -> Result<(), Fail> {
 
 const PAIRS: [(u8, u8); 6] = [(1, 2), (1, 3), (1, 4), (2, 3), (2, 4), (3, 4)];
 
-/// The lines by which the two options of each pair are alike, the first is preferred, or the second. Of two lines both prefer the
-/// one to the other, and one of them alone each other option to a further one.
+/// For each pair of options: the lines that make the two equal, that prefer the first, and that prefer the second. Of two such
+/// lines both prefer the same option of the pair; of any other pair of the four options, one line prefers one option, and the other
+/// line the other.
 const LINES_OF_PAIRS: [[&[&str]; 3]; 6] = [
     [
         &[],
@@ -198,15 +199,16 @@ const LINES_OF_PAIRS: [[&[&str]; 3]; 6] = [
     ],
 ];
 
-/// The lines by which two options are a defeat one way, the other way, or none, as the last digit of `relation` to the base 3 says.
+/// The lines by which a pair of options is a defeat one way, a defeat the other way, or no defeat, as the last base-3 digit of
+/// `relation` says.
 fn lines_of(pair: usize, relation: u16) -> &'static [&'static str]
     requires { pair < 6 }
 {
     LINES_OF_PAIRS[pair][usize::from(relation % 3)]
 }
 
-/// Adds ballots by which each of the six pairs of four options is a defeat one way, the other way, or none: the digits of
-/// `relation` to the base 3 say which.
+/// Appends ballots by which each of the six pairs of four options is a defeat one way, a defeat the other way, or no defeat. The
+/// base-3 digits of `relation` say which.
 fn push_relation(poll: &Poll, relation: u16, ballots: &mut Vec<Option<Ranks>>) -> Result<(), Fail>
     requires { All (IsBallotOf (option_count poll.now)) ballots.old.items }
     ensures { All (IsBallotOf (option_count poll.now)) ballots.new.items }
@@ -231,7 +233,8 @@ fn is_relation(defeats: &Defeats, relation: u16) -> bool {
     true
 }
 
-/// Adds a pair of the first option and each that the second defeats, up to the last one, that is not there yet.
+/// Appends a pair for each option, up to the last, that the second option defeats: the first option and this option. A pair that is
+/// there already is left out.
 fn push_pairs(
     defeats: &Defeats,
     first: u8,
@@ -250,8 +253,8 @@ fn push_pairs(
     Ok(())
 }
 
-/// The transitive defeats among the options up to the last one by a plain form, a list of pairs: for each pair that was found and
-/// each defeat by its second option, the pair of both ends is found too.
+/// The transitive defeats among the options up to the last, in a plain form, as a list of pairs. For each pair that was found and
+/// each defeat by its second option, it also finds the pair of both ends.
 fn reach_by_pairs(defeats: &Defeats, last: u8, pairs: &mut Vec<(u8, u8)>) -> Result<(), AllocError>
     requires { last ≤ MAX_OPTIONS }
 {
@@ -267,7 +270,7 @@ fn reach_by_pairs(defeats: &Defeats, last: u8, pairs: &mut Vec<(u8, u8)>) -> Res
     Ok(())
 }
 
-/// Whether the chains are just these pairs, up to the last option.
+/// Whether the chains are exactly these pairs, up to the last option.
 fn are_pairs(chains: &Defeats, pairs: &[(u8, u8)], last: u8) -> bool {
     for a in 1..=last {
         for c in 1..=last {
@@ -287,7 +290,7 @@ fn defeats_of(alloc: Global, poll: &Poll, relation: u16) -> Result<Defeats, Fail
     kept_defeats(poll, &matrix)
 }
 
-/// Whether the chains of defeats among the options up to the last one are those of the plain form.
+/// Whether the chains of defeats among the options up to the last are those of the plain form.
 fn is_like_plain(alloc: Global, defeats: &Defeats, last: u8) -> Result<bool, AllocError>
     requires { last ≤ MAX_OPTIONS }
 {
@@ -296,7 +299,7 @@ fn is_like_plain(alloc: Global, defeats: &Defeats, last: u8) -> Result<bool, All
     Ok(are_pairs(&reach(defeats), &plain, last))
 }
 
-/// Whether the ballots for a relation give its defeats, and whether the chains of these are those of the plain form.
+/// Whether the ballots for a relation give its defeats, and whether the chains of these defeats are those of the plain form.
 fn agrees(alloc: Global, poll: &Poll, relation: u16) -> Result<(bool, bool), Fail> {
     let defeats = defeats_of(alloc, poll, relation)?;
     let is_like_plain = is_like_plain(alloc, &defeats, poll.options())?;
@@ -320,7 +323,7 @@ fn both_forms_of_reach_agree(rt: HostRuntime) -> Result<(), Fail> {
     asserted
 }
 
-/// A ballot that ranks the first of 31 options first, the others alike, and the default last.
+/// A ballot that ranks the first of 31 options first, the others equal, and the default last.
 const FIRST_OF_31: &[&str] = &[
     "v0 1,2,2,2,2,2,2,2,2,2,2,2,2,2,2,2,2,2,2,2,2,2,2,2,2,2,2,2,2,2,2,3",
 ];
@@ -332,7 +335,7 @@ fn rows_of_32(alloc: Global, poll: &Poll) -> Result<(Word, Word, Word), Fail> {
     Ok((defeats.row(1), defeats.row(2), defeats.row(32)))
 }
 
-/// The same by a poll of 31 options.
+/// The same, by the poll of 31 options.
 fn rows_by_poll(alloc: Global) -> Result<(Word, Word, Word), Fail> {
     let poll = Poll::from_text(alloc, MOST_OPTIONS.as_bytes())?;
     let rows = rows_of_32(alloc, &poll);
@@ -347,7 +350,7 @@ fn rows_as_words(rt: HostRuntime) -> Result<(), Fail> {
     Ok(())
 }
 
-/// The words of the defeats of the cycle, and of those that its first round leaves.
+/// The words of the cycle's defeats, and of the defeats that its first round leaves.
 fn words_of_cycle(alloc: Global) -> Result<((usize, [Word; 4]), (usize, [Word; 4])), Fail> {
     let verdict = outcome_of_cycle(alloc)??;
     let left = left_by_first_round(&verdict);
@@ -365,7 +368,7 @@ fn a_cycle_without_its_weakest_defeat(rt: HostRuntime) -> Result<(), Fail> {
     Ok(())
 }
 
-/// What a running matrix of two ballots counts.
+/// The matrix that a running matrix has after two ballots.
 fn counted_running(poll: &Poll, first: &Ranks, second: &Ranks) -> Matrix
     requires first { length first.now ≡ option_count poll.now }
     requires second { length second.now ≡ option_count poll.now }
@@ -376,7 +379,7 @@ fn counted_running(poll: &Poll, first: &Ranks, second: &Ranks) -> Matrix
     running.matrix()
 }
 
-/// The same, after the second is exchanged for a third.
+/// The same, after the second ballot is exchanged for a third.
 fn exchanged_running(poll: &Poll, first: &Ranks, second: &Ranks, third: &Ranks) -> Matrix
     requires first { length first.now ≡ option_count poll.now }
     requires second { length second.now ≡ option_count poll.now }
@@ -389,7 +392,7 @@ fn exchanged_running(poll: &Poll, first: &Ranks, second: &Ranks, third: &Ranks) 
     running.matrix()
 }
 
-/// The matrix of two ballots, and the one from which the second is taken out, and to which a third is added.
+/// The matrix of two ballots, and the same matrix after the second is taken out and a third is added.
 fn exchanged_plainly(poll: &Poll, first: &Ranks, second: &Ranks, third: &Ranks) -> (Matrix, Matrix)
     requires first { length first.now ≡ option_count poll.now }
     requires second { length second.now ≡ option_count poll.now }
@@ -404,8 +407,8 @@ fn exchanged_plainly(poll: &Poll, first: &Ranks, second: &Ranks, third: &Ranks) 
     (counted, exchanged)
 }
 
-/// Whether taking out and adding give the matrix of the first and the third ballot, whether it is the one of before, and whether
-/// a running matrix has the same before and after an exchange.
+/// Four comparisons: whether taking out and adding give the matrix of the first and the third ballot, whether they leave the matrix
+/// as it was, and whether a running matrix has the right votes before and after an exchange.
 fn compared(poll: &Poll, first: &Ranks, second: &Ranks, third: &Ranks) -> [bool; 4]
     requires first { length first.now ≡ option_count poll.now }
     requires second { length second.now ≡ option_count poll.now }
@@ -423,7 +426,7 @@ fn compared(poll: &Poll, first: &Ranks, second: &Ranks, third: &Ranks) -> [bool;
     ]
 }
 
-/// The same of the ballots of three lines.
+/// The same for the ballots of three lines.
 fn compared_lines(poll: &Poll) -> Result<[bool; 4], LineFault> {
     let first = ranks(poll, "v0 1,2,3,4")?;
     let second = ranks(poll, "v1 3,1,2,4")?;
@@ -431,7 +434,7 @@ fn compared_lines(poll: &Poll) -> Result<[bool; 4], LineFault> {
     Ok(compared(poll, &first, &second, &third))
 }
 
-/// The same by the poll of three options.
+/// The same, by the poll of three options.
 fn compared_by_poll(alloc: Global) -> Result<Result<[bool; 4], LineFault>, PollFault> {
     let poll = Poll::from_text(alloc, THREE_OPTIONS.as_bytes())?;
     let found = compared_lines(&poll);

@@ -1,8 +1,8 @@
-//! What no clause says: that calls succeed. And devices that fail, and memory that may be refused.
+//! Tests of what no clause says: that calls succeed. And tests with devices that fail, and with memory that may be refused.
 //!
-//! The test `memory_of_read_limited` makes its call once. It ends well where the call gave its whole right answer, and says
-//! `refused` where the call answered its want of memory. So whoever runs it with one growth refused after another sees
-//! whether any other answer comes.
+//! The test `memory_of_read_limited` makes its call once. It passes if the call returned its whole right result, and fails
+//! with `refused` if the call reported that memory was refused. So a run that refuses one growth after another shows whether
+//! there is any other result.
 
 ghost use Rattle.std.specs.Prelude.{◌≡◌};
 
@@ -15,7 +15,7 @@ use std::sync::ledger::{Blank, Ledger};
 use std::test::Fail;
 use vote_files::{DeviceFault, Meter, ReadFault, Sink, Source, read_all, read_limited, write_text};
 
-/// A sink in memory that takes so many bytes at once, and fails once it holds as many as its limit.
+/// A sink in memory. It takes at most `at_once` bytes at once, and fails once it holds `limit` bytes.
 #[derive(Drop)]
 struct Paper<L: Ledger> {
     written: Vec<u8>,
@@ -27,7 +27,7 @@ struct Paper<L: Ledger> {
 }
 
 impl<L: Ledger> Paper<L> {
-    /// A paper with what is written on it already.
+    /// A paper on which these bytes are already written.
     fn new(written: Vec<u8>, at_once: usize, limit: usize, flushes: bool, blank: Blank) -> Paper<L>
         requires name { blank.name ≡ L.name }
         requires parts { blank.parts ≡ L.parts }
@@ -122,7 +122,8 @@ fn write(
     write_metered::<Brand>(alloc, at_once, limit, flushes, text, Blank::new(2))
 }
 
-/// How much a sink takes at once and at all, whether it flushes, how much of a text is written then, and whether it ends well.
+/// How much a sink takes at once and in all, whether it flushes, how much of a text is then written, and whether the call
+/// succeeds.
 const WRITTEN: &[(usize, usize, bool, usize, bool)] = &[
     (100, 100, true, 11, true),
     (1, 100, true, 11, true),
@@ -132,7 +133,7 @@ const WRITTEN: &[(usize, usize, bool, usize, bool)] = &[
     (1, 3, true, 3, false),
 ];
 
-/// Whether what is written of a text is a front of it, how long it is, and whether it ends well.
+/// Whether the written bytes are the start of the text, how many there are, and whether the call succeeds.
 fn written_of_text(
     alloc: Global,
     at_once: usize,
@@ -154,7 +155,7 @@ fn a_text_is_written_whole_or_to_the_fault(rt: HostRuntime) {
     }
 }
 
-/// A source over bytes that gives so many at once, but one at least, and fails after some reads.
+/// A source over bytes. It gives at most `at_once` bytes at once, but at least one, and fails after `reads` reads.
 #[derive(Drop)]
 struct Tape<'a, L: Ledger> {
     rest: &'a [u8],
@@ -218,7 +219,8 @@ fn read(
     read_metered::<Brand>(alloc, bytes, at_once, reads, limit, Blank::new(2))
 }
 
-/// Whether these bytes are read whole, and the fault where they are not, by so many at once, reads and bytes.
+/// Whether these bytes are read whole, and the fault if they are not. The source gives `at_once` bytes at once and fails after
+/// `reads` reads; at most `limit` bytes are read.
 fn read_whole(
     alloc: Global,
     bytes: &[u8],
@@ -232,7 +234,7 @@ fn read_whole(
     }
 }
 
-/// Reads and limits, and whether five bytes are read whole by them, and the fault.
+/// Reads and limits, whether five bytes are read whole with them, and the fault.
 const FIVE_BYTES: &[(u32, usize, bool, Option<ReadFault>)] = &[
     (9, 5, true, None),
     (9, 4, false, Some(ReadFault::TooLong)),
@@ -250,7 +252,7 @@ fn an_input_is_read_to_its_end_or_refused(rt: HostRuntime) {
     }
 }
 
-/// A reader of std over bytes, which gives so many at once and fails after some reads.
+/// A reader of std over bytes. It gives at most `at_once` bytes at once, and fails after `reads` reads.
 #[derive(Drop)]
 struct Reel<'a> {
     rest: &'a [u8],
@@ -271,7 +273,7 @@ impl Read for Reel<'_> {
     }
 }
 
-/// The same as `read_whole`, of a reader of std.
+/// The same as `read_whole`, with a reader of std.
 fn read_reel(
     alloc: Global,
     bytes: &[u8],
@@ -290,7 +292,7 @@ fn read_reel(
     }
 }
 
-/// No clause of std says when a reader fails, so none says when `read_all` answers that its device failed.
+/// No clause of std says when a reader fails. So no clause says when `read_all` reports that its device failed.
 #[test]
 fn a_reader_is_read_to_its_end_or_refused(rt: HostRuntime) {
     for line in FIVE_BYTES {
@@ -300,7 +302,8 @@ fn a_reader_is_read_to_its_end_or_refused(rt: HostRuntime) {
     }
 }
 
-/// Whether so many bytes are read whole, and the fault where they are not, by so many reads and bytes.
+/// Whether this many bytes are read whole, and the fault if they are not. The source fails after `reads` reads; at most
+/// `limit` bytes are read.
 fn read_many(
     alloc: Global,
     number: usize,

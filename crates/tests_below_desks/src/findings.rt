@@ -1,4 +1,5 @@
-//! What is found in a poll file, with the memory of the call refused in turn (tests/refused-memory).
+//! The findings in a poll file. tests/refused-memory refuses the memory of the call, one growth
+//! after another.
 
 use crate::same::assert_same;
 use std::alloc::{AllocError, Global};
@@ -10,7 +11,7 @@ use vote_poll_findings::explain_poll;
 const FAULTY: &str =
     "title = 3\noptions = [\"A\", \"B \"]\nratios = [1, 12]\ndefault = \"A\"\nquorum = 11\nrol = 1\nwording = \"most\"\n[more]\nroll = [\"v0\"]\n[rest]\nx = 1\ny = 2\n";
 
-/// What is wrong with it.
+/// The findings in it.
 const FINDINGS: &str = "poll: key title: an integer, and a text is wanted\n\
     poll: key roll: it is missing; more.roll or rol may be meant: ask which\n\
     poll: name of option 2: \"B \" ends with a space\n\
@@ -22,7 +23,7 @@ const FINDINGS: &str = "poll: key title: an integer, and a text is wanted\n\
     poll: key rest is not read\n\
     poll: key rol is not read; it is one of several that may be roll: ask which is meant\n";
 
-/// The findings of a text, and its fault if it is no poll.
+/// The findings in a text, and its fault if it is not a poll.
 fn explained(alloc: Global, text: &[u8]) -> Result<(String, Option<PollFault>), AllocError> {
     let explained = explain_poll(alloc, text, None)?;
     Ok((explained.findings, explained.outcome.err()))
@@ -53,7 +54,7 @@ fn crowded(alloc: Global) -> Result<String, AllocError> {
     Ok(text)
 }
 
-/// What is wrong with it.
+/// The findings in it, and its fault.
 fn crowd(alloc: Global) -> Result<(String, Option<PollFault>), AllocError> {
     let text = crowded(alloc)?;
     explained(alloc, text.as_bytes())

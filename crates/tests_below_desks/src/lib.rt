@@ -1,9 +1,9 @@
-//! The tests of the calls up to the ballot box: what no clause says, as that a call succeeds where there is memory, and what no
-//! command of the program shows, as a refused growth or a device that fails.
+//! The tests of the calls up to the ballot box. They test what no clause says, such as that a call succeeds if there is memory,
+//! and what no command of the program shows, such as a refused growth or a device that fails.
 //!
-//! Tests are crates of their own, this one and `tests_from_desks`, since the kit proves a crate with tests twice, with them and without.
-//! A module has the tests of one crate and is named by it, as `count` by `vote_count`; it names public calls alone. `same` has
-//! the assertion that they share.
+//! Tests are in crates of their own, this crate and `tests_from_desks`, since the kit proves a crate with tests twice, with
+//! them and without them. A module has the tests of one crate and is named after it, such as `count` after `vote_count`. It
+//! uses only public calls. `same` has the assertions that the modules share.
 
 #![tactic(auto)]
 

@@ -8,14 +8,14 @@ use vote_poll::{
 };
 use vote_poll_text::{count_feeds, split_at_feed, without_last_feed};
 
-/// A poll of two options and the default, with the voters `v0`, `v1` and so on to `v10`.
+/// A poll of two options and the default, with the voters `v0` to `v10`.
 const SMALL: &str =
     "title = \"Small\"\noptions = [\"A\", \"B\"]\nratios = [1, 3]\ndefault = \"None\"\nquorum = 2\nroll = [\"v0\", \"v1\", \"v2\", \"v3\", \"v4\", \"v5\", \"v6\", \"v7\", \"v8\", \"v9\", \"v10\"]\n";
 
 /// A ballot of the last voter.
 const BALLOT: &[u8] = b"v10 10,-,9";
 
-/// The option of this name in the small poll, the voter of this name, and what is read in a line.
+/// The option with this name in the small poll, the voter with this name, and the reading of a line.
 fn read_small(
     alloc: Global,
     name: &[u8],
@@ -28,7 +28,7 @@ fn read_small(
     Ok((option, voter, reading))
 }
 
-/// The option of this name in the small poll, and the voter.
+/// The option with this name in the small poll, and the voter with this name.
 fn named(alloc: Global, name: &[u8]) -> Result<(Option<u8>, Option<usize>), PollFault> {
     match read_small(alloc, name, BALLOT) {
         Ok((option, voter, _)) => Ok((option, voter)),
@@ -67,7 +67,7 @@ fn a_ballot_as_read(rt: HostRuntime) -> Result<(), Fail> {
     }
 }
 
-/// Whether a fault is told as a want of memory.
+/// Whether a fault is displayed as `out of memory`.
 fn is_told_as_memory<F: Display + Drop>(alloc: Global, fault: F) -> Result<bool, AllocError> {
     let text = fault.to_string(alloc)?;
     Ok(text.as_str() == "out of memory")
@@ -133,14 +133,14 @@ fn feeds_of_a_text(rt: HostRuntime) {
     }
 }
 
-/// The fault of a text with a line more than a file may have. It is found without memory, so no other fault can come once the
-/// text is there.
+/// The fault of a text with one line more than a file may have. It is found without memory, so no other fault can come once
+/// the text exists.
 fn fault_of_too_many(alloc: Global) -> Result<Option<LinesFault>, AllocError> {
     let feeds = vec![in alloc; b'\n'; MAX_LINES + 1]?;
     Ok(Lines::split(alloc, &feeds).err())
 }
 
-/// Asserts that lines are `a`, an empty one and `b`.
+/// Asserts that the lines are `a`, an empty line and `b`.
 fn assert_three_lines(rt: &impl Abort, lines: &Lines<'_>) {
     assert_that(rt, lines.len() == 3);
     assert_same(rt, lines.line(0), b"a");
@@ -165,7 +165,7 @@ fn memory_of_split(rt: HostRuntime) -> Result<(), Fail> {
     }
 }
 
-/// How four bytes of five are shown.
+/// How four of five bytes are shown.
 fn shown(alloc: Global) -> Result<String, AllocError> {
     let mut text = String::new(alloc);
     push_shown(&mut text, b"A \r\xFFB", 4)?;

@@ -1,17 +1,17 @@
-//! How what was found is compared with what is right.
+//! Assertions that compare what was found with what is right.
 
 ghost use Rattle.std.specs.Prelude.{IsTrue};
 
 use std::fmt::Debug;
 use std::process::Abort;
 
-/// Asserts that what was found is what is right. An `assert_eq!` in its place would be some dozen statements and two borrows of the
-/// caller, which its proof pays with seconds.
+/// Asserts that the found value is the right one. An `assert_eq!` in its place would be about a dozen statements and two borrows in
+/// the caller, which cost its proof seconds.
 pub(crate) fn assert_same<T: Copy + PartialEq + Debug>(rt: &impl Abort, found: T, right: T) {
     assert_eq!(rt; found, right);
 }
 
-/// Asserts that something holds, which the proof of the caller needs.
+/// Asserts a fact that the proof of the caller needs.
 pub(crate) fn assert_that(rt: &impl Abort, holds: bool)
     ensures { IsTrue holds }
 {

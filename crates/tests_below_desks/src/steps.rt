@@ -1,4 +1,4 @@
-//! Worked examples, whose readings are the poll's own.
+//! Worked examples. The poll itself reads their lines.
 ghost use Rattle.std.specs.Prelude.{◌≡◌, ◌<◌, ◌≤◌};
 
 use crate::same::{assert_same, assert_that};
@@ -15,13 +15,13 @@ const TWO_ELECTORS: &str =
 const TEN_ELECTORS: &str =
     "title = \"Ten\"\noptions = [\"A\", \"B\"]\nratios = [1, 1]\ndefault = \"None\"\nquorum = 3\nroll = [\"v0\", \"v1\", \"v2\", \"v3\", \"v4\", \"v5\", \"v6\", \"v7\", \"v8\", \"v9\"]\n";
 
-// The lines of the ten electors, each of whom casts the same line again and again.
+// The lines of the ten electors. Each elector casts the same line again and again.
 const TEN_LINES: [&str; 10] = [
     "v0 2,1,3", "v1 1,2,3", "v2 2,1,3", "v3 1,2,3", "v4 2,1,3", "v5 1,2,3", "v6 2,1,3", "v7 1,2,3",
     "v8 2,1,3", "v9 1,2,3",
 ];
 
-// The line with this stamp: each twentieth is no ballot.
+// The line with this stamp. Each twentieth line is no ballot.
 fn line_of(stamp: u32) -> &'static str {
     if stamp % 20 == 0 {
         "bad"
@@ -30,7 +30,7 @@ fn line_of(stamp: u32) -> &'static str {
     }
 }
 
-// The stamp that comes in this turn, counted from 0, in the first, the second or the third order.
+// The stamp that comes in this turn, from 0, in the first, the second or the third order.
 fn stamp_at(order: usize, turn: u32) -> u32
     requires { turn < 100 }
 {
@@ -42,7 +42,7 @@ fn stamp_at(order: usize, turn: u32) -> u32
     }
 }
 
-// Casts the envelope with this stamp and this line, at a box of the size of the poll.
+// Casts the envelope with this stamp and this line into a box of the poll's size.
 fn cast_line(
     rt: &impl Abort,
     ballot_box: &mut BallotBox,
@@ -55,14 +55,14 @@ fn cast_line(
     ballot_box.cast(1, stamp, read_line(poll, line.as_bytes()))
 }
 
-// What is done to a box, and what it answers.
+// A call on a box, and the result that it must have.
 #[derive(Clone, Copy)]
 enum Act<'l> {
     Cast(u32, &'l str, Result<Reply, StepFault>),
     Close(Result<(), AlreadyClosed>),
 }
 
-// Does one of them, and looks at its answer.
+// Makes one of these calls, and asserts its result.
 fn play_one(rt: &impl Abort, ballot_box: &mut BallotBox, poll: &Poll, act: Act<'_>) {
     match act {
         Act::Cast(stamp, line, answer) => {
@@ -76,14 +76,14 @@ fn play_one(rt: &impl Abort, ballot_box: &mut BallotBox, poll: &Poll, act: Act<'
     }
 }
 
-// Does what is listed, and looks at each answer.
+// Makes the calls of a list, and asserts each result.
 fn play(rt: &impl Abort, ballot_box: &mut BallotBox, poll: &Poll, acts: &[Act<'_>]) {
     for act in acts {
         play_one(rt, ballot_box, poll, *act);
     }
 }
 
-// The votes of one of three options over each.
+// The votes of one of three options over each option.
 fn row(matrix: &Matrix, a: u8) -> [u32; 3]
     requires three { matrix.now.options ≡ 3 }
     requires option { (1 ≤ a) × (a ≤ 3) }
@@ -91,13 +91,13 @@ fn row(matrix: &Matrix, a: u8) -> [u32; 3]
     [matrix.votes(a, 1), matrix.votes(a, 2), matrix.votes(a, 3)]
 }
 
-// The votes of each of three options over each.
+// The votes of each of three options over each option.
 fn table(rt: &impl Abort, matrix: &Matrix) -> [[u32; 3]; 3] {
     assert_that(rt, matrix.options() == 3);
     [row(matrix, 1), row(matrix, 2), row(matrix, 3)]
 }
 
-// Looks at the totals, which are valid, refused and voters, and at the votes of each option over each.
+// Asserts the totals (valid, refused and voters) and the votes of each option over each option.
 fn look(rt: &impl Abort, ballot_box: &BallotBox, totals: [u64; 3], votes: [[u32; 3]; 3]) {
     let [valid, refused, voters] = totals;
     let totals = Totals {
@@ -133,7 +133,7 @@ fn assert_recounted(
     Ok(())
 }
 
-// Casts a hundred envelopes in one of the orders, and looks at the matrix after each.
+// Casts a hundred envelopes in one of the orders, and asserts the matrix after each.
 fn cast_hundred(
     rt: &impl Abort,
     alloc: Global,
@@ -150,7 +150,7 @@ fn cast_hundred(
     Ok(())
 }
 
-// Does what is listed, looks at the totals and the votes, and answers how many steps there are.
+// Makes the calls of a list, asserts the totals and the votes, and returns the number of steps.
 fn play_to(
     rt: &impl Abort,
     ballot_box: &mut BallotBox,
@@ -164,7 +164,7 @@ fn play_to(
     ballot_box.steps().len()
 }
 
-// Whether a step is a cast that was answered so.
+// Whether a step is a cast with this reply.
 fn is_answered(step: &Step, wanted: Reply) -> bool {
     match step {
         Step::Cast { reply, .. } => *reply == wanted,
@@ -172,7 +172,7 @@ fn is_answered(step: &Step, wanted: Reply) -> bool {
     }
 }
 
-// How many casts were answered so.
+// The number of casts with this reply.
 fn count_of(ballot_box: &BallotBox, wanted: Reply) -> usize {
     let mut number = 0;
     for step in ballot_box.steps() {
@@ -183,7 +183,7 @@ fn count_of(ballot_box: &BallotBox, wanted: Reply) -> usize {
     number
 }
 
-// Whether a box of these numbers says that nothing was done yet.
+// Whether a box has these numbers, and nothing was done to it yet.
 fn is_new(ballot_box: &BallotBox, limit: u32, last: u32) -> bool {
     ballot_box.limit() == limit
         && ballot_box.last_in_time() == last
@@ -192,7 +192,8 @@ fn is_new(ballot_box: &BallotBox, limit: u32, last: u32) -> bool {
         && ballot_box.standing(0).is_none()
 }
 
-// Does what is listed at a new box of the size of the poll of two electors.
+// Makes the calls of a list on a new box of the size of the poll of two electors. Asserts the totals and the votes, and returns
+// the number of steps.
 fn played_by(
     rt: &impl Abort,
     alloc: Global,
@@ -212,8 +213,8 @@ fn played_by(
     Ok(steps)
 }
 
-// Does what is listed at a new box of two electors with the stamps 1 to `limit`, of which those above `last` are late. Looks at
-// the totals and the votes, and answers how many steps there are.
+// Makes the calls of a list on a new box of two electors. It has the stamps 1 to `limit`, and those above `last` are late.
+// Asserts the totals and the votes, and returns the number of steps.
 fn played(
     rt: &impl Abort,
     alloc: Global,
@@ -292,14 +293,14 @@ const ALL_LATE: &[Act<'static>] = &[
     Act::Cast(1, "bob 1,2,3", Ok(Reply::Late)),
 ];
 
-// Whatever a late line says.
+// A late line is late, whatever it says.
 #[test]
 fn no_envelope_in_time(rt: HostRuntime) {
     let steps = played(&rt, rt.alloc(), 3, 0, ALL_LATE, [0, 2, 0], [[0; 3]; 3]);
     assert_same(&rt, steps, Ok(2));
 }
 
-// How often each reply to a hundred envelopes came.
+// How often each of these replies came.
 fn reply_counts(ballot_box: &BallotBox) -> [usize; 4] {
     [
         count_of(ballot_box, Reply::Counted),
@@ -309,7 +310,7 @@ fn reply_counts(ballot_box: &BallotBox) -> [usize; 4] {
     ]
 }
 
-// Casts a hundred envelopes in one of the orders, looks at the totals and the votes, and answers how often each reply came.
+// Casts a hundred envelopes in one of the orders, asserts the totals and the votes, and returns how often each reply came.
 fn replies_by(
     rt: &impl Abort,
     alloc: Global,
@@ -323,7 +324,7 @@ fn replies_by(
     Ok(reply_counts(ballot_box))
 }
 
-// The same at a new box of the size of the poll of ten electors.
+// The same, with a new box of the size of the poll of ten electors.
 fn replies_to_hundred(
     rt: &impl Abort,
     alloc: Global,
@@ -336,7 +337,7 @@ fn replies_to_hundred(
     replies
 }
 
-// The orders, and how often each reply comes.
+// The orders, and how often each reply comes in them.
 const ORDERS: &[(usize, [usize; 4])] = &[
     (0, [10, 85, 0, 5]),
     (1, [10, 0, 85, 5]),
@@ -359,7 +360,7 @@ fn a_hundred_envelopes_in_three_orders(rt: HostRuntime) -> Result<(), Fail> {
     Ok(())
 }
 
-// The poll of a text. Its only fault is a want of memory.
+// The poll of a text. It can fail only because memory is refused.
 fn poll_of(rt: &impl Abort, alloc: Global, text: &str) -> Result<Poll, AllocError> {
     match Poll::from_text(alloc, text.as_bytes()) {
         Ok(poll) => Ok(poll),
@@ -378,7 +379,7 @@ const THREE: &[Act<'static>] = &[
     Act::Close(Ok(())),
 ];
 
-// A box is made whole, with room for a step with each stamp and for the close, or is refused for want of memory.
+// A whole box is made, with room for a step with each stamp and for the close, or the call reports that memory was refused.
 #[test]
 fn memory_of_new(rt: HostRuntime) -> Result<(), Fail> {
     let votes = [[0, 0, 1], [2, 0, 1], [1, 1, 0]];
@@ -391,7 +392,7 @@ fn memory_of_new(rt: HostRuntime) -> Result<(), Fail> {
     }
 }
 
-// The lines of a ballot file. Their only fault is a want of memory.
+// The lines of a ballot file. The call can fail only because memory is refused.
 fn lines_of<'a>(rt: &impl Abort, alloc: Global, text: &'a str) -> Result<Lines<'a>, AllocError> {
     match Lines::split(alloc, text.as_bytes()) {
         Ok(lines) => Ok(lines),
@@ -402,7 +403,7 @@ fn lines_of<'a>(rt: &impl Abort, alloc: Global, text: &'a str) -> Result<Lines<'
     }
 }
 
-// The box in which one desk cast the lines of a text by a poll.
+// The box after one desk cast the lines of a text by this poll.
 fn all_cast_by(
     rt: &impl Abort,
     alloc: Global,
@@ -413,7 +414,7 @@ fn all_cast_by(
     cast_all(alloc, poll, &lines)
 }
 
-// The box in which one desk cast the lines of a text.
+// The box after one desk cast the lines of a text, by the poll of two electors.
 fn all_cast(rt: &impl Abort, alloc: Global, text: &str) -> Result<BallotBox, AllocError> {
     let poll = poll_of(rt, alloc, TWO_ELECTORS)?;
     let ballot_box = all_cast_by(rt, alloc, &poll, text);
@@ -421,7 +422,7 @@ fn all_cast(rt: &impl Abort, alloc: Global, text: &str) -> Result<BallotBox, All
     ballot_box
 }
 
-// Asserts what a closed box holds after a vote of each elector and a recast.
+// Asserts the contents of a closed box after a vote of each elector and a recast.
 fn assert_three_cast(rt: &impl Abort, ballot_box: &BallotBox) {
     let votes = [[0, 0, 1], [2, 0, 1], [1, 1, 0]];
     look(rt, ballot_box, [3, 0, 2], votes);
@@ -429,7 +430,7 @@ fn assert_three_cast(rt: &impl Abort, ballot_box: &BallotBox) {
     assert_same(rt, (replaced, ballot_box.is_open()), (1, false));
 }
 
-// One desk casts all lines in their order and closes the box, or is refused for want of memory.
+// One desk casts all lines in their order and closes the box, or the call reports that memory was refused.
 #[test]
 fn memory_of_cast_all(rt: HostRuntime) -> Result<(), Fail> {
     match all_cast(&rt, rt.alloc(), "ann 1,2,3\nbob 2,1,3\nann 3,2,1\n") {

@@ -38,7 +38,7 @@ fn take_all(tray: &Tray, mut pass: Pass, alloc: Global) -> Result<(Pass, Vec<u64
     Ok((pass, places))
 }
 
-// A `join` starts a thread for its first closure alone.
+// Takes places in a thread of its own: a `join` starts a thread only for its first closure.
 fn take_all_in_a_thread<R: Threads>(
     rt: &R,
     tray: &Tray,
@@ -51,7 +51,7 @@ fn take_all_in_a_thread<R: Threads>(
     join(rt, move || take_all(tray, pass, alloc), || ()).0
 }
 
-// What an empty tray answers to a try and to a take, and how many places were taken.
+// The results of a try and of a take on an empty tray, and how many places were taken.
 fn taken_of_none(alloc: Global) -> Result<(Take, Option<u64>, u64), TrayFault> {
     let (tray, mut pass) = for_one(alloc, 0)?;
     let tried = tray.try_take(&mut pass);
@@ -65,8 +65,8 @@ fn an_empty_tray_has_no_place(rt: HostRuntime) {
     assert_same(&rt, found, Ok((Take::Empty, None, 0)));
 }
 
-// What a tray with one place answers to two tries of one pass, to two of another and to a take of that, and how many places were
-// taken.
+// The results of calls on a tray with one place, and how many places were taken. One pass makes two tries; another makes two
+// tries and a take.
 fn taken_of_one(
     alloc: Global,
 ) -> Result<((Take, Take), (Take, Take), Option<u64>, u64), TrayFault> {
@@ -100,7 +100,8 @@ fn one_place_more_than_the_most_is_too_many(rt: HostRuntime) {
     assert_same(&rt, (more, most), (Some(TrayFault::TooMany), None));
 }
 
-// How many passes a tray with three places has for two, and what it answers to a try of the first and of the second.
+// The number of passes of a tray with three places that was made for two passes, and the results of a try of the first pass and
+// of the second.
 fn tried_by_two(alloc: Global) -> Result<(usize, (Take, Take)), TrayFault> {
     let (tray, mut passes) = Tray::new(alloc, 3, 2)?;
     let number = passes.len();
@@ -111,7 +112,8 @@ fn tried_by_two(alloc: Global) -> Result<(usize, (Take, Take)), TrayFault> {
     Ok((number, tried))
 }
 
-/// For the walk over refused growths, `tests/refused-memory`: an answer of the table, or no test that passes.
+/// For `tests/refused-memory`, which refuses one growth after another: the test passes only with the right results, and fails
+/// with `refused` if memory was refused.
 #[test]
 fn memory_of_new(rt: HostRuntime) -> Result<(), Fail> {
     match tried_by_two(rt.alloc()) {
@@ -138,7 +140,7 @@ fn share_thousand(places: &mut Vec<u64>, others: &[u64]) -> Result<bool, AllocEr
     Ok(are_thousand(places.as_slice()))
 }
 
-// How many places were taken in all, and whether those that two passes took are the first thousand, each once.
+// How many places were taken in all, and whether the places of the two passes are the first thousand, each once.
 fn finished(
     tray: Tray,
     first: Result<(Pass, Vec<u64>), AllocError>,

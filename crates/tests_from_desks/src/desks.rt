@@ -1,4 +1,4 @@
-//! Desks served by hand and in threads, audits that find a difference, and what a want of memory leaves.
+//! Desks served by hand and in threads, audits that find a difference, and what is left when memory runs out.
 ghost use Rattle.std.specs.Prelude.{◌≡◌, ◌≤◌, []};
 ghost use Rattle.vote_steps.specs.Boxes.{box_of};
 ghost use Rattle.vote_steps.specs.Desks.{AreDesks};
@@ -31,19 +31,19 @@ const ANN: &str = "ann 1,2,3";
 
 const BOB: &str = "bob 2,1,3";
 
-/// What is done at a shared box, and what it answers.
+/// What is done at a shared box, and its answer.
 #[derive(Clone, Copy)]
 enum Deed {
-    /// A cast at the desk at this index, of a stamp and a line.
+    /// A cast at the desk at this index, with a stamp and a line.
     Cast(usize, u32, &'static str, Result<Reply, EnterFault>),
-    /// A cast at the desk at this index, of a stamp and a ballot of a voter whom the box does not have.
+    /// A cast at the desk at this index, with a stamp and a ballot of a voter whom the box does not have.
     Stranger(usize, u32),
     Close(Result<(), AlreadyClosed>),
-    /// The ranks of the three options in the ballot of this voter that stands.
+    /// The ranks of the three options in this voter's ballot that stands.
     Standing(usize, Result<Option<[u8; 3]>, NoVoter>),
 }
 
-/// What a cast replied.
+/// The reply to a cast.
 fn reply_of(cast: Result<Slip, EnterFault>) -> Result<Reply, EnterFault> {
     match cast {
         Ok(slip) => Ok(slip.reply),
@@ -51,7 +51,7 @@ fn reply_of(cast: Result<Slip, EnterFault>) -> Result<Reply, EnterFault> {
     }
 }
 
-/// A ballot of the voter behind the last of two.
+/// A ballot of the voter after the last of two.
 fn strangers_ballot(poll: &Poll) -> Reading {
     match read_line(poll, ANN.as_bytes()) {
         Reading::Ballot { ranks, .. } => Reading::Ballot { voter: 2, ranks },
@@ -80,7 +80,7 @@ fn three_ranks(ranks: &Ranks) -> [u8; 3] {
     [keys[0], keys[1], keys[2]]
 }
 
-/// The ranks in the ballot of this voter that stands.
+/// The ranks in this voter's ballot that stands.
 fn standing<VL: Tally, RL: Tally, R: Wait>(
     rt: &R,
     shared: &SharedBox<VL, RL>,
@@ -93,7 +93,7 @@ fn standing<VL: Tally, RL: Tally, R: Wait>(
     }
 }
 
-/// Does a deed, whose line is read by this poll, and asserts its answer.
+/// Does a deed, and asserts its answer. The line of the deed is read by this poll.
 fn assert_done<VL: Tally, RL: Tally, R: Wait + Abort>(
     rt: &R,
     poll: &Poll,
@@ -136,14 +136,14 @@ fn assert_all_done<VL: Tally, RL: Tally, R: Wait + Abort>(
     }
 }
 
-/// What is done at a box, and how many of its desks are kept.
+/// What is done at a box, and the number of its desks that are kept.
 #[derive(Clone, Copy)]
 struct Plan<'a> {
     deeds: &'a [Deed],
     kept: usize,
 }
 
-/// Does the deeds at a box for two lines, and gathers the desks from the last to the first, of which only so many are kept.
+/// Does the deeds at a box for two lines, and gathers the first `kept` desks, from the last to the first.
 fn act<VL: Tally, RL: Tally, R: Wait + Abort>(
     rt: &R,
     alloc: Global,
@@ -167,7 +167,7 @@ fn act<VL: Tally, RL: Tally, R: Wait + Abort>(
     gather(alloc, shared, opened)
 }
 
-/// Does the deeds at a box for the poll of a text.
+/// Does the deeds at a box for the poll in this text, and gathers the first `kept` desks.
 fn acted<R: Wait + Abort>(
     rt: &R,
     alloc: Global,
@@ -187,7 +187,7 @@ fn acted<R: Wait + Abort>(
     sealed
 }
 
-/// How many steps a box has, how many of its lines are valid and refused, and how many desks it had.
+/// The number of steps of a box, the numbers of its valid and refused lines, and its number of desks.
 fn counts_of(sealed: &Sealed) -> (usize, u64, u64, u8) {
     let ballot_box = sealed.ballot_box();
     let totals = ballot_box.totals();
@@ -199,7 +199,7 @@ fn counts_of(sealed: &Sealed) -> (usize, u64, u64, u8) {
     )
 }
 
-/// What a box of some desks counts after the deeds.
+/// The counts of a box with this many desks after the deeds.
 fn counts_after<R: Wait + Abort>(
     rt: &R,
     alloc: Global,
@@ -253,7 +253,7 @@ const CLOSED: [Deed; 9] = [
     Deed::Standing(1, Ok(None)),
 ];
 
-/// Does these deeds at so many desks, and asserts what the box counts.
+/// Does the deeds of `CLOSED` at this many desks, and asserts the counts of the box.
 fn assert_closed<R: Wait + Abort>(rt: &R, alloc: Global, desks: u8) -> Result<(), DeskFault>
     requires { AreDesks desks }
 {
@@ -323,7 +323,7 @@ const LATE: [Deed; 2] = [
     Deed::Cast(0, 1, ANN, Ok(Reply::Counted)),
 ];
 
-/// What is found in a sealed box by itself, without the sheets of its desks.
+/// The audit's fault in a sealed box by itself, without the sheets of its desks.
 fn found_without_sheets<R: Threads + Abort + Sync>(
     rt: &R,
     poll: &Poll,
@@ -335,7 +335,7 @@ fn found_without_sheets<R: Threads + Abort + Sync>(
     compare(rt, poll, lines, ballot_box, &[]).err()
 }
 
-/// What is found in a sealed box with the sheets of its desks.
+/// The audit's fault in a sealed box with the sheets of its desks.
 fn found_with_sheets<R: Threads + Sync>(
     rt: &R,
     poll: &Poll,
@@ -345,7 +345,7 @@ fn found_with_sheets<R: Threads + Sync>(
     audit(rt, poll, lines, sealed).err()
 }
 
-/// What is found in a sealed box with the sheets of its desks and without them.
+/// The audit's faults in a sealed box with the sheets of its desks and without them.
 fn found_in<R: Threads + Abort + Sync>(
     rt: &R,
     poll: &Poll,
@@ -356,7 +356,7 @@ fn found_in<R: Threads + Abort + Sync>(
     (found_with_sheets(rt, poll, lines, sealed), without)
 }
 
-/// Does the deeds at one desk of a box for the poll of a text, and answers what is found for a poll and its lines.
+/// Does the deeds at one desk of a box for the poll in a text, and returns the audit's faults for a poll and its lines.
 fn found_for<R: Threads + Wait + Abort + Sync>(
     rt: &R,
     alloc: Global,
@@ -369,7 +369,7 @@ fn found_for<R: Threads + Wait + Abort + Sync>(
     Ok(found_in(rt, poll, lines, sealed))
 }
 
-/// The same for a poll and two lines.
+/// The same for a poll and `TWO_LINES`.
 fn found_by<R: Threads + Wait + Abort + Sync>(
     rt: &R,
     alloc: Global,
@@ -383,7 +383,7 @@ fn found_by<R: Threads + Wait + Abort + Sync>(
     found
 }
 
-/// Does the deeds at one desk of a box for a poll, and answers what is found for another poll and two lines, with the sheet of
+/// Does the deeds at one desk of a box for a poll, and returns the audit's faults for another poll and two lines, with the sheet of
 /// the desk and without it.
 fn found_after<R: Threads + Wait + Abort + Sync>(
     rt: &R,
@@ -408,7 +408,7 @@ const SLIP: Option<AuditFault> = Some(AuditFault::SlipDiffers(1, 1));
 
 const CLOSE: Option<AuditFault> = Some(AuditFault::ClosedEarly(2));
 
-/// The poll of a box, what is done at it, the poll for which it is audited, and what is found with the sheet and without it.
+/// The poll of a box, what is done at it, the poll that it is audited for, and the audit's faults with the sheet and without it.
 const AUDITS: &[(&str, &[Deed], &str, Option<AuditFault>, Option<AuditFault>)] = &[
     (TWO_ELECTORS, &BOTH, TWO_ELECTORS, None, SLIP),
     (FIRST_IS_LAST, &LATE, FIRST_IS_LAST, None, SLIP),
@@ -428,7 +428,7 @@ fn audits_find_what_differs(rt: HostRuntime) -> Result<(), Fail> {
     Ok(())
 }
 
-/// Casts ann's ballot fifty times at a desk, with the stamps from the first on.
+/// Casts ann's ballot fifty times at a desk, with fifty stamps in order from `first` on.
 fn cast_fifty<VL: Tally, RL: Tally, R: Wait + Abort>(
     rt: &R,
     poll: &Poll,
@@ -445,7 +445,7 @@ fn cast_fifty<VL: Tally, RL: Tally, R: Wait + Abort>(
     }
 }
 
-/// Two desks in threads of their own, each of which casts fifty envelopes.
+/// Two desks, each in a thread of its own, cast fifty envelopes each.
 fn cast_at_once<VL: Tally + Send + Sync, RL: Tally + Send + Sync, R: Threads + Wait + Abort + Sync>(
     rt: &R,
     poll: &Poll,
@@ -491,7 +491,7 @@ fn acted_at_once<R: Threads + Wait + Abort + Sync>(
     sealed
 }
 
-/// What such a box counts.
+/// The counts of that box.
 fn counts_at_once<R: Threads + Wait + Abort + Sync>(
     rt: &R,
     alloc: Global,
@@ -508,7 +508,7 @@ fn two_desks_in_threads(rt: HostRuntime) -> Result<(), Fail> {
     Ok(())
 }
 
-/// Opens two desks of a box for two lines, and answers their numbers.
+/// Opens two desks of a box for two lines, and returns their numbers.
 fn open_two<VL: Tally, RL: Tally>(
     alloc: Global,
     poll: &Poll,

@@ -1,4 +1,5 @@
-//! What is said of a ballot file, with the memory of the call refused in turn (tests/refused-memory).
+//! What is said about a ballot file, with each allocation of the call refused in turn
+//! (tests/refused-memory).
 
 use crate::inputs::{assert_same, lines_of, poll_of};
 use std::alloc::{AllocError, Global};
@@ -10,7 +11,8 @@ use vote_poll::Poll;
 const POLL: &str =
     "title = \"A poll\"\noptions = [\"A\", \"B\"]\nratios = [1, 1]\ndefault = \"None\"\nquorum = 0\nroll = [\"ada\", \"ben\", \"bob\", \"cleo\"]\nlast_envelope = 9\n";
 
-/// A file with a line for each word of a refused line, and what is said of it. No line feed ends it.
+/// A file with a line for each word of a refused line, and what is said about it. It does not end
+/// with a line feed.
 const LINES: &str =
     "ada 1,2,3\nada 1,2,\x0B\nada 1,2\nbo 1,2,3\ndaniela -,-,1\ncloe 1,2,3\nada 3,2,1\ndan 1,\"\n\u{feff}ben 1,2,3\nben 1,2,3";
 
@@ -23,7 +25,7 @@ const SAID_OF_WINDOWS: &str =
 const FINDINGS: &str =
     "ballots:2: bad shape: column 9: byte 0x0B; ranks are numbers from 1, the first choice, to 99, and a hyphen says that an option is not ranked; ask the elector\nballots:3: bad rank count: 2 ranks, the poll has 3 options; is that of the last one missing, the default option None? ask the elector\nballots:4: bad not on roll: bo is not on the roll\nballots:5: bad not on roll: daniela is not on the roll\nballots:6: bad not on roll: cloe is not on the roll; did you mean cleo?\nballots:8: bad shape: column 7: \"\"\"; a ballot has a name, one space, and ranks with commas between\nballots:9: bad shape: column 1: byte-order mark; a line begins with the name\nballots:10: late: the last envelope is 9\na ballot line of this poll: ada 1,2,3\n10 lines: 2 valid, 8 refused, 1 of them late; 1 of 4 electors have a ballot\n";
 
-/// What is said of a ballot file for a poll.
+/// What is said about a ballot file for a poll.
 fn explained_for(
     rt: &impl Abort,
     alloc: Global,
@@ -42,7 +44,7 @@ fn explained_for(
     found
 }
 
-/// What is said of a ballot file for the poll.
+/// What is said about a ballot file for `POLL`.
 fn explained(rt: &impl Abort, alloc: Global, text: &str) -> Result<Explained, AllocError> {
     let poll = poll_of(rt, alloc, POLL)?;
     let found = explained_for(rt, alloc, &poll, text);
@@ -50,7 +52,8 @@ fn explained(rt: &impl Abort, alloc: Global, text: &str) -> Result<Explained, Al
     found
 }
 
-/// That so many lines of a ballot file are refused, and just this is said of it.
+/// Asserts that this many lines of a ballot file are refused, and that exactly this is said about
+/// it.
 fn assert_explained(
     rt: &impl Abort,
     alloc: Global,

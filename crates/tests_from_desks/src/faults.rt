@@ -1,4 +1,4 @@
-//! Exit statuses, and the words of fault lines as the program says them.
+//! Exit statuses, and the words of fault lines as the program prints them.
 
 use crate::inputs::assert_same;
 use std::alloc::{AllocError, Global};
@@ -7,7 +7,7 @@ use vote_commands::{Ended, InputFault, InputFile, RunFault, status};
 use vote_desks::{AuditFault, DeskFault, EnterFault, VoteFault};
 use vote_poll::{PollFault, PollKey};
 
-/// How runs end, and their exit statuses.
+/// The ways in which runs end, and their exit statuses.
 const STATUSES: &[(Result<Ended, RunFault>, u8)] = &[
     (Ok(Ended::Decided(1)), 0),
     (Ok(Ended::Tie), 1),

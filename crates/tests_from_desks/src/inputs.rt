@@ -1,5 +1,5 @@
-//! What several of the tests read: an election, how a poll and its lines are read where memory may be refused, and how what was
-//! found is compared.
+//! What several of the tests share: an election, the reading of a poll and its lines when memory may be refused, and the comparison
+//! of results.
 
 use std::alloc::{AllocError, Global};
 use std::fmt::Debug;
@@ -14,17 +14,17 @@ pub(crate) const CYCLE: &str =
 pub(crate) const BALLOTS: &str =
     "v0 1,2,3,4\nv1 1,2,3,4\nv2 1,2,3,4\nv3 1,2,3,4\nv4 3,1,2,4\nv5 3,1,2,4\nv6 3,1,2,4\nv7 2,3,1,4\nv8 2,3,1,4\n";
 
-/// Their sheet.
+/// The sheet of these ballots.
 pub(crate) const SHEET: &str =
     "Poll: A cycle\nElectors: 9\nQuorum: 3Q, 5 votes\nLines: 9\nValid: 9\nRefused: 0\nVoters: 9\nOptions:\n  1 ratio 1 A\n  2 ratio 1 B\n  3 ratio 1 C\n  4 default None\nVotes:\n        1     2     3     4\n  1     -     6     4     9\n  2     3     -     7     9\n  3     5     2     -     9\n  4     0     0     0     -\nDropped:\n  none\nDefeats:\n  1 over 2 by 6 to 3\n  1 over 4 by 9 to 0\n  2 over 3 by 7 to 2\n  2 over 4 by 9 to 0\n  3 over 1 by 5 to 4\n  3 over 4 by 9 to 0\nRound 1: 1 2 3\n  drop 3 over 1\nRound 2: 1\nWinner: 1 A\n";
 
-/// Asserts that what was found is what is right. An `assert_eq!` in its place would be some dozen statements and two borrows of the
-/// caller, which its proof pays with seconds.
+/// Asserts that the result is right. An `assert_eq!` instead would be a dozen statements or more and two borrows for the caller,
+/// whose proof would take seconds longer.
 pub(crate) fn assert_same<T: Copy + PartialEq + Debug>(rt: &impl Abort, found: T, right: T) {
     assert_eq!(rt; found, right);
 }
 
-/// The poll. Its only fault is a want of memory.
+/// Reads the poll. The only possible fault is that memory runs out.
 pub(crate) fn poll_of(rt: &impl Abort, alloc: Global, text: &str) -> Result<Poll, AllocError> {
     match Poll::from_text(alloc, text.as_bytes()) {
         Ok(poll) => Ok(poll),
@@ -35,7 +35,7 @@ pub(crate) fn poll_of(rt: &impl Abort, alloc: Global, text: &str) -> Result<Poll
     }
 }
 
-/// The lines of a ballot file. Their only fault is a want of memory.
+/// Reads the lines of a ballot file. The only possible fault is that memory runs out.
 pub(crate) fn lines_of<'a>(
     rt: &impl Abort,
     alloc: Global,

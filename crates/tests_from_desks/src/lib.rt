@@ -1,9 +1,10 @@
-//! The tests of the calls above the ballot box: what no clause says, as that a call succeeds where there is memory, and what no
-//! command of the program shows, as gates, threads, a refused growth or a writer that fails.
+//! The tests of the calls above the ballot box. They test what no clause says, such as that a call succeeds if there is memory, and
+//! what no command of the program shows, such as gates, threads, a refused growth or a writer that fails.
 //!
-//! Those of the calls up to the box are in `tests_below_desks`. A module has the tests of one crate and is named by it, as `sheet` by
-//! `vote_sheet`; `desks` has those of `vote_desks_box` and of the audit, `votes` the others of `vote_desks`, `faults` more of
-//! `vote_commands`, `reports` those of `vote_program`, and `inputs` what several of them read. It names public calls alone.
+//! The tests of the calls up to the box are in `tests_below_desks`. A module has the tests of one crate and its name, such as
+//! `sheet` for `vote_sheet`. Exceptions: `desks` has the tests of `vote_desks_box` and of the audit, `votes` the other tests of
+//! `vote_desks`, `faults` more tests of `vote_commands`, `reports` the tests of `vote_program`, and `inputs` what several of them
+//! share. The tests name only public calls.
 
 #![tactic(auto)]
 

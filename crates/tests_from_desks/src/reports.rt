@@ -1,4 +1,4 @@
-//! What `report` tells of a run: the line of each fault, and its status; and nothing of a run that came to its end.
+//! What `report` prints about a run: the line and the status of each fault, and nothing about a run that came to its end.
 
 ghost use Rattle.std.specs.Prelude.{◌≡◌};
 
@@ -13,7 +13,7 @@ use vote_files::{Meter, WriterSink};
 use vote_poll::{PollFault, PollKey};
 use vote_program::report;
 
-/// What is told of a run on a standard error that keeps it, and the status.
+/// What is printed about a run on a standard error that keeps it, and the status.
 fn told<L: Ledger>(
     alloc: Global,
     outcome: Result<Ended, RunFault>,
@@ -29,7 +29,7 @@ fn told<L: Ledger>(
     Ok((errors.into_writer(), status))
 }
 
-/// Whether this line is told of a run, and nothing else, or nothing at all where there is none; and the status.
+/// Whether exactly this line is printed about a run, or nothing if there is no line; and the status.
 fn reported(
     alloc: Global,
     outcome: Result<Ended, RunFault>,
@@ -254,7 +254,7 @@ fn each_fault_has_its_line(rt: HostRuntime) -> Result<(), Fail> {
     Ok(())
 }
 
-/// Each way in which a run comes to its end, and its status.
+/// The ways in which a run comes to its end, and their statuses.
 const ENDS: &[(Ended, u8)] = &[
     (Ended::Decided(1), 0),
     (Ended::Tie, 1),

@@ -1,9 +1,10 @@
-//! What no clause says: that runs succeed. And writers that fail, gates that stop a desk, and memory and threads that may be
+//! What no clause says: that runs succeed. Also writers that fail, gates that stop a desk, and memory and threads that may be
 //! refused.
 //!
-//! Each test `memory_of_perform_on_..` and `threads_of_perform_on_..` has `perform_on` do one request, on a writer with room. It ends well where the call gave its
-//! whole right answer, and says `refused` where the call answered its want of memory or of a thread, with nothing written. So
-//! whoever runs it with one growth or one start refused after another sees whether any other answer comes.
+//! Each test `memory_of_perform_on_..` and `threads_of_perform_on_..` has `perform_on` do one request, on a writer with room. The
+//! test passes if the call gave its whole right answer. If the call reported that memory or a thread was refused, and nothing was
+//! written, the test fails with `refused` or `refused a thread`. So whoever runs it with one growth or one start after another
+//! refused sees whether there is any other answer.
 
 ghost use Rattle.std.specs.Prelude.{◌≡◌};
 ghost use Rattle.vote_request.specs.Requests.{DesksFit};
@@ -27,7 +28,7 @@ use vote_files::{Meter, WriterSink};
 use vote_poll::{Lines, Poll};
 use vote_request::{Listing, Purpose, Request};
 
-/// A writer in memory that takes so many bytes at once, fails once it holds as many as its limit, and counts its flushes.
+/// A writer in memory. It takes `at_once` bytes at a time, fails once it holds `limit` bytes, and counts its flushes.
 #[derive(Drop)]
 struct Paper {
     written: Vec<u8>,
@@ -61,7 +62,7 @@ impl Write for Paper {
     }
 }
 
-/// A paper that takes everything, with room for every text of these tests.
+/// A paper that takes everything, with room for each text of these tests.
 fn endless(alloc: Global) -> Result<Paper, AllocError> {
     Ok(Paper {
         written: Vec::with_capacity(alloc, 4096)?,
@@ -73,8 +74,8 @@ fn endless(alloc: Global) -> Result<Paper, AllocError> {
     })
 }
 
-/// A count of the cycle at one desk on such a paper: whether what is written is a front of the sheet, how long it is, how often the
-/// paper was flushed, whether it was flushed at last, and how the count ends.
+/// Counts the cycle at one desk on such a paper. Returns whether a prefix of the sheet is written, how long it is, how often the
+/// paper was flushed, whether it was flushed after the last write, and how the count ends.
 fn written_of_cycle<R: Threads + Wait + Sync>(
     rt: &R,
     alloc: Global,
@@ -106,7 +107,7 @@ const WON: Result<Ended, RunFault> = Ok(Ended::Decided(1));
 
 const OUTPUT: Result<Ended, RunFault> = Err(RunFault::Output);
 
-/// How much a paper takes at once and at all, and whether it can be flushed; how much of the sheet is written then, if not all, the
+/// How much a paper takes at once and in all, and whether it can be flushed; then how much of the sheet is written, if not all, the
 /// flushes, and how the count ends.
 const WRITES: &[(
     usize,
@@ -133,7 +134,7 @@ fn a_sheet_is_written_up_to_the_fault_and_flushed_once(rt: HostRuntime) -> Resul
     Ok(())
 }
 
-/// A byte a write, and each write the first that fails.
+/// One byte per write. Each write in turn is the first that fails.
 #[test]
 fn any_write_of_a_sheet_may_fail(rt: HostRuntime) -> Result<(), Fail> {
     let output = Err(RunFault::Output);
@@ -144,12 +145,12 @@ fn any_write_of_a_sheet_may_fail(rt: HostRuntime) -> Result<(), Fail> {
     Ok(())
 }
 
-/// The replies to the ballots of the cycle, and then those to the joined input.
+/// The replies to the ballots of the cycle, and then the replies to the joined input.
 const REPLIES: &[u8] =
     b"1 counted\n2 counted\n3 counted\n4 counted\n5 counted\n6 counted\n7 counted\n8 counted\n9 counted\n1 counted\n2 counted\n3 replaced\n";
 
-/// Makes the calls that only callers of the library make, one after another on one paper with room: how the count ends, whether both
-/// listings are written, and whether all their texts are.
+/// Makes the calls that only callers of the library make, one after another on one paper with room. Returns how the count ends,
+/// whether both listings succeed, and whether all their texts are written.
 fn calls_metered<R: Threads + Wait + Sync, L: Ledger>(
     rt: &R,
     alloc: Global,
@@ -186,7 +187,7 @@ fn calls_of_the_library_write_what_jobs_do(rt: HostRuntime) -> Result<(), Fail> 
     Ok(())
 }
 
-/// A gate that stops at this envelope alone, or at each where there is none.
+/// A gate that stops only at this envelope, or at each envelope if there is none.
 #[derive(Clone, Copy)]
 struct StopsAt(Option<u32>);
 
@@ -201,7 +202,7 @@ impl Gate for StopsAt {
     fn after(&self, _desk: u8, _slip: &Slip) {}
 }
 
-/// Performs a request on a paper with room: whether this text is written, how much is, and how the run ends.
+/// Performs a request on a paper with room. Returns whether this text is written, how many bytes are written, and how the run ends.
 fn performed<G: Gate + Sync, R: Threads + Wait + Sync>(
     rt: &R,
     alloc: Global,
@@ -220,7 +221,7 @@ fn performed<G: Gate + Sync, R: Threads + Wait + Sync>(
     Ok((is_text, len, ended))
 }
 
-/// How a count of the cycle at so many desks ends through a gate, and how much is written.
+/// How much a count of the cycle writes at this many desks through a gate, and how it ends.
 fn ended_through<R: Threads + Wait + Sync>(
     rt: &R,
     alloc: Global,
@@ -250,7 +251,7 @@ fn a_gate_stops_a_count(rt: HostRuntime) -> Result<(), Fail> {
     Ok(())
 }
 
-/// The fault by which a request is refused, with nothing written and status 5, or none where it is performed right.
+/// The fault for which a request is refused, with nothing written and status 5; `None` if it is performed right.
 fn fault_of<R: Threads + Wait + Sync>(
     rt: &R,
     alloc: Global,
@@ -268,7 +269,8 @@ fn fault_of<R: Threads + Wait + Sync>(
     }
 }
 
-/// Ends well where the request is performed right, and says `refused` where memory was, or a thread.
+/// Passes if the request is performed right. Fails with `refused` if memory was refused, and with `refused a thread` if a thread
+/// was.
 fn walk<R: Threads + Wait + Sync>(
     rt: &R,
     alloc: Global,
@@ -387,7 +389,7 @@ fn memory_of_perform_on_joined(rt: HostRuntime) -> Result<(), Fail> {
     walk(&rt, rt.alloc(), &request, replies, Ended::Done)
 }
 
-/// The sheet of a poll and its lines, whose votes are taken at two desks.
+/// The sheet of a poll and its lines. The votes are taken at two desks.
 fn sheet_at_two<R: Threads + Wait + Sync>(
     rt: &R,
     alloc: Global,

@@ -1,4 +1,5 @@
-//! A whole sheet and the texts of `steps`, `standing` and `check`, each call with its memory refused in turn (tests/refused-memory).
+//! A whole sheet and the texts of `steps`, `standing` and `check`, with each allocation of the call refused in turn
+//! (tests/refused-memory).
 
 ghost use Rattle.vote_steps.specs.HeldLines.{HoldsLines};
 
@@ -16,19 +17,19 @@ use vote_steps::{BallotBox, cast_all};
 const THREE_ELECTORS: &str =
     "title = \"A tie\"\noptions = [\"A\", \"B\", \"C\"]\nratios = [1, 1, 1]\ndefault = \"None\"\nquorum = 1\nroll = [\"v0\", \"v1\", \"v2\"]\n";
 
-/// What is made of a poll and its lines.
+/// What is made from a poll and its lines.
 #[derive(Clone, Copy)]
 enum Made {
     Sheet,
     Picture,
-    /// What is said of a text that is no sheet of the lines.
+    /// What is said about a text that is not a sheet of the lines.
     Difference(&'static str),
     Steps,
     Standing,
     Check,
 }
 
-/// The text that was made; asserts that option 1 wins.
+/// Returns the text that was made, and asserts that option 1 wins.
 fn won_by_first<R: Abort>(
     rt: &R,
     made: Result<(String, Decision), AllocError>,
@@ -38,7 +39,7 @@ fn won_by_first<R: Abort>(
     Ok(text)
 }
 
-/// What is said of a text; asserts that it differs from the sheet.
+/// Returns what is said about a text, and asserts that the text differs from the sheet.
 fn difference<R: Abort>(
     rt: &R,
     said: Result<(String, Verification), AllocError>,
@@ -48,8 +49,8 @@ fn difference<R: Abort>(
     Ok(text)
 }
 
-/// The sheet of a box in which the lines were cast, which says that option 1 wins, the picture, or in which line a text differs
-/// from the sheet.
+/// Returns the sheet of a box in which the lines were cast, or its picture, and asserts that option 1 wins; or returns in which
+/// line a text differs from the sheet.
 fn counted<R: Abort>(
     rt: &R,
     alloc: Global,
@@ -70,7 +71,7 @@ fn counted<R: Abort>(
     }
 }
 
-/// What is made of the lines by a count.
+/// Casts and counts the lines, and returns what is made from them.
 fn cast_and_counted<R: Abort>(
     rt: &R,
     alloc: Global,
@@ -84,7 +85,7 @@ fn cast_and_counted<R: Abort>(
     text
 }
 
-/// The text; one that takes a count is made by [`cast_and_counted`].
+/// Returns the text. If it needs a count, [`cast_and_counted`] makes it.
 fn text_of<R: Abort>(
     rt: &R,
     alloc: Global,
@@ -128,7 +129,7 @@ fn made_of<R: Abort>(
     text
 }
 
-/// Makes a text, and asserts that it is this one; `refused` where its memory was.
+/// Makes a text, and asserts that it is this one. Fails with `refused` if its memory was refused.
 fn assert_made<R: Abort>(
     rt: &R,
     alloc: Global,

@@ -1,4 +1,4 @@
-//! Votes taken by workers: gates that wait or do not let pass, and what a want of memory or of a thread leaves.
+//! Votes taken by workers: gates that wait or that stop envelopes, and what is left when memory or a thread is refused.
 ghost use Rattle.vote_steps.specs.Desks.{AreDesks};
 
 use crate::inputs::{BALLOTS, CYCLE, assert_same, lines_of, poll_of};
@@ -14,7 +14,7 @@ use vote_desks::{Audited, Gate, NoGate, Slip, VoteFault, take_votes};
 use vote_poll::Poll;
 use vote_steps::{BallotBox, MAX_DESKS, Step, Totals};
 
-/// Asserts what the nine lines give: the totals, and the votes of A over B, of B over C, and of C over A.
+/// Asserts what the nine lines come to: the totals, and the votes of A over B, of B over C, and of C over A.
 fn assert_nine(rt: &impl Abort, ballot_box: &BallotBox) {
     let totals = Totals {
         valid: 9,
@@ -28,7 +28,7 @@ fn assert_nine(rt: &impl Abort, ballot_box: &BallotBox) {
     assert_same(rt, cycle, [6, 7, 5]);
 }
 
-/// Takes the votes of the lines of a text by a poll.
+/// Takes the votes of the lines in a text by a poll.
 fn taken_by<G: Gate + Sync, R: Threads + Wait + Abort + Sync>(
     rt: &R,
     alloc: Global,
@@ -45,7 +45,7 @@ fn taken_by<G: Gate + Sync, R: Threads + Wait + Abort + Sync>(
     audited
 }
 
-/// Takes the votes of the lines of a text by the nine electors' poll.
+/// Takes the votes of the lines in a text by the nine electors' poll.
 fn taken<G: Gate + Sync, R: Threads + Wait + Abort + Sync>(
     rt: &R,
     alloc: Global,
@@ -61,10 +61,10 @@ fn taken<G: Gate + Sync, R: Threads + Wait + Abort + Sync>(
     audited
 }
 
-/// So many lines that a worker begins with a batch of 19 if its gate does not wait.
+/// The number of lines with which a worker begins with a batch of 19 if its gate does not wait.
 const MANY: u32 = 300;
 
-/// So many ballots of one voter.
+/// `MANY` ballots of one voter.
 fn many_ballots(alloc: Global) -> Result<String, AllocError> {
     let mut text = String::new(alloc);
     for _ in 0..MANY {
@@ -73,7 +73,7 @@ fn many_ballots(alloc: Global) -> Result<String, AllocError> {
     Ok(text)
 }
 
-/// What a gate was told of one envelope.
+/// The calls that a gate got about one envelope.
 #[derive(Drop)]
 struct Told {
     asked: AtomicU64,
@@ -82,7 +82,7 @@ struct Told {
 }
 
 impl Told {
-    /// By which desk it was asked, and of which cast it was told.
+    /// The desk that asked, and the desk and the slip of the cast that was reported.
     fn both(&self) -> (Option<u8>, Option<(u8, Slip)>) {
         (self.before.get().copied(), self.after.get().copied())
     }
@@ -91,34 +91,34 @@ impl Told {
 /// When a gate lets envelopes pass.
 #[derive(Drop)]
 enum Passes {
-    /// Each, once the gate was asked for the one behind it.
+    /// Pass each envelope once the gate has been asked about the next.
     WithTheNext,
-    /// This one, once so many others were cast; and any other at once.
+    /// Pass this envelope once this many others were cast, and any other envelope at once.
     Behind(u32, u64),
-    /// Each but this one. This gate does not wait, and the others may.
+    /// Pass each envelope but this one. This gate does not wait; the others may.
     AllBut(u32),
-    /// Those of all desks but the ones from the first to the second, once so many desks have asked.
+    /// Once this many envelopes were asked about, pass those of all desks except the desks from the first number to the second.
     AllButOf(u8, u8, u64),
-    /// None.
+    /// Pass none.
     Never,
 }
 
-/// A gate whose envelopes wait for one another or do not pass, and which notes what it is told.
+/// A gate whose envelopes wait for one another or are stopped. It notes the calls that it gets.
 #[derive(Drop)]
 struct Turnstile {
     passes: Passes,
     asked: AtomicU64,
     cast: AtomicU64,
-    /// By stamp.
+    /// The index is the stamp.
     told: Vec<Told>,
 }
 
-/// Whether a count rose so far while it was read at most 1,000,000,000 times.
+/// Whether a count reached this number while it was read at most 1,000,000,000 times.
 fn reaches(count: &AtomicU64, least: u64) -> bool {
     reaches_by(count, least, 1_000_000_000)
 }
 
-/// Whether a count rose so far while it was read at most so many times.
+/// Whether a count reached this number while it was read at most this many times.
 fn reaches_by(count: &AtomicU64, least: u64, times: u32) -> bool {
     for turn in 0..times {
         if count.load(SeqCst) >= least {
@@ -132,7 +132,7 @@ fn reaches_by(count: &AtomicU64, least: u64, times: u32) -> bool {
 }
 
 impl Turnstile {
-    /// A gate for so many envelopes.
+    /// A gate for this many envelopes.
     fn new(alloc: Global, envelopes: u32, passes: Passes) -> Result<Turnstile, AllocError> {
         let mut told = Vec::new(alloc);
         for _ in 0..=envelopes {
@@ -150,12 +150,12 @@ impl Turnstile {
         })
     }
 
-    /// For how many envelopes it was asked, and of how many casts it was told.
+    /// The number of envelopes that the gate was asked about, and the number of casts that were reported to it.
     fn counts(&self) -> (u64, u64) {
         (self.asked.load(SeqCst), self.cast.load(SeqCst))
     }
 
-    /// Whether it was asked for an envelope by now or soon, if there is such an envelope.
+    /// Whether the gate was asked about an envelope by now or soon; true if there is no such envelope.
     fn is_asked_for(&self, stamp: u32) -> bool {
         match self.told.get(stamp as usize) {
             Some(told) => reaches(&told.asked, 1),
@@ -163,7 +163,7 @@ impl Turnstile {
         }
     }
 
-    /// Asserts that desk 1 asked for each envelope up to this one, and told of the cast of each but this one.
+    /// Asserts that desk 1 asked about each envelope up to this one, and reported the cast of each but this one.
     fn assert_asked_up_to(&self, rt: &impl Abort, last: u32) {
         for stamp in 1..=last {
             let told = self.told.get(stamp as usize).expect(rt, "the stamp");
@@ -178,7 +178,7 @@ impl Turnstile {
         }
     }
 
-    /// Asserts that it was asked for each envelope of a desk and told of each cast, by this desk and with its slip.
+    /// Asserts that this desk asked about each envelope on its sheet, and reported each cast with its slip.
     fn assert_told(&self, rt: &impl Abort, desk: u8, sheet: &[Slip]) {
         for slip in sheet {
             let told = self.told.get(slip.stamp as usize).expect(rt, "the stamp");
@@ -225,7 +225,7 @@ fn last_cast(ballot_box: &BallotBox) -> Option<u32> {
     }
 }
 
-/// Asserts that a gate was asked once for each of so many envelopes of two desks, and told once of each cast.
+/// Asserts that a gate was asked once about each of this many envelopes of two desks, and got one report of each cast.
 fn assert_all_told(rt: &impl Abort, gate: &Turnstile, envelopes: u32, audited: &Audited) {
     let all = u64::from(envelopes);
     assert!(rt; audited.desks() == 2);
@@ -234,7 +234,8 @@ fn assert_all_told(rt: &impl Abort, gate: &Turnstile, envelopes: u32, audited: &
     gate.assert_told(rt, 2, audited.sheet_of(2));
 }
 
-/// Takes so many lines at two desks by a gate, asserts what it was told, and answers which envelope was cast last.
+/// Takes this many lines at two desks through a gate, asserts the reports that the gate got, and returns the envelope that was cast
+/// last.
 fn last_through<R: Threads + Wait + Abort + Sync>(
     rt: &R,
     alloc: Global,
@@ -249,7 +250,7 @@ fn last_through<R: Threads + Wait + Abort + Sync>(
     Ok(last)
 }
 
-/// The same by a gate that lets envelopes pass so.
+/// The same through a gate that lets envelopes pass in this way.
 fn last_taken<R: Threads + Wait + Abort + Sync>(
     rt: &R,
     alloc: Global,
@@ -263,7 +264,7 @@ fn last_taken<R: Threads + Wait + Abort + Sync>(
     last
 }
 
-/// The same of many lines.
+/// The same for `MANY` lines.
 fn last_of_many<R: Threads + Wait + Abort + Sync>(
     rt: &R,
     alloc: Global,
@@ -284,8 +285,8 @@ fn envelopes_wait_for_one_another(rt: HostRuntime) -> Result<(), Fail> {
     Ok(())
 }
 
-/// Two desks hold an envelope each at any time, and one passes as soon as the other desk asks for the next one. A worker that
-/// took two at once would wait for the second of them.
+/// Two desks hold an envelope each at any time, and an envelope passes as soon as the other desk asks about the next one. A worker
+/// that took two envelopes at once would wait for its own second one.
 #[test]
 fn envelopes_are_taken_one_by_one_where_a_gate_waits(rt: HostRuntime) -> Result<(), Fail> {
     let _ = last_of_many(&rt, rt.alloc(), Passes::WithTheNext)?;
@@ -298,8 +299,8 @@ fn a_gate_is_told_of_each_envelope_of_a_batch(rt: HostRuntime) -> Result<(), Fai
     Ok(())
 }
 
-/// A gate that does not wait for another desk. At the first envelope it looks for some tenths of a second whether it is asked for
-/// another one meanwhile.
+/// A gate that does not wait for another desk. At the first envelope it watches for some tenths of a second whether it is asked
+/// about another one.
 #[derive(Drop)]
 struct Lookout {
     asked: AtomicU64,
@@ -322,7 +323,7 @@ impl Gate for Lookout {
 }
 
 /// A desk that has its turn holds it until its batch is cast. If desks took envelopes one by one, or each batch had a turn of its
-/// own, the other desk would ask meanwhile.
+/// own, the other desk would ask in that time.
 #[test]
 fn no_desk_casts_amid_the_batch_of_another(rt: HostRuntime) -> Result<(), Fail> {
     let lines = many_ballots(rt.alloc())?;
@@ -337,10 +338,10 @@ fn no_desk_casts_amid_the_batch_of_another(rt: HostRuntime) -> Result<(), Fail> 
     Ok(())
 }
 
-/// A fault, for how many envelopes a gate was asked, and of how many casts it was told.
+/// A fault, the number of envelopes that a gate was asked about, and the number of casts that were reported to it.
 type Stopped = (Option<VoteFault>, (u64, u64));
 
-/// Takes so many lines by a gate, and answers how it was stopped.
+/// Takes this many lines through a gate, and returns how the gate stopped them.
 fn stopped<R: Threads + Wait + Abort + Sync>(
     rt: &R,
     alloc: Global,
@@ -358,7 +359,7 @@ fn stopped<R: Threads + Wait + Abort + Sync>(
     Ok((fault, counts))
 }
 
-/// The fault of desk 1 or 2, which its gate stopped.
+/// The fault of desk 1, or of desk 2, that its gate stopped.
 const FIRST: Option<VoteFault> = Some(VoteFault::Gate(1));
 
 const SECOND: Option<VoteFault> = Some(VoteFault::Gate(2));
@@ -377,7 +378,8 @@ fn the_least_desk_that_stopped_is_named(rt: HostRuntime) -> Result<(), Fail> {
     Ok(())
 }
 
-/// Takes many lines at one desk by a gate, and asserts that it stopped the desk at this envelope, which was the next.
+/// Takes many lines at one desk through a gate, and asserts that the gate stopped the desk at this envelope, the next after those
+/// cast.
 fn assert_stopped_at<R: Threads + Wait + Abort + Sync>(
     rt: &R,
     alloc: Global,
@@ -395,7 +397,7 @@ fn assert_stopped_at<R: Threads + Wait + Abort + Sync>(
     gate.assert_asked_up_to(rt, barred);
 }
 
-/// The same by a gate that bars this envelope alone, and does not wait.
+/// The same through a gate that stops only this envelope and does not wait.
 fn assert_barred<R: Threads + Wait + Abort + Sync>(
     rt: &R,
     alloc: Global,
@@ -408,7 +410,7 @@ fn assert_barred<R: Threads + Wait + Abort + Sync>(
     Ok(())
 }
 
-/// The fifth envelope is amid the first batch.
+/// The fifth envelope is within the first batch.
 #[test]
 fn a_gate_stops_a_desk_amid_a_batch(rt: HostRuntime) -> Result<(), Fail> {
     let lines = many_ballots(rt.alloc())?;

@@ -1,6 +1,6 @@
 -- What `explain` says of the lines of a ballot file. Which lines are listed, where each leaves the grammar, and all numbers are
 -- fixed here. What a remark says is open.
-use Rattle.std.specs.Prelude.{◌≡◌, ℕ, ◌+◌, ◌==◌, ◌⊎◌, List, [], ◌∷◌, ◌++◌, count_by, length, IsTrue, codes, decimal, string_bytes}
+use Rattle.std.specs.Prelude.{◌≡◌, ℕ, ◌+◌, ◌==◌, ◌⊎◌, List, [], ◌∷◌, ◌++◌, count_by, drop, length, IsTrue, codes, decimal, string_bytes}
 use Rattle.std.specs.List.{All, before_first, concat, flat_map}
 use Rattle.std.specs.Str.{byte}
 use Rattle.std.specs.declared.string.String.{String}
@@ -19,7 +19,7 @@ use Rattle.vote_bad_lines.specs.Column.{IsColumn}
 use Rattle.vote_bad_lines.specs.NearNames.{IsNearest}
 use Rattle.vote_ballot_hints.specs.Remarks.{AreFileLines, IsRemark}
 use Rattle.vote_ballot_hints.specs.declared.TheConstants.{MOST_SHOWN}
-use Rattle.vote_ballot_findings.specs.Refusals.{Refusal, late_count, refusals}
+use Rattle.vote_ballot_findings.specs.Refusals.{Refusal, refusals}
 
 -- ---- of each refused line
 -- these words, and then a remark
@@ -48,13 +48,13 @@ stranger_words name near = shown MOST_SHOWN name ++ codes " is not on the roll" 
 
 -- What is said after the words of the reply: the column in which a line leaves the grammar; its number of ranks; its name, and those
 -- that are near; the last envelope. No other reply refuses a line.
-abbrev pub IsHint : PollContent → Text → Reply → Text → Type 0
-IsHint poll bytes (BadLine Shape) hint = (column : ℕ) × IsColumn bytes column × IsRemarked (column_words column) hint
-IsHint poll bytes (BadLine RankCount) hint = IsRemarked (rank_count_words (rank_count bytes) (option_count poll)) hint
-IsHint poll bytes (BadLine Roll) hint =
+abbrev pub IsLineHint : PollContent → Text → Reply → Text → Type 0
+IsLineHint poll bytes (BadLine Shape) hint = (column : ℕ) × IsColumn bytes column × IsRemarked (column_words column) hint
+IsLineHint poll bytes (BadLine RankCount) hint = IsRemarked (rank_count_words (rank_count bytes) (option_count poll)) hint
+IsLineHint poll bytes (BadLine Roll) hint =
     (near : List Text) × All (IsNearest (before_first is_space bytes) poll.roll) near × IsRemarked (stranger_words (before_first is_space bytes) near) hint
-IsHint poll bytes Late hint = hint ≡ codes "the last envelope is " ++ decimal (last_in_time poll)
-IsHint poll bytes other hint = hint ≡ []
+IsLineHint poll bytes Late hint = hint ≡ codes "the last envelope is " ++ decimal (last_in_time poll)
+IsLineHint poll bytes other hint = hint ≡ []
 
 -- the line of a refusal, up to its hint
 abbrev pub finding_head : ℕ → Reply → Text
@@ -65,10 +65,10 @@ abbrev pub finding : Refusal → Text → Text
 finding refusal hint = finding_head refusal.number refusal.reply ++ hint ++ line_feed
 
 -- a line for each of the refusals, in their order
-abbrev pub AreFindings : PollContent → List Refusal → Text → Type 0
-AreFindings poll [] text = text ≡ []
-AreFindings poll (refusal ∷ refusals) text =
-    (hint : Text) × (rest : Text) × IsHint poll refusal.bytes refusal.reply hint × AreFindings poll refusals rest × (text ≡ finding refusal hint ++ rest)
+abbrev pub AreLineFindings : PollContent → List Refusal → Text → Type 0
+AreLineFindings poll [] text = text ≡ []
+AreLineFindings poll (refusal ∷ refusals) text =
+    (hint : Text) × (rest : Text) × IsLineHint poll refusal.bytes refusal.reply hint × AreLineFindings poll refusals rest × (text ≡ finding refusal hint ++ rest)
 
 -- ---- an example
 abbrev pub example_line : Text → Text
@@ -86,11 +86,11 @@ pub record AreTotals (poll : PollContent) (lines : List Text) (totals : Totals) 
   pub refused : totals.refused ≡ refused_count poll lines
   pub voters : totals.voters ≡ voter_count poll lines
 
--- these, and how many lines are late
-abbrev pub totals_text : PollContent → List Text → Text
-totals_text poll lines = line (
+-- how many lines there are, valid, refused and late, and how many electors have a ballot
+abbrev pub numbers_text : PollContent → List Text → Text
+numbers_text poll lines = line (
     decimal (length lines) ∷ codes " lines: " ∷ decimal (valid_count poll lines) ∷ codes " valid, " ∷ decimal (refused_count poll lines)
-    ∷ codes " refused, " ∷ decimal (late_count poll lines) ∷ codes " of them late; " ∷ decimal (voter_count poll lines) ∷ codes " of "
+    ∷ codes " refused, " ∷ decimal (length (drop (last_in_time poll) lines)) ∷ codes " of them late; " ∷ decimal (voter_count poll lines) ∷ codes " of "
     ∷ decimal (elector_count poll) ∷ codes " electors have a ballot" ∷ [])
 
 -- ---- the whole
@@ -99,10 +99,10 @@ pub record IsExplained (poll : PollContent) (lines : List Text) (text : Text) : 
   pub of_file : Text
   pub are_of_file : AreFileLines of_file
   pub findings : Text
-  pub are_findings : AreFindings poll (refusals poll lines) findings
+  pub are_findings : AreLineFindings poll (refusals poll lines) findings
   pub example : Text
   pub is_example : IsExample poll example
-  pub is_text : text ≡ of_file ++ findings ++ example ++ totals_text poll lines
+  pub is_text : text ≡ of_file ++ findings ++ example ++ numbers_text poll lines
 
 -- the text says it
 abbrev pub SaysAll : {Z : Type 0} → PollContent → List Text → String Z → Type 0

@@ -1,5 +1,5 @@
 -- Which lines of a ballot file are refused, and why.
-use Rattle.std.specs.Prelude.{◌≡◌, ℕ, if◌then◌else◌, List, length, drop, Option, Some, None, option_map, option_to_list}
+use Rattle.std.specs.Prelude.{◌≡◌, ℕ, if◌then◌else◌, List, length, Option, Some, None, option_map, option_to_list}
 use Rattle.std.specs.List.{enumerate_from, flat_map}
 use Rattle.vote_poll.specs.PollContent.{PollContent, last_in_time}
 use Rattle.vote_poll.specs.Readings.{reading}
@@ -37,10 +37,6 @@ refusal_of poll line = refusal_by line.0 line.1 (refusing_reply (last_in_time po
 -- the lines that are refused, in their order
 abbrev pub refusals : PollContent → List Text → List Refusal
 refusals poll lines = flat_map (refusal_of poll) (enumerate_from 1 lines)
-
--- how many lines are late
-abbrev pub late_count : PollContent → List Text → ℕ
-late_count poll lines = length (drop (last_in_time poll) lines)
 
 -- as many lines are listed as the result sheet has refused lines
 abbrev pub EachRefusalIsListed : Type 0

@@ -1,13 +1,14 @@
 //! What is wrong with the lines of a ballot file, as a text.
 
-ghost use Rattle.std.specs.Prelude.{◌≡◌, IfOk, OnOk};
+ghost use Rattle.std.specs.Prelude.{◌≡◌, IfOk, OnOk, drop, length};
+ghost use Rattle.vote_poll.specs.PollContent.{last_in_time};
 ghost use Rattle.vote_poll.specs.Readings.{is_ballot, reading};
 ghost use Rattle.vote_poll_text.specs.Adding.{Adds};
 ghost use Rattle.vote_steps.specs.HeldLines.{HoldsLines};
 ghost use Rattle.vote_sheet.specs.LastBallots.{refused_count};
 ghost use Rattle.vote_ballot_hints.specs.Remarks.{AddsSome};
-ghost use Rattle.vote_ballot_findings.specs.Explained.{AreTotals, IsExample, SaysAll, example_line, totals_text};
-ghost use Rattle.vote_ballot_findings.specs.Refusals.{EachRefusalIsListed, late_count};
+ghost use Rattle.vote_ballot_findings.specs.Explained.{AreTotals, IsExample, SaysAll, example_line, numbers_text};
+ghost use Rattle.vote_ballot_findings.specs.Refusals.{EachRefusalIsListed};
 ghost use Rattle.vote_ballot_findings.specs.Replies.{AreReplies, RefusedAsBySteps};
 
 use crate::findings::Findings;
@@ -28,7 +29,7 @@ pub struct Explained {
 
 /// How many lines are late.
 fn late_count(poll: &Poll, lines: &Lines<'_>) -> usize
-    ensures { result ≡ late_count poll.now lines.now }
+    ensures { result ≡ length (drop (last_in_time poll.now) lines.now) }
 {
     lines.len().saturating_sub(poll.last_in_time() as usize)
 }
@@ -100,7 +101,7 @@ fn push_totals(
     totals: &Totals,
 ) -> Result<(), AllocError>
     requires { AreTotals poll.now lines.now totals.now }
-    ensures { Adds result text.old (totals_text poll.now lines.now) text.new }
+    ensures { Adds result text.old (numbers_text poll.now lines.now) text.new }
 {
     let (count, late, electors) = (lines.len(), late_count(poll, lines), poll.electors());
     let (valid, refused, voters) = (totals.valid, totals.refused, totals.voters);

@@ -1,4 +1,4 @@
--- The getters of `clap` read the values that the rows of the matches have; and only a command with the flag has a number of desks.
+-- The getters of `clap` read the values in the rows of the matches; and only a command with the flag has a number of desks.
 use Rattle.std.proofs.Common.{Bor, ◌≡◌, ◌≢◌, ◌∙◌, ◌<◌, ℕ, Option, Some, None, Result, Ok, Err, refl, sym, subst, ap, arith, List, codes, slice_index}
 use Rattle.std.specs.Str.Parse.{IsNumeral, ParsesUnsigned, digits_value, without_leading_plus}
 use Rattle.clap.specs.Words.{ReadsOne, Row, Text, first_of, first_value, one_text, rows_of}
@@ -34,7 +34,7 @@ no_number_read gives parses found id n (Some read) few other value has =
 no_number_read gives parses found id n None few other value has =
     let err = value has.0 (one_text-rows found id ∙ has.1) in parses has.0 (Err err.0) err.1 (has.2, omega (arith, has.3))
 
--- the name is not that of a command without desks, by its second letter
+-- by its second letter, this is not the name of a command without desks
 abbrev CountsByName : Text → Type 0
 CountsByName name = (slice_index name 1 ≢ 116) × (slice_index name 1 ≢ 104) × (slice_index name 1 ≢ 120)
 

@@ -13,7 +13,7 @@ flag name = record (new_rule name) { long = Some name; action = Some Set; value_
 abbrev pub required_flag : Text → Rule
 required_flag name = record (flag name) { required = true }
 
--- a whole number from 1 to the most desks, and 1 where none is given
+-- a whole number from 1 to MAX_DESKS; 1 if none is given
 abbrev pub desks_flag : Rule
 desks_flag = record (flag (codes "desks")) {
   defaults = codes "1" ∷ [];
@@ -33,7 +33,7 @@ casting_flag = flag (codes "casting")
 abbrev pub command : Text → List Rule → App
 command name flags = fold with_rule (new_app name) flags
 
--- the commands on the result, and then those that check what was handed in or published
+-- the commands, in the order in which help lists them
 abbrev pub commands : List App
 commands =
     command (codes "count") (poll_flag ∷ ballots_flag ∷ desks_flag ∷ casting_flag ∷ [])

@@ -2,5 +2,5 @@
 pub mod CommandLine
 pub mod ParsedArgs
 pub mod Words
--- what private functions say of their parts
+-- what private functions say about their parts
 pub mod Subcommands

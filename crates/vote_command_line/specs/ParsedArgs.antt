@@ -22,22 +22,22 @@ use Rattle.vote_request.specs.declared.Request.TheVariants as request
 abbrev pub NamedRequest : Type 0
 NamedRequest = Request (Bor Text)
 
--- the value of a subcommand's option
+-- the subcommand's option with this name has this value
 abbrev pub HasText : List Row → Text → Text → Type 0
 HasText rows name text = first_of name rows ≡ Some text
 
--- the value in decimal digits, which a plus may precede
+-- the value is in decimal digits; a plus may come before them
 abbrev pub HasNumber : List Row → Text → ℕ → Type 0
 HasNumber rows name n = (text : Text) × (one_of name rows ≡ Some text) × IsNumeral 10 (without_leading_plus text) × (n ≡ digits_value 10 (without_leading_plus text))
 
 abbrev pub HasDesks : List Row → ℕ → Type 0
 HasDesks rows desks = (1 ≤ desks) × (desks ≤ MAX_DESKS) × HasNumber rows (codes "desks") desks
 
--- a later command may not read the same bytes by this name: it is a stream, or `-`, which is a file to debvote, and standard input to other programs
+-- a later command might read other bytes under this name: it is a stream; or it is `-`, which is a file for debvote, but standard input for other programs
 abbrev pub is_stream : Text → Bool
 is_stream name = bytes_eq name (codes "-") || bytes_eq name (codes "/dev/stdin") || starts_with nat_eq name (codes "/dev/fd/")
 
--- any other name
+-- the name; None if it is a stream
 abbrev pub told_name : Text → Option Text
 told_name name = if is_stream name then None else Some name
 
@@ -57,7 +57,7 @@ subcommand_name (request.List poll ballots listed) = listing_name listed
 subcommand_name (request.Check poll) = codes "check"
 subcommand_name (request.Explain poll ballots file poll_name) = codes "explain"
 
--- a count that compares no sheet
+-- the purpose of a count that compares no sheet
 abbrev pub IsPrinted : {T : Type 0} → Purpose T → Type 0
 IsPrinted (purpose.Verification sheet) = ⊥
 IsPrinted printed = Unit {0}
@@ -78,7 +78,7 @@ HasValues rows (request.Explain poll ballots file poll_name) =
     HasText rows (codes "poll") poll.now × (option_copied ballots ≡ given) × (option_copied file ≡ option_and_then told_name given)
     × (option_copied poll_name ≡ told_name poll.now)
 
--- this is the request of the subcommand with the values of its options; or no request has them
+-- this is the request of the subcommand with the values of its options; None if no request has them
 abbrev pub IsRequestOf : Text → List Row → Option NamedRequest → Type 0
 IsRequestOf name rows (Some request) = (subcommand_name request ≡ name) × HasValues rows request
 IsRequestOf name rows None = (request : NamedRequest) → subcommand_name request ≡ name → HasValues rows request → ⊥
@@ -87,7 +87,7 @@ IsRequestOf name rows None = (request : NamedRequest) → subcommand_name reques
 abbrev pub IsSubcommandOf : Option (Text × List Row) → NamedRequest → Type 0
 IsSubcommandOf subcommand request = (rows : List Row) × (subcommand ≡ Some (subcommand_name request, rows)) × HasValues rows request
 
--- it makes no request
+-- the subcommand makes no request
 abbrev pub IsSubcommandOfNone : Option (Text × List Row) → Type 0
 IsSubcommandOfNone subcommand = (request : NamedRequest) → IsSubcommandOf subcommand request → ⊥
 
@@ -106,8 +106,8 @@ IsFaultOfKind k (Refused text) = IsRefusal k
 IsFaultOfKind k NotUtf8 = ⊥
 IsFaultOfKind k Memory = k ≡ kind.OutOfMemory
 
--- words have this fault: help only if they ask for it; a refusal only if `clap` finds a fault in them, or no request has the values
--- that it finds; never that they are not UTF-8
+-- the words can have this fault: help only if they ask for it; a refusal only if `clap` finds a fault in them, or no request has
+-- the values that it finds; `NotUtf8` never
 abbrev pub IsArgsFault : Kinds → Option (Text × List Row) → ArgsFault → Type 0
 IsArgsFault kinds subcommand (Help text) = (k : ErrorKind) × AsksForHelp k × IsAmong k kinds
 IsArgsFault kinds subcommand (Refused text) = ((k : ErrorKind) × IsRefusal k × IsAmong k kinds) ⊎ IsSubcommandOfNone subcommand

@@ -16,11 +16,11 @@ flag_rule Sheet = required_flag (codes "sheet")
 flag_rule Desks = desks_flag
 flag_rule Casting = casting_flag
 
--- the command with one flag more
+-- the command with one more flag
 abbrev pub with_flag : App → Flag → App
 with_flag app flag = with_rule app (flag_rule flag)
 
--- the word that asks for the command, and its flags
+-- the name of the command, and its flags
 abbrev pub name_and_flags : Subcommand → Text × List Flag
 name_and_flags Count = (codes "count", Poll ∷ Ballots ∷ Desks ∷ Casting ∷ [])
 name_and_flags Steps = (codes "steps", Poll ∷ Ballots ∷ [])
@@ -33,6 +33,6 @@ name_and_flags Picture = (codes "picture", Poll ∷ Ballots ∷ Desks ∷ Castin
 abbrev pub subcommand_app : Subcommand → App
 subcommand_app subcommand = fold with_flag (new_app (name_and_flags subcommand).0) (name_and_flags subcommand).1
 
--- the program with one command more
+-- the program with one more command
 abbrev pub with_command : App → Subcommand → App
 with_command app subcommand = with_subcommand app (subcommand_app subcommand).top

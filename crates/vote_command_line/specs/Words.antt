@@ -11,10 +11,10 @@ use Rattle.vote_command_line.specs.declared.command_line.ArgsFault.{ArgsFault}
 abbrev pub texts_of : List (Bor Text) → List Text
 texts_of words = map (λ word. word.now) words
 
--- they make this request: `clap` finds no fault in them, and what it finds are the subcommand and the values of the request
+-- they make this request: `clap` finds no fault in them, and it finds the subcommand and the values of the request
 abbrev pub AreArgsOf : List Text → NamedRequest → Type 0
 AreArgsOf words request = (fault_of debvote_command words ≡ []) × IsSubcommandOf (subcommand_of debvote_command words) request
 
--- they have this fault, by the same
+-- they have this fault, by what `clap` finds in them
 abbrev pub HaveArgsFault : List Text → ArgsFault → Type 0
 HaveArgsFault words fault = IsArgsFault (fault_of debvote_command words) (subcommand_of debvote_command words) fault

@@ -23,13 +23,13 @@ pub type NamedRequest<'a> = Request<'a, &'a str>;
 /// Why the command line has no request.
 #[derive(Debug, Drop, thiserror::Error)]
 pub enum ArgsFault {
-    /// They ask for help, and this is it.
+    /// The words ask for help, and this is its text.
     #[error("{0}")]
     Help(String),
-    /// They are refused, for this reason.
+    /// The words are refused, for this reason.
     #[error("{0}")]
     Refused(String),
-    /// One of them is not UTF-8, so [`parse_args`] was not called.
+    /// A word is not UTF-8, so [`parse_args`] was not called.
     #[error("an argument is not UTF-8")]
     NotUtf8,
     /// Memory ran out.
@@ -48,7 +48,7 @@ impl From<AllocError> for ArgsFault {
     }
 }
 
-/// A flag with one value, and the line that says what it is.
+/// A flag with one value, and its line in the help.
 fn value_arg<'a>(alloc: Global, id: &'a str, value: &'a str, help: &'a str) -> Arg<'a>
     ensures rule { rule_of result ≡ flag id.entry.now }
     ensures local { result.global ≡ false }
@@ -60,7 +60,7 @@ fn value_arg<'a>(alloc: Global, id: &'a str, value: &'a str, help: &'a str) -> A
         .help(help)
 }
 
-/// A flag with one file, which has to be given.
+/// A required flag with one file.
 fn file_arg<'a>(alloc: Global, id: &'a str, help: &'a str) -> Arg<'a>
     ensures rule { rule_of result ≡ required_flag id.entry.now }
     ensures local { result.global ≡ false }
@@ -68,10 +68,10 @@ fn file_arg<'a>(alloc: Global, id: &'a str, help: &'a str) -> Arg<'a>
     value_arg(alloc, id, "FILE", help).required(true)
 }
 
-/// What a ballot file is.
+/// The help on the ballot file.
 const BALLOTS_HELP: &str = "The ballot file, one ballot a line: name 1,2,3";
 
-/// What the number of desks is.
+/// The help on the number of desks.
 const DESKS_HELP: &str = "How many desks enter ballots at once, 1 to 8; the result is the same";
 
 /// A flag of the commands.
@@ -81,7 +81,7 @@ enum Flag {
     Poll,
     /// The ballot file.
     Ballots,
-    /// The ballot file, which may be left out.
+    /// The ballot file, which may be omitted.
     BallotsIfGiven,
     /// The published sheet.
     Sheet,
@@ -144,23 +144,23 @@ const SUBCOMMANDS: [Subcommand; 7] = [
     Subcommand::Picture,
 ];
 
-/// The flags of a command that reads the poll alone.
+/// The flags of a command that reads only the poll.
 const CHECK_FLAGS: [Flag; 1] = [Flag::Poll];
 
 /// The flags of a command on a poll and its ballots.
 const BALLOTS_FLAGS: [Flag; 2] = [Flag::Poll, Flag::Ballots];
 
-/// The flags of the command that says what is wrong.
+/// The flags of `explain`.
 const EXPLAIN_FLAGS: [Flag; 2] = [Flag::Poll, Flag::BallotsIfGiven];
 
-/// The flags of a command that counts, where the casting vote may choose.
+/// The flags of a command that counts, with an optional casting vote.
 const COUNT_FLAGS: [Flag; 4] = [Flag::Poll, Flag::Ballots, Flag::Desks, Flag::Casting];
 
-/// The flags of the command that compares with a sheet.
+/// The flags of `verify`.
 const VERIFY_FLAGS: [Flag; 4] = [Flag::Poll, Flag::Ballots, Flag::Sheet, Flag::Desks];
 
 impl Subcommand {
-    /// The word that asks for the command.
+    /// The command's name on the command line.
     fn name<'a>(self) -> &'a str
         ensures { result.now ≡ (name_and_flags self).0 }
     {
@@ -175,7 +175,7 @@ impl Subcommand {
         }
     }
 
-    /// What help says of the command.
+    /// What help says about the command.
     fn about<'a>(self) -> &'a str {
         match self {
             Subcommand::Count => "Counts the ballots and prints the result",
@@ -219,7 +219,7 @@ fn command_of<'a>(alloc: Global, subcommand: Subcommand) -> Result<Command<'a>, 
     Ok(command)
 }
 
-/// What the exit statuses say.
+/// The help on the exit statuses.
 const STATUSES_HELP: &str = "Exit statuses:
   0  success: there is a winner, no problem was found, or the sheet was verified
   1  a tie, and no casting vote was given; the result is printed
@@ -281,14 +281,14 @@ fn text_given<'a>(given: &ArgMatches<'a>, id: &str) -> Option<&'a str>
     given.get_str(id)
 }
 
-/// Whether a later command may read other bytes by this name: a stream, or `-`, which other programs take for standard input.
+/// Whether a later command might read other bytes under this name: a stream, or `-`, which other programs take for standard input.
 fn is_stream(name: &[u8]) -> bool
     ensures { result ≡ is_stream name.now }
 {
     name == b"-".as_slice() || name == b"/dev/stdin".as_slice() || name.starts_with(b"/dev/fd/")
 }
 
-/// Any other name.
+/// The name; `None` if it is a stream.
 fn told_name(name: &str) -> Option<&str>
     ensures { option_copied result ≡ told_name name.now }
 {
@@ -299,7 +299,7 @@ fn told_name(name: &str) -> Option<&str>
     }
 }
 
-/// The name of the option that the casting vote chooses, if one is given.
+/// The name of the option that the casting vote chooses, if there is a casting vote.
 #[tactic(auto, using(crate::proofs::ArgLemmas::first_value_rows))]
 fn casting_given<'a>(given: &ArgMatches<'a>) -> Option<&'a [u8]>
     ensures { option_copied result ≡ first_of (codes "casting") (rows_of (found_of given.now)) }
@@ -310,7 +310,7 @@ fn casting_given<'a>(given: &ArgMatches<'a>) -> Option<&'a [u8]>
     }
 }
 
-/// A count that compares no sheet.
+/// The request of a count that compares no sheet.
 fn count_request<'a>(given: &ArgMatches<'a>, purpose: Purpose<&'a str>) -> Option<NamedRequest<'a>>
     requires { IsPrinted purpose }
     ensures { IsRequestOf (purpose_name purpose.entry) (rows_of (found_of given.now)) result }
@@ -388,7 +388,7 @@ fn request_of<'a>(matches: &ArgMatches<'a>) -> Option<NamedRequest<'a>>
     }
 }
 
-/// What an error of this kind is to the caller: help that was asked for, or a refusal, with `clap`'s text.
+/// The fault for an error of this kind: help that was asked for or a refusal, with `clap`'s text, or no memory.
 fn fault_of_kind(kind: ErrorKind, text: String) -> ArgsFault
     ensures { IsFaultOfKind kind result }
 {
@@ -399,7 +399,7 @@ fn fault_of_kind(kind: ErrorKind, text: String) -> ArgsFault
     }
 }
 
-/// What an error of `clap` is to the caller. Memory ran out where it can't hold `clap`'s text.
+/// The fault for an error of `clap`. It is `Memory` if there is no memory for `clap`'s text.
 fn args_fault_of(alloc: Global, error: &Error) -> ArgsFault
     ensures { result ≢ Memory → IsFaultOfKind (kind_of error.now) result }
 {
@@ -409,8 +409,8 @@ fn args_fault_of(alloc: Global, error: &Error) -> ArgsFault
     }
 }
 
-/// The refusal of words that `clap` takes and that are no request, with the program's usage. Memory ran out where
-/// it can't hold the usage.
+/// The refusal of words that `clap` accepts but that make no request, with the program's usage. It is `Memory` if there is no
+/// memory for the usage.
 fn no_request(command: &mut Command<'_>) -> ArgsFault
     ensures refuses { (text : _) → result ≢ Help text }
     ensures read { result ≢ NotUtf8 }
@@ -421,7 +421,8 @@ fn no_request(command: &mut Command<'_>) -> ArgsFault
     }
 }
 
-/// What the words ask for of this program's command line, which is lent, so that it is dropped in one place.
+/// Returns the request of these words, by this program's command line. The command line is lent, so that it is dropped in one
+/// place.
 fn parse_args_with<'a>(
     alloc: Global,
     command: &mut Command<'a>,
@@ -442,7 +443,7 @@ fn parse_args_with<'a>(
     }
 }
 
-/// What the words after the program's name ask for.
+/// Returns the request of the words after the program's name.
 pub fn parse_args<'a>(alloc: Global, words: &'a [&'a str]) -> Result<NamedRequest<'a>, ArgsFault>
     ensures desks { IfOk result DesksFit }
     ensures ok { IfOk result (AreArgsOf (texts_of words.entry.now)) }

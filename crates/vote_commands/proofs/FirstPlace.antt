@@ -29,7 +29,7 @@ module _ (test : ℕ → Bool) (n : ℕ) where
       (λ past. absurd (omega arith)) in
       rw (first, long, le-ltb n n (omega arith))
 
--- there is a first place where it holds, or none
+-- the test holds for no number, or there is a first number for which it holds
 pub first_or_none : (test : ℕ → Bool) (n : ℕ) → ((k : ℕ) → k < n → test k ≡ false) ⊎ ((at : ℕ) × (at < n) × ((k : ℕ) → k < at → test k ≡ false) × (test at ≡ true))
 first_or_none test zero = inl (λ k below. absurd (omega arith))
 first_or_none test (suc n) =

@@ -12,11 +12,11 @@ use Rattle.vote_commands.specs.Inputs.{Inputs}
 use Rattle.vote_commands.specs.TakenVotes.{AreTaken}
 use Rattle.vote_commands.specs.declared.votes.TakenVotes.{TakenVotes}
 
--- the lines, in the box that is asked for
+-- a box that equals the audited box holds the lines
 pub audited_holds : (poll : PollContent) (lines : List Text) (b audited : BoxState) (sheets : List (List Slip)) → b ≡ audited → IsAudited poll lines audited sheets → HoldsLines poll lines b
 audited_holds poll lines b audited sheets same by = subst (λ box. HoldsLines poll lines box) (sym same) by.holds
 
--- the box of the votes that were taken of the inputs, by what shows it
+-- the box in which the votes of the inputs were counted, by its witness
 pub counted_in : (inputs : Inputs) (taken : TakenVotes) (sealed : SealedState) → sealed ≡ taken.audited → AreTaken inputs taken → IsCountedIn inputs sealed
 counted_in inputs taken sealed same by = subst (IsCountedIn inputs) (sym same) (record {
   poll = taken.poll;

@@ -1,4 +1,4 @@
--- A text has a line `%%` just where the code sees a separator; so a joined input is parted at its first such line.
+-- A text has a line `%%` exactly where the code sees a separator. So a joined input is split at its first such line.
 use Rattle.std.proofs.Common.{◌≡◌, ◌≢◌, ◌<◌, ◌≤◌, ◌+◌, ◌-◌, ◌⊎◌, ◌++◌, ℕ, Bool, true, false, List, [], ◌∷◌, length, get_or, take, drop, refl, ap, sym, subst, ◌∙◌, arith, inl, inr, append_assoc, length-append, nat_eq, ◌==◌, ◌||◌, codes, zero, suc, Option}
 use Rattle.std.specs.List.{All, ends_with, join_with_byte, onto_first, slice_split}
 use Rattle.std.specs.Str.{bytes_eq}
@@ -147,7 +147,7 @@ line_is_seen text h =
     (subst (λ t. begins_line t (length h.before) ≡ true) (sym h.joined) (begins_line-before h.before h.behind h.at_line))
     (subst (λ t. begins_with_separator t ≡ true) (sym rest) (begins-seen h.behind h.begins))
 
--- a place before the end: `%%` has two bytes
+-- an index before the end: `%%` has two bytes
 line_is_within : (text : Text) (h : HasSeparator text) → length h.before < length text
 line_is_within text h = omega (arith, ap length h.joined, length-append h.before h.behind, ap length h.begins.1)
 
@@ -182,7 +182,7 @@ seen_is_line text at within here =
       begins = begins-from_seen (drop at text) rest;
     }
 
--- no line is `%%`, and no separator is seen
+-- if no separator is seen, no line is `%%`; and the other way round
 lacks_from_nowhere : (text : Text) → ((at : ℕ) → at < length text → is_separator_at text at ≡ false) → LacksSeparator text
 lacks_from_nowhere text nowhere =
     other_lines text (All-from_get_or IsOther (pieces_of text) [] (λ k within same.
@@ -192,7 +192,7 @@ lacks_from_nowhere text nowhere =
 nowhere_from_lacks : (text : Text) → LacksSeparator text → (at : ℕ) → at < length text → is_separator_at text at ≡ false
 nowhere_from_lacks text lacks at within = false_from_ne_true _ (λ here. line_is_piece text (seen_is_line text at within here) (other_pieces text lacks))
 
--- ---- what is seen in a front of whole lines
+-- ---- what is seen in a prefix of whole lines
 seen_before_feed : (text behind : Text) → begins_with_separator (text ++ (line_feed ++ behind)) ≡ begins_with_separator (text ++ line_feed)
 seen_before_feed [] behind = refl
 seen_before_feed (a ∷ []) behind = refl

@@ -1,4 +1,4 @@
--- Which fault stops a run, and that what was looked for before does not.
+-- Which fault stops a run. The tests before it do not stop the run.
 use Rattle.std.proofs.Common.{◌≡◌, ◌≢◌, ℕ, Bool, List, Option, Some, None, Result, Ok, Err, inl, inr, refl, subst, sym, ◌∙◌}
 use Rattle.std.specs.Result.{result_err}
 use Rattle.vote_poll.specs.PollContent.{PollContent}
@@ -25,7 +25,7 @@ use Rattle.vote_commands.specs.declared.fault.RunFault.{RunFault}
 use Rattle.vote_commands.specs.declared.fault.RunFault.TheVariants as run
 use Rattle.vote_commands.specs.declared.votes.TakenVotes.{TakenVotes}
 
--- ---- a file that gives nothing
+-- ---- a file that gives no poll or no lines
 pub no_poll : (meaning : Result PollContent PollFault) (fault : PollFault) → Fails fault meaning → GivesNoPoll meaning (poll_refused fault)
 no_poll meaning poll_fault.Memory failed = refl
 no_poll meaning fault failed = failed
@@ -57,7 +57,7 @@ pub count_without_option : (bars : ℕ → Bool) (inputs : Inputs) (poll : PollC
     → StopsTaking bars inputs run.NoSuchOption
 count_without_option bars inputs poll meant none = record { stops = rw meant (inl (none, refl)); unwritten = λ same. cc }
 
--- each fault of the votes but want of memory stops the run as a fault of votes
+-- each fault of the votes except running out of memory stops the run as a fault of votes
 stopped_by : (bars : ℕ → Bool) (inputs : Inputs) (poll : PollContent) (fault : VoteFault) → poll_in inputs.poll ≡ Ok poll → ¬ NamesNoOption poll inputs.casting → ¬ HasTooManyLines inputs.ballots
     → CanStopVotes bars fault → IsOfDesk inputs.desks fault → IsFoundIn (AreSheetsOf inputs.desks) poll (lines_of inputs.ballots) fault → StopsTaking bars inputs (votes_stopped fault)
 stopped_by bars inputs poll vote.Memory meant one few can desk found = record { stops = tt; unwritten = λ same. cc }

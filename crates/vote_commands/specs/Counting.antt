@@ -1,4 +1,4 @@
--- What a count is refused for, what it returns, and how it ends.
+-- Why a count is refused, what it returns, and how it ends.
 use Rattle.std.specs.Prelude.{◌≡◌, ◌≢◌, ◌+◌, ℕ, Bool, List, All, length, Option, Some, None, option_map, IfSome, Ok}
 use Rattle.std.proofs.Common.{Bor}
 use Rattle.vote_count.specs.declared.Decision.{Decision}
@@ -29,7 +29,7 @@ use Rattle.vote_request.specs.declared.Purpose.TheVariants as purpose
 use Rattle.vote_commands.specs.declared.fault.RunFault.{RunFault}
 use Rattle.vote_commands.specs.declared.fault.RunFault.TheVariants as run
 
--- the option that a casting vote names, if there is one; a name of no option stops the count (NamesNoOption)
+-- the option that a casting vote names, if there is a casting vote; a name that no option has stops the count (NamesNoOption)
 abbrev pub casting_option : PollContent → Option Text → Option ℕ
 casting_option poll None = None
 casting_option poll (Some name) = option_map (λ place. place + 1) (place_of name poll.options)
@@ -45,31 +45,31 @@ pub record IsNamed (poll : PollContent) (named : Option Text) (option : Option �
   pub option_is : option ≡ casting_option poll named
   pub range : IfSome option (IsOption (option_count poll))
 
--- Allowed are both: the votes are taken, or a fault of theirs stops them that they can have at so many desks, by a gate that may stop these. A fault of the audit is one that it finds in some legal box of these lines, with the slips of each desk.
+-- Both are allowed: the votes are taken, or they are stopped by a fault that they can have at this many desks with a gate that may stop these desks. If the fault is the audit's, there is some legal box, with the slips of each desk, in which the audit finds it.
 abbrev pub StopsAtVotes : (ℕ → Bool) → ℕ → PollContent → List Text → Option RunFault → Type 0
 StopsAtVotes bars desks poll lines (Some (run.Vote fault)) =
     (fault ≢ vote.Memory) × CanStopVotes bars fault × IsOfDesk desks fault × IsFoundIn (AreSheetsOf desks) poll lines fault
 StopsAtVotes bars desks poll lines stop = GoesThrough stop
 
--- a count is stopped by its poll, by a casting vote that names no option, by too many lines, and else by its votes
+-- a count is stopped by its poll, by a casting vote that names no option, by too many lines, or by its votes, in this order
 abbrev pub StopsCount : (ℕ → Bool) → Inputs → Option RunFault → Type 0
 StopsCount bars inputs =
     StopsAtPoll (poll_in inputs.poll) (λ poll.
     StopsWhere (NamesNoOption poll inputs.casting) run.NoSuchOption (StopsAtLines inputs.ballots (StopsAtVotes bars inputs.desks poll (lines_of inputs.ballots))))
 
--- how a count ends that is decided so
+-- how a count with this decision ends
 abbrev pub ended_by_decision : Decision → Ended
 ended_by_decision (decision.Winner option) = ended.Decided option
 ended_by_decision decision.Tie = ended.Tie
 ended_by_decision (decision.CastingOutside option) = ended.CastingOutside option
 
--- a published sheet differs, or it is one of the count
+-- how a comparison with a published sheet ends: the sheet differs, or it is a sheet of the count
 abbrev pub ended_by_verification : Verification → Ended
 ended_by_verification verification.Differs = ended.Differs
 ended_by_verification verification.Matches = ended.Done
 ended_by_verification (verification.MatchesCasting option) = ended.Done
 
--- this is an audited box of the lines of the inputs, with the slips of each of their desks, whose stamps rise
+-- this is an audited box of the inputs' lines, with a sheet for each of their desks, and the stamps on each sheet rise
 pub record IsCountedIn (inputs : Inputs) (sealed : SealedState) : Type 0 where
   pub poll : PollContent
   pub meant : poll_in inputs.poll ≡ Ok poll
@@ -87,7 +87,7 @@ IsMade (purpose.Verification sheet) poll lines casting told =
     (verification : Verification) × IsVerification poll lines sheet.now verification
     × AreVerificationWords poll lines sheet.now verification told.text × (told.end ≡ ended_by_verification verification)
 
--- the text and the end of a count for this purpose, of the bytes of both files
+-- the text and the end of a count for this purpose, from the bytes of both files
 abbrev pub IsCountFor : Purpose (Bor Text) → Inputs → TextAndEnd → Type 0
 IsCountFor made_for inputs told =
     (poll : PollContent) × (poll_in inputs.poll ≡ Ok poll) × IsMade made_for poll (lines_of inputs.ballots) (casting_option poll inputs.casting) told

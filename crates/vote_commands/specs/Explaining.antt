@@ -21,32 +21,28 @@ use Rattle.vote_commands.specs.declared.fault.RunFault.{RunFault}
 abbrev pub ended_by_findings : Text → ℕ → Ended
 ended_by_findings findings refused = if (length findings == 0) && (refused == 0) then ended.Done else ended.Found
 
--- after the findings of a poll all that is said of its lines
+-- the findings of a poll, and then all that is said about its lines
 abbrev pub IsSaidOfLines : PollContent → List Text → Text → TextAndEnd → Type 0
 IsSaidOfLines poll lines findings told =
     (rest : Text) × IsExplained poll lines rest × (told.text ≡ findings ++ rest) × (told.end ≡ ended_by_findings findings (refused_count poll lines))
 
--- after the findings of a poll in order all that is said of its ballots, or where none are given the line of `check`
-abbrev pub IsSaid : PollContent → Option Text → Text → TextAndEnd → Type 0
-IsSaid poll None findings told = (told.text ≡ findings ++ check_text poll) × (told.end ≡ ended_by_findings findings 0)
-IsSaid poll (Some ballots) findings told = IsSaidOfLines poll (lines_of ballots) findings told
+-- the findings of a poll, and then nothing if it is refused; else all that is said about its ballots, or the line of `check` if no ballots are given
+abbrev pub IsSaid : Result PollContent PollFault → Option Text → Text → TextAndEnd → Type 0
+IsSaid (Err fault) ballots findings told = (told.text ≡ findings) × (told.end ≡ ended.PollRefused)
+IsSaid (Ok poll) None findings told = (told.text ≡ findings ++ check_text poll) × (told.end ≡ ended_by_findings findings 0)
+IsSaid (Ok poll) (Some ballots) findings told = IsSaidOfLines poll (lines_of ballots) findings told
 
--- after the findings of a poll that is refused nothing
-abbrev pub IsSaidAfter : Result PollContent PollFault → Option Text → Text → TextAndEnd → Type 0
-IsSaidAfter (Err fault) ballots findings told = (told.text ≡ findings) × (told.end ≡ ended.PollRefused)
-IsSaidAfter (Ok poll) ballots findings told = IsSaid poll ballots findings told
-
--- all that is wrong with a poll file, and with its ballots where they are given
+-- all that is wrong with a poll file and, if the poll is valid and ballots are given, with its ballots
 abbrev pub IsExplanation : Text → Option Text → TextAndEnd → Type 0
 IsExplanation poll_text ballots told =
-    (findings : Text) × AreFindingsOf poll_text (document poll_text) findings × IsSaidAfter (poll_in poll_text) ballots findings told
+    (findings : Text) × AreFindingsOf poll_text (document poll_text) findings × IsSaid (poll_in poll_text) ballots findings told
 
--- too many lines stop it, where the poll is in order and ballots are given
+-- too many lines stop it, if the poll is valid and ballots are given
 abbrev pub StopsExplanation : Result PollContent PollFault → Option Text → Option RunFault → Type 0
 StopsExplanation (Ok poll) (Some ballots) stop = StopsAtLines ballots GoesThrough stop
 StopsExplanation meaning ballots stop = GoesThrough stop
 
--- the explanation of these bytes is written, and the run ends by it
+-- the explanation of these bytes is written, and the run ends as it says
 abbrev pub Explains : Text → Option Text → Option Text → Option Text → Result Ended RunFault → Type 0
 Explains poll_text ballots old new result =
     Runs (StopsExplanation (poll_in poll_text) ballots) (Tells (IsExplanation poll_text ballots) result) old new (result_err result)

@@ -23,7 +23,7 @@ AreParts input poll ballots =
     (LacksSeparator input × (poll ≡ input) × (ballots ≡ [])) ⊎ (LacksSeparator poll × EndsALine poll × IsJoined input poll ballots)
 
 -- ---- the same as a function
--- a line begins where a text begins, and after each line feed
+-- a line begins at the beginning of a text, and after each line feed
 abbrev pub begins_line : Text → ℕ → Bool
 begins_line text at = at == 0 || slice_index text (at - 1) == 10
 
@@ -31,15 +31,15 @@ begins_line text at = at == 0 || slice_index text (at - 1) == 10
 abbrev pub has_separator : Text → Bool
 has_separator text = bytes_eq (take 3 text) (codes "%%\n") || bytes_eq text (codes "%%")
 
--- the line `%%` begins there
+-- the line `%%` begins at this index
 unfoldable pub is_separator_at : Text → ℕ → Bool
 is_separator_at text at = begins_line text at && has_separator (drop at text)
 
--- the first place at which the line `%%` begins
+-- the first index at which the line `%%` begins
 abbrev pub separator_place : Text → Option ℕ
 separator_place text = position (is_separator_at text) (range_with_len 0 (length text))
 
--- the texts before and after the line at this place; without a place the whole text, and nothing
+-- the texts before and after the line at this index; without an index, the whole text and nothing
 abbrev pub parts_at : Text → Option ℕ → Text × Text
 parts_at text None = (text, [])
 parts_at text (Some at) = (take at text, drop 3 (drop at text))
@@ -49,7 +49,7 @@ abbrev pub joined_parts : Text → Text × Text
 joined_parts text = parts_at text (separator_place text)
 
 -- ---- laws
--- what the function gives are the parts of the input
+-- the function returns the parts of the input
 abbrev pub InputsArePartedAtSeparator : Type 0
 InputsArePartedAtSeparator = (input : Text) → AreParts input (joined_parts input).0 (joined_parts input).1
 

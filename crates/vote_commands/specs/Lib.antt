@@ -9,5 +9,5 @@ pub mod Explaining
 pub mod Performing
 pub mod Status
 pub mod Words
--- what private functions say of their parts
+-- what private functions say about their parts
 pub mod Reading

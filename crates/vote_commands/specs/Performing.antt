@@ -25,17 +25,17 @@ LoadedRequest = Request (Bor Text)
 abbrev pub TellsNoBox : FinishedRun → Type 0
 TellsNoBox finished = finished.audited ≡ None
 
--- What the count of these inputs is made for is written, and the run ends by it. The box that it was counted in is returned if the run comes to its end, and otherwise none.
+-- The result of counting these inputs for this purpose is written, and the run ends as it says. The box in which the votes were counted is returned if the run comes to its end, otherwise no box.
 pub record Counts (bars : ℕ → Bool) (made_for : Purpose (Bor Text)) (inputs : Inputs) (old new : Option Text) (finished : FinishedRun) : Type 0 where
   pub runs : Runs (StopsCount bars inputs) (Tells (IsCountFor made_for inputs) finished.end) old new (result_err finished.end)
   pub counted_in : OnOk finished.end (IsSomeAnd finished.audited (IsCountedIn inputs))
   pub uncounted : OnErr finished.end (TellsNoBox finished)
 
--- what is to be listed of a poll file and a ballot file is written
+-- the listing of a poll file and a ballot file is written
 abbrev pub Lists : Listing → Text → Text → Option Text → Option Text → Option RunFault → Type 0
 Lists listed poll_text ballots = Runs (StopsAtPoll (poll_in poll_text) (λ poll. StopsAtLines ballots GoesThrough)) (IsListing listed poll_text ballots)
 
--- the sizes of the poll of these bytes are written
+-- the sizes of the poll in these bytes are written
 abbrev pub Checks : Text → Option Text → Option Text → Option RunFault → Type 0
 Checks poll_text = Runs (StopsAtPoll (poll_in poll_text) (λ poll. GoesThrough)) (IsCheck poll_text)
 
@@ -43,7 +43,7 @@ Checks poll_text = Runs (StopsAtPoll (poll_in poll_text) (λ poll. GoesThrough))
 abbrev pub EndsDone : Result Ended RunFault → Type 0
 EndsDone result = IfOk result (λ end. end ≡ ended.Done)
 
--- what a run of a request adds to the sink, and how it ends; only a count returns a box; `bars` says at which desks a gate may stop it
+-- what a run of a request appends to the sink, and how it ends; only a count returns a box; `bars` says which desks a gate may stop
 abbrev pub Performs : (ℕ → Bool) → LoadedRequest → Option Text → Option Text → FinishedRun → Type 0
 Performs bars (request.Count poll ballots desks casting made_for) old new finished = Counts bars made_for (inputs_at poll ballots desks casting) old new finished
 Performs bars (request.List poll ballots listed) old new finished = Lists listed poll.now ballots.now old new (result_err finished.end) × EndsDone finished.end × TellsNoBox finished

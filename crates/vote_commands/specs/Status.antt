@@ -20,7 +20,7 @@ unread file read.TooLong = run.Input file input.TooLong
 unread file read.Memory = run.Memory
 
 -- ---- statuses
--- the status of a run that did not come to its end; want of memory has its own, also in faults of polls and votes that no run returns
+-- the status of a run that did not come to its end; refused memory and refused threads have status 5, also in faults of polls and votes that no run returns
 abbrev pub fault_status : RunFault → ℕ
 fault_status (run.Input file.Poll fault) = 3
 fault_status (run.Input file.Ballots fault) = 4

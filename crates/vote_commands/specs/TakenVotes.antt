@@ -1,4 +1,4 @@
--- The votes of the inputs, taken: what each run that counts begins with.
+-- The votes of the inputs after they were taken. Each run that counts begins with them.
 use Rattle.std.specs.Prelude.{◌≡◌, ◌≢◌, ℕ, Bool, List, All, Some, IfSome, Ok, length}
 use Rattle.vote_poll_text.specs.Lines.{HasTooManyLines, lines_of}
 use Rattle.vote_poll.specs.Options.{IsOption}
@@ -20,7 +20,7 @@ pub record CanBeCounted (taken : TakenVotes) : Type 0 where
   pub audited : IsAudited taken.poll taken.lines taken.audited.ballot_box taken.audited.sheets
   pub range : IfSome taken.casting (IsOption (option_count taken.poll))
 
--- the lines of the inputs, and a box that is audited for them and this poll, with a sheet for each desk, on which the stamps rise
+-- the lines of the inputs, and a box that is audited for them and this poll, with a sheet for each desk; the stamps on each sheet rise
 pub record AreBallotsTaken (poll : PollContent) (inputs : Inputs) (taken : List Text × Audited) : Type 0 where
   pub lines : taken.0 ≡ lines_of inputs.ballots
   pub few : ¬ HasTooManyLines inputs.ballots
@@ -28,13 +28,13 @@ pub record AreBallotsTaken (poll : PollContent) (inputs : Inputs) (taken : List 
   pub desks : length taken.1.sheets ≡ inputs.desks
   pub rising : All Rises taken.1.sheets
 
--- the poll of the inputs, the option of it that is named, and those of its ballots
+-- the poll of the inputs, its option that the casting vote names, and the ballots that were taken
 pub record AreTaken (inputs : Inputs) (taken : TakenVotes) : Type 0 where
   pub poll : poll_in inputs.poll ≡ Ok taken.poll
   pub casting : IsNamed taken.poll inputs.casting taken.casting
   pub ballots : AreBallotsTaken taken.poll inputs (taken.lines, taken.audited)
 
--- the votes of the inputs are not taken, for this fault, and nothing was written
+-- this fault stops the taking of the inputs' votes; it is not a fault of the output
 pub record StopsTaking (bars : ℕ → Bool) (inputs : Inputs) (fault : RunFault) : Type 0 where
   pub stops : Stops (StopsCount bars inputs) (Some fault)
   pub unwritten : fault ≢ run.Output

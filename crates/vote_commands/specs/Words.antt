@@ -1,7 +1,6 @@
--- The words of the faults of a run, as its fault line has them, and which fault of a run those of its parts are.
+-- The words of the faults of a run, as in its fault line, and the fault of a run for each fault of its parts.
 use Rattle.std.specs.Prelude.{◌++◌, codes}
 use Rattle.vote_poll_keys.specs.FaultWords as poll
-use Rattle.vote_poll_text.specs.FaultWords as lines
 use Rattle.vote_poll_keys.specs.declared.fault.PollFault.{PollFault}
 use Rattle.vote_poll_keys.specs.declared.fault.PollFault.TheVariants as poll_fault
 use Rattle.vote_poll_text.specs.declared.lines.LinesFault.{LinesFault}
@@ -28,28 +27,28 @@ abbrev pub input_words : InputFault → Text
 input_words input.Unreadable = codes "unreadable"
 input_words input.TooLong = codes "too long"
 
--- a run that did not come to its end: the words for a poll, its lines and its votes are those of the crates that refuse them
+-- the words for a run that did not come to its end; for a poll and its votes they are the words of the crate that refuses them
 abbrev pub fault_words : RunFault → Text
 fault_words (run.Input file fault) = file_words file ++ codes " " ++ input_words fault
 fault_words (run.Poll fault) = poll.fault_line fault
 fault_words run.NoSuchOption = codes "casting option is not in the poll"
-fault_words run.TooManyLines = lines.fault_line lines_fault.TooMany
+fault_words run.TooManyLines = codes "ballots refused: too many lines"
 fault_words (run.Vote fault) = votes.fault_words fault
 fault_words run.Memory = codes "out of memory"
 fault_words run.Output = codes "output failed"
 
--- ---- want of memory is one fault, wherever it comes
--- of a poll that is refused
+-- ---- running out of memory is one fault, wherever it comes
+-- the fault of a run for a refused poll
 abbrev pub poll_refused : PollFault → RunFault
 poll_refused poll_fault.Memory = run.Memory
 poll_refused fault = run.Poll fault
 
--- of lines that are
+-- the fault of a run for refused lines
 abbrev pub lines_refused : LinesFault → RunFault
 lines_refused lines_fault.Memory = run.Memory
 lines_refused lines_fault.TooMany = run.TooManyLines
 
--- of votes that are not taken
+-- the fault of a run for votes that are not taken
 abbrev pub votes_stopped : VoteFault → RunFault
 votes_stopped vote_fault.Memory = run.Memory
 votes_stopped fault = run.Vote fault

@@ -11,8 +11,8 @@ use vote_desks::Audited;
 use vote_poll::{Lines, Poll};
 use vote_sheet::sheet_of_box;
 
-/// The result sheet of an audited box, with the option of the casting vote. Options are numbered
-/// from 1. The program does not call it.
+/// Returns the result sheet of an audited box, with this option as the casting vote. Options are
+/// numbered from 1. The program does not call it.
 ///
 /// The sheet is the same for every number of desks and every order in which the lines were cast.
 pub fn sheet(

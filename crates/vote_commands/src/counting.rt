@@ -1,4 +1,4 @@
-//! The runs that count: the sheet of a poll file and a ballot file, and what else is made of the same count.
+//! The runs that count. They write the sheet of a poll file and a ballot file, or another text from the same count.
 
 ghost use Rattle.std.specs.Prelude.{◌≡◌, ◌≢◌, ◌<◌, ◌↔◌, true, Err, IfOk, IsErrOf, OnOk};
 ghost use Rattle.std.specs.Result.{result_err};
@@ -22,7 +22,7 @@ use vote_files::Sink;
 use vote_request::Purpose;
 use vote_sheet::{Verification, picture_of_box, sheet_of_box, verify_sheet};
 
-/// How a count ends that is decided so.
+/// How a count with this decision ends.
 fn ended_by_decision(decision: Decision) -> Ended
     ensures { result ≡ ended_by_decision decision }
 {
@@ -33,7 +33,7 @@ fn ended_by_decision(decision: Decision) -> Ended
     }
 }
 
-/// How a run ends that finds this of a published sheet.
+/// How a run ends if this is found for a published sheet.
 fn ended_by_verification(found: Verification) -> Ended
     ensures { result ≡ ended_by_verification found }
 {
@@ -43,7 +43,7 @@ fn ended_by_verification(found: Verification) -> Ended
     }
 }
 
-/// The text that the votes were taken for.
+/// The text for this purpose, from the votes that were taken.
 fn text_of_taken(
     alloc: Global,
     taken: &TakenVotes<'_>,
@@ -78,7 +78,7 @@ fn text_of_taken(
     }
 }
 
-/// The text of a count of the inputs, and the witness of its audit.
+/// The text of a count of the inputs for this purpose, and the witness of its audit.
 fn count_inputs<G: Gate + Sync, R: Threads + Wait + Sync>(
     rt: &R,
     alloc: Global,
@@ -100,8 +100,8 @@ fn count_inputs<G: Gate + Sync, R: Threads + Wait + Sync>(
     Ok((text, taken.audited.witness()))
 }
 
-/// Takes the votes of a ballot file, and writes what they are taken for, with the option that the casting vote names. A run that
-/// stops has written nothing; if its output failed, it has written a prefix.
+/// Takes the votes of a ballot file, and writes the text for this purpose, with the option that the casting vote names. A run that
+/// stops has written nothing, or a prefix if its output failed.
 #[tactic(auto, using(crate::proofs::Stopping::stops_at_output))]
 pub fn count_for<G: Gate + Sync, W: Sink, R: Threads + Wait + Sync>(
     rt: &R,

@@ -16,7 +16,7 @@ use vote_poll::{Lines, Poll};
 use vote_poll_findings::{ExplainedPoll, explain_poll};
 use vote_sheet::check_text;
 
-/// How a run ends by its findings.
+/// How a run ends with these findings and this number of refused lines.
 fn ended_by_findings(findings: &String, refused: u64) -> Ended
     ensures { result ≡ ended_by_findings (string_bytes findings.now) refused }
 {
@@ -27,7 +27,7 @@ fn ended_by_findings(findings: &String, refused: u64) -> Ended
     }
 }
 
-/// A text and another one after it. If the first is empty, nothing is copied.
+/// The second text after the first. If the first is empty, nothing is copied.
 fn appended(first: String, rest: String) -> Result<String, AllocError>
     ensures { IfOk result (λ both. string_bytes both ≡ string_bytes first ++ string_bytes rest) }
 {
@@ -39,9 +39,9 @@ fn appended(first: String, rest: String) -> Result<String, AllocError>
     Ok(both)
 }
 
-/// The findings of a poll in order, and after them the line of `check`.
+/// The findings of a valid poll, and then the line of `check`.
 fn with_sizes(alloc: Global, poll: &Poll, findings: String) -> Result<RunText, AllocError>
-    ensures { IfOk result (IsSaid poll.now None (string_bytes findings)) }
+    ensures { IfOk result (IsSaid (Ok poll.now) None (string_bytes findings)) }
 {
     let ended = ended_by_findings(&findings, 0);
     let sizes = check_text(alloc, poll)?;
@@ -49,8 +49,8 @@ fn with_sizes(alloc: Global, poll: &Poll, findings: String) -> Result<RunText, A
     Ok(RunText { text, ended })
 }
 
-/// The findings of a poll in order, and after them all that is said of its lines and of their file. A line feed ends all of the
-/// lines, or all but the last.
+/// The findings of a valid poll, and then all that is said about its lines and their file. If `all_ended`, each line ends with a
+/// line feed, otherwise each line but the last.
 fn with_lines(
     alloc: Global,
     poll: &Poll,
@@ -70,7 +70,7 @@ fn with_lines(
     Ok(RunText { text, ended })
 }
 
-/// The findings of a poll in order, and after them all that is said of its ballots, or the line of `check` if none are given.
+/// The findings of a valid poll, and then all that is said about its ballots, or the line of `check` if no ballots are given.
 #[tactic(auto, using(crate::proofs::Stopping::stops_at_lines))]
 fn with_rest(
     alloc: Global,
@@ -79,7 +79,7 @@ fn with_rest(
     file: Option<&str>,
     found: String,
 ) -> Result<RunText, RunFault>
-    ensures ok { IfOk result (IsSaid poll.now (option_copied ballots.entry) (string_bytes found)) }
+    ensures ok { IfOk result (IsSaid (Ok poll.now) (option_copied ballots.entry) (string_bytes found)) }
     ensures stops { Stops (StopsExplanation (Ok poll.now) (option_copied ballots.entry)) (result_err result) }
     ensures unwritten { result ≢ Err RunFault.Output }
 {
@@ -92,7 +92,7 @@ fn with_rest(
     }
 }
 
-/// What is said of a poll and, where they are given, of its ballots.
+/// What is said about a poll and, if they are given, about its ballots.
 fn explanation(
     alloc: Global,
     poll_text: &[u8],
@@ -117,8 +117,9 @@ fn explanation(
     }
 }
 
-/// Writes all that is wrong with a poll file, and if it is in order with its ballots too, where they are given. `file` and
-/// `poll_file` are the names of the ballot file and of the poll file for a command that mends it, where they have one. Nothing is written before all of it is there.
+/// Writes all that is wrong with a poll file and, if the poll is valid and ballots are given, with its ballots. `file` and
+/// `poll_file` are the names of the ballot file and of the poll file, if they have names, for a command that repairs them. Nothing
+/// is written before the text is complete.
 pub fn explain<W: Sink>(
     alloc: Global,
     poll_text: &[u8],

@@ -15,17 +15,17 @@ use vote_poll::{LinesFault, PollFault};
 pub enum Ended {
     /// A count was decided: this option won, alone or by the casting vote.
     Decided(u8),
-    /// Several options are left of a count, and there was no casting vote.
+    /// Several options are left in a count, and there was no casting vote.
     Tie,
-    /// Several options are left of a count, and the casting vote was for this one, which is not among them.
+    /// Several options are left in a count, and the casting vote was for this option, which is not among them.
     CastingOutside(u8),
     /// The text of another run was written.
     Done,
-    /// All that is wrong with a poll was written, and it is refused.
+    /// All that is wrong with a poll was written, and the poll is refused.
     PollRefused,
-    /// What is wrong with ballots, or with keys that are not read, was written; the poll is in order.
+    /// What is wrong with ballots, or with keys that are not read, was written. The poll is valid.
     Found,
-    /// A published sheet differs from the count, and where was written.
+    /// A published sheet differs from the count, and the difference was written.
     Differs,
 }
 
@@ -43,16 +43,16 @@ pub enum InputFile {
 /// Why a file was not read.
 #[derive(Clone, Copy, Debug, PartialEq, Eq, Error)]
 pub enum InputFault {
-    /// It can't be opened, or its device failed.
+    /// The file can't be opened, or its device failed.
     Unreadable,
-    /// It has more bytes than its limit.
+    /// The file has more bytes than its limit.
     TooLong,
 }
 
-/// Why a run did not come to its end: the first of these that holds, where `Memory` can take the place of any that would come
-/// later. Its `Display` is the program's fault line.
+/// Why a run did not come to its end: the first of these faults that holds. `Memory` can be returned instead of any later fault.
+/// The `Display` of a fault is the program's fault line.
 ///
-/// Want of memory is `Memory` wherever it comes: no run returns one of the faults of a poll or of votes that says it too.
+/// If memory runs out, the fault is always `Memory`: no run returns a fault of a poll or of votes that says the same.
 #[derive(Clone, Copy, Debug, PartialEq, Eq, Error)]
 pub enum RunFault {
     /// A file was not read. Nothing was written.
@@ -218,7 +218,7 @@ fn vote_status(fault: &VoteFault) -> u8
     }
 }
 
-/// The exit status of a run that did not come to its end. It is 7 for a failed output alone.
+/// The exit status of a run that did not come to its end. It is 7 only for a failed output.
 pub fn fault_status(fault: &RunFault) -> u8
     ensures status { result ≡ fault_status fault.now }
     ensures output { (result ≡ 7) ↔ (fault.now ≡ RunFault.Output) }
@@ -235,7 +235,7 @@ pub fn fault_status(fault: &RunFault) -> u8
     }
 }
 
-/// The exit status of a run. It is 7 for a failed output alone.
+/// The exit status of a run. It is 7 only for a failed output.
 pub fn status(outcome: &Result<Ended, RunFault>) -> u8
     ensures status { result ≡ status outcome.now }
     ensures output { (result ≡ 7) ↔ IsErrOf outcome.now RunFault.Output }

@@ -6,7 +6,7 @@ ghost use Rattle.vote_commands.specs.Performing.{TellsNoBox};
 use crate::fault::{Ended, RunFault};
 use vote_desks::AuditWitness;
 
-/// How a run ended; and if it came to the end of a count, the witness of the box that its votes were audited in.
+/// How a run ended and, if a count came to its end, the witness of the box in which its votes were audited.
 #[derive(Drop)]
 pub struct FinishedRun {
     pub end: Result<Ended, RunFault>,

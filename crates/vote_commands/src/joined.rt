@@ -10,7 +10,7 @@ fn has_separator(rest: &[u8]) -> bool
     rest.starts_with(b"%%\n") || rest == b"%%".as_slice()
 }
 
-/// Whether the line `%%` begins at this place.
+/// Whether the line `%%` begins at this index.
 #[tactic(auto, unfolding(crate::specs::Joined::is_separator_at))]
 fn is_separator_at(input: &[u8], at: usize) -> bool
     requires { at < length input.now }
@@ -20,15 +20,15 @@ fn is_separator_at(input: &[u8], at: usize) -> bool
     begins_line && has_separator(&input[at..])
 }
 
-/// The bytes from this place on, if any.
+/// The bytes from this index on, if any.
 fn bytes_from(input: &[u8], at: usize) -> &[u8]
     ensures { result.now ≡ drop at input.now }
 {
     if at < input.len() { &input[at..] } else { &[] }
 }
 
-/// The poll and the ballots of a joined input: the bytes before and after the first line that is `%%`. Without such a
-/// line all bytes are the poll's, and there are no ballots.
+/// Returns the poll and the ballots of a joined input: the bytes before and after the first line that is `%%`. Without such a line
+/// all bytes are the poll, and there are no ballots.
 pub fn split_joined(input: &[u8]) -> (&[u8], &[u8])
     ensures parts { AreParts input.now result.0.now result.1.now }
     ensures same { (result.0.now, result.1.now) ≡ joined_parts input.now }

@@ -1,5 +1,5 @@
-//! What the poll and the ballots of a joined input are, in terms of its lines: each law is the contract of a function that
-//! does nothing.
+//! What the poll and the ballots of a joined input are, in terms of its lines. Each law is the contract of a function that does
+//! nothing.
 ghost use Rattle.vote_commands.specs.Joined.{InputsArePartedAtSeparator, PartsAreUnique};
 
 /// The poll of a joined input comes before its first line `%%`, and its ballots after that line. Without such a line all of

@@ -1,4 +1,4 @@
-//! The commands that list something of the ballots: `steps` and `standing`.
+//! The commands that list something about the ballots: `steps` and `standing`.
 
 ghost use Rattle.std.specs.Prelude.{◌≡◌, ◌≢◌, ◌<◌, ◌↔◌, true, Err, IfOk, IsErrOf, OnOk};
 ghost use Rattle.std.specs.Result.{result_err};
@@ -71,7 +71,7 @@ fn list_files(
     list_ballots(alloc, &poll, ballots, listing)
 }
 
-/// Casts the lines in order at one desk, and writes what is to be listed. Nothing is written before all of it is there.
+/// Casts the lines in order at one desk, and writes the listing. Nothing is written before the text is complete.
 pub fn print_listing<W: Sink>(
     alloc: Global,
     poll_text: &[u8],
@@ -106,7 +106,7 @@ pub fn print_steps<W: Sink>(
     print_listing(alloc, poll_text, ballots, Listing::Steps, sink)
 }
 
-/// `print_steps` for a poll and its ballots in one input, as [`split_joined`] parts it.
+/// `print_steps` for a poll and its ballots in one input, as [`split_joined`] splits it.
 ///
 /// For callers of the library; the program calls `perform`.
 pub fn steps_joined<W: Sink>(alloc: Global, input: &[u8], sink: &mut W) -> Result<(), RunFault>

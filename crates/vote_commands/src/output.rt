@@ -8,7 +8,7 @@ use crate::fault::{Ended, RunFault};
 use std::marker::Model;
 use vote_files::{DeviceFault, Sink, write_text};
 
-/// What a run is to write, and how it ends once that is written.
+/// The text that a run is to write, and how the run ends after that.
 #[derive(Drop)]
 pub(crate) struct RunText {
     pub text: String,
@@ -24,7 +24,7 @@ impl Model for RunText {
     ghost view = { λ run. record { text = string_bytes run.text; end = run.ended } };
 }
 
-/// Writes the text of a run, whose only fault from here on is its output's.
+/// Writes the text of a run. Only the output can fail from here on.
 pub(crate) fn write_run<W: Sink>(sink: &mut W, text: &[u8]) -> Result<(), RunFault>
     ensures writes { Writes (λ meant. meant ≡ text.now) (W.contents sink.old) (W.contents sink.new) (result_err result) }
     ensures only { IfErr result (λ fault. fault ≡ RunFault.Output) }

@@ -1,4 +1,4 @@
-//! The files of a run, read: its poll, and its lines.
+//! Reads the files of a run: its poll and its lines.
 
 ghost use Rattle.std.specs.Prelude.{◌≡◌, Ok, IfErr, IfOk, OnOk};
 ghost use Rattle.vote_poll_text.specs.Lines.{HasTooManyLines, lines_of};

@@ -25,7 +25,7 @@ use vote_request::Request;
 /// A request with the bytes of its files.
 pub type LoadedRequest<'a> = Request<'a, &'a [u8]>;
 
-/// How a run ends that decides nothing.
+/// The end of a run that decides nothing.
 fn ended_as_done(outcome: Result<(), RunFault>) -> FinishedRun
     ensures stop { result_err result.end ≡ result_err outcome }
     ensures end { EndsDone result.end }
@@ -82,7 +82,7 @@ pub fn perform<G: Gate + Sync, W: Sink, R: Threads + Wait + Sync>(
     }
 }
 
-/// Performs a request on a sink over a writer, which counts by this blank, and gives the writer back.
+/// Performs a request on a sink over a writer, and returns the writer. The sink counts with this blank.
 fn perform_metered<G: Gate + Sync, W: Write, L: Ledger, R: Threads + Wait + Sync>(
     rt: &R,
     alloc: Global,
@@ -102,7 +102,7 @@ fn perform_metered<G: Gate + Sync, W: Write, L: Ledger, R: Threads + Wait + Sync
     (sink.into_writer(), finished)
 }
 
-/// [`perform`] on a writer of std, which it gives back.
+/// [`perform`] on a writer of std. Returns the writer.
 pub fn perform_on<G: Gate + Sync, W: Write, R: Threads + Wait + Sync>(
     rt: &R,
     alloc: Global,

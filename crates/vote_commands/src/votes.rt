@@ -1,4 +1,4 @@
-//! The votes of a poll file and a ballot file, taken and audited: what each run that counts begins with.
+//! Takes and audits the votes of a poll file and a ballot file. Each run that counts begins with this.
 
 ghost use Rattle.std.specs.Prelude.{◌≡◌, IfErr, IfNone, IfOk, IfSome, option_copied};
 ghost use Rattle.vote_poll.specs.PollFile.{poll_in};
@@ -15,7 +15,7 @@ use std::thread::Threads;
 use vote_desks::{Audited, Gate, take_votes};
 use vote_poll::{Lines, Poll};
 
-/// What a run that counts is given.
+/// The inputs of a run that counts.
 #[derive(Drop)]
 pub struct CountInputs<'a> {
     /// The bytes of the poll file.
@@ -45,7 +45,7 @@ pub(crate) struct TakenVotes<'t> {
     pub audited: Audited,
 }
 
-/// The option that the casting vote names, if there is one; `None` where no option has the name.
+/// The option that the casting vote names, if there is a casting vote; `None` if no option has the name.
 fn named_option(poll: &Poll, casting: Option<&[u8]>) -> Option<Option<u8>>
     ensures none { IfNone result (NamesNoOption poll.now (option_copied casting.entry)) }
     ensures named { IfSome result (IsNamed poll.now (option_copied casting.entry)) }
@@ -59,7 +59,7 @@ fn named_option(poll: &Poll, casting: Option<&[u8]>) -> Option<Option<u8>>
     }
 }
 
-/// The poll of the poll file, and the option of it that the casting vote names, if there is one.
+/// The poll of the poll file, and its option that the casting vote names, if there is a casting vote.
 #[tactic(auto, using(crate::proofs::Stopping::count_without_poll, crate::proofs::Stopping::count_without_option))]
 fn read_poll<G: Gate>(
     alloc: Global,
@@ -79,8 +79,8 @@ fn read_poll<G: Gate>(
     Ok((poll, casting))
 }
 
-/// Takes the votes of the ballot file, with a thread for each desk, and returns the lines and the audited box. The poll is that of
-/// the poll file, and has the option that the casting vote names.
+/// Takes the votes of the ballot file, with a thread for each desk, and returns the lines and the audited box. `poll` is the poll
+/// of the poll file, and has the option that the casting vote names.
 #[tactic(auto, using(crate::proofs::Stopping::count_without_votes))]
 fn take_ballots<'t, G: Gate + Sync, R: Threads + Wait + Sync>(
     rt: &R,

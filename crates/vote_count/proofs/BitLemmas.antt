@@ -1,4 +1,4 @@
--- What the bits of a word say of its marks.
+-- The bits of a word and its marks.
 use Rattle.std.proofs.Common.{◌≡◌, ℕ, zero, suc, nat_eq, ◌+◌, ◌-◌, ◌<◌, ◌≤◌, ◌^◌, ◌*◌, ◌/◌, ◌%◌, Bool, true, false, not, ◌&&◌, ◌||◌, length, map-id, refl, sym, ap, ◌∙◌, inl, inr, arith}
 use Rattle.std.specs.Prelude.{◌↔◌, IsTrue}
 use Rattle.std.specs.Int.{bit_at, leading_zeros}
@@ -16,7 +16,7 @@ use Rattle.vote_count.specs.Bits.{marks_of, mask_l-marks_of, mask_l}
 use Rattle.vote_count.proofs.Counts.{one, one_of}
 use Rattle.vote_poll.proofs.OptionLaws.{at_option-in, at_option-none, at_option-past}
 
--- the width of `Word`, which has a bit for each option
+-- the width of `Word`, which has one bit for each option
 abbrev pub width : Width
 width = w32
 
@@ -31,7 +31,7 @@ pub bit_of_has : (n o : ℕ) → n < 2 ^ MAX_OPTIONS → 1 ≤ o → one (has (m
 bit_of_has n o h low =
     ap one (at_option-in (marks_of MAX_OPTIONS n) o false low) ∙ sym (bit_mask_l (marks_of MAX_OPTIONS n) (o - 1)) ∙ ap (λ m. bit_at m (o - 1)) (mask_l-marks_of MAX_OPTIONS n h)
 
--- a bit is set exactly where the option is in the set
+-- a bit is set exactly when the option is in the set
 pub bit_is_mark : (n o : ℕ) → n < 2 ^ MAX_OPTIONS → 1 ≤ o → (bit_at n (o - 1) ≡ 1) ↔ IsTrue (has (marks_of MAX_OPTIONS n) o)
 bit_is_mark n o h low = (
   λ set. one_of _ (omega (arith, bit_of_has n o h low, set)),
@@ -136,7 +136,7 @@ pub ruleset bit_marks = (at_option-none, at_option-past, length-marks_of, has-bi
 pub some_bit : (n : ℕ) → count_ones n ≡ 1 → 0 < n
 some_bit n single = omega (arith, ones_le_self n)
 
--- an option of the set has no bit above the highest one
+-- no option of the set is above the highest bit that is set
 pub last_mark : (n o : ℕ) → n < 2 ^ MAX_OPTIONS → IsTrue (has (marks_of MAX_OPTIONS n) o) → o ≤ MAX_OPTIONS - leading_zeros width n
 last_mark n o h member =
     let long = leading_length MAX_OPTIONS n h in

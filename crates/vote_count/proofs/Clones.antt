@@ -1,4 +1,4 @@
--- Clones: options with the same votes over and against each option outside them.
+-- Clones: options with the same votes over and against each option that is not one of them.
 use Rattle.std.proofs.Common.{◌≡◌, ◌≢◌, ℕ, zero, suc, Bool, ◌<◌, ◌≤◌, ◌⊎◌, ◌↔◌, List, [], ◌∷◌, ◌++◌, inl, inr, refl, sym, ap, ◌∙◌, subst, arith}
 use Rattle.std.specs.Prelude.{Option}
 use Rattle.std.specs.List.{All}
@@ -50,7 +50,7 @@ module _ (P : ℕ → Type 0) (B : ℕ → ℕ → Type 0) (itself : (a : ℕ) �
         ),
       ))
 
--- A is before B by Schulze's method: A has a chain to B as strong as some strength, and B none to A
+-- A comes before B by Schulze's method: A has a chain to B of some strength, and B has no chain to A that is as strong
 module _ (m : Votes) (D : ℕ → ℕ → Type 0) where
   abbrev Reaches : ℕ → ℕ → ℕ → ℕ → Type 0
   Reaches v w = TransitivelyDefeats (Strong m D v w)
@@ -88,7 +88,7 @@ module _ (m : Votes) (X : ℕ → Type 0) (known : (a : ℕ) → X a ⊎ ¬ X a)
   stand_in : (e a : ℕ) → (a' : ℕ) × Stands e a a'
   stand_in e a = elim (known a) [ inl clone ↦ (e, inr (clone, refl)) | inr other ↦ (a, inl (other, refl)) ]
 
-  -- of two sets of options that differ only in which clones they have
+  -- two sets of options that differ only in which clones they have
   module _ (K L : ℕ → Type 0) (to : (a : ℕ) → ¬ X a → K a → L a) (alike : AreAlike K) (e : ℕ) (clone : X e) (there : L e) (v w : ℕ) where
     abbrev S : ℕ → ℕ → Type 0
     S = Strong m (PairwiseDefeats K m) v w
@@ -112,7 +112,7 @@ module _ (m : Votes) (X : ℕ → Type 0) (known : (a : ℕ) → X a ⊎ ¬ X a)
           ])
         ]
 
-    -- a step, or none, and then a chain, or none
+    -- a step or no step, and then a chain or no chain
     then : (a b c : ℕ) → (a ≡ b) ⊎ S' a b → (b ≡ c) ⊎ TransitivelyDefeats S' b c → (a ≡ c) ⊎ TransitivelyDefeats S' a c
     then a b c step rest =
         elim step [
@@ -125,7 +125,7 @@ module _ (m : Votes) (X : ℕ → Type 0) (known : (a : ℕ) → X a ⊎ ¬ X a)
     chain_stood_in a b a' b' (x ∷ between) sa sb h =
         let x' = stand_in e x in then a' x'.0 b' (stood_in a x a' x'.0 sa x'.1 h.0) (chain_stood_in x b x'.0 b' between x'.1 sb h.1)
 
-    -- a chain of one set gives one of the other, between what stands in for its ends
+    -- a chain of one set gives a chain of the other, between the options that stand in for its ends
     moved : (a b a' b' : ℕ) → Stands e a a' → Stands e b b' → a' ≢ b' → TransitivelyDefeats S a b → TransitivelyDefeats S' a' b'
     moved a b a' b' sa sb apart chain =
         elim (chain_stood_in a b a' b' chain.0 sa sb chain.1) [ inl same ↦ absurd (apart same) | inr chain' ↦ chain' ]
@@ -143,7 +143,7 @@ module _ (m : Votes) (X : ℕ → Type 0) (known : (a : ℕ) → X a ⊎ ¬ X a)
     alike' : AreAlike L
     alike' c d x cc cd l other = alike c d x cc cd (from x other l) other
 
-    -- another option that wins in the one set wins in the other
+    -- an option that is no clone and wins in one set wins in the other
     other_wins : (x : ℕ) → ¬ X x → IsSchulzeWinner K m D x → IsSchulzeWinner L m D' x
     other_wins x other wins = (
       to x other wins.0,
@@ -164,7 +164,7 @@ module _ (m : Votes) (X : ℕ → Type 0) (known : (a : ℕ) → X a ⊎ ¬ X a)
           ],
     )
 
-    -- where a clone wins in the one set, each clone of the other has a chain as strong to each other option that has one to it
+    -- if a clone wins in one set, each clone of the other set has a chain to each other option that is as strong as the option's chain to it
     over_others : IsSchulzeWinner K m D e → (b : ℕ) → L b → ¬ X b → (v w : ℕ) → Reaches m D' v w b f → Reaches m D' v w f b
     over_others wins b l other v w chain =
         let back = back_as_strong K m e wins b (from b other l) v w
@@ -175,7 +175,7 @@ module _ (m : Votes) (X : ℕ → Type 0) (known : (a : ℕ) → X a ⊎ ¬ X a)
     abbrev T : ℕ → ℕ → Type 0
     T = PairwiseDefeats L m
 
-    -- and the greatest clone of the other wins in it
+    -- and the greatest clone of the other set wins in it
     clone_wins : (e : ℕ) → X e → K e → IsSchulzeWinner K m (PairwiseDefeats K m) e → (f : ℕ) → X f → L f → ¬ (¬ ((a : ℕ) × X a × IsSchulzeWinner L m T a))
     clone_wins e clone here wins f clone' there none =
         greatest (λ a. X a × L a) (Before m T) (before_itself m T) (before_transitive m T) n f (clone', there) (λ best.
@@ -191,7 +191,7 @@ module _ (m : Votes) (X : ℕ → Type 0) (known : (a : ℕ) → X a ⊎ ¬ X a)
         ]))) in
         backs (λ all. none (a, is.0, (is.1, λ b l x y defeat chain. all b (few b l) x (few x defeat.0) y (few y defeat.1) l defeat chain))))
 
--- the rounds over all, and those over all but some of the clones
+-- the rounds over all options, and the rounds over all but some of the clones
 module _ (m : Votes) (X : ℕ → Type 0) (known : (a : ℕ) → X a ⊎ ¬ X a) (K L : ℕ → Type 0) (among : (a : ℕ) → L a → K a) (to : (a : ℕ) → ¬ X a → K a → L a) (alike : AreAlike m X known K)
     (n : ℕ) (few : (o : ℕ) → K o → o < n) (c : ℕ) (clone : X c) (there : L c) (rs ss : List Round) (rounds : AreRounds K m (PairwiseDefeats K m) rs) (fewer : AreRounds L m (PairwiseDefeats L m) ss) where
   few' : (o : ℕ) → L o → o < n
@@ -225,7 +225,7 @@ module _ (m : Votes) (X : ℕ → Type 0) (known : (a : ℕ) → X a ⊎ ¬ X a)
 is_in : (set : List Bool) (a : ℕ) → In set a ⊎ ¬ In set a
 is_in set a = elim (cases_Bool (has set a)) [ inl inside ↦ inl inside | inr outside ↦ inr (λ i. both_ways _ outside i) ]
 
--- what is not refuted is so, of a set's having an option
+-- if it is not refuted that a set has an option, the set has it
 stable : (set : List Bool) (a : ℕ) → ¬ (¬ In set a) → In set a
 stable set a h = elim (is_in set a) [ inl inside ↦ inside | inr outside ↦ absurd (h outside) ]
 
@@ -281,7 +281,7 @@ module _ (K : ℕ → Type 0) (m : Votes) (n : ℕ) (few : (o : ℕ) → K o →
   pub clone_law : In (final_set ss) c ↔ (In (final_set rs) c ⊎ In (final_set rs) d)
   clone_law = (one_of_two, λ one. elim one [ inl first ↦ stays c (inl refl) first | inr second ↦ stays d (inr refl) second ])
 
--- some option below a number is in two sets, or none is
+-- some option below a number is in two sets, or there is no such option
 common : (set other : List Bool) (n : ℕ) → Meet set (In other) ⊎ ((a : ℕ) → a < n → In set a → ¬ In other a)
 common set other zero = inr (λ a less. absurd (omega arith))
 common set other (suc n) =
@@ -305,7 +305,7 @@ module _ (K : ℕ → Type 0) (m : Votes) (n : ℕ) (few : (o : ℕ) → K o →
   outside : (a : ℕ) → ¬ In clones a → K a → Outside K removed a
   outside a other k = (k, λ gone. other (within a gone))
 
-  -- what is not refuted is so, of a set's having an option in common with the clones
+  -- if it is not refuted that a set has an option in common with the clones, it has one
   meets : (set : List Bool) → ((a : ℕ) → In set a → K a) → ¬ (¬ Meet clones (In set)) → Meet clones (In set)
   meets set kept h = elim (common clones set n) [ inl found ↦ found | inr none ↦ absurd (h (λ found. none found.0 (few found.0 (kept found.0 found.2)) found.1 found.2)) ]
 

@@ -1,4 +1,4 @@
--- How many elements of a list pass a test.
+-- The number of elements of a list that pass a test.
 use Rattle.std.proofs.Common.{◌≡◌, ℕ, Bool, true, false, cond, count_by, ◌+◌, ◌≤◌, List, [], ◌∷◌, inl, inr, refl, arith}
 use Rattle.std.specs.Prelude.{IsTrue}
 use Rattle.std.specs.List.{All, AllZip}
@@ -6,7 +6,7 @@ use Rattle.std.proofs.lemmas.Bool.{cases_Bool}
 use Rattle.std.proofs.lemmas.List.Elements.{All-nil, All-cons, All-head, All-tail}
 use Rattle.std.proofs.lemmas.List.Sums.{sum_by-cons}
 
--- what an element adds to the count
+-- the number that an element adds to the count
 abbrev pub one : Bool → ℕ
 one passes = cond passes 1 0
 
@@ -31,7 +31,7 @@ counted b h = rw h
 not_counted : (b : Bool) → b ≡ false → one b ≡ 0
 not_counted b h = rw h
 
--- two lists, place by place
+-- two lists, index by index
 module _ {X : Type 0} where
   pub flipped : (R : X → X → Type 0) (xs ys : List X) → AllZip R xs ys → AllZip (λ y x. R x y) ys xs
   flipped R [] [] h = tt
@@ -54,7 +54,7 @@ module _ {X : Type 0} (p q : X → Bool) where
   abbrev Implied : X → X → Type 0
   Implied x y = IsTrue (p x) → IsTrue (q y)
 
-  -- no more pass the one test than the other, where each that passes the one passes the other
+  -- if each element that passes the first test passes the second, no more pass the first than the second
   pub count_implied : (xs : List X) → All (λ x. IsTrue (p x) → IsTrue (q x)) xs → count_by p xs ≤ count_by q xs
   count_implied xs h = count_more Implied p q (λ x y r. r) xs xs (paired Implied xs h)
 
@@ -64,7 +64,7 @@ module _ {X : Type 0} (p q : X → Bool) where
       let same : one (p x) ≡ one (q x) = rw (All-head (λ z. p z ≡ q z) x xs h) in
       omega (arith, sum_by-cons (λ z. one (p z)) x xs, sum_by-cons (λ z. one (q z)) x xs, count_same xs (All-tail (λ z. p z ≡ q z) x xs h))
 
-  -- and where as many pass the one as the other, each that passes the other passes the one
+  -- and if as many pass the first as the second, each that passes the second passes the first
   pub implied_back : (xs : List X) → All (λ x. IsTrue (p x) → IsTrue (q x)) xs → count_by q xs ≤ count_by p xs → All (λ x. IsTrue (q x) → IsTrue (p x)) xs
   implied_back [] h enough = All-nil (λ x. IsTrue (q x) → IsTrue (p x))
   implied_back (x ∷ xs) h enough =

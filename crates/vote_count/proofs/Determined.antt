@@ -1,4 +1,4 @@
--- The rules leave no choice in an outcome and in a decision.
+-- The rules leave no choice of an outcome or of a decision.
 use Rattle.std.proofs.Common.{◌≡◌, ◌≢◌, ℕ, ◌<◌, ◌⊎◌, ◌↔◌, Bool, List, [], ◌∷◌, Option, None, Some, refl, inl, inr, sym, ap, ◌∙◌, subst, arith}
 use Rattle.std.proofs.lemmas.Bool.{cases_eq}
 use Rattle.vote_poll.specs.Options.{IsOption}
@@ -136,7 +136,7 @@ outcomes_same poll m w o u same is_o is_u =
       rounds = same_rounds poll m w same o u is_o is_u;
     }
 
--- whether an option is alone in a set is known
+-- it is known whether an option is alone in a set
 pub alone_or_not : (set : List Bool) → ((o : ℕ) × IsAlone set o) ⊎ ((o : ℕ) → ¬ IsAlone set o)
 alone_or_not set =
     elim (cases_eq (size set) 1) [

@@ -1,10 +1,10 @@
--- Examples in numbers: which of two defeats is the weaker.
+-- Examples of which of two defeats is weaker.
 use Rattle.std.proofs.Common.{◌≡◌, ℕ, ◌+◌, ◌<◌, ◌⊎◌, inl, inr, refl, sym, ◌∙◌, arith}
 use Rattle.vote_count.specs.Laws.{WeakerDefeatsAsInTheExamples}
 use Rattle.vote_count.specs.Rules.{IsWeaker}
 use Rattle.vote_count.specs.Votes.{Votes, votes}
 
--- a defeat with no fewer votes for it, and if they are as many with no more against it, is not weaker
+-- a defeat is not weaker if it has more votes for it, or if it has as many for it and no more against it
 no_weaker : (m : Votes) (a x b y : ℕ) → (votes m b y < votes m a x) ⊎ ((votes m b y ≡ votes m a x) × (votes m x a < votes m y b + 1)) → ¬ IsWeaker m a x b y
 no_weaker m a x b y stronger weaker =
     elim stronger [

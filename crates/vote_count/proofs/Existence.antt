@@ -1,4 +1,4 @@
--- Each count has rounds. A round is made of the tests of its rules, and drops a defeat or is the last; so as many rounds as there are defeats, and one more, are enough.
+-- Each count has rounds. A round is made with the tests of its rules, and it drops a defeat or is the last. So there is at most one round more than there are defeats.
 use Rattle.std.proofs.Common.{◌≡◌, ℕ, zero, suc, ◌-◌, ◌*◌, ◌^◌, ◌<◌, ◌≤◌, Bool, true, false, not, ◌&&◌, List, [], ◌∷◌, Option, None, Some, map, inl, inr, refl, sym, ap, subst, ◌∙◌, arith}
 use Rattle.std.specs.Prelude.{◌↔◌, ◌⊎◌, IsTrue}
 use Rattle.std.specs.List.{range_with_len}
@@ -26,7 +26,7 @@ use Rattle.vote_count.proofs.Sizes.{pair_count_at, pair_count_lt, pair_count_som
 use Rattle.vote_count.proofs.Squares.{le_double_square, square_is}
 use Rattle.vote_count.proofs.Tests.{Test, all_three, at_most, both, defeat, either, implied, kept, known, like, marked, negated, of_each, quorum, weaker}
 
--- ---- lists that say something of each of n options
+-- ---- lists with an entry for each of n options
 module _ (n : ℕ) where
   -- one entry for each option
   abbrev entries : {X : Type 0} → (ℕ → X) → List X
@@ -63,7 +63,7 @@ module _ (n : ℕ) where
     λ h. ap (λ r. has r b) (entries_at (λ x. set_of (passes x)) a [] h.0) ∙ (in_set_of (passes a) b).1 (h.1, h.2),
   )
 
--- ---- one round, over defeats between options that a test tells
+-- ---- one round, over defeats between options that a test finds
 module _ (K : ℕ → Type 0) (test : (o : ℕ) → Test (K o)) (m : Votes) (n : ℕ) (options : (o : ℕ) → K o → IsOption n o) where
   abbrev Edges : (ℕ → ℕ → Bool) → ℕ → ℕ → Type 0
   Edges e a b = IsTrue (e a b)
@@ -174,7 +174,7 @@ module _ (K : ℕ → Type 0) (test : (o : ℕ) → Test (K o)) (m : Votes) (n :
       rounds_of_defeats (PairwiseDefeats K m) (λ a b. all_three (test a) (test b) (at_most (suc (votes m b a)) (votes m a b)))
       (λ a b d. (options a d.0, options b d.1))
 
--- ---- what a count comes to
+-- ---- the result of a count
 pub rounds_exist : RoundsExist
 rounds_exist poll m some = rounds_of_options (IsKept poll m) (kept poll m) m (option_count poll) (kept_option poll m some)
 
@@ -225,7 +225,7 @@ decisions_exist set casting =
           (by.0, record { alone = λ o alone. absurd (several o alone); several = λ _. by.1 })
     ]
 
--- the least number for which something holds is below another, or for none below does it hold
+-- the least number for which a fact holds is below a number, or the fact holds for no number below it
 least_below : (P : ℕ → Type 0) → ((k : ℕ) → Test (P k)) → (n : ℕ) → ((k : ℕ) × P k × ((j : ℕ) → P j → k ≤ j)) ⊎ ((j : ℕ) → j < n → ¬ P j)
 least_below P test zero = inr (λ j less. absurd (omega arith))
 least_below P test (suc n) =

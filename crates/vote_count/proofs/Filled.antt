@@ -1,23 +1,23 @@
--- A set, or a set of pairs, that a loop fills with the options, or the pairs, that pass a test.
+-- A loop fills a set with the options that pass a test, or a set of pairs with the pairs that pass it.
 use Rattle.std.proofs.Common.{◌≡◌, ℕ, ◌+◌, ◌<◌, ◌≤◌, inl, inr, sym, subst, arith}
 use Rattle.std.specs.Prelude.{◌↔◌, ◌⊎◌}
 use Rattle.std.proofs.lemmas.Bool.{cases_eq}
 
--- what has passed before this option, and this one as well
+-- the options that passed before this option, and this option as well
 pub option_taken : (S T P : ℕ → Type 0) (a : ℕ) → ((x : ℕ) → S x ↔ (P x × (x < a))) → ((x : ℕ) → T x ↔ ((x ≡ a) ⊎ S x)) → P a → (x : ℕ) → T x ↔ (P x × (x < a + 1))
 option_taken S T P a before more passes x = (
   λ h. elim ((more x).0 h) [ inl same ↦ (subst P (sym same) passes, omega arith) | inr old ↦ (((before x).0 old).0, omega (arith, ((before x).0 old).1)) ],
   λ h. (more x).1 (elim (cases_eq x a) [ inl same ↦ inl same | inr other ↦ inr ((before x).1 (h.0, omega (arith, h.1))) ]),
 )
 
--- what has passed before this option, where this one does not
+-- the options that passed before this option, if this option does not pass
 pub option_left : (S P : ℕ → Type 0) (a : ℕ) → ((x : ℕ) → S x ↔ (P x × (x < a))) → ¬ P a → (x : ℕ) → S x ↔ (P x × (x < a + 1))
 option_left S P a before fails x = (
   λ h. (((before x).0 h).0, omega (arith, ((before x).0 h).1)),
   λ h. elim (cases_eq x a) [ inl same ↦ absurd (fails (subst P same h.0)) | inr other ↦ (before x).1 (h.0, omega (arith, h.1)) ],
 )
 
--- a pair is by an option before `a`, or by `a` of one before `b`
+-- the first option of the pair is before `a`; or it is `a`, and the second is before `b`
 abbrev pub IsBefore : ℕ → ℕ → ℕ → ℕ → Type 0
 IsBefore a b x y = (x < a) ⊎ ((x ≡ a) × (y < b))
 
@@ -60,7 +60,7 @@ row_done S P a b end all high before x y = (
   λ h. (before x y).1 (h.0, elim (cases_eq x a) [ inl same ↦ inr (same, omega (arith, high x y h.0)) | inr other ↦ inl (omega (arith, h.1)) ]),
 )
 
--- one option `d` is in, and the others that have passed before this option, and this one as well
+-- one option `d` is in the set, with the other options that passed before this option, and this option as well
 pub other_taken : (S T P : ℕ → Type 0) (d a : ℕ) → ((x : ℕ) → S x ↔ ((x ≡ d) ⊎ ((1 ≤ x) × (x < a) × P x))) → ((x : ℕ) → T x ↔ ((x ≡ a) ⊎ S x)) → 1 ≤ a → P a
     → (x : ℕ) → T x ↔ ((x ≡ d) ⊎ ((1 ≤ x) × (x < a + 1) × P x))
 other_taken S T P d a before more low passes x = (
@@ -74,7 +74,7 @@ other_taken S T P d a before more low passes x = (
   ]),
 )
 
--- the same, where this option does not pass
+-- the same, if this option does not pass
 pub other_left : (S P : ℕ → Type 0) (d a : ℕ) → ((x : ℕ) → S x ↔ ((x ≡ d) ⊎ ((1 ≤ x) × (x < a) × P x))) → ¬ P a → (x : ℕ) → S x ↔ ((x ≡ d) ⊎ ((1 ≤ x) × (x < a + 1) × P x))
 other_left S P d a before fails x = (
   λ h. elim ((before x).0 h) [ inl first ↦ inl first | inr other ↦ inr (other.0, omega (arith, other.1), other.2) ],

@@ -1,4 +1,4 @@
--- What is said of the rounds of a count is said of its final set: there are rounds, and all have the same final set.
+-- A fact about the rounds of a count is a fact about its final set: there are rounds, and all of them have the same final set.
 use Rattle.std.proofs.Common.{suc, ◌≤◌, inl, inr, arith}
 use Rattle.vote_poll.specs.PollContent.{option_count}
 use Rattle.vote_count.specs.Laws.{CloneSetsAreIndependent, CondorcetWinnersWin, Except, FinalSetIsCloneproof, FinalSetIsInSmithSet, FinalSetIsOne, FinalSetIsPareto, FinalSetIsSchulze, Outside, RaisedWinnersWin}

@@ -1,4 +1,4 @@
--- A count always leaves an option. Look at one option after another and hold the best so far: the next one, if it transitively defeats the one that is held. Transitive defeats are transitive, so the last one held is defeated only by options that it defeats (`some_final`). This asks for a test of who defeats whom (`Tests`).
+-- A count always leaves an option. Look at one option after another and hold the best so far: take the next option if it transitively defeats the option that is held. Transitive defeats are transitive, so the last option that is held is defeated only by options that it defeats (`some_final`). This needs a test of which option defeats which (`Tests`).
 use Rattle.std.proofs.Common.{ℕ, List, inl, inr, refl, arith}
 use Rattle.std.specs.Prelude.{IsTrue}
 use Rattle.std.proofs.lemmas.Bool.{cases_eq}

@@ -1,4 +1,4 @@
--- An option to which each ballot prefers the same other one is not in the final set.
+-- If each ballot prefers one option to another, the other is not in the final set.
 use Rattle.std.proofs.Common.{◌≢◌, ℕ, suc, ◌<◌, ◌≤◌, List, [], inl, inr, refl, sym, arith}
 use Rattle.std.specs.Prelude.{IsTrue, Option, Some, None, IfSome}
 use Rattle.std.specs.List.{All}
@@ -21,7 +21,7 @@ use Rattle.vote_count.proofs.Counts.{count_implied, count_none, implied_back}
 use Rattle.vote_count.proofs.Strengths.{Strong, not_below_itself}
 use Rattle.vote_count.proofs.Schulze.{schulze_law, kept_below, kept_option, other_kept}
 
--- what a ballot prefers is an order
+-- the preferences of a ballot are an order
 before_transitive : (p q r : Option ℕ) → IsTrue (is_preferred p q) → IsTrue (is_preferred q r) → IsTrue (is_preferred p r)
 before_transitive None q r h k = absurd (true≢false (sym h))
 before_transitive (Some x) None r h k = absurd (true≢false (sym k))
@@ -52,7 +52,7 @@ module _ (poll : PollContent) (ballots : List (Option (List (Option ℕ)))) (m :
   option : (o : ℕ) → K o → IsOption (option_count poll) o
   option = kept_option poll m (other_kept poll m a b first second apart).3
 
-  -- each ballot prefers A to B, so what prefers X to Y, being a ballot, does
+  -- each ballot prefers A to B, so an entry that prefers X to Y does, since it is a ballot
   only_ballots : (x y : ℕ) (entry : Option (List (Option ℕ))) → IfSome entry (λ ranks. IsTrue (prefers ranks a b)) → IsTrue (entry_prefers x y entry) → IsTrue (entry_prefers a b entry)
   only_ballots x y None h t = absurd (true≢false (sym t))
   only_ballots x y (Some ranks) h t = h
@@ -60,14 +60,14 @@ module _ (poll : PollContent) (ballots : List (Option (List (Option ℕ)))) (m :
   all_prefer : (x y : ℕ) → All (λ entry. IsTrue (entry_prefers x y entry) → IsTrue (entry_prefers a b entry)) ballots
   all_prefer x y = All-weaker (λ entry. IfSome entry (λ ranks. IsTrue (prefers ranks a b))) _ (only_ballots x y) ballots unanimous
 
-  -- each ballot prefers X to Y
+  -- each ballot that prefers A to B prefers X to Y
   abbrev Agreed : ℕ → ℕ → Type 0
   Agreed x y = All (λ entry. IsTrue (entry_prefers a b entry) → IsTrue (entry_prefers x y entry)) ballots
 
   agreed_transitive : (x y z : ℕ) → Agreed x y → Agreed y z → Agreed x z
   agreed_transitive x y z h k = λ i d within preferred. entry_transitive x y z _ (h i d within preferred) (k i d within preferred)
 
-  -- no pair has more votes than A over B, and one that has as many is agreed
+  -- no pair has more votes than A has over B; if a pair has as many, all ballots agree on it
   most : (x y : ℕ) → K x → K y → votes m x y ≤ votes m a b
   most x y kx ky =
       omega (arith, of x y (option x kx) (option y ky), of a b (option a first) (option b second), count_implied (entry_prefers x y) (entry_prefers a b) ballots (all_prefer x y))

@@ -27,12 +27,12 @@ use Rattle.vote_count.proofs.Schulze.{schulze_law, back_as_strong, kept_below, k
 equal_more : (v w v' w' x y : ℕ) → v ≤ v' → w' ≤ w → (v' ≡ x) × (y < w') → IsBelow v w x y
 equal_more v w v' w' x y more fewer h = let same = h.0 in let less = h.1 in elim (cases_lt v x) [ inl below ↦ inl below | inr at ↦ inr (omega arith, omega arith) ]
 
--- more for and fewer against are no weaker
+-- a defeat with more votes for it and fewer against it is no weaker
 not_below_more : (v w v' w' x y : ℕ) → v ≤ v' → w' ≤ w → ¬ IsBelow v w x y → ¬ IsBelow v' w' x y
 not_below_more v w v' w' x y more fewer h below = h (elim below [ inl less ↦ inl (omega arith) | inr same ↦ equal_more v w v' w' x y more fewer same ])
 
 module _ (E : ℕ → ℕ → Type 0) (a : ℕ) where
-  -- a chain to A can be cut where it comes to A first
+  -- a chain to A can be cut where it first comes to A
   cut_after : (b : ℕ) (between : List ℕ) → b ≢ a → EachDefeatsNext E (b ∷ between ++ a ∷ []) → TransitivelyDefeats (λ c d. E c d × (c ≢ a)) b a
   cut_after b [] other h = ([], ((h.0, other), tt))
   cut_after b (x ∷ between) other h =
@@ -41,7 +41,7 @@ module _ (E : ℕ → ℕ → Type 0) (a : ℕ) where
         | inr not_yet ↦ let rest = cut_after x between not_yet h.1 in (x ∷ rest.0, ((h.0, other), rest.1))
       ]
 
-  -- a chain does not come to A, or A has a chain that does not come back to it
+  -- a chain does not come to A, or A has a chain to its end that does not come back to A
   cut_before : (c b : ℕ) (between : List ℕ) → b ≢ a → EachDefeatsNext E (c ∷ between ++ b ∷ []) →
       TransitivelyDefeats (λ p q. E p q × (q ≢ a)) c b ⊎ TransitivelyDefeats (λ p q. E p q × (q ≢ a)) a b
   cut_before c b [] other h = inl ([], ((h.0, other), tt))
@@ -69,7 +69,7 @@ module _ (K L : ℕ → Type 0) (to : (o : ℕ) → K o → L o) (from : (o : �
   abbrev D' : ℕ → ℕ → Type 0
   D' = PairwiseDefeats L n
 
-  -- the defeats of either matrix that are no weaker than these votes for and against
+  -- the defeats of each matrix that are no weaker than these votes for and against
   abbrev S : ℕ → ℕ → ℕ → ℕ → Type 0
   S = Strong m D
 
@@ -90,7 +90,7 @@ module _ (K L : ℕ → Type 0) (to : (o : ℕ) → K o → L o) (from : (o : �
       let won = h.0.2 in
       ((to c h.0.0, to d h.0.1, omega arith), not_below_more (votes m c d) (votes m d c) (votes n c d) (votes n d c) v w l.1 l.0 h.1)
 
-  -- a chain to another option that was as strong as one from it is so still
+  -- A still has a chain to another option that is as strong as the option's chain to A
   strong_back : IsSchulzeWinner K m D a → (b : ℕ) → K b → b ≢ a → (v w : ℕ) → TransitivelyDefeats (S' v w) b a → TransitivelyDefeats (S' v w) a b
   strong_back wins b k other v w chain =
       let before = monotone (λ c d. S' v w c d × (c ≢ a)) (S v w) (λ c d h. lowered v w c d h.0 h.1) b a (chain_to (S' v w) a b other chain) in
@@ -135,7 +135,7 @@ module _ (poll : PollContent) (is : IsPoll poll) where
   kept_one : (m : Votes) (o : ℕ) → IsKept poll m o → IsOption (option_count poll) o
   kept_one m = kept_option poll m (let some = is.options_min in omega arith)
 
-  -- an option with no fewer votes for it and no more against it stays
+  -- an option that has no fewer votes for it and no more against it stays
   kept_still : (m n : Votes) (o : ℕ) → (o ≢ option_count poll → (votes m o (option_count poll) ≤ votes n o (option_count poll)) × (votes n (option_count poll) o ≤ votes m (option_count poll) o))
       → IsKept poll m o → IsKept poll n o
   kept_still m n o more kept =
@@ -149,7 +149,7 @@ module _ (poll : PollContent) (is : IsPoll poll) where
 
   module _ (m n : Votes) (a : ℕ) (raised : IsRaised (option_count poll) a m n) (rs ss : List Round)
       (are : AreRounds (IsKept poll m) m (PairwiseDefeats (IsKept poll m) m) rs) (so : AreRounds (IsKept poll n) n (PairwiseDefeats (IsKept poll n) n) ss) where
-    -- each other option has no more over A, and A no fewer over it
+    -- each other option has no more votes over A, and A has no fewer over it
     less : (c d : ℕ) → IsOption (option_count poll) c → IsOption (option_count poll) d → c ≢ a → (votes n c d ≤ votes m c d) × (votes m d c ≤ votes n d c)
     less c d oc od other =
         elim (cases_eq d a) [
@@ -164,7 +164,7 @@ module _ (poll : PollContent) (is : IsPoll poll) where
     was_kept : (o : ℕ) → o ≢ a → IsKept poll n o → IsKept poll m o
     was_kept o other kept = kept_still n m o (λ _. less o (option_count poll) (kept_one n o kept) default_option other) kept
 
-    -- where A is not the default, an option that was kept is kept now
+    -- if A is not the default, an option that was kept is kept now
     is_kept : a ≢ option_count poll → (o : ℕ) → IsKept poll m o → IsKept poll n o
     is_kept other o kept =
         kept_still m n o (λ _. let l = less (option_count poll) o default_option (kept_one m o kept) (λ same. other (sym same)) in (l.1, l.0)) kept

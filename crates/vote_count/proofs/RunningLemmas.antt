@@ -1,4 +1,4 @@
--- The votes of a running matrix: each is the settled number and the change that is kept for it, and a ballot moves it by one.
+-- The votes of a running matrix: each is the sum of its settled votes and its change, and a ballot moves it by one.
 use Rattle.std.proofs.Common.{◌≡◌, ℕ, ◌+◌, ◌-◌, ◌%◌, ◌<◌, ◌≤◌, Bool, cond, List, [], Option, map, length, get_or, replicate, if◌then◌else◌, nat_lt, sym, subst, ap, ap₂, ◌∙◌, inl, inr, arith}
 use Rattle.std.specs.Prelude.{IsTrue}
 use Rattle.std.specs.List.{range_with_len}
@@ -19,7 +19,7 @@ use Rattle.vote_count.proofs.Counts.{one_of}
 pub votes-next : (m : Votes) (i j : ℕ) → votes m (i + 1) (j + 1) ≡ get_or (get_or m.rows i []) j 0
 votes-next m i j = ap (λ row. at_option row (j + 1) 0) (at_option-next m.rows i []) ∙ at_option-next (get_or m.rows i []) j 0
 
--- a vote is the sum of what is kept for it
+-- a vote is the sum of its settled votes and its change
 pub sum-seen : (m : Inside) (i j : ℕ) → i < 32 → j < 32 → votes (votes_of m) (i + 1) (j + 1) ≡ sum_at m.settled m.changes i j
 sum-seen m i j in_i in_j =
     votes-next (votes_of m) i j
@@ -32,7 +32,7 @@ sum-seen-at m a b of_a of_b =
     ∙ ap (λ (row : List ℕ). get_or row (b - 1) 0) (get_or-map-range_with_len (λ row. map (sum_at m.settled m.changes row) (range_with_len 0 MAX_OPTIONS)) 0 MAX_OPTIONS (a - 1) (a - 1) [] (omega (arith, of_a)) (omega arith))
     ∙ get_or-map-range_with_len (sum_at m.settled m.changes (a - 1)) 0 MAX_OPTIONS (b - 1) (b - 1) 0 (omega (arith, of_b)) (omega arith)
 
--- what holds of the options counted from 0 holds of them counted from 1
+-- a fact about options counted from 0 is a fact about options counted from 1
 pub at-options : (P : ℕ → ℕ → Type 0) (n : ℕ) → ((i j : ℕ) → i < n → j < n → P (i + 1) (j + 1)) → (a b : ℕ) → IsOption n a → IsOption n b → P a b
 at-options P n each a b of_a of_b =
     let first : a - 1 + 1 ≡ a = omega (arith, of_a.0) in
@@ -42,7 +42,7 @@ at-options P n each a b of_a of_b =
 pub turn-within : (i j : ℕ) → i < 32 → j < 32 → turn_of i j < 64
 turn-within i j in_i in_j = omega arith
 
--- what is kept where all lanes are the same
+-- the entry of two options, if all lanes are the same
 pub kept-same : (x i j : ℕ) → i < 32 → j < 32 → kept_at (replicate 64 (replicate 16 x)) i j ≡ x
 kept-same x i j in_i in_j =
     ap (λ (row : List ℕ). get_or row (i % 16) 0) (get_or-replicate 64 (turn_of i j) (replicate 16 x) [] (turn-within i j in_i in_j))
@@ -51,7 +51,7 @@ kept-same x i j in_i in_j =
 pub same-turns : (x : ℕ) → AreTurns (replicate 64 (replicate 16 x))
 same-turns x = (length-replicate 64 (replicate 16 x), λ turn within. ap length (get_or-replicate 64 turn (replicate 16 x) [] within) ∙ length-replicate 16 x)
 
--- the vote of a ballot by its keys
+-- the vote of a ballot, computed from its keys
 pub vote-by-keys : (ranks : List (Option ℕ)) (keys : List ℕ) → AreSortKeys ranks keys → (i j : ℕ) → i < length ranks → j < length ranks
     → (if prefers ranks (i + 1) (j + 1) then 1 else 0) ≡ key_vote keys i j
 vote-by-keys ranks keys are i j in_i in_j =
@@ -62,7 +62,7 @@ vote-by-keys ranks keys are i j in_i in_j =
     ∙ ap (λ k. one (nat_lt (get_or keys k 0) (get_or keys (j + 1 - 1) 0))) first
     ∙ ap (λ k. one (nat_lt (get_or keys i 0) (get_or keys k 0))) second
 
--- keys that are all the same prefer nothing
+-- a ballot whose keys are all the same prefers nothing
 pub no-vote : (i j : ℕ) → key_vote (replicate 32 0) i j ≡ 0
 no-vote i j = ap₂ vote_by (zero-at i) (zero-at j)
   where
@@ -79,11 +79,11 @@ one-at-most key other =
       | inr no_less ↦ let vote : vote_by key other ≡ 0 = ap (λ (t : Bool). cond t 1 0) (le-ltb key other no_less) in omega arith
     ]
 
--- a ballot's vote by its keys, and that it is one
+-- if a ballot's keys give a vote, the ballot prefers the option
 pub prefers-by-keys : (ranks : List (Option ℕ)) (keys : List ℕ) → AreSortKeys ranks keys → (i j : ℕ) → i < length ranks → j < length ranks → 1 ≤ key_vote keys i j → IsTrue (prefers ranks (i + 1) (j + 1))
 prefers-by-keys ranks keys are i j in_i in_j some = one_of (prefers ranks (i + 1) (j + 1)) (subst (λ (v : ℕ). 1 ≤ v) (sym (vote-by-keys ranks keys are i j in_i in_j)) some)
 
--- one vote before and after a ballot goes and one comes: `settled` and `change` before there was room, `kept` and `even` after it, `moved` at the end
+-- one vote before and after a ballot goes and another comes: `settled` and `change` before there was room, `kept` and `even` after it, `moved` at the end
 pub record IsCell (settled change kept even moved pending gone come : ℕ) : Type 0 where
   pub within : (128 ≤ moved + pending) × (moved ≤ 128 + pending)
   pub sum : (128 ≤ kept + moved) × (kept + moved < 4294967424)

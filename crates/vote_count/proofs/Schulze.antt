@@ -19,7 +19,7 @@ kept_below poll m o kept = elim kept [ inl default ↦ omega arith | inr other �
 pub kept_option : (poll : PollContent) (m : Votes) → 1 ≤ option_count poll → (o : ℕ) → IsKept poll m o → IsOption (option_count poll) o
 kept_option poll m some o kept = elim kept [ inl default ↦ (omega arith, omega arith) | inr other ↦ let low = other.0 in let high = other.1 in (omega arith, omega arith) ]
 
--- of two kept options one is not the default
+-- one of two kept options is not the default
 pub other_kept : (poll : PollContent) (m : Votes) (a b : ℕ) → IsKept poll m a → IsKept poll m b → a ≢ b → (o : ℕ) × IsKept poll m o × (o ≢ option_count poll) × (1 ≤ option_count poll)
 other_kept poll m a b first second apart =
     elim (cases_eq a (option_count poll)) [
@@ -28,7 +28,7 @@ other_kept poll m a b first second apart =
     ]
 
 module _ (E R : ℕ → ℕ → Type 0) (known : (a b : ℕ) → R a b ⊎ ¬ R a b) where
-  -- a chain has no removed defeat, or goes on from the end of its last removed one
+  -- a chain has no removed defeat, or goes on from the end of its last removed defeat
   last_removed : (a c : ℕ) (between : List ℕ) → EachDefeatsNext E (a ∷ between ++ c ∷ []) →
       TransitivelyDefeats (Without E R) a c ⊎ ((p : ℕ) × (q : ℕ) × R p q × ((q ≡ c) ⊎ TransitivelyDefeats (Without E R) q c))
   last_removed a c [] h = elim (known a c) [ inl removed ↦ inr (a, c, removed, inl refl) | inr left ↦ inl ([], ((h.0, left), tt)) ]
@@ -43,7 +43,7 @@ is_removed r a b = elim (cases_Bool (has_pair r.removed a b)) [ inl removed ↦ 
 
 -- one round
 module _ (K : ℕ → Type 0) (m : Votes) (E : ℕ → ℕ → Type 0) (into : (a b : ℕ) → E a b → PairwiseDefeats K m a b) (r : Round) (is : IsRound K m E r) where
-  -- who transitively defeats an option of the set is in the set
+  -- an option that transitively defeats an option of the set is in the set
   defeater_in : (a c : ℕ) → In r.set c → TransitivelyDefeats E a c → In r.set a
   defeater_in a c inside chain =
       let first = first_defeat E a c chain in
@@ -78,7 +78,7 @@ module _ (K : ℕ → Type 0) (m : Votes) (E : ℕ → ℕ → Type 0) (into : (
             absurd (left ((is.removed x y).1 (within, λ p q w. not_below_transitive (votes m p q) (votes m q p) (votes m a b) (votes m b a) (votes m x y) (votes m y x) (weakest.1 p q w) not_weaker)))
       ]
 
-  -- the next set is within this one
+  -- the next set is within this set
   next_in : (a : ℕ) → InSchwartzSet K (TransitivelyDefeats (Without E (Pairs r.removed))) a → In r.set a
   next_in a next =
       let Left = Without E (Pairs r.removed) in
@@ -110,7 +110,7 @@ module _ (K : ℕ → Type 0) (m : Votes) where
   first_is E r [] h = h.0
   first_is E r (next ∷ later) h = h.0
 
-  -- the final set is within the first one
+  -- the final set is within the first set
   final_in_first : (r : Round) (later : List Round) (E : ℕ → ℕ → Type 0) → ((a b : ℕ) → E a b → PairwiseDefeats K m a b) → AreRounds K m E (r ∷ later)
       → (a : ℕ) → In (final_set (r ∷ later)) a → In r.set a
   final_in_first r [] E into h a i = i
@@ -118,7 +118,7 @@ module _ (K : ℕ → Type 0) (m : Votes) where
       let Left = Without E (Pairs r.removed) in
       next_in K m E into r h.0 a (((first_is Left next later h.2).set a).0 (final_in_first next later Left (λ x y w. into x y w.0) h.2 a i))
 
-  -- however strong a chain to an option of the final set is, the option has a chain back that is as strong
+  -- if an option has a chain to an option of the final set, that option has a chain back that is as strong
   reaches_back : (rs : List Round) (E : ℕ → ℕ → Type 0) → ((a b : ℕ) → E a b → PairwiseDefeats K m a b) → AreRounds K m E rs
       → (a : ℕ) → In (final_set rs) a → (b : ℕ) → K b → (x y : ℕ) → ReachesBy m E x y b a → ReachesBy m E x y a b
   reaches_back [] E into h a i b k x y chain = absurd h
@@ -148,7 +148,7 @@ module _ (K : ℕ → Type 0) (m : Votes) where
             ]
       ]
 
--- what is not refuted at any number below n is not refuted at all of them together
+-- if a fact is not refuted at any number below n, it is not refuted at all of them together
 pub all_below : (P : ℕ → Type 0) (n : ℕ) → ((b : ℕ) → ¬ (¬ P b)) → ¬ (¬ ((b : ℕ) → b < n → P b))
 all_below P zero each none = none (λ b less. absurd (omega arith))
 all_below P (suc n) each none =
@@ -158,7 +158,7 @@ all_below P (suc n) each none =
     ])))
 
 module _ (K : ℕ → Type 0) (m : Votes) (n : ℕ) (few : (o : ℕ) → K o → o < n) (a : ℕ) (wins : IsSchulzeWinner K m (PairwiseDefeats K m) a) where
-  -- the defeats that are left: each that is gone is weaker than each that is left on a chain to A
+  -- the defeats that are left: each removed defeat is weaker than each defeat that is left on a chain to A
   record IsLeft (E : ℕ → ℕ → Type 0) : Type 0 where
     into : (c d : ℕ) → E c d → PairwiseDefeats K m c d
     known : (c d : ℕ) → PairwiseDefeats K m c d → E c d ⊎ ¬ E c d
@@ -223,7 +223,7 @@ module _ (K : ℕ → Type 0) (m : Votes) (n : ℕ) (few : (o : ℕ) → K o →
     λ wins. winner_final K m n few a wins rs are,
   )
 
--- however strong a chain to a winner is, the winner has a chain back that is as strong
+-- if an option has a chain to a winner, the winner has a chain back that is as strong
 module _ (K : ℕ → Type 0) (m : Votes) (a : ℕ) (wins : IsSchulzeWinner K m (PairwiseDefeats K m) a) where
   abbrev S : ℕ → ℕ → ℕ → ℕ → Type 0
   S = Strong m (PairwiseDefeats K m)

@@ -9,7 +9,7 @@ use Rattle.vote_count.proofs.Counts.{one, one_of}
 use Rattle.vote_count.proofs.Rows.{has_pair-in, row_of_pair}
 
 module _ {X : Type 0} (f : X → ℕ) (d : X) (nothing : f d ≡ 0) where
-  -- one place counts no more than all
+  -- one element adds no more than all of them
   sum_by_at : (xs : List X) (i : ℕ) → f (get_or xs i d) ≤ sum_by f xs
   sum_by_at [] i = omega (arith, nothing)
   sum_by_at (x ∷ xs) zero = omega (arith, sum_by-cons f x xs)
@@ -51,7 +51,7 @@ size_at s o h = elim (cases_lt 0 o) [
   | inr none ↦ absurd (true≢false (sym h ∙ at_option-none s o false (omega arith)))
 ]
 
--- a set's option has a mark
+-- each option of a set has a mark
 pub row_of_mark : (s : List Bool) (o : ℕ) → In s o → (1 ≤ o) × (o ≤ length s)
 row_of_mark s o h =
     elim (cases_lt 0 o) [
@@ -85,7 +85,7 @@ pair_count_some rows h =
     let place = size_some (get_or rows row.0 []) row.1 in
     (suc row.0, place.0, pair_next rows row.0 place.0 ∙ place.1)
 
--- a smaller set of pairs has fewer
+-- a smaller set of pairs has fewer pairs
 pub pair_count_lt : (s t : List (List Bool)) → ((a b : ℕ) → Pairs s a b → Pairs t a b) → (a b : ℕ) → Pairs t a b → ¬ Pairs s a b → pair_count s < pair_count t
 pair_count_lt s t h zero b in_t not_s = absurd (omega (arith, (row_of_pair t 0 b in_t).0))
 pair_count_lt s t h (suc i) b in_t not_s =
@@ -107,14 +107,14 @@ module _ (all removed left : List (List Bool)) (is : (a b : ℕ) → has_pair le
   pub fewer_left : (a b : ℕ) → Pairs all a b → Pairs removed a b → pair_count left < pair_count all
   fewer_left a b h r = pair_count_lt left all (λ x y l. (left_of_minus x y l).0) a b h (λ l. (left_of_minus a b l).1 r)
 
--- without one of its options a set has one fewer
+-- without one of its options, a set has one option fewer
 pub size-cleared : (s : List Bool) (o : ℕ) → In s o → size (set s (o - 1) false) + 1 ≡ size s
 size-cleared s o h =
     let place = row_of_mark s o h in
     let at : get_or s (o - 1) false ≡ true = sym (at_option-in s o false place.0) ∙ h in
     omega (arith, sum_by-set one s (o - 1) false false (omega (arith, place.1)), ap one at)
 
--- an option is alone in a set exactly where it is in it and the set has one option
+-- an option is alone in a set exactly when it is in the set and the set has one option
 pub alone_from_size : (s : List Bool) (o : ℕ) → In s o → size s ≡ 1 → IsAlone s o
 alone_from_size s o h single p = (
   λ i. elim (cases_eq p o) [

@@ -6,7 +6,7 @@ use Rattle.vote_count.specs.Rules.{EachDefeatsNext, TransitivelyDefeats, IsWeake
 use Rattle.vote_count.specs.Votes.{Votes, votes}
 use Rattle.vote_count.proofs.Closure.{monotone}
 
--- V votes for and W against are weaker than X for and Y against
+-- V votes for and W against are weaker than X votes for and Y against
 abbrev pub IsBelow : ℕ → ℕ → ℕ → ℕ → Type 0
 IsBelow v w x y = (v < x) ⊎ ((v ≡ x) × (y < w))
 
@@ -40,7 +40,7 @@ not_below v w x y h =
 pub not_below_transitive : (v w x y t u : ℕ) → ¬ IsBelow v w x y → ¬ IsBelow x y t u → ¬ IsBelow v w t u
 not_below_transitive v w x y t u h k below = let h' = not_below v w x y h in let k' = not_below x y t u k in omega arith
 
--- a number that is smaller for weaker defeats, where each has more votes for than against
+-- a number that is smaller for weaker defeats, if each defeat has more votes for it than against it
 abbrev measure : ℕ → ℕ → ℕ
 measure v w = v * v + (v - w)
 
@@ -56,7 +56,7 @@ abbrev pub Strong : Votes → (ℕ → ℕ → Type 0) → ℕ → ℕ → ℕ �
 Strong m E v w a b = E a b × ¬ IsBelow (votes m a b) (votes m b a) v w
 
 module _ (m : Votes) where
-  -- a chain that is as strong as one strength is as strong as each that is no stronger
+  -- a chain that is as strong as one strength is as strong as any that is no stronger
   pub as_strong : (E : ℕ → ℕ → Type 0) (v w x y : ℕ) → ¬ IsBelow v w x y → (a b : ℕ) → TransitivelyDefeats (Strong m E v w) a b → TransitivelyDefeats (Strong m E x y) a b
   as_strong E v w x y h = monotone (Strong m E v w) (Strong m E x y) (λ a b s. (s.0, not_below_transitive (votes m a b) (votes m b a) v w x y s.1 h))
 
@@ -66,7 +66,7 @@ module _ (m : Votes) where
   none_below W won step (suc k) a b less w =
       step a b w (λ x y w' weaker. none_below W won step k x y (let smaller = measure_below _ _ _ _ (won x y w') (won a b w) weaker in omega arith) w')
 
-  -- where each defeat of a kind has a weaker one, there is none
+  -- if each defeat of a kind has a weaker one of the kind, there is no defeat of the kind
   pub no_weakest : (W : ℕ → ℕ → Type 0) → ((a b : ℕ) → W a b → votes m b a < votes m a b)
       → ((a b : ℕ) → W a b → ((x y : ℕ) → W x y → ¬ IsWeaker m x y a b) → ⊥) → (a b : ℕ) → ¬ W a b
   no_weakest W won step a b w = none_below W won step (suc (measure (votes m a b) (votes m b a))) a b (omega arith) w
@@ -92,7 +92,7 @@ module _ (m : Votes) where
           | inr not_weaker ↦ (x, y, later.2, later.3, (z ∷ later.4.0, ((h.0, not_weaker), later.4.1)))
         ]
 
-    -- each defeat of a chain is no weaker than one of them, from the end of which the chain goes on
+    -- a chain has a weakest defeat, and goes on from the end of this defeat
     pub weakest_of_chain : (a c : ℕ) → TransitivelyDefeats E a c →
         (x : ℕ) × (y : ℕ) × E x y × ((y ≡ c) ⊎ TransitivelyDefeats E y c) × TransitivelyDefeats (λ p q. E p q × ¬ IsWeaker m p q x y) a c
     weakest_of_chain a c chain = weakest_of a c chain.0 chain.1

@@ -1,4 +1,4 @@
--- Tests of the rules: they compare numbers, so it is known of each whether it holds.
+-- Tests of the rules: they compare numbers, so it is known whether each holds.
 use Rattle.std.proofs.Common.{◌≡◌, ◌≢◌, ℕ, zero, suc, ◌*◌, ◌^◌, ◌≤◌, ◌⊎◌, Bool, true, not, ◌&&◌, ◌||◌, inl, inr, refl, sym, ap, subst, arith}
 use Rattle.std.specs.Prelude.{◌==◌}
 use Rattle.std.specs.Bool.{Decides}
@@ -13,7 +13,7 @@ use Rattle.vote_count.specs.Rules.{IsKept, IsMajority, IsWeaker, MeetsMajority, 
 use Rattle.vote_count.specs.Votes.{Votes, votes}
 use Rattle.vote_count.proofs.Schulze.{kept_option, other_kept}
 
--- a test that tells whether something holds
+-- a test of whether a fact holds
 abbrev pub Test : Type 0 → Type 0
 Test P = (t : Bool) × Decides t P
 
@@ -29,7 +29,7 @@ at_most a b = (leb a b, (leb-true a b, le-leb a b))
 pub negated : {P : Type 0} → Test P → Test (¬ P)
 negated p = (not p.0, Decides-not p.0 p.1)
 
--- the same test, of what holds at the same time
+-- the same test, for a fact that holds at the same time
 pub like : {P Q : Type 0} → Test P → (P → Q) → (Q → P) → Test Q
 like p to back = (p.0, Decides-like p.0 to back p.1)
 
@@ -53,7 +53,7 @@ implied p q =
     like (either (negated p) q) (λ h is. elim h [ inl never ↦ absurd (never is) | inr so ↦ so ])
     (λ f. elim (known p) [ inl is ↦ inr (f is) | inr never ↦ inl never ])
 
--- of each of the options 1 to n
+-- a test of a fact about each of the options 1 to n
 pub of_each : (n : ℕ) (P : ℕ → Type 0) → ((o : ℕ) → Test (P o)) → Test ((o : ℕ) → IsOption n o → P o)
 of_each zero P t = (true, (λ _ o is. absurd (omega (arith, is.0, is.1)), λ _. refl))
 of_each (suc n) P t =
@@ -86,7 +86,7 @@ module _ (poll : PollContent) (m : Votes) where
   pub defeat : (a b : ℕ) → Test (PairwiseDefeats K m a b)
   defeat a b = all_three (kept a) (kept b) (at_most (suc (votes m b a)) (votes m a b))
 
-  -- who defeats another is one of the options
+  -- an option that defeats another is one of the options
   pub defeater_option : (a b : ℕ) → PairwiseDefeats K m a b → IsOption (option_count poll) a
   defeater_option a b d =
       let apart : a ≢ b = λ same. omega (arith, d.2, ap (votes m a) same, ap (λ x. votes m x a) same) in

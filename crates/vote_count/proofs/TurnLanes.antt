@@ -1,4 +1,4 @@
--- What one operation on the sixteen lanes of a turn does to each of them: a vote is moved by one, or a change is added.
+-- The effect of one operation on each of the sixteen lanes of a turn: a vote is moved by one, or a change is added.
 use Rattle.std.proofs.Common.{◌≡◌, ℕ, ◌+◌, ◌-◌, ◌%◌, ◌<◌, ◌≤◌, List, Bool, false, cond, nat_le, length, get_or, take, map, replicate, ap, sym, ◌∙◌, inl, inr, arith}
 use Rattle.std.specs.Simd.Lanes.{zip2, sel_l, put_chunk}
 use Rattle.std.proofs.lemmas.Simd.{length-zip2, get_or-zip2, get_or-replicate, length-sel_l, get_or-sel_l, length-chunk, get_or-chunk, get_or-put_chunk_at}
@@ -41,7 +41,7 @@ module _ (rows met : List ℕ) (long_rows : length rows ≡ 16) (long_met : leng
                 omega arith
           ]
 
--- ---- the first sixteen elements, and what is put there
+-- ---- the first sixteen elements, and the elements that are written there
 pub take-at : (xs : List ℕ) (k : ℕ) → k < 16 → get_or (take 16 xs) k 0 ≡ get_or xs k 0
 take-at xs k within = get_or-chunk 0 16 xs k 0 within ∙ ap (λ i. get_or xs i 0) (omega arith)
 
@@ -99,6 +99,6 @@ settled-each settled changes k long long_changes within some fits =
     by_numbers : (r m h b o u d p : ℕ) → h ≡ r → b ≡ m → o ≡ 128 → u ≡ (h + b) % 4294967296 → d ≡ (u + (4294967296 - o)) % 4294967296 → p ≡ d → 128 ≤ r + m → r + m < 4294967424 → p + 128 ≡ r + m
     by_numbers r m h b o u d p here move even up down put some fits = omega arith
 
--- a vote that goes and one that comes, by the tests that are zero where there is one
+-- one vote goes and one comes; the tests are 0 if there is a vote
 pub moves_by : (before after gone come went came : ℕ) → (1 ≤ before → before ≤ 254 → after + come ≡ before + gone) → gone + went ≡ 1 → come + came ≡ 1 → Moves before after went came
 moves_by before after gone come went came moved out in_ some room = let sum = moved some room in omega arith

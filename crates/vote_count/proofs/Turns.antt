@@ -6,7 +6,7 @@ use Rattle.std.proofs.lemmas.Simd.{get_or-chunk}
 use Rattle.vote_count.specs.Changes.{AreTurns, IsMoved, Moves}
 use Rattle.vote_count.proofs.Cells.{rows_with}
 
--- keys that are there twice
+-- a row that has the keys twice
 pub around-each : (keys once twice : List ℕ) (first : ℕ) → ((k : ℕ) → k < 16 → get_or once (0 + k) 0 ≡ get_or (take 16 (drop first keys)) k 0)
     → ((k : ℕ) → k < 16 → get_or twice (16 + k) 0 ≡ get_or (take 16 (drop first keys)) k 0) → ((k : ℕ) → k < 16 → get_or twice k 0 ≡ get_or once k 0)
     → (k : ℕ) → k < 32 → get_or twice k 0 ≡ get_or keys (first + k % 16) 0
@@ -23,7 +23,7 @@ around-each keys once twice first lower upper below k within =
           ap (λ i. get_or twice i 0) same ∙ upper (k - 16) less ∙ get_or-chunk first 16 keys (k - 16) 0 less ∙ ap (λ i. get_or keys i 0) place
     ]
 
--- one turn is exchanged
+-- one turn is replaced
 module _ (turns : List (List ℕ)) (at : ℕ) (row : List ℕ) (are : AreTurns turns) (within : at < 64) where
   pub turns-with : length row ≡ 16 → AreTurns (set turns at row)
   turns-with long =

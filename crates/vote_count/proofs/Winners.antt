@@ -50,7 +50,7 @@ module _ (K : ℕ → Type 0) (m : Votes) (winner : ℕ) (wins : IsCondorcetWinn
       absurd (undefeated h.1.0 (subst P (only_in_round r h.0 h.1.1 within.2) within.0))
 
 module _ (K : ℕ → Type 0) (m : Votes) (S : List Bool) (dominant : IsDominant K m S) where
-  -- who defeats an option of the set is in the set
+  -- an option that defeats an option of the set is in the set
   defeater_inside : (a b : ℕ) → PairwiseDefeats K m a b → In S b → In S a
   defeater_inside a b d inside =
       elim (cases_Bool (has S a)) [

@@ -5,7 +5,7 @@ pub mod Sets
 pub mod Rules
 pub mod Rounds
 pub mod Laws
--- what types stand for, and what private functions say of their parts
+-- the values that contracts see of types, and definitions for the parts of private functions
 pub mod Bits
 pub mod Rows
 pub mod Changes

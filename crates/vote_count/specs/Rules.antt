@@ -1,4 +1,4 @@
--- The rules of the count, from Appendix A of the Constitution, Vote Counting, and for the quorum from section 4.2; that a majority can be worded as more than its ratio is this project's own. A set of options is a fact on an option, and a list of defeats a fact on two.
+-- The rules of the count, from Appendix A of the Constitution, Vote Counting, and for the quorum from section 4.2; that a majority can be worded as more than its ratio is this project's own. A set of options is a fact about an option, and a list of defeats is a fact about two options.
 use Rattle.std.specs.Prelude.{◌≡◌, ℕ, ◌*◌, ◌^◌, ◌<◌, ◌≤◌, ◌≢◌, ◌⊎◌, ◌↔◌, List, [], ◌∷◌, ◌++◌, ⊤}
 use Rattle.vote_poll.specs.PollContent.{PollContent, elector_count, option_count, ratio_of}
 use Rattle.vote_poll.specs.declared.wording.Wording.{Wording}
@@ -14,24 +14,24 @@ MeetsQuorum poll n = poll.quorum_multiple ^ 2 * elector_count poll ≤ (2 * n) ^
 abbrev pub IsQuorum : PollContent → ℕ → Type 0
 IsQuorum poll n = MeetsQuorum poll n × ((m : ℕ) → MeetsQuorum poll m → n ≤ m)
 
--- These numbers of votes for an option and for the default are a majority of this ratio. In the Constitution's wording they are at least the ratio times as many, and strictly more; in the other one more than the ratio times as many.
+-- These numbers of votes, for an option and for the default, are a majority of this ratio. In the Constitution's wording the first is at least the ratio times the second, and strictly greater than the second; in the other wording the first is greater than the ratio times the second.
 -- A.5.3: "An option A defeats the default option D by a majority ratio N, if V(A,D) is greater or equal to N * V(D,A) and V(A,D) is strictly greater than V(D,A)."
 abbrev pub IsMajority : Wording → ℕ → ℕ → ℕ → Type 0
 IsMajority AtLeast ratio won lost = (ratio * lost ≤ won) × (lost < won)
 IsMajority MoreThan ratio won lost = ratio * lost < won
 
--- how many voters prefer an option to the default, and how many the default to it
+-- how many voters prefer an option to the default, and below, how many prefer the default to it
 abbrev pub votes_for : PollContent → Votes → ℕ → ℕ
 votes_for poll matrix o = votes matrix o (option_count poll)
 
 abbrev pub votes_against : PollContent → Votes → ℕ → ℕ
 votes_against poll matrix o = votes matrix (option_count poll) o
 
--- more voters prefer an option to the default than the default to it
+-- more voters prefer the option to the default than prefer the default to it
 abbrev pub IsAhead : PollContent → Votes → ℕ → Type 0
 IsAhead poll matrix o = votes_against poll matrix o < votes_for poll matrix o
 
--- each option of a set is ahead of the default, but for the default itself
+-- each option of a set except the default is ahead of the default
 abbrev pub AreAhead : PollContent → Votes → (ℕ → Type 0) → Type 0
 AreAhead poll matrix set = (o : ℕ) → set o → o ≢ option_count poll → IsAhead poll matrix o
 
@@ -50,12 +50,12 @@ IsKept poll matrix a = let default = option_count poll in
 abbrev pub PairwiseDefeats : (ℕ → Type 0) → Votes → ℕ → ℕ → Type 0
 PairwiseDefeats options matrix a b = options a × options b × (votes matrix b a < votes matrix a b)
 
--- each option of a list defeats the next one
+-- each option of a list defeats the next option
 abbrev pub EachDefeatsNext : (ℕ → ℕ → Type 0) → List ℕ → Type 0
 EachDefeatsNext defeats (a ∷ b ∷ rest) = defeats a b × EachDefeatsNext defeats (b ∷ rest)
 EachDefeatsNext defeats other = ⊤
 
--- A transitively defeats C: there is a list of options, from A to C, each of which defeats the next one.
+-- A transitively defeats C: there is a list of options, from A to C, and each of them defeats the next.
 -- A.5.5: "An option A transitively defeats an option C if A defeats C or if there is some other option B where A defeats B AND B transitively defeats C."
 abbrev pub TransitivelyDefeats : (ℕ → ℕ → Type 0) → ℕ → ℕ → Type 0
 TransitivelyDefeats defeats a c = (between : List ℕ) × EachDefeatsNext defeats (a ∷ between ++ c ∷ [])
@@ -72,7 +72,7 @@ IsWeaker matrix a x b y = (votes matrix a x < votes matrix b y) ⊎ ((votes matr
 abbrev pub Within : (ℕ → Type 0) → (ℕ → ℕ → Type 0) → ℕ → ℕ → Type 0
 Within set defeats a b = defeats a b × set a × set b
 
--- (A,B) is a weakest of the defeats between options of a set.
+-- (A,B) is one of the weakest defeats between options of a set.
 -- A.5.7: "A weakest defeat is a defeat that has no other defeat weaker than it. There may be more than one such defeat."
 abbrev pub IsWeakest : Votes → (ℕ → Type 0) → (ℕ → ℕ → Type 0) → ℕ → ℕ → Type 0
 IsWeakest matrix set defeats a b = Within set defeats a b × ((x y : ℕ) → Within set defeats x y → ¬ IsWeaker matrix x y a b)

@@ -10,7 +10,7 @@ use vote_poll::MAX_OPTIONS;
 /// A word with one bit for each option that a poll can have: option `o` has bit `o - 1`.
 ///
 /// It has `MAX_OPTIONS` bits, and each other size here is written with `MAX_OPTIONS`. More options
-/// need a wider word at this place, and the same `width` in `proofs/BitLemmas.antt`.
+/// need a wider word here, and the same `width` in `proofs/BitLemmas.antt`.
 pub type Word = u32;
 
 /// A set of options, which are numbered from 1 to `MAX_OPTIONS`.
@@ -44,7 +44,7 @@ impl OptionSet {
         Self { bits: 0 }
     }
 
-    // Puts an option into the set.
+    // Adds an option to the set.
     pub(crate) fn insert(&mut self, option: u8)
         requires { IsOption MAX_OPTIONS option }
         ensures options { (o : ℕ) → In self.new o ↔ ((o ≡ option) ⊎ In self.old o) }
@@ -53,21 +53,21 @@ impl OptionSet {
         self.bits |= 1 << (option - 1);
     }
 
-    /// Whether the option is in the set. What is no option is not.
+    /// Whether the option is in the set. A number that is no option is in no set.
     pub fn has(&self, option: u8) -> bool
         ensures { result ≡ has self.now option }
     {
         option >= 1 && option as usize <= MAX_OPTIONS && (self.bits >> (option - 1)) & 1 == 1
     }
 
-    // The set as a word, in which option `o` has bit `o - 1`.
+    // The set as a word: option `o` has bit `o - 1`.
     pub(crate) fn word(&self) -> Word
         ensures { (o : ℕ) → 1 ≤ o → (bit_at result (o - 1) ≡ 1) ↔ In self.now o }
     {
         self.bits
     }
 
-    /// How many options are in the set.
+    /// The number of options in the set.
     pub fn len(&self) -> usize
         ensures count { result ≡ size self.now }
         ensures at_most { result ≤ MAX_OPTIONS }
@@ -92,7 +92,7 @@ impl OptionSet {
         MAX_OPTIONS as u8 - self.bits.leading_zeros() as u8
     }
 
-    // The option that is alone in the set, if one is.
+    // The only option of the set, if it has exactly one.
     pub(crate) fn only(&self) -> Option<u8>
         ensures { MatchOption result ((o : ℕ) → ¬ IsAlone self.now o) (IsAlone self.now) }
     {
@@ -103,14 +103,14 @@ impl OptionSet {
         }
     }
 
-    // Puts the options of another set into this one.
+    // Adds the options of another set to this set.
     pub(crate) fn union_with(&mut self, other: &Self)
         ensures { (o : ℕ) → has self.new o ≡ (has self.old o || has other.now o) }
     {
         self.bits |= other.bits;
     }
 
-    // The options that this set and another have in common.
+    // The options that are in this set and in another.
     pub(crate) fn intersection(&self, other: &Self) -> Self
         ensures { (o : ℕ) → has result o ≡ (has self.now o && has other.now o) }
     {

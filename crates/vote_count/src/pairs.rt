@@ -9,9 +9,9 @@ use crate::{Matrix, OptionSet, Word};
 use std::marker::Model;
 use vote_poll::MAX_OPTIONS;
 
-/// A list of defeats, each of one option by another: pairwise defeats, or the transitive defeats
-/// that [`reach`] makes of them (Appendix A, Vote Counting). Their order says nothing, so it is a
-/// set: for each option a row of those that it defeats.
+/// A list of defeats of one option by another: pairwise defeats, or the transitive defeats that
+/// [`reach`] finds (Appendix A, Vote Counting). Their order has no meaning, so the list is a set. It
+/// has a row for each option, with the options that it defeats.
 #[derive(Clone, Copy)]
 pub struct Defeats {
     rows: [OptionSet; MAX_OPTIONS],
@@ -41,7 +41,7 @@ impl Defeats {
         }
     }
 
-    // Puts the defeat of `b` by `a` into the list.
+    // Adds the defeat of `b` by `a` to the list.
     pub(crate) fn insert(&mut self, a: u8, b: u8)
         requires a { IsOption MAX_OPTIONS a }
         requires b { IsOption MAX_OPTIONS b }
@@ -50,8 +50,8 @@ impl Defeats {
         self.rows[a as usize - 1].insert(b);
     }
 
-    /// The defeats among the options of a set: A defeats B where more voters prefer A to B than B
-    /// to A (Appendix A, Vote Counting).
+    /// The defeats among the options of a set: A defeats B if more voters prefer A to B than B to A
+    /// (Appendix A, Vote Counting).
     pub fn of(set: &OptionSet, matrix: &Matrix) -> Self
         requires { (o : ℕ) → In set.now o → IsOption matrix.now.options o }
         ensures { (a b : ℕ) → Pairs result a b ↔ PairwiseDefeats (In set.now) matrix.now a b }
@@ -67,7 +67,8 @@ impl Defeats {
         defeats
     }
 
-    /// Whether the list has the defeat of `b` by `a`. It has none of what is no option.
+    /// Whether the list has the defeat of `b` by `a`. It has no defeat of or by a number that is no
+    /// option.
     pub fn has(&self, a: u8, b: u8) -> bool
         ensures { result ≡ has_pair self.now a b }
     {
@@ -96,7 +97,7 @@ impl Defeats {
         defeated
     }
 
-    /// How many defeats there are.
+    /// The number of defeats.
     pub fn len(&self) -> usize
         ensures { result ≡ pair_count self.now }
     {
@@ -127,7 +128,7 @@ impl Defeats {
         inside
     }
 
-    /// The defeats that are not among the removed ones.
+    /// The defeats without the removed ones.
     pub fn minus(&self, removed: &Self) -> Self
         ensures { (a b : ℕ) → has_pair result a b ≡ has_other_pair self.now removed.now a b }
     {
@@ -148,11 +149,11 @@ fn is_defeat(set: &OptionSet, matrix: &Matrix, a: u8, b: u8) -> bool
     set.has(a) && set.has(b) && matrix.votes(a, b) > matrix.votes(b, a)
 }
 
-/// The transitive defeats: A transitively defeats C where A defeats C, or where A defeats some B
-/// that transitively defeats C (Appendix A, Vote Counting).
+/// The transitive defeats: A transitively defeats C if A defeats C, or if A defeats some B that
+/// transitively defeats C (Appendix A, Vote Counting).
 ///
-/// For one option after another, each row that has it takes in the row of that option. Each other
-/// row takes in nothing, so that LLVM makes vector code of a turn.
+/// For each option in turn, each row that has the option takes in the option's own row. Each other
+/// row takes in nothing. So LLVM makes vector code of a turn.
 pub fn reach(defeats: &Defeats) -> Defeats
     ensures { (a c : ℕ) → Pairs result a c ↔ TransitivelyDefeats (Pairs defeats.now) a c }
 {

@@ -17,7 +17,7 @@ use vote_poll::{MAX_OPTIONS, Poll};
 pub enum Cause {
     /// Its votes over the default option do not meet the quorum, whatever its majority.
     Quorum,
-    /// It meets the quorum, and does not defeat the default option by its majority ratio.
+    /// It meets the quorum, but does not defeat the default option by its majority ratio.
     Majority,
 }
 
@@ -26,22 +26,23 @@ pub enum Cause {
 pub struct Round {
     /// The Schwartz set.
     pub set: OptionSet,
-    /// The weakest defeats within it, which are dropped: the next round goes without them. The last round has none.
+    /// The weakest defeats within the set. They are dropped: the next round goes on without them. The last round
+    /// drops none.
     pub removed: Defeats,
 }
 
-/// What is decided (Appendix A, Vote Counting).
+/// The decision (Appendix A, Vote Counting).
 #[derive(Clone, Copy, Debug, PartialEq, Eq)]
 pub enum Decision {
     /// This option wins: it is alone in the final set, or the casting vote chooses it from the set.
     Winner(u8),
     /// The final set has several options, and there is no casting vote.
     Tie,
-    /// The final set has several options, and the casting vote is for this one, outside the set.
+    /// The final set has several options, and the casting vote is for this option, which is not in the set.
     CastingOutside(u8),
 }
 
-/// What a count came to: which options were dropped and why, the defeats, and the rounds.
+/// The result of a count: which options were dropped and why, the defeats, and the rounds.
 #[derive(Drop)]
 pub struct Verdict {
     causes: [Option<Cause>; MAX_OPTIONS],
@@ -83,7 +84,7 @@ fn rounds_of(
     }
 }
 
-// Why an option is dropped, if it is, where the fewest votes that meet the quorum are known.
+// Why an option is dropped, if it is. `quorum` is the fewest votes that meet the quorum.
 fn dropped_for(poll: &Poll, matrix: &Matrix, option: u8, quorum: u64) -> Option<Cause>
     requires matrix { matrix.now.options ≡ option_count poll.now }
     requires option { IsOption (option_count poll.now) option }
@@ -105,13 +106,14 @@ fn dropped_for(poll: &Poll, matrix: &Matrix, option: u8, quorum: u64) -> Option<
 ///
 /// # Errors
 ///
-/// Where memory for the list of rounds is refused.
+/// Memory for the list of rounds was refused.
 #[tactic(auto, using(vote_poll::proofs::OptionLaws::options))]
 pub fn outcome(alloc: Global, poll: &Poll, matrix: &Matrix) -> Result<Verdict, AllocError>
     requires { matrix.now.options ≡ option_count poll.now }
     ensures outcome { IfOk result (IsOutcome poll.now matrix.now) }
 
-    // The final set is never empty, and has no dropped option. The default is in it exactly where no other option is kept, and then it is alone.
+    // The final set is never empty, and has no dropped option. The default is in it exactly when no other option is
+    // kept, and then it is alone.
     ensures some { IfOk result (λ verdict. (o : ℕ) × In (final_set verdict.rounds) o) }
     ensures kept { IfOk result (IsFinalSetKept poll.now matrix.now) }
     ensures default { IfOk result (IsDefaultFinalAlone poll.now matrix.now) }
@@ -149,14 +151,14 @@ impl Verdict {
         self.defeats
     }
 
-    /// The rounds in order, of which there is at least one.
+    /// The rounds in order. There is at least one.
     pub fn rounds(&self) -> &[Round]
         ensures { result.now ≡ self.now.rounds }
     {
         self.rounds.as_slice()
     }
 
-    /// The final set: that of the last round.
+    /// The final set, which is the set of the last round.
     pub fn final_set(&self) -> OptionSet
         ensures { result ≡ final_set self.now.rounds }
     {
@@ -164,8 +166,8 @@ impl Verdict {
     }
 }
 
-/// Who wins: the option that is alone in the final set, whatever the casting vote, and else the one
-/// that the casting vote chooses from the set (Appendix A, Vote Counting).
+/// Who wins: the option that is alone in the final set, whatever the casting vote; else the option that the casting
+/// vote chooses from the set (Appendix A, Vote Counting).
 pub fn decide(verdict: &Verdict, casting: Option<u8>) -> Decision
     ensures decision { IsDecision (final_set verdict.now.rounds) casting result }
     ensures winner { (o : ℕ) → result ≡ Decision.Winner o → In (final_set verdict.now.rounds) o }

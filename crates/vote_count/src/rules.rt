@@ -9,8 +9,8 @@ ghost use Rattle.vote_count.specs.Sets.{In, Pairs};
 use crate::{Defeats, Matrix, OptionSet};
 use vote_poll::{MAX_OPTIONS, Poll, Wording};
 
-/// The fewest votes that meet the quorum (section 4.2): the poll's multiple of Q, which is half of
-/// the square root of the number of electors, and is not rounded. With a multiple of 0 it is 0.
+/// The fewest votes that meet the quorum (section 4.2): the poll's multiple of Q. Q is half of the
+/// square root of the number of electors, and is not rounded. With a multiple of 0 the result is 0.
 pub fn quorum_votes(poll: &Poll) -> u64
     ensures { IsQuorum poll.now result }
 {
@@ -24,8 +24,8 @@ pub fn quorum_votes(poll: &Poll) -> u64
 }
 
 /// Whether the votes of an option over the default option meet the quorum (section 4.2; Appendix A,
-/// Vote Counting). The option is another than the default.
-/// For callers of the library; the program does not call it.
+/// Vote Counting). The option is not the default option. For callers of the library; the program does
+/// not call it.
 pub fn meets_quorum(poll: &Poll, matrix: &Matrix, option: u8) -> bool
     requires options { matrix.now.options ≡ option_count poll.now }
     requires first { 1 ≤ option }
@@ -35,7 +35,7 @@ pub fn meets_quorum(poll: &Poll, matrix: &Matrix, option: u8) -> bool
     has_quorum(poll, matrix, option, quorum_votes(poll))
 }
 
-// The same, where the fewest votes that meet the quorum are known.
+// The same. `quorum` is the fewest votes that meet the quorum.
 pub(crate) fn has_quorum(poll: &Poll, matrix: &Matrix, option: u8, quorum: u64) -> bool
     requires options { matrix.now.options ≡ option_count poll.now }
     requires first { 1 ≤ option }
@@ -48,7 +48,7 @@ pub(crate) fn has_quorum(poll: &Poll, matrix: &Matrix, option: u8, quorum: u64) 
 
 /// Whether an option defeats the default option by its majority ratio, in the wording of the poll
 /// (Appendix A, Vote Counting, for [`Wording::AtLeast`]). A ratio is at least 1, so the option has more
-/// votes than the default option in either wording. It is another than the default.
+/// votes than the default option in either wording. The option is not the default option.
 pub fn meets_majority(poll: &Poll, matrix: &Matrix, option: u8) -> bool
     requires options { matrix.now.options ≡ option_count poll.now }
     requires first { 1 ≤ option }
@@ -66,7 +66,7 @@ pub fn meets_majority(poll: &Poll, matrix: &Matrix, option: u8) -> bool
     }
 }
 
-/// The options that are not dropped (Appendix A, Vote Counting): each that meets the quorum and
+/// The options that are not dropped (Appendix A, Vote Counting): each option that meets the quorum and
 /// defeats the default option by its majority ratio, and the default option, which is never dropped.
 /// For callers of the library; the program does not call it.
 pub fn standing_options(poll: &Poll, matrix: &Matrix) -> OptionSet
@@ -76,7 +76,7 @@ pub fn standing_options(poll: &Poll, matrix: &Matrix) -> OptionSet
     kept_with(poll, matrix, quorum_votes(poll))
 }
 
-// The same, where the fewest votes that meet the quorum are known.
+// The same. `quorum` is the fewest votes that meet the quorum.
 pub(crate) fn kept_with(poll: &Poll, matrix: &Matrix, quorum: u64) -> OptionSet
     requires options { matrix.now.options ≡ option_count poll.now }
     requires quorum { IsQuorum poll.now quorum }
@@ -94,7 +94,7 @@ pub(crate) fn kept_with(poll: &Poll, matrix: &Matrix, quorum: u64) -> OptionSet
     standing
 }
 
-// Whether `b` transitively defeats `a`, which does not transitively defeat it.
+// Whether `b` transitively defeats `a`, and `a` does not transitively defeat `b`.
 fn is_beaten_by(chains: &Defeats, a: u8, b: u8) -> bool
     ensures { IsTrue result ↔ (Pairs chains.now b a × ¬ Pairs chains.now a b) }
 {
@@ -114,8 +114,8 @@ fn is_unbeaten(set: &OptionSet, chains: &Defeats, a: u8) -> bool
     true
 }
 
-/// The Schwartz set of a set of options (Appendix A, Vote Counting): each of them that, for each
-/// option B of the set, transitively defeats B or is not transitively defeated by B.
+/// The Schwartz set of a set of options (Appendix A, Vote Counting). An option A of the set is in it
+/// if, for each option B of the set, A transitively defeats B or B does not transitively defeat A.
 pub fn schwartz(set: &OptionSet, chains: &Defeats) -> OptionSet
     requires { (o : ℕ) → In set.now o → IsOption MAX_OPTIONS o }
     ensures { (a : ℕ) → In result a ↔ InSchwartzSet (In set.now) (Pairs chains.now) a }
@@ -129,7 +129,8 @@ pub fn schwartz(set: &OptionSet, chains: &Defeats) -> OptionSet
     schwartz
 }
 
-// Whether a defeat is weaker than another. Each is an option and one that it defeats.
+// Whether a defeat is weaker than another. A defeat is a pair: an option, and an option that it
+// defeats.
 fn is_weaker(matrix: &Matrix, defeat: (u8, u8), other: (u8, u8)) -> bool
     requires defeat { AreOptions matrix.now.options defeat }
     requires other { AreOptions matrix.now.options other }
@@ -142,7 +143,7 @@ fn is_weaker(matrix: &Matrix, defeat: (u8, u8), other: (u8, u8)) -> bool
     won < other_won || (won == other_won && lost > other_lost)
 }
 
-// The weaker one of a defeat and the weakest one so far.
+// The weaker of two defeats: this one, and the weakest so far.
 fn weaker_of(matrix: &Matrix, defeat: (u8, u8), so_far: Option<(u8, u8)>) -> (u8, u8)
     requires defeat { AreOptions matrix.now.options defeat }
     requires so_far { IfSome so_far (AreOptions matrix.now.options) }
@@ -170,7 +171,7 @@ fn one_weakest(defeats: &Defeats, matrix: &Matrix) -> Option<(u8, u8)>
     weakest
 }
 
-// Whether a pair is one of the defeats and no stronger than this one.
+// Whether a pair is one of the defeats, and no stronger than `weakest`.
 fn is_no_stronger(matrix: &Matrix, defeats: &Defeats, pair: (u8, u8), weakest: (u8, u8)) -> bool
     requires pair { IsOption matrix.now.options pair.0 × IsOption matrix.now.options pair.1 }
     requires weakest { AreOptions matrix.now.options weakest }
@@ -179,7 +180,7 @@ fn is_no_stronger(matrix: &Matrix, defeats: &Defeats, pair: (u8, u8), weakest: (
     defeats.has(pair.0, pair.1) && !is_weaker(matrix, weakest, pair)
 }
 
-// The defeats that are no stronger than this one.
+// The defeats that are no stronger than `weakest`.
 fn no_stronger_than(weakest: (u8, u8), defeats: &Defeats, matrix: &Matrix) -> Defeats
     requires weakest { AreOptions matrix.now.options weakest }
     requires defeats { AreBetween matrix.now.options (Pairs defeats.now) }
@@ -197,9 +198,9 @@ fn no_stronger_than(weakest: (u8, u8), defeats: &Defeats, matrix: &Matrix) -> De
 }
 
 /// The weakest of the defeats between options of a set (Appendix A, Vote Counting): no other defeat
-/// between them is weaker. There may be several, and there are none where no defeat lies inside the
-/// set. Of two defeats the one with fewer votes for it is weaker, and where these are equal the one
-/// with more votes against it.
+/// between them is weaker. There may be several. There are none if no defeat is within the set. Of two
+/// defeats the one with fewer votes for it is weaker; if these are equal, the one with more votes
+/// against it.
 pub fn weakest(set: &OptionSet, defeats: &Defeats, matrix: &Matrix) -> Defeats
     requires { (o : ℕ) → In set.now o → IsOption matrix.now.options o }
     ensures { AreWeakest matrix.now (In set.now) (Pairs defeats.now) (Pairs result) }

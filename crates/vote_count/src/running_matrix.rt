@@ -1,12 +1,12 @@
-//! A matrix for ballots that come and go one after another.
+//! A matrix for ballots that are added and exchanged one after another.
 //!
-//! A vote is a number of four bytes, and a ballot changes it by one at most. So changes are kept apart, in a byte each, and
+//! A vote is a number of four bytes, and a ballot changes it by at most one. So changes are kept apart, in a byte each, and
 //! are added to the votes after 127 ballots. Sixteen changes fit in one register.
 //!
-//! Options are taken in halves of sixteen: one half wins a vote, one half loses it, which makes four squares. A square has
-//! sixteen turns. In turn `t` each option `k` of the one half meets option `k + t` of the other, counted around. So what a
-//! ballot changes in a turn is its sort keys, compared with themselves after they were turned by `t`: one comparison, where
-//! a row of the matrix would first want one key in each lane of a register.
+//! Options are taken in halves of sixteen. One half wins a vote and one half loses it, which makes four squares. A square
+//! has sixteen turns. In turn `t` each option `k` of the one half meets option `k + t` of the other, counted around. So a
+//! ballot's changes in a turn come from its sort keys, compared with the same keys rotated by `t`. That is one comparison.
+//! With a row of the matrix, one key would first have to be copied into each lane of a register.
 ghost use Rattle.std.specs.Prelude.{◌≡◌, ℕ, ◌+◌, ◌-◌, ◌/◌, ◌<◌, ◌≤◌, [], length, slice_index_or};
 ghost use Rattle.vote_count.specs.Ballots.{HasNoVotes, HasRoomFor, HasCounted, HasSameVotes, CountsOneMore, CountsInstead};
 ghost use Rattle.vote_count.specs.Rows.{key_at};
@@ -17,23 +17,24 @@ use std::marker::Model;
 use std::simd::prelude::*;
 use vote_poll::{MAX_OPTIONS, Ranks};
 
-/// How many changes one turn has.
+/// The number of changes in one turn.
 const LANES: usize = MAX_OPTIONS / 2;
 
-/// How many turns there are in the four squares.
+/// The number of turns in the four squares.
 const TURNS: usize = 4 * LANES;
 
-/// What is kept for no change.
+/// The byte that means no change.
 const EVEN: u8 = 128;
 
-/// The most ballots after which each change still fits in its byte.
+/// The most ballots whose changes are sure to fit in a byte each.
 const MOST_PENDING: u8 = 127;
 
-/// V(A,B) for each two options A and B, of ballots that come and go. Contracts see what they see of a [`Matrix`].
+/// V(A,B) for each two options A and B, for ballots that are added and exchanged. Contracts see it as they see a
+/// [`Matrix`].
 #[derive(Drop)]
 pub struct RunningMatrix {
     options: u8,
-    /// How many ballots the changes are of.
+    /// The number of ballots in the changes.
     pending: u8,
     settled: [[u32; LANES]; TURNS],
     changes: [[u8; LANES]; TURNS],
@@ -52,7 +53,7 @@ impl Model for RunningMatrix {
 }
 
 impl RunningMatrix {
-    /// The matrix of no votes, of this many options.
+    /// The matrix for this many options, with no votes.
     pub fn zero(options: u8) -> Self
         requires { options ≤ MAX_OPTIONS }
         ensures options { result.options ≡ options }
@@ -87,7 +88,7 @@ impl RunningMatrix {
         Matrix::of_rows(self.options, counts)
     }
 
-    /// Counts a ballot: one more vote for each two options of which it prefers one to the other.
+    /// Counts a ballot: adds one to V(A,B) for each two options A and B if the ballot prefers A to B.
     pub fn add(&mut self, ranks: &Ranks)
         requires options { length ranks.now ≡ self.old.options }
         requires room { HasRoomFor self.old ranks.now }
@@ -97,8 +98,8 @@ impl RunningMatrix {
         self.change(&[0; MAX_OPTIONS], ranks.sort_keys());
     }
 
-    /// Counts a ballot in the place of one that was counted, in one pass: the votes are those that [`Matrix::take_out`] of
-    /// the one before and [`Matrix::add`] of the one after would leave.
+    /// Counts a ballot in place of one that was counted, in one pass. The votes are then the same as after
+    /// [`Matrix::take_out`] of the first ballot and [`Matrix::add`] of the second.
     pub fn exchange(&mut self, before: &Ranks, after: &Ranks)
         requires options_before { length before.now ≡ self.old.options }
         requires options_after { length after.now ≡ self.old.options }
@@ -110,7 +111,7 @@ impl RunningMatrix {
         self.change(before.sort_keys(), after.sort_keys());
     }
 
-    // Counts a ballot with the new keys in the place of one with the old keys.
+    // Counts a ballot with the new keys in place of one with the old keys.
     fn change(&mut self, old: &[u8], new: &[u8])
         requires old { length old.now ≡ MAX_OPTIONS }
         requires new { length new.now ≡ MAX_OPTIONS }
@@ -125,7 +126,7 @@ impl RunningMatrix {
     }
 }
 
-// The votes of a row.
+// Fills a row with its votes.
 fn fill_row(
     counts: &mut [u32],
     options: usize,
@@ -147,7 +148,7 @@ fn fill_row(
     }
 }
 
-// The votes of the row's option over that of the column.
+// The votes of the row's option over the column's option.
 #[inline(always)]
 fn vote_of(row: usize, column: usize, settled: &[[u32; LANES]], changes: &[[u8; LANES]]) -> u32
     requires row { row < MAX_OPTIONS }
@@ -164,7 +165,8 @@ fn vote_of(row: usize, column: usize, settled: &[[u32; LANES]], changes: &[[u8; 
     (sum - u64::from(EVEN)) as u32
 }
 
-// Adds the changes to the votes if no ballot more has room, and returns how many are pending with one more.
+// Adds the changes to the votes if there is no room for another ballot. Returns the number of pending ballots, with the
+// next one.
 fn make_room(
     pending: u8,
     settled: &mut [[u32; LANES]],
@@ -206,7 +208,7 @@ fn settle(settled: &mut [[u32; LANES]], changes: &mut [[u8; LANES]], options: us
     }
 }
 
-// How many turns this many options have.
+// The number of turns that this many options need.
 #[inline(always)]
 fn turns_of(options: usize) -> usize
     requires { options ≤ MAX_OPTIONS }
@@ -216,7 +218,7 @@ fn turns_of(options: usize) -> usize
     if options <= LANES { LANES } else { TURNS }
 }
 
-// The same in one turn.
+// Adds the changes of one turn to the votes.
 #[inline(always)]
 fn settle_turn(settled: &mut [u32], changes: &mut [u8])
     requires settled { length settled.old ≡ LANES }
@@ -232,10 +234,10 @@ fn settle_turn(settled: &mut [u32], changes: &mut [u8])
     u8x16::splat(EVEN).copy_to_slice(changes);
 }
 
-// Counts a ballot with the new keys in the place of one with the old keys.
+// Counts a ballot with the new keys in place of one with the old keys.
 //
-// A poll of few options needs few turns: with eight options none meets one that is eight to fifteen places on without
-// going around. The first turn of a square on the diagonal, in which each option meets itself, changes nothing.
+// A poll of few options needs few turns: of eight options no two are eight to fifteen apart, unless counted around. The
+// first turn of a square on the diagonal changes nothing, since each option meets itself.
 #[inline(always)]
 fn change_squares(changes: &mut [[u8; LANES]], old: &[u8], new: &[u8], options: usize)
     requires options { options ≤ MAX_OPTIONS }
@@ -256,7 +258,7 @@ fn change_squares(changes: &mut [[u8; LANES]], old: &[u8], new: &[u8], options: 
     }
 }
 
-// The same in one square, from this turn on.
+// The same in one square, from the turn `from` on.
 #[inline(always)]
 fn change_square(changes: &mut [[u8; LANES]], square: usize, from: usize, old: &[u8], new: &[u8])
     requires square { square < 4 }
@@ -281,7 +283,7 @@ fn change_square(changes: &mut [[u8; LANES]], square: usize, from: usize, old: &
     }
 }
 
-// The same in the first square, for so few options.
+// The same in the first square, for at most eight options.
 #[inline(always)]
 fn change_few(changes: &mut [[u8; LANES]], old: &[u8], new: &[u8], options: usize)
     requires options { options ≤ LANES / 2 }
@@ -306,7 +308,7 @@ fn change_few(changes: &mut [[u8; LANES]], old: &[u8], new: &[u8], options: usiz
     }
 }
 
-// The keys of half of the options, twice, so that those around from an option on are sixteen in a row.
+// The keys of half of the options, twice. So the keys from any of these options on, counted around, are sixteen in a row.
 #[inline(always)]
 fn around(keys: &[u8], first: usize) -> [u8; MAX_OPTIONS]
     requires { first + LANES ≤ length keys.now }
@@ -320,7 +322,7 @@ fn around(keys: &[u8], first: usize) -> [u8; MAX_OPTIONS]
     twice
 }
 
-// Puts keys into a row of keys.
+// Writes sixteen keys into a row of keys.
 #[inline(always)]
 fn put_half(keys: &mut [u8], half: u8x16, first: usize)
     requires keys { first + LANES ≤ length keys.old }
@@ -332,7 +334,7 @@ fn put_half(keys: &mut [u8], half: u8x16, first: usize)
     half.copy_to_slice(&mut keys[first..]);
 }
 
-// One at each option of the rows that is not preferred to the one that it meets in this turn, and zero at the others.
+// For each option of the rows: 0 if it is preferred to the option that it meets in this turn, else 1.
 #[inline(always)]
 fn not_over(rows: u8x16, columns: &[u8], turn: usize) -> u8x16
     requires rows { length rows ≡ LANES }
@@ -344,7 +346,7 @@ fn not_over(rows: u8x16, columns: &[u8], turn: usize) -> u8x16
     rows.simd_ge(met).select(u8x16::splat(1), u8x16::splat(0))
 }
 
-// Moves each change by one, up where a vote comes and down where one goes.
+// Moves each change by one: up if a vote comes, and down if a vote goes.
 #[inline(always)]
 fn move_lanes(lanes: &mut [u8], gone: u8x16, come: u8x16)
     requires lanes { length lanes.old ≡ LANES }

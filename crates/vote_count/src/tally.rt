@@ -32,7 +32,7 @@ impl Model for Matrix {
 
 #[tactic(auto, using(vote_poll::proofs::OptionLaws::options))]
 impl Matrix {
-    /// The matrix of no votes, of this many options.
+    /// The matrix for this many options, with no votes.
     pub fn zero(options: u8) -> Self
         requires { options ≤ MAX_OPTIONS }
         ensures options { result.options ≡ options }
@@ -61,7 +61,7 @@ impl Matrix {
         self.counts[a as usize - 1][b as usize - 1]
     }
 
-    // The matrix with these votes, a row for each option that wins them.
+    // The matrix with these votes. Each row has the votes that one option wins.
     pub(crate) fn of_rows(options: u8, counts: [[u32; MAX_OPTIONS]; MAX_OPTIONS]) -> Self
         requires options { options ≤ MAX_OPTIONS }
         requires wide { AreRows counts }
@@ -70,7 +70,7 @@ impl Matrix {
         Self { options, counts }
     }
 
-    /// Counts a ballot: one more vote for each two options of which it prefers one to the other.
+    /// Counts a ballot: adds one to V(A,B) for each two options A and B if the ballot prefers A to B.
     pub fn add(&mut self, ranks: &Ranks)
         requires options { length ranks.now ≡ self.old.options }
         requires room { HasRoomFor self.old ranks.now }
@@ -84,8 +84,8 @@ impl Matrix {
         }
     }
 
-    /// Takes a ballot out that was counted: the votes that it added are taken back.
-    /// For callers of the library; the program does not call it.
+    /// Takes out a ballot that was counted: the votes that it added are taken back. For callers of the
+    /// library; the program does not call it.
     pub fn take_out(&mut self, ranks: &Ranks)
         requires options { length ranks.now ≡ self.old.options }
         requires counted { HasCounted self.old ranks.now }
@@ -100,7 +100,7 @@ impl Matrix {
     }
 }
 
-// One more vote, in the row of the option with this sort key, over each option after it.
+// Adds one vote over each option with a greater sort key, in the row of the option with this key.
 fn raise(row: &mut [u32], key: u8, keys: &[u8], options: u8)
     requires row { length row.old ≡ MAX_OPTIONS }
     requires keys { length keys.now ≡ MAX_OPTIONS }
@@ -113,7 +113,8 @@ fn raise(row: &mut [u32], key: u8, keys: &[u8], options: u8)
     }
 }
 
-// One vote less, in the row of the option with this sort key, over each option after it.
+// Takes away one vote over each option with a greater sort key, in the row of the option with this
+// key.
 fn lower(row: &mut [u32], key: u8, keys: &[u8], options: u8)
     requires row { length row.old ≡ MAX_OPTIONS }
     requires keys { length keys.now ≡ MAX_OPTIONS }
@@ -126,9 +127,9 @@ fn lower(row: &mut [u32], key: u8, keys: &[u8], options: u8)
     }
 }
 
-/// The matrix of a list of ballots of this many options, with one entry for each voter: `None` where a
-/// voter has none. There are at most `MAX_ELECTORS` entries.
-/// For callers of the library; the program does not call it.
+/// The matrix of a list of ballots for this many options. The list has one entry for each voter, which
+/// is `None` if the voter has no ballot. There are at most `MAX_ELECTORS` entries. For callers of the
+/// library; the program does not call it.
 pub fn recount(options: u8, ballots: &[Option<Ranks>]) -> Matrix
     requires options { options ≤ MAX_OPTIONS }
     requires few { length ballots.now ≤ MAX_ELECTORS }

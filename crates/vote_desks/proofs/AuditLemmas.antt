@@ -1,4 +1,4 @@
--- What an audit answers is so, and nothing else is.
+-- An audit's answer is true, and no other answer is.
 use Rattle.std.proofs.Common.{◌≡◌, ℕ, ◌+◌, ◌<◌, ◌≤◌, zero, suc, true, false, not, cond, ltb, List, [], ◌∷◌, ◌++◌, ◌↔◌, Option, Some, None, Result, Ok, Err, IsOk, length, get_or, take, drop, refl, sym, ap, ◌∙◌, subst, ⊎_elim, arith}
 use Rattle.std.specs.Prelude.{slice_get, position, MatchResult}
 use Rattle.std.specs.List.{All, prefix_len}
@@ -35,7 +35,7 @@ slice_get-take (suc n) k [] h = refl
 slice_get-take (suc n) zero (x ∷ xs) h = refl
 slice_get-take (suc n) (suc k) (x ∷ xs) h = slice_get-take n k xs (omega arith)
 
--- the casts of a legal history are at a desk, and of an envelope
+-- in a legal history each cast is at a desk, and its envelope is within the limit
 
 may_have_desk : (b : BoxState) (before : List Step) (step : Step) → MayFollow b before step → HasDesk step
 may_have_desk b before Close h = tt
@@ -51,7 +51,7 @@ legal_desks b h = λ k d lt. may_have_desk b (take k b.steps) (get_or b.steps k 
 pub legal_envelopes : (b : BoxState) → IsLegal b → All (HasEnvelope b.limit) b.steps
 legal_envelopes b h = λ k d lt. may_have_envelope b (take k b.steps) (get_or b.steps k d) (h (take k b.steps) (drop (suc k) b.steps) (get_or b.steps k d) (split_at b.steps k d lt))
 
--- the first cast with another reading
+-- the first cast whose reading is not that of its line
 
 pub differs_first : (poll : PollContent) (lines : List (List ℕ)) (steps : List Step) (place : ℕ) (step : Step) → place < length steps → step ≡ get_or steps place step
     → ((k : ℕ) (d : Step) → k < place → HasOwnReading (readings poll lines) (get_or steps k d))
@@ -163,7 +163,7 @@ closed_last (Close ∷ []) closed le = refl
 closed_last (Close ∷ step ∷ steps) closed le = absurd (omega arith)
 closed_last (Cast d n r p ∷ steps) closed le = ap (λ xs. Cast d n r p ∷ xs) (closed_last steps closed (omega arith))
 
--- a closed box whose close is at no place but the last
+-- a closed box whose close is the last step
 pub closed_last_at : (steps : List Step) (i : ℕ) → is_closed steps ≡ true → position is_close steps ≡ Some i → length steps ≤ i + 1 → steps ≡ before_close steps ++ Close ∷ []
 closed_last_at steps i closed e le = let h = close_at steps i e in closed_last steps closed (omega arith)
 
@@ -178,7 +178,7 @@ not_early steps n h last =
     let more = h.1 in
     absurd (omega arith)
 
--- each answer is the only one
+-- no two answers are true
 
 pub sound : (poll : PollContent) (lines : List (List ℕ)) (b : BoxState) (sheets : List (List Slip)) (f : AuditFault) → IsAudited poll lines b sheets → IsFaultOf poll lines b sheets f → ⊥
 sound poll lines b sheets SizeDiffers a h = h a.holds.sizes
@@ -214,7 +214,7 @@ one_fault poll lines b sheets (ClosedEarly n) (StepDiffers m) h k = absurd (no_s
 one_fault poll lines b sheets (ClosedEarly n) (SlipDiffers e q) h k = absurd (no_slip b.steps sheets e q k.3 h.3)
 one_fault poll lines b sheets (ClosedEarly n) (ClosedEarly m) h k = ap ClosedEarly (h.4.0 ∙ sym k.4.0)
 
--- what an audit found, by its answer
+-- what each answer of an audit means
 abbrev pub Found : PollContent → List (List ℕ) → BoxState → List (List Slip) → Result (Unit {0}) AuditFault → Type 0
 Found poll lines b sheets answer = MatchResult answer (λ _. IsAudited poll lines b sheets) (IsFaultOf poll lines b sheets)
 
@@ -230,7 +230,7 @@ fault_exact poll lines b sheets (Err f) h fault =
     let P : AuditFault → Type 0 = λ g. IsFaultOf poll lines b sheets g in
     (λ e. subst P (let same : f ≡ fault = cc in same) h, λ g. ap Err (one_fault poll lines b sheets f fault h g))
 
--- a closed history has a close at some place
+-- in a closed history the close has an index
 pub close_found : (steps : List Step) → position is_close steps ≡ None → is_closed steps ≡ true → ⊥
 close_found steps none closed =
     let far : length steps ≤ prefix_len (λ s. not (is_close s)) steps = past (prefix_len (λ s. not (is_close s)) steps) (length steps) none in
@@ -245,7 +245,7 @@ close_found steps none closed =
     closed_within (Close ∷ steps) closed far = absurd (omega arith)
     closed_within (Cast d n r p ∷ steps) closed far = closed_within steps closed (omega arith)
 
--- the same faults with another value
+-- the same faults if the call returns another value
 pub ok_moved : {A B : Type 0} (P : AuditFault → Type 0) (x : A) (y : B) → ((fault : AuditFault) → (◌≡◌ {A = Result A AuditFault} (Ok x) (Err fault)) ↔ P fault)
     → (fault : AuditFault) → (◌≡◌ {A = Result B AuditFault} (Ok y) (Err fault)) ↔ P fault
 ok_moved P x y h fault = (λ e. absurd (cc), λ p. absurd (let e = (h fault).1 p in cc))

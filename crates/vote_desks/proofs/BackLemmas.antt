@@ -1,4 +1,4 @@
--- What the workers returned is what they promised: the desks in order, with passes that took each place of the tray once.
+-- The workers return what they promised: the desks in order, with passes that took each place of the tray once.
 use Rattle.std.proofs.Common.{◌≡◌, ℕ, ◌+◌, ◌<◌, zero, suc, List, [], ◌∷◌, ◌++◌, max, length, map, sum_by, Contains, refl, sym, ap, ◌∙◌, subst, arith, length-append}
 use Rattle.std.specs.List.{All, AllByRecursion, range_with_len, enumerate_from}
 use Rattle.std.proofs.lemmas.List.{length-map, map-append}
@@ -63,12 +63,12 @@ handed_more tray n desks pass all desk more h number its_tray parts done is =
       cast = omega (arith, sum_by_push (λ (d : DeskState). length d.slips) desks desk, h.cast, as_many desk more done, places);
     }
 
--- of those who are back, the first and the others
+-- the desks that are back: the first and the others
 pub first_back : {W : Type 0} (pair : W → DeskState × PassState) (tray : TrayId) (n : ℕ) (rest : List W) (w : W) (others : List W) → rest ≡ w ∷ others → AreBackFrom tray n (map pair rest)
     → AreBackFrom tray n (pair w ∷ map pair others)
 first_back pair tray n rest w others is back = subst (λ xs. AreBackFrom tray n (map pair xs)) is back
 
--- all who were given desks and passes in order, and stopped when the tray was empty
+-- all workers that got desks and passes in order, and stopped when the tray was empty
 pub back_from : {W : Type 0} (desk : W → DeskState) (pass : W → PassState) (tray : TrayId) (n m : ℕ) (all : List W)
     → map (λ w. (desk w).number) all ≡ range_with_len (n + 1) m → map (λ w. tray_and_parts (pass w)) all ≡ map tray_and_parts (map (new_pass tray) (range_with_len n m))
     → AllByRecursion (λ w. HasCastAll (desk w) (pass w)) all → AreBackFrom tray n (map {B = DeskState × PassState} (λ w. (desk w, pass w)) all)
@@ -81,7 +81,7 @@ back_from desk pass tray n (suc m) (w ∷ all) numbers passes done =
     let rest : map (λ v. tray_and_parts (pass v)) all ≡ map tray_and_parts (map (new_pass tray) (range_with_len (n + 1) m)) = cc in
     (number, ap (λ p. p.0) both, ap (λ p. p.1) both, done.0, back_from desk pass tray (n + 1) m all others rest done.1)
 
--- desks and passes that are new
+-- new desks and passes
 pub are_fresh : (lines n m : ℕ) → AllByRecursion (IsFresh lines) (map (fresh_desk lines) (range_with_len n m))
 are_fresh lines n zero = tt
 are_fresh lines n (suc m) = (record { room = refl; empty = refl }, are_fresh lines (n + 1) m)
@@ -90,12 +90,12 @@ pub are_unused : (tray : TrayId) (n m : ℕ) → AllByRecursion (IsUnused tray) 
 are_unused tray n zero = tt
 are_unused tray n (suc m) = (record { its_tray = refl; empty = refl }, are_unused tray (n + 1) m)
 
--- the numbers of such desks
+-- the numbers of new desks
 pub fresh_numbers : (lines n m : ℕ) → map (λ (d : DeskState). d.number) (map (fresh_desk lines) (range_with_len n m)) ≡ range_with_len n m
 fresh_numbers lines n zero = refl
 fresh_numbers lines n (suc m) = ap (λ ks. n ∷ ks) (fresh_numbers lines (n + 1) m)
 
--- sheets that are numbered in order have as many slips as they have without numbers
+-- numbering the sheets does not change how many slips they have
 pub sum_numbered : (n : ℕ) (sheets : List (List Slip)) → sum_by (λ (at : ℕ × List Slip). length at.1) (enumerate_from n sheets) ≡ sum_by length sheets
 sum_numbered n [] = refl
 sum_numbered n (sheet ∷ sheets) =
@@ -111,7 +111,7 @@ sum_paired (desk ∷ desks) =
       sum_paired desks,
     )
 
--- all sheets rise, by number or not
+-- all sheets rise, with numbers or without
 pub rise_numbered : (n : ℕ) (sheets : List (List Slip)) → AllByRecursion (λ (at : ℕ × List Slip). Rises at.1) (enumerate_from n sheets) → AllByRecursion Rises sheets
 rise_numbered n [] h = tt
 rise_numbered n (sheet ∷ sheets) h = (h.0, rise_numbered (n + 1) sheets h.1)
@@ -124,7 +124,7 @@ rise_paired (desk ∷ desks) h = (h.0, rise_paired desks h.1)
 abbrev pub paired : List DeskState → List (ℕ × List Slip)
 paired desks = map {B = ℕ × List Slip} (λ (d : DeskState). (d.number, d.slips)) desks
 
--- the sheets that were gathered are those of the desks
+-- the gathered sheets are those of the desks
 pub gathered_count : (desks : List DeskState) (sheets : List (List Slip)) → IsPermutation (paired desks) (enumerate_from 1 sheets) → sum_by length sheets ≡ sum_by (λ (d : DeskState). length d.slips) desks
 gathered_count desks sheets same =
     sym (sum_numbered 1 sheets) ∙ sum_by-IsPermutation (λ (at : ℕ × List Slip). length at.1) (paired desks) (enumerate_from 1 sheets) same ∙ sum_paired desks

@@ -1,4 +1,4 @@
--- The slips of the desks, step by step, beside their sheets.
+-- The slips of the desks, compared step by step with their sheets.
 use Rattle.std.proofs.Common.{◌≡◌, ◌≢◌, ℕ, ◌+◌, ◌-◌, ◌<◌, ◌≤◌, zero, suc, cond, Bool, true, false, List, [], ◌∷◌, ◌++◌, Option, Some, None, length, set, take, refl, sym, ap, ◌∙◌, subst, ⊎_elim, arith}
 use Rattle.std.specs.Prelude.{slice_get}
 use Rattle.std.specs.List.{cons_option}
@@ -39,7 +39,7 @@ take-get xs n x h =
     let next : n + 1 ≡ suc n = omega arith in
     ap (λ k. take k xs) next ∙ take-suc xs n x (slice_get_within xs n x h) ∙ ap (λ y. take n xs ++ y ∷ []) (get_or_from_slice_get xs n x x h)
 
--- the slips of one step more
+-- the slips after one more step
 
 slips_from-push : (n : ℕ) (before : List Step) (step : Step) (desk : ℕ)
     → slips_from n (before ++ step ∷ []) desk ≡ slips_from n before desk ++ cons_option (slip_of desk (n + length before) step) []
@@ -55,7 +55,7 @@ slips-push before step desk number is =
     let at : 1 + length before ≡ number = omega (arith, is) in
     slips_from-push 1 before step desk ∙ ap (λ m. slips_from 1 before desk ++ cons_option (slip_of desk m step) []) at
 
--- one slip more beside a sheet
+-- one more slip, compared with a sheet
 
 pub still_parted : (sheet casts : List Slip) (slip : Slip) (at : Compared) → at.differs ≡ true → AgreesWith sheet casts at → AgreesWith sheet (casts ++ slip ∷ []) at
 still_parted sheet casts slip at differs h =
@@ -94,7 +94,7 @@ parts_here sheet casts slip at alike other h =
       part = λ _. (omega (arith, longer, len), λ e. other (e ∙ get-append_seam casts slip n len));
     }
 
--- one step more beside all sheets
+-- one more step, compared with all sheets
 
 pub close_compared : (sheets : List (List Slip)) (before : List Step) (compared : List Compared) → AgreeWith sheets before compared → AgreeWith sheets (before ++ Close ∷ []) compared
 close_compared sheets before compared h desk low high =

@@ -1,4 +1,4 @@
--- The least desk that stopped early, and what an audit may find.
+-- The lowest desk that stopped early, and what an audit may find.
 use Rattle.std.proofs.Common.{◌≡◌, ℕ, Bool, IsTrue, ◌+◌, ◌<◌, ◌≤◌, List, Option, Some, None, length, get_or, map, refl, sym, ap, ◌∙◌, ⊎_elim, arith}
 use Rattle.std.specs.List.{range_with_len, count_by}
 use Rattle.std.proofs.lemmas.Bool.{cases_lt}
@@ -20,7 +20,7 @@ use Rattle.vote_desks.specs.Faults.{CanStopAudit, CanStopCasts, CanStopVotes, Is
 use Rattle.vote_desks.specs.Stops.{IsBarredBy, stop_fault, IsLeastStop}
 use Rattle.vote_desks_box.proofs.Ranges.{at_range}
 
--- desks that are numbered in order, of which the first at this place stopped early
+-- the desks are numbered in order, and the desk at this index is the first that stopped early
 pub least_stop : {W : Type 0} (desk : W → ℕ) (stopped : W → Option Stop) (all : List W) (k : ℕ) (w : W) (stop : Stop) (fault : VoteFault)
     → map desk all ≡ range_with_len 1 (length all) → k < length all → w ≡ get_or all k w → stopped w ≡ Some stop → fault ≡ stop_fault (desk w) stop
     → ((j : ℕ) (e : W) → j < k → stopped (get_or all j e) ≡ None)
@@ -47,17 +47,17 @@ least_stop {W} desk stopped all k w stop fault numbers inside here stops is befo
           (cases_lt i k);
     }
 
--- a desk stopped by the gate, or by a cast of a stamp that was used
+-- a desk that a gate stopped, or a cast with a used stamp, has a fault that can stop the casts
 pub can_stop : (bars : ℕ → Bool) (desk : ℕ) (stop : Stop) → (stop ≡ Barred → IsTrue (bars desk)) → ((fault : EnterFault) → stop ≡ Refused fault → fault ≡ StampUsed)
     → CanStopCasts bars (stop_fault desk stop)
 can_stop bars desk Barred barred used = barred refl
 can_stop bars desk (Refused fault) barred used = used fault refl
 
--- one that the box refused was not barred
+-- a desk whose cast was refused was not barred
 pub refused_barred : (bars : ℕ → Bool) (desk : ℕ) (fault : EnterFault) → IsBarredBy bars desk (Some (Refused fault))
 refused_barred bars desk fault = λ e. cc
 
--- what can stop the audit can stop votes
+-- a fault that can stop the audit can stop votes
 pub stops_votes : (bars : ℕ → Bool) (fault : VoteFault) → CanStopAudit fault → CanStopVotes bars fault
 stops_votes bars Memory can = tt
 stops_votes bars Thread can = absurd can
@@ -70,7 +70,7 @@ pub of_desk : (desks desk : ℕ) (stop : Stop) → 1 ≤ desk → desk ≤ desks
 of_desk desks desk Barred low high = (low, high)
 of_desk desks desk (Refused fault) low high = (low, high)
 
--- an audit finds neither of these two in a box with the sizes of the poll and a cast for each line
+-- an audit finds neither SizeDiffers nor CountDiffers in a box with the sizes of the poll and a cast for each line
 pub can_stop_audit : (poll : PollContent) (lines : List (List ℕ)) (s : SealedState) (fault : VoteFault)
     → HasSizes poll lines s.ballot_box → count_by is_cast s.ballot_box.steps ≡ length lines → IsAuditFaultOf poll lines s fault → CanStopAudit fault
 can_stop_audit poll lines s Memory sizes casts found = tt
@@ -84,7 +84,7 @@ can_stop_audit poll lines s (Audit (StepDiffers number)) sizes casts found = (λ
 can_stop_audit poll lines s (Audit (SlipDiffers desk place)) sizes casts found = (λ e. cc, λ e. cc)
 can_stop_audit poll lines s (Audit (ClosedEarly number)) sizes casts found = (λ e. cc, λ e. cc)
 
--- what an audit finds is of no one desk
+-- the fault of an audit may name any desk
 pub audit_of_desk : (desks : ℕ) (poll : PollContent) (lines : List (List ℕ)) (s : SealedState) (fault : VoteFault)
     → IsAuditFaultOf poll lines s fault → IsOfDesk desks fault
 audit_of_desk desks poll lines s Memory found = tt
@@ -94,7 +94,7 @@ audit_of_desk desks poll lines s (Enter desk fault) found = absurd found
 audit_of_desk desks poll lines s (Desk fault) found = tt
 audit_of_desk desks poll lines s (Audit fault) found = tt
 
--- what an audit finds in a legal box is found there
+-- IsFoundIn holds for a fault that an audit finds in a legal box
 pub found_in : (Are : List (List Slip) → Type 0) (poll : PollContent) (lines : List (List ℕ)) (s : SealedState) (fault : VoteFault)
     → Are s.sheets → IsLegal s.ballot_box → IsAuditFaultOf poll lines s fault → IsFoundIn Are poll lines fault
 found_in Are poll lines s Memory are legal found = tt

@@ -18,7 +18,7 @@ use Rattle.vote_desks_box.specs.Desks.{SealedState, sheet_at}
 abbrev pub HasSlips : List Step → List (List Slip) → Type 0
 HasSlips steps sheets = (desk : ℕ) → 1 ≤ desk → desk ≤ MAX_DESKS → sheet_at sheets desk ≡ slips_from 1 steps desk
 
--- the box holds the lines of the poll, and the slips are those of its desks
+-- the box holds the poll's lines, and each desk's slips are those of its casts
 pub record IsAudited (poll : PollContent) (lines : List (List ℕ)) (b : BoxState) (sheets : List (List Slip)) : Type 0 where
   pub holds : HoldsLines poll lines b
   pub sheets_are : HasSlips b.steps sheets
@@ -27,11 +27,11 @@ pub record IsAudited (poll : PollContent) (lines : List (List ℕ)) (b : BoxStat
 abbrev pub IsAuditedFor : PollContent → List (List ℕ) → SealedState → Type 0
 IsAuditedFor poll lines s = IsAudited poll lines s.ballot_box s.sheets
 
--- each cast has what the poll reads in the line with its stamp
+-- each cast has the poll's reading of the line with its stamp
 abbrev pub HasOwnReadings : PollContent → List (List ℕ) → List Step → Type 0
 HasOwnReadings poll lines steps = All (HasOwnReading (readings poll lines)) steps
 
--- the step of this number is the first cast with another reading than its line
+-- the step with this number, from 1, is the first cast whose reading is not that of its line
 pub record DiffersFirst (poll : PollContent) (lines : List (List ℕ)) (steps : List Step) (number : ℕ) : Type 0 where
   pub before : List Step
   pub step : Step
@@ -41,24 +41,24 @@ pub record DiffersFirst (poll : PollContent) (lines : List (List ℕ)) (steps : 
   pub so_far : HasOwnReadings poll lines before
   pub differs : ¬ HasOwnReading (readings poll lines) step
 
--- each cast has the reading of its line, or this is the number of the first that has another one
+-- each cast has the reading of its line, or this is the number of the first cast that does not
 abbrev pub FindsReading : Option ℕ → PollContent → List (List ℕ) → List Step → Type 0
 FindsReading found poll lines steps = MatchOption found (HasOwnReadings poll lines steps) (DiffersFirst poll lines steps)
 
--- two lists of slips differ first at this place, counted from 1; one may have ended there
+-- two lists of slips first differ at this position, counted from 1; one list may have ended there
 pub record PartAt (sheet other : List Slip) (place : ℕ) : Type 0 where
   pub before : ℕ
   pub place_is : place ≡ before + 1
   pub so_far : take before sheet ≡ take before other
   pub differ : slice_get sheet before ≢ slice_get other before
 
--- the first desk whose slips are not those of its casts, and the first place where they differ
+-- the lowest desk whose slips are not those of its casts, and the first position where they differ
 pub record SheetDiffers (steps : List Step) (sheets : List (List Slip)) (desk place : ℕ) : Type 0 where
   pub is_desk : (1 ≤ desk) × (desk ≤ MAX_DESKS)
   pub others : (other : ℕ) → 1 ≤ other → other < desk → sheet_at sheets other ≡ slips_from 1 steps other
   pub part : PartAt (sheet_at sheets desk) (slips_from 1 steps desk) place
 
--- each desk's slips are those of its casts, or this is the first desk where they are not, with the first place where they differ
+-- each desk's slips are those of its casts, or this is the lowest desk where they are not, with the first position where they differ
 abbrev pub FindsSheet : Option (ℕ × ℕ) → List Step → List (List Slip) → Type 0
 FindsSheet found steps sheets = MatchOption found (HasSlips steps sheets) (λ at. SheetDiffers steps sheets at.0 at.1)
 
@@ -66,7 +66,7 @@ FindsSheet found steps sheets = MatchOption found (HasSlips steps sheets) (λ at
 abbrev pub IsEarlyClose : List Step → ℕ → Type 0
 IsEarlyClose steps number = (number ≡ length (before_close steps) + 1) × (number < length steps)
 
--- where each fault is found: all earlier tests passed
+-- when each fault is found: all tests before its own passed
 abbrev pub IsFaultOf : PollContent → List (List ℕ) → BoxState → List (List Slip) → AuditFault → Type 0
 IsFaultOf poll lines b sheets SizeDiffers = ¬ HasSizes poll lines b
 IsFaultOf poll lines b sheets CountDiffers = HasSizes poll lines b × (count_by is_cast b.steps ≢ length lines)
@@ -77,6 +77,6 @@ IsFaultOf poll lines b sheets (SlipDiffers desk place) =
 IsFaultOf poll lines b sheets (ClosedEarly number) =
     HasSizes poll lines b × (count_by is_cast b.steps ≡ length lines) × HasOwnReadings poll lines b.steps × HasSlips b.steps sheets × IsEarlyClose b.steps number
 
--- the call fails exactly when there is a fault, and returns that one
+-- the call returns a fault exactly when that fault is found
 abbrev pub FindsFault : {A : Type 0} → Result A AuditFault → PollContent → List (List ℕ) → BoxState → List (List Slip) → Type 0
 FindsFault result poll lines b sheets = (fault : AuditFault) → (result ≡ Err fault) ↔ IsFaultOf poll lines b sheets fault

@@ -1,4 +1,4 @@
--- What all workers return.
+-- The desks and passes that all workers return.
 use Rattle.std.specs.Prelude.{◌≡◌, ℕ, ◌+◌, List, [], ◌∷◌, length, map, sum_by, All}
 use Rattle.std.specs.List.{range_with_len}
 use Rattle.vote_tray.specs.Passes.{TrayId, PassState}
@@ -6,17 +6,17 @@ use Rattle.vote_desks_box.specs.Slips.{Rises}
 use Rattle.vote_desks_box.specs.Desks.{DeskState}
 use Rattle.vote_desks.specs.Work.{HasCastAll}
 
--- the desks and passes come from n on in order, and have emptied the tray
+-- the desks from number n + 1 on, in order, each with its pass, and they have emptied the tray
 abbrev pub AreBackFrom : TrayId → ℕ → List (DeskState × PassState) → Type 0
 AreBackFrom tray n [] = Unit {0}
 AreBackFrom tray n (back ∷ others) =
     (back.0.number ≡ n + 1) × (back.1.tray ≡ tray) × (back.1.parts ≡ n ∷ []) × HasCastAll back.0 back.1 × AreBackFrom tray (n + 1) others
 
--- how many envelopes these desks have cast
+-- the number of envelopes that these desks have cast
 abbrev pub casts_at : List DeskState → ℕ
 casts_at desks = sum_by (λ desk. length desk.slips) desks
 
--- the first n desks, and the pass that their passes were joined into
+-- desks 1 to n, and the pass that their passes were joined into
 pub record AreHandedIn (tray : TrayId) (n : ℕ) (desks : List DeskState) (pass : PassState) : Type 0 where
   pub numbers : map (λ desk. desk.number) desks ≡ range_with_len 1 n
   pub rising : All (λ desk. Rises desk.slips) desks

@@ -9,28 +9,28 @@ use Rattle.vote_desks_box.specs.Slips.{slips_from}
 use Rattle.vote_desks_box.specs.Desks.{sheet_at}
 use Rattle.vote_desks.specs.Audit.{PartAt}
 
--- a cast is of one of the desks
+-- a cast is at a desk from 1 to MAX_DESKS
 abbrev pub HasDesk : Step → Type 0
 HasDesk Close = Unit {0}
 HasDesk (Cast desk stamp reading reply) = (1 ≤ desk) × (desk ≤ MAX_DESKS)
 
--- the envelope of a cast is one of the box
+-- a cast's envelope is from 1 to the limit of the box
 abbrev pub HasEnvelope : ℕ → Step → Type 0
 HasEnvelope limit Close = Unit {0}
 HasEnvelope limit (Cast desk stamp reading reply) = (1 ≤ stamp) × (stamp ≤ limit)
 
--- of the slips that casts gave so far, the first ones are those of the sheet, and the next one is another where they part
+-- the first `alike` slips of the sheet are those of the casts so far; if `differs`, the casts have a next slip, and the sheet does not have it there; if not, the casts have no more slips
 pub record AgreesWith (sheet casts : List Slip) (at : Compared) : Type 0 where
   pub within : at.alike ≤ length sheet
   pub so_far : take at.alike sheet ≡ take at.alike casts
   pub all : at.differs ≡ false → length casts ≡ at.alike
   pub part : at.differs ≡ true → (at.alike < length casts) × (slice_get sheet at.alike ≢ slice_get casts at.alike)
 
--- whatever the casts gave so far, what is known of them is known with this slip too
+-- whatever slips the casts gave: if `before` agrees with them, `at` agrees with them and this slip
 abbrev pub AgreesWithOneMore : List Slip → Compared → Slip → Compared → Type 0
 AgreesWithOneMore sheet before slip at = (casts : List Slip) → AgreesWith sheet casts before → AgreesWith sheet (casts ++ slip ∷ []) at
 
--- whatever the casts gave, they gave this sheet, or this is the first place, from 1, where it differs from what they gave
+-- whatever slips the casts gave, if `at` agrees with them: they are this sheet, or this is the first position, from 1, where the sheet differs from them
 abbrev pub FindsPlace : Option ℕ → List Slip → Compared → Type 0
 FindsPlace found sheet at = (casts : List Slip) → AgreesWith sheet casts at → MatchOption found (sheet ≡ casts) (PartAt sheet casts)
 
@@ -42,15 +42,15 @@ nothing_compared = record { alike = 0; differs = false }
 abbrev pub compared_at : List Compared → ℕ → Compared
 compared_at compared desk = slice_index_or compared (desk - 1) nothing_compared
 
--- no sheet was taken to be longer than it is
+-- no sheet has more slips alike than it has slips
 abbrev pub AreWithin : List (List Slip) → List Compared → Type 0
 AreWithin sheets compared = (desk : ℕ) → 1 ≤ desk → desk ≤ MAX_DESKS → (compared_at compared desk).alike ≤ length (sheet_at sheets desk)
 
--- the sheets were compared with the slips of these steps
+-- each desk's sheet was compared with the slips of these steps
 abbrev pub AgreeWith : List (List Slip) → List Step → List Compared → Type 0
 AgreeWith sheets steps compared = (desk : ℕ) → 1 ≤ desk → desk ≤ MAX_DESKS → AgreesWith (sheet_at sheets desk) (slips_from 1 steps desk) (compared_at compared desk)
 
--- whatever steps were compared so far, what is known of them is known with this step too, which has this number
+-- whatever steps came before: if `before` agrees with them, `compared` agrees with them and this step, which has this number
 abbrev pub AgreeWithOneMore : List (List Slip) → List Compared → ℕ → Step → List Compared → Type 0
 AgreeWithOneMore sheets before number step compared =
     (steps : List Step) → length steps + 1 ≡ number → AgreeWith sheets steps before → AgreeWith sheets (steps ++ step ∷ []) compared

@@ -4,7 +4,7 @@ pub mod Faults
 pub mod Words
 pub mod Limits
 pub mod Standing
--- what private functions say of their parts
+-- what private functions say about their parts
 pub mod Comparing
 pub mod Work
 pub mod Workers

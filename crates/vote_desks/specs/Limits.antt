@@ -2,6 +2,6 @@
 use Rattle.std.specs.Prelude.{◌≡◌}
 use Rattle.vote_steps.specs.declared.TheConstants.{MAX_DESKS}
 
--- votes are taken at 1 to 8 desks
+-- the greatest number of desks is 8
 abbrev pub DesksAreAsWritten : Type 0
 DesksAreAsWritten = MAX_DESKS ≡ 8

@@ -1,4 +1,4 @@
--- What an audited box says of the voters: it is what the lines say, whatever the order in which they were cast.
+-- What an audited box says about the voters: the same as the lines, in whatever order they were cast.
 use Rattle.std.specs.Prelude.{◌≡◌, ℕ, List, take}
 use Rattle.vote_poll.specs.PollContent.{PollContent}
 use Rattle.vote_poll.specs.Readings.{readings}
@@ -9,7 +9,7 @@ use Rattle.vote_steps.specs.Recasts.{last_ballot}
 use Rattle.vote_steps.specs.Standing.{CountsLines}
 use Rattle.vote_desks.specs.Audit.{IsAudited}
 
--- of each voter the ranks of the last line stand that reads as a ballot and is not late
+-- each voter's ballot that stands has the ranks of the voter's last line that reads as a ballot and is not late
 abbrev pub LastLinesStand : Type 0
 LastLinesStand =
     (poll : PollContent) (lines : List (List ℕ)) (b : BoxState) (sheets : List (List Slip)) (voter : ℕ) → IsAudited poll lines b sheets

@@ -11,16 +11,16 @@ use Rattle.vote_desks.specs.declared.fault.VoteFault.TheVariants.{Memory, Gate, 
 abbrev pub IsRefusedAsUsed : Option Stop → Type 0
 IsRefusedAsUsed stopped = (fault : EnterFault) → stopped ≡ Some (Refused fault) → fault ≡ StampUsed
 
--- a gate that may stop these desks stopped none but them: the desk with this number only if it may stop it
+-- if the desk with this number stopped at the gate, the gate may stop it
 abbrev pub IsBarredBy : (ℕ → Bool) → ℕ → Option Stop → Type 0
 IsBarredBy bars desk stopped = stopped ≡ Some Barred → IsTrue (bars desk)
 
--- the fault that tells a desk's early stop
+-- the fault for a desk's early stop
 abbrev pub stop_fault : ℕ → Stop → VoteFault
 stop_fault desk Barred = Gate desk
 stop_fault desk (Refused fault) = Enter desk fault
 
--- of the workers, given by their desks and by why they stopped early, the one with the least desk that did has this fault
+-- each worker is given by its desk and by why it stopped early, if it did; this is the fault of the lowest desk that stopped early
 pub record IsLeastStop (workers : List (ℕ × Option Stop)) (fault : VoteFault) : Type 0 where
   pub desk : ℕ
   pub stop : Stop
@@ -28,6 +28,6 @@ pub record IsLeastStop (workers : List (ℕ × Option Stop)) (fault : VoteFault)
   pub fault_is : fault ≡ stop_fault desk stop
   pub least : (other : ℕ) (why : Stop) → Contains workers (other, Some why) → desk ≤ other
 
--- why the desks are not taken back: the least that stopped early has this fault; or none did, and no memory was left
+-- why the desks are not taken back: the lowest desk that stopped early has this fault; or no desk stopped early, and no memory was left
 abbrev pub StopsWorkers : List (ℕ × Option Stop) → VoteFault → Type 0
 StopsWorkers workers fault = IsLeastStop workers fault ⊎ (All (λ worker. worker.1 ≡ None) workers × (fault ≡ Memory))

@@ -1,4 +1,4 @@
--- What the fault line says where the votes are not taken.
+-- What the fault line says if the votes are not taken.
 use Rattle.std.specs.Prelude.{ℕ, ◌++◌, List, codes, decimal}
 use Rattle.vote_desks_box.specs.declared.fault.DeskFault.TheVariants as gathering
 use Rattle.vote_desks.specs.declared.fault.VoteFault.{VoteFault}

@@ -25,7 +25,7 @@ pub record IsUnused (tray : TrayId) (pass : PassState) : Type 0 where
   pub its_tray : pass.tray ≡ tray
   pub empty : pass.places ≡ []
 
--- the desk has cast these envelopes since, in this order
+-- after `before` the desk has cast these envelopes, in this order
 abbrev pub HasCast : DeskState → List ℕ → DeskState → Type 0
 HasCast before stamps desk = stamps_of desk.slips ≡ stamps_of before.slips ++ stamps
 
@@ -35,15 +35,15 @@ pub record HasCastAll (desk : DeskState) (pass : PassState) : Type 0 where
   pub rising : Rises desk.slips
   pub emptied : pass.seen ≡ pass.tray.size
 
--- what a pass keeps, whatever it takes
+-- the tray and the parts of a pass, which do not change when it takes places
 abbrev pub tray_and_parts : PassState → TrayId × List ℕ
 tray_and_parts pass = (pass.tray, pass.parts)
 
--- the stamp of a line, if there are this many; lines are numbered from 1
+-- a stamp is the number of a line, from 1, if there are this many lines
 abbrev pub IsStampOf : ℕ → ℕ → Type 0
 IsStampOf lines stamp = (1 ≤ stamp) × (stamp ≤ lines)
 
--- at the place of each of these stamps is what the poll reads in its line
+-- each reading is what the poll reads in the line whose stamp has the same index
 abbrev pub AreReadAt : PollContent → List (List ℕ) → List ℕ → List Reading → Type 0
 AreReadAt poll lines stamps read = (place : ℕ) → place < length stamps → slice_get read place ≡ slice_get (readings poll lines) (slice_index stamps place - 1)
 
@@ -62,7 +62,7 @@ pub record IsRising (pass : PassState) : Type 0 where
 abbrev pub last_stamp : PassState → ℕ
 last_stamp pass = slice_index_or (stamps_taken pass) (length (stamps_taken pass) - 1) 0
 
--- how many lines come after the last one that the pass took
+-- the number of lines after the last line that the pass took
 abbrev pub left_behind : PassState → ℕ
 left_behind pass = pass.tray.size - last_stamp pass
 
@@ -70,6 +70,6 @@ left_behind pass = pass.tray.size - last_stamp pass
 abbrev pub batch_length : Bool → ℕ → ℕ
 batch_length may_wait left = if may_wait then 1 else min BATCH (left / LEFT_FOR_EACH + 1)
 
--- a batch for each desk is at most half of what is left, but for an envelope each
+-- the batches of all desks together, less one envelope each, are at most half of what is left
 abbrev pub IsShareOf : ℕ → ℕ → Type 0
 IsShareOf left batch = 2 * (MAX_DESKS * (batch - 1)) ≤ left

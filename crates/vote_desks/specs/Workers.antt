@@ -1,4 +1,4 @@
--- What workers promised when they were started, and what they returned, one after the other.
+-- What the workers promised when they were started, and what they returned, in the same order.
 use Rattle.std.specs.Prelude.{ℕ, Bool, List, Option, All, map}
 use Rattle.std.specs.declared.thread.PromisedHandle.{PromisedHandle}
 use Rattle.vote_tray.specs.Passes.{TrayId, PassState}
@@ -44,6 +44,6 @@ module _ {X Y : Type 0} {g : Tally.Ghosts X} {h : Tally.Ghosts Y} where
   abbrev pub stops_back : List (WorkerResult X Y g h) → List (ℕ × Option Stop)
   stops_back all = map (λ worked. (worked.desk.number, worked.stopped)) all
 
-  -- a gate that may stop these desks stopped none of the others that are back
+  -- of the desks that are back, the gate stopped only desks that it may stop
   abbrev pub AreBarredBy : (ℕ → Bool) → List (WorkerResult X Y g h) → Type 0
   AreBarredBy bars all = All (λ worked. IsBarredBy bars worked.desk.number worked.stopped) all

@@ -1,4 +1,4 @@
-//! Reading the lines once more, and comparing them with what the desks did.
+//! Reads the lines once more, and compares them with what the desks did.
 ghost use Rattle.std.specs.Prelude.{◌≡◌, ◌≤◌, ◌↔◌, length, count_by, position, IsTrue, IsOk, IfOk, All};
 ghost use Rattle.std.specs.Thread.{IsSync};
 ghost use Rattle.vote_poll.specs.Readings.{readings};
@@ -20,7 +20,8 @@ use vote_poll::{Lines, Poll, is_reading};
 use vote_steps::laws::closes_once;
 use vote_steps::{BallotBox, MAX_DESKS, Step};
 
-/// Whether the box is of the poll's size and has its last envelope, and has a number for each line.
+/// Whether the box has the poll's numbers of options and electors and its last envelope, and its
+/// limit is the number of lines.
 fn has_sizes(poll: &Poll, lines: &Lines<'_>, ballot_box: &BallotBox) -> bool
     ensures { IsTrue result ↔ HasSizes poll.now lines.now ballot_box.now }
 {
@@ -39,7 +40,7 @@ fn count_casts(ballot_box: &BallotBox) -> usize
     ballot_box.steps().len() - 1
 }
 
-/// Whether a cast has the reading of the line with its stamp.
+/// Whether a step is the close, or a cast with the reading of the line with its stamp.
 fn has_own_reading(poll: &Poll, lines: &Lines<'_>, step: &Step) -> bool
     requires { HasEnvelope (length lines.now) step.now }
     ensures { IsTrue result ↔ HasOwnReading (readings poll.now lines.now) step.now }
@@ -52,7 +53,7 @@ fn has_own_reading(poll: &Poll, lines: &Lines<'_>, step: &Step) -> bool
     }
 }
 
-/// The number of the first step that does not have the reading of its line.
+/// The number, from 1, of the first step that does not have the reading of its line.
 fn first_other_reading(poll: &Poll, lines: &Lines<'_>, steps: &[Step]) -> Option<u64>
     requires { All (HasEnvelope (length lines.now)) steps.now }
     ensures { FindsReading result poll.now lines.now steps.now }
@@ -65,15 +66,15 @@ fn first_other_reading(poll: &Poll, lines: &Lines<'_>, steps: &[Step]) -> Option
     None
 }
 
-/// The fewest steps for which a thread is started: a start takes about as long as to compare some
-/// hundred steps.
+/// The minimum number of steps for each thread. Starting a thread takes about as long as comparing
+/// several hundred steps.
 const STRETCH: usize = 2_000;
 
-/// The number of the first step that does not have the reading of its line, found by this many
-/// threads.
+/// The number, from 1, of the first step that does not have the reading of its line, found by this
+/// many threads.
 ///
-/// Each thread takes a stretch of the steps, and the calling thread is one of them. If no thread
-/// can be started, the caller does that share itself.
+/// Each thread, the calling one too, takes a stretch of the steps. If a thread cannot be started,
+/// the caller takes its stretch.
 #[cycle(stretches)]
 fn first_other_reading_by<R: Threads + Sync>(
     rt: &R,
@@ -107,7 +108,7 @@ fn first_other_reading_by<R: Threads + Sync>(
     }
 }
 
-/// The place of the close. A box is closed once, mostly at the end, so the last place is looked at
+/// The index of the close. A box is closed once, usually by the last step, so that step is tried
 /// first.
 fn close_place(ballot_box: &BallotBox) -> Option<usize>
     ensures { result ≡ position is_close ballot_box.now.steps }
@@ -120,11 +121,11 @@ fn close_place(ballot_box: &BallotBox) -> Option<usize>
     steps.iter().position(|step| matches!(step, Step::Close))
 }
 
-/// Compares a closed box and the sheets of its desks, that of desk `d` at place `d - 1`, with the
-/// lines.
+/// Compares a closed box, and the sheets of its desks, with the lines. The sheet of desk `d` has
+/// index `d - 1`.
 ///
-/// Each line is read once, and the steps are gone through once for each kind of fault. It takes no
-/// memory.
+/// Each line is read once, and there is one pass over the steps for each kind of fault. Nothing is
+/// allocated.
 pub fn compare<R: Threads + Sync>(
     rt: &R,
     poll: &Poll,
@@ -156,7 +157,7 @@ pub fn compare<R: Threads + Sync>(
     }
 }
 
-/// A sealed box that an audit has found to be what the lines give.
+/// A sealed box that passed an audit: it agrees with the lines.
 #[derive(Drop)]
 pub struct Audited {
     sealed: Sealed,
@@ -178,7 +179,7 @@ impl Audited {
         self.sealed.ballot_box()
     }
 
-    /// How many desks there were.
+    /// The number of desks.
     ///
     /// For callers of the library; the program does not call it.
     pub fn desks(&self) -> u8
@@ -187,7 +188,7 @@ impl Audited {
         self.sealed.desks()
     }
 
-    /// The sheet of a desk, by its number from 1.
+    /// The sheet of the desk with this number, from 1.
     ///
     /// For callers of the library; the program does not call it.
     pub fn sheet_of(&self, desk: u8) -> &[Slip]
@@ -197,7 +198,7 @@ impl Audited {
         self.sealed.sheet_of(desk)
     }
 
-    /// What shows, once the box is gone, which one was audited.
+    /// A witness that shows which box was audited, after the box is gone.
     pub fn witness(&self) -> AuditWitness
         ensures { result ≡ self.now }
     {
@@ -207,8 +208,9 @@ impl Audited {
     }
 }
 
-/// The witness of an audit. Contracts see the box and the sheets that were audited. It has no
-/// bytes, and only `Audited::witness` makes one: who returns a witness had an audit made.
+/// The witness of an audit. Contracts see the box and the sheets that were audited. A witness has
+/// no bytes, and only `Audited::witness` makes one, so a function that returns a witness has had an
+/// audit made.
 #[derive(Drop)]
 pub struct AuditWitness {
     seen: Snapshot<Audited>,
@@ -223,7 +225,7 @@ impl Model for AuditWitness {
 }
 
 /// Compares a sealed box and its sheets with the lines, as `compare` does. On a fault the sealed
-/// box is given up.
+/// box is dropped.
 pub fn audit<R: Threads + Sync>(
     rt: &R,
     poll: &Poll,

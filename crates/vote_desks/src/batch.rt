@@ -1,4 +1,4 @@
-//! Batches of envelopes, which a worker takes at once.
+//! Batches of envelopes that a worker takes at once.
 ghost use Rattle.std.specs.Prelude.{◌≡◌, ◌+◌, ◌-◌, ◌<◌, ◌≤◌, ◌++◌, All, IsTrue, length, take, slice_index};
 ghost use Rattle.vote_poll.specs.PollContent.{elector_count, option_count};
 ghost use Rattle.vote_poll.specs.Readings.{ReadingFits};
@@ -9,17 +9,17 @@ use vote_desks_box::Tally;
 use vote_poll::{Lines, Poll, Reading, read_line};
 use vote_tray::Pass;
 
-/// The most envelopes of a batch. A desk that waits for its turn sleeps, and to wake it takes about
-/// as long as some hundred casts. So a batch takes longer than that.
+/// The maximum number of envelopes in a batch. A desk that waits for its turn sleeps, and waking it
+/// takes about as long as several hundred casts. So a batch takes longer than that.
 pub(crate) const BATCH: usize = 512;
 
-/// How many envelopes must be left for each further one of a batch: 8 desks together take at most
-/// about half of what is left.
+/// The number of envelopes that must be left for each envelope of a batch after the first. With it
+/// 8 desks together take at most about half of what is left.
 const LEFT_FOR_EACH: usize = 16;
 
-/// How many envelopes a worker takes at once if this many are left. It is one if its gate may wait
-/// for another desk. Towards the end batches get shorter, so that no desk has many to cast while
-/// others have none.
+/// The number of envelopes that a worker takes at once if this many are left. It is one if its gate
+/// may wait for another desk. Towards the end batches get shorter, so that no desk has many
+/// envelopes to cast while others have none.
 fn batch_length(may_wait: bool, left: usize) -> usize
     ensures length { result ≡ batch_length may_wait left }
     ensures range { (1 ≤ result) × (result ≤ BATCH) }
@@ -67,7 +67,7 @@ pub(crate) fn take_batch<VL: Tally, RL: Tally, G: Gate>(
     most
 }
 
-/// Reads the lines of the envelopes with these stamps, each to the place that its stamp has.
+/// Reads the lines of the envelopes with these stamps. A reading has the same index as its stamp.
 pub(crate) fn read_batch(poll: &Poll, lines: &Lines<'_>, stamps: &[u32], readings: &mut [Reading])
     requires stamps { All (IsStampOf (length lines.now)) stamps.now }
     requires room { length stamps.now ≤ length readings.old }

@@ -1,4 +1,4 @@
-//! Why an audit or a whole vote ends without its result.
+//! Why an audit or the taking of votes fails.
 ghost use Rattle.std.specs.Prelude.{◌≡◌};
 ghost use Rattle.vote_desks.specs.declared.fault.VoteFault.TheVariants.{Memory};
 
@@ -7,8 +7,8 @@ use std::fmt;
 use thiserror::Error;
 use vote_desks_box::{DeskFault, EnterFault};
 
-/// Where a box and its slips are not what the lines give. Steps, and the slips of a desk, are
-/// counted from 1.
+/// Where a box or its slips disagree with the lines. Steps, and the slips of a desk, are counted
+/// from 1.
 #[derive(Clone, Copy, Debug, PartialEq, Eq, Error)]
 pub enum AuditFault {
     /// The box does not have the poll's numbers of options and electors or its last envelope, or
@@ -18,11 +18,11 @@ pub enum AuditFault {
     /// The box does not have as many casts as there are lines.
     #[error("the box does not have as many casts as there are lines")]
     CountDiffers,
-    /// This step is the first cast that does not have the reading of the line with its stamp.
+    /// This step is the first cast whose reading is not that of the line with its stamp.
     #[error("step {0} does not have the reading of its line")]
     StepDiffers(u64),
-    /// This desk is the least whose slips are not those of its casts, and this is where the two
-    /// first differ.
+    /// This desk is the lowest whose slips are not those of its casts, and this is the first slip
+    /// where the two differ.
     #[error("the sheet of desk {0} differs from its casts at slip {1}")]
     SlipDiffers(u8, u64),
     /// This step is the close, and it is not the last.
@@ -30,21 +30,21 @@ pub enum AuditFault {
     ClosedEarly(u64),
 }
 
-/// Why the votes are not taken.
+/// Why the votes were not taken.
 #[derive(Clone, Copy, Debug, PartialEq, Eq, Error)]
 pub enum VoteFault {
     /// No memory was left.
     Memory,
-    /// A worker could not be started. Those that were started have ended.
+    /// A worker could not be started. The workers that were started have ended.
     Thread,
-    /// The gate stopped a worker, and this desk is the least that stopped early.
+    /// The gate stopped a worker, and this desk is the lowest that stopped early.
     Gate(u8),
-    /// A cast was refused, and this desk is the least that stopped early. `take_votes` returns it
-    /// with `StampUsed` alone.
+    /// A cast was refused, and this desk is the lowest that stopped early. `take_votes` returns it
+    /// only with `StampUsed`.
     Enter(u8, EnterFault),
     /// The desks could not be gathered. `take_votes` never returns this.
     Desk(DeskFault),
-    /// The box is not what the lines give. `take_votes` returns neither `SizeDiffers` nor
+    /// The box or its slips disagree with the lines. `take_votes` returns neither `SizeDiffers` nor
     /// `CountDiffers`.
     Audit(AuditFault),
 }

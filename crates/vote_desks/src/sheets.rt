@@ -1,4 +1,4 @@
-//! Comparing the sheets of all desks with the slips of their casts, in one pass over the steps.
+//! Compares the sheets of all desks with the slips of their casts, in one pass over the steps.
 ghost use Rattle.std.specs.Prelude.{◌≡◌, ◌^◌, ◌<◌, ◌≤◌, ◌↔◌, length, slice_get, Some, IsTrue, All};
 ghost use Rattle.vote_desks_box.specs.Desks.{sheet_at, slips_on};
 ghost use Rattle.vote_desks.specs.Audit.{FindsSheet};
@@ -7,20 +7,20 @@ ghost use Rattle.vote_desks.specs.Comparing.{AgreeWith, AgreeWithOneMore, Agrees
 use vote_desks_box::Slip;
 use vote_steps::{MAX_DESKS, Step};
 
-/// How many desks a box can have, as the length of an array.
+/// The greatest number of desks of a box, as the length of an array.
 const ALL_DESKS: usize = MAX_DESKS as usize;
 
 /// How far the sheet of a desk was compared with the slips of its casts.
 #[derive(Clone, Copy)]
 pub(crate) struct Compared {
-    /// How many slips are alike, from the first on.
+    /// The number of slips that are alike, from the first on.
     pub alike: usize,
-    /// Whether the next slip cast is missing from the sheet, or is another one.
+    /// Whether the next slip of the casts is missing from the sheet, or differs there.
     pub differs: bool,
 }
 
 impl Compared {
-    /// What is known once the casts have given one more slip.
+    /// How far the sheet was compared after the casts have given one more slip.
     fn with(self, sheet: &[Slip], slip: &Slip) -> Compared
         requires { self.alike ≤ length sheet.now }
         ensures { AgreesWithOneMore sheet.now self slip.now result }
@@ -41,7 +41,7 @@ impl Compared {
         }
     }
 
-    /// The first place, from 1, at which the sheet is not what the casts gave.
+    /// The first position, from 1, where the sheet differs from what the casts gave.
     fn first_other(self, sheet: &[Slip]) -> Option<u64>
         requires { self.alike ≤ length sheet.now }
         ensures { FindsPlace result sheet.now self }
@@ -54,7 +54,7 @@ impl Compared {
     }
 }
 
-/// Whether a sheet has this slip at a place.
+/// Whether a sheet has this slip at this index.
 fn has_slip(sheet: &[Slip], place: usize, slip: &Slip) -> bool
     ensures { IsTrue result ↔ (slice_get sheet.now place ≡ Some slip.now) }
 {
@@ -72,7 +72,7 @@ fn sheet_of(sheets: &[Vec<Slip>], desk: u8) -> &[Slip]
     }
 }
 
-/// Compares the slip that a step gives with the sheet of its desk.
+/// Compares the slip of a step with the sheet of its desk.
 fn compare_step(compared: &mut [Compared], sheets: &[Vec<Slip>], number: u32, step: &Step)
     requires all { length compared.old ≡ MAX_DESKS }
     requires within { AreWithin (slips_on sheets.now) compared.old }
@@ -97,7 +97,7 @@ fn compare_step(compared: &mut [Compared], sheets: &[Vec<Slip>], number: u32, st
     compared[index] = compared[index].with(sheet_of(sheets, desk), &slip);
 }
 
-/// Compares the slips that the steps give with the sheets of all desks.
+/// Compares the slips of the steps with the sheets of all desks.
 fn compare_steps(steps: &[Step], sheets: &[Vec<Slip>]) -> [Compared; ALL_DESKS]
     requires few { length steps.now < 2 ^ 32 }
     requires desks { All HasDesk steps.now }
@@ -113,7 +113,7 @@ fn compare_steps(steps: &[Step], sheets: &[Vec<Slip>]) -> [Compared; ALL_DESKS]
     compared
 }
 
-/// The least desk whose sheet is not the slips of its casts, and the first place, from 1, where
+/// The lowest desk whose sheet is not the slips of its casts, and the first position, from 1, where
 /// they differ.
 pub(crate) fn first_other_sheet(steps: &[Step], sheets: &[Vec<Slip>]) -> Option<(u8, u64)>
     requires few { length steps.now < 2 ^ 32 }

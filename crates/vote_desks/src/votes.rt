@@ -1,10 +1,10 @@
-//! Taking the votes of all lines, by one box that desks share.
+//! Takes the votes of all lines, with one box that desks share.
 //!
-//! Each desk is served in a thread of its own. The box takes stamps 1 to the number of lines, and the workers take the lines
-//! from one tray, so each line is cast once. A worker whose gate bars an envelope, or whose cast is refused, stops; the others go
-//! on. When all have ended, the desks are gathered and each line is read once more. The first fault in the order of `VoteFault`
-//! is returned, but `Memory` may come at any growth. Of all this the contract of `take_votes` says what comes out: a box that is
-//! audited, or which faults may come.
+//! Each desk is served in a thread of its own. The box takes stamps 1 to the number of lines, and the workers take the lines from
+//! one tray, so each line is cast once. A worker stops if its gate bars an envelope or its cast is refused; the others go on. When
+//! all have ended, the desks are gathered and each line is read once more. The first fault in the order of `VoteFault` is returned,
+//! but `Memory` may come at any growth. The contract of `take_votes` promises only the result: an audited box, or a fault that may
+//! come.
 ghost use Rattle.std.specs.Prelude.{◌≡◌, ◌<◌, [], IfOk, IfErr, IfSome, IsNone, All, None, length, map, vec_len};
 ghost use Rattle.std.specs.List.{range_with_len};
 ghost use Rattle.vote_steps.specs.Boxes.{box_of};
@@ -32,7 +32,7 @@ use vote_poll::{Lines, Poll};
 use vote_steps::MAX_DESKS;
 use vote_tray::{Pass, Tray, TrayFault};
 
-/// The fault that tells a desk's early stop.
+/// The fault for a desk's early stop.
 fn stop_fault(desk: u8, stop: Stop) -> VoteFault
     ensures { result ≡ stop_fault desk stop }
 {
@@ -42,7 +42,7 @@ fn stop_fault(desk: u8, stop: Stop) -> VoteFault
     }
 }
 
-/// The fault of the least desk that stopped early.
+/// The fault of the lowest desk that stopped early.
 fn first_stop<VL: Tally, RL: Tally, G: Gate>(all: &[WorkerResult<VL, RL>]) -> Option<VoteFault>
     requires numbers { numbers_back all.now ≡ range_with_len 1 (length all.now) }
     requires barred { AreBarredBy G.bars all.now }
@@ -84,8 +84,7 @@ fn hand_in<VL: Tally, RL: Tally>(
     Ok((desks, joined))
 }
 
-/// Takes the desks back from their workers, with one pass that all passes were joined into, unless
-/// a desk stopped early.
+/// Takes the desks back from their workers, unless a desk stopped early. All passes are joined into the pass that is returned.
 fn take_back<VL: Tally, RL: Tally, G: Gate>(
     alloc: Global,
     tray: &Tray,
@@ -106,8 +105,8 @@ fn take_back<VL: Tally, RL: Tally, G: Gate>(
     hand_in(alloc, tray, all)
 }
 
-/// Runs a worker for each desk until the tray is empty, and takes the desks back, with one pass that
-/// all passes were joined into.
+/// Runs a worker for each desk until the tray is empty, and takes the desks back. All passes are joined into the pass that is
+/// returned.
 fn run_workers<
     VL: Tally + Send + Sync,
     RL: Tally + Send + Sync,
@@ -180,7 +179,7 @@ fn run_desks<
     Ok(back)
 }
 
-/// Audits a sealed box. What the audit finds is why the votes are not taken.
+/// Audits a sealed box. A fault of the audit is returned as the reason why the votes are not taken.
 fn audit_votes<R: Threads + Sync>(
     rt: &R,
     poll: &Poll,
@@ -197,7 +196,7 @@ fn audit_votes<R: Threads + Sync>(
     }
 }
 
-/// Gathers the desks, which have cast all envelopes, and compares what they did with the lines.
+/// Gathers the desks after they have cast all envelopes, and compares what they did with the lines.
 fn gather_and_audit<VL: Tally, RL: Tally, R: Threads + Sync>(
     rt: &R,
     alloc: Global,
@@ -233,7 +232,7 @@ struct Blanks {
     refused: Blank,
 }
 
-/// Takes the votes at desks of one box. Its ledgers are named by the caller.
+/// Takes the votes at the desks of one box. The caller names its ledgers.
 fn serve<
     VL: Tally + Send + Sync,
     RL: Tally + Send + Sync,
@@ -273,9 +272,9 @@ fn serve<
 
 /// Takes the votes of all lines at desks 1 to `desks`.
 ///
-/// If it returns Ok, the box is audited for the poll and its lines, each desk has handed in its slips, and their stamps rise. An
-/// error is one of those that may stop votes with this gate; that of a gate or of a cast names one of these desks. If it is an
-/// audit's, there is a legal box with rising slips of each desk, and the audit finds it there.
+/// If it returns Ok, the box is audited for the poll and its lines, each desk has handed in its slips, and the stamps of each desk
+/// rise. An error is one that may stop votes with this gate. An error of a gate or of a cast names one of these desks. For an error
+/// of the audit there is a legal box, with rising slips of each desk, in which the audit finds it.
 pub fn take_votes<G: Gate + Sync, R: Threads + Wait + Sync>(
     rt: &R,
     alloc: Global,

@@ -1,4 +1,4 @@
-//! Workers, each of which serves a desk in a thread of its own.
+//! Workers. Each serves a desk in a thread of its own.
 ghost use Rattle.std.specs.Prelude.{◌≡◌, ℕ, Bool, true, false, ◌+◌, ◌<◌, ◌≤◌, ◌^◌, [], None, Ok, Some, All, IsNone, IsSome, IsTrue, IfOk, IfErr, map, length, vec_len};
 ghost use Rattle.std.specs.List.{AllByRecursion};
 ghost use Rattle.vote_steps.specs.Boxes.{box_of};
@@ -21,13 +21,13 @@ use vote_desks_box::{Desk, EnterFault, SharedBox, Slip, Tally};
 use vote_poll::{LineFault, Lines, Poll, Reading};
 use vote_tray::{Pass, Tray};
 
-/// Lets envelopes pass to the box, or stops their desks. All workers share it, and the box is not
-/// locked while it is asked.
+/// Lets envelopes pass to the box, or stops their desks. All workers share the gate, and the box is
+/// not locked while the gate is asked.
 pub trait Gate {
-    /// Whether it may stop the desk with this number.
+    /// Whether the gate may stop the desk with this number.
     ghost bars: { ℕ → Bool } = { λ _. true };
 
-    /// Whether a call may wait for what another desk does.
+    /// Whether a call may wait until another desk does something.
     ghost waits: { Bool } = { false };
 
     /// Whether this desk may cast the envelope with this stamp. If not, its worker stops, and the
@@ -35,12 +35,13 @@ pub trait Gate {
     fn before(&self, desk: u8, stamp: u32) -> bool
         ensures { ¬ IsTrue result → IsTrue (bars desk) };
 
-    /// Takes note that this desk has cast an envelope, with the slip that the cast gave.
+    /// Tells the gate that this desk has cast an envelope, with the slip of that cast.
     fn after(&self, desk: u8, slip: &Slip);
 
-    /// Whether a call may wait for what another desk does; it is asked once, before the workers
-    /// start. If so, a worker takes an envelope from the tray only when it has cast the one before.
-    /// If not, it may take a batch at once, and asks for each envelope right before its cast.
+    /// Whether a call may wait until another desk does something. It is asked once, before the
+    /// workers start. If so, a worker takes an envelope from the tray only after it has cast the
+    /// previous one. If not, it may take a batch at once, and asks about each envelope right before
+    /// its cast.
     fn may_wait(&self) -> bool
         ensures { IsTrue waits → IsTrue result }
     {
@@ -49,8 +50,8 @@ pub trait Gate {
 }
 
 /// What all workers share: the poll and its lines, the box, the gate and whether it may wait, the
-/// tray, whose places are the lines from 0, and the turn, a `Mutex<()>` that a desk holds for a
-/// batch, so that the others wait once.
+/// tray and the turn. The places of the tray are the lines, from 0. The turn is a `Mutex<()>` that
+/// a desk holds for a batch, so that the others wait once.
 #[derive(Drop)]
 pub(crate) struct Workplace<'h, 't, VL: Tally, RL: Tally, G: Gate> {
     pub poll: &'h Poll,
@@ -66,8 +67,8 @@ pub(crate) struct Workplace<'h, 't, VL: Tally, RL: Tally, G: Gate> {
     ghost places: { tray.now.size ≡ length lines.now },
 }
 
-/// What a worker promises: to give back this desk, and a pass of the same tray with the same parts,
-/// and that a gate of type `G` stopped the desk only if it bars it.
+/// A worker's promise: it returns this desk, and a pass of the same tray with the same parts, and a
+/// gate of type `G` stopped the desk only if it bars the desk.
 #[derive(Drop)]
 pub(crate) struct WorkerPromise<G> {
     number: u8,
@@ -83,7 +84,7 @@ impl<VL: Tally, RL: Tally, G: Gate> Promise<WorkerResult<VL, RL>> for WorkerProm
 }
 
 /// Casts the envelopes with these stamps, each as one step, until the gate or the box stops the
-/// desk. If there are several, the desk has taken its turn.
+/// desk. If there are several envelopes, the desk holds the turn.
 fn enter_envelopes<VL: Tally, RL: Tally, G: Gate, R: Wait>(
     rt: &R,
     workplace: &Workplace<'_, '_, VL, RL, G>,
@@ -120,12 +121,12 @@ fn enter_envelopes<VL: Tally, RL: Tally, G: Gate, R: Wait>(
 }
 
 /// Casts the envelopes of a batch, each as one step, until the gate or the box stops the desk. If
-/// the gate may wait for another desk, a batch has one envelope: the gate would wait for ever for
-/// another one of the same batch.
+/// the gate may wait for another desk, a batch has one envelope: the gate would wait forever for
+/// another envelope of the same batch.
 ///
-/// Each cast takes the lock of the box anew. Around a longer batch the desk takes its turn, so that
-/// the others wait once for the batch and not for each cast. To wait is what costs, and meanwhile
-/// the matrix stays with one processor.
+/// Each cast takes the lock of the box anew. For a longer batch the desk takes the turn, so that
+/// the others wait once for the batch and not for each cast. Waiting is the expensive part, and
+/// during a batch the matrix stays with one processor.
 fn enter_batch<VL: Tally, RL: Tally, G: Gate, R: Wait>(
     rt: &R,
     workplace: &Workplace<'_, '_, VL, RL, G>,
@@ -153,8 +154,8 @@ fn enter_batch<VL: Tally, RL: Tally, G: Gate, R: Wait>(
     enter_envelopes(rt, workplace, desk, stamps, readings, &turn)
 }
 
-/// Casts envelopes at one desk until the tray is empty, or the gate or the box stops the desk. It
-/// takes no memory.
+/// Casts envelopes at one desk until the tray is empty, or the gate or the box stops the desk.
+/// Nothing is allocated.
 ///
 /// It takes a batch of envelopes at once, and reads all their lines before it casts the first.
 fn desk_loop<VL: Tally, RL: Tally, G: Gate, R: Wait>(
@@ -254,7 +255,7 @@ fn start<'s, E, VL: Tally + Send + Sync, RL: Tally + Send + Sync, G: Gate + Sync
     handle_of(scope.spawn_with(promise, job))
 }
 
-/// Starts a worker for each desk, in the order of the desks, each with the pass at the same place.
+/// Starts a worker for each desk, in the order of the desks, each with the pass at the same index.
 fn start_all<
     's,
     E,

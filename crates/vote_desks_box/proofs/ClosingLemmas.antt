@@ -1,9 +1,9 @@
--- What a close leaves as it is.
+-- What a close leaves unchanged.
 use Rattle.std.proofs.Common.{◌≡◌, Result, Ok, Err, OnOk, OnErr, ap}
 use Rattle.vote_steps.specs.History.{valid, refused}
 use Rattle.vote_steps.specs.Boxes.{BoxState}
 
--- a count that stays where the box is closed stays too where the box was closed before
+-- a count that stays if the close succeeds also stays if the box was closed before
 pub valid_kept : {A E : Type 0} (r : Result A E) (old new : BoxState) → OnOk r (valid new.last_in_time new.steps ≡ valid old.last_in_time old.steps) → OnErr r (new ≡ old)
     → valid new.last_in_time new.steps ≡ valid old.last_in_time old.steps
 valid_kept (Ok x) old new ok err = ok

@@ -1,4 +1,4 @@
--- A list of which the first element was taken off.
+-- A list whose first element was removed.
 use Rattle.std.proofs.Common.{◌≡◌, ◌<◌, List, [], ◌∷◌, length, arith}
 use Rattle.std.specs.Prelude.{slice_index_or}
 use Rattle.std.specs.List.{remove}

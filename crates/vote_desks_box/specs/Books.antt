@@ -1,4 +1,4 @@
--- What the books of valid and refused lines say of all desks.
+-- What the books of valid and refused lines say about all desks.
 use Rattle.std.specs.Prelude.{◌≡◌, ℕ, List, sum_by}
 use Rattle.std.specs.declared.vec.Vec.{Vec}
 use Rattle.vote_steps.specs.Boxes.{BoxState}
@@ -7,23 +7,23 @@ use Rattle.vote_desks_box.specs.declared.slip.Slip.{Slip}
 use Rattle.vote_desks_box.specs.Slips.{valid_slips, refused_slips}
 use Rattle.vote_desks_box.specs.Desks.{DeskState, slips_on}
 
--- what these desks have of the book of valid lines
+-- the sum of these desks' shares of the book of valid lines
 abbrev pub valid_at : {Z : Type 0} → Vec DeskState Z → ℕ
 valid_at desks = sum_by (λ desk. desk.valid_share) desks.items
 
--- what these desks have of the book of refused lines
+-- the sum of these desks' shares of the book of refused lines
 abbrev pub refused_at : {Z : Type 0} → Vec DeskState Z → ℕ
 refused_at desks = sum_by (λ desk. desk.refused_share) desks.items
 
--- how many slips on all these sheets are of valid lines
+-- the number of slips of valid lines on all these sheets
 abbrev pub valid_on : {Z : Type 0} → List (Vec Slip Z) → ℕ
 valid_on sheets = sum_by valid_slips (slips_on sheets)
 
--- how many slips on all these sheets are of refused lines
+-- the number of slips of refused lines on all these sheets
 abbrev pub refused_on : {Z : Type 0} → List (Vec Slip Z) → ℕ
 refused_on sheets = sum_by refused_slips (slips_on sheets)
 
--- what all desks have of the books, and what is on all their sheets, is what the box counts
+-- the box counts as many valid and as many refused lines as the desks' shares add up to, and as their sheets have slips for
 pub record MeetsBooks {Z : Type 0} (desks : Vec DeskState Z) (b : BoxState) (sheets : List (List Slip)) : Type 0 where
   pub valid_shares : valid_at desks ≡ valid b.last_in_time b.steps
   pub refused_shares : refused_at desks ≡ refused b.last_in_time b.steps

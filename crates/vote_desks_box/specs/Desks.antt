@@ -1,4 +1,4 @@
--- What desks, a box that they share and a sealed box are to their callers.
+-- Desks, the box that they share, and a sealed box, as callers see them.
 use Rattle.std.specs.Prelude.{◌≡◌, ℕ, ◌+◌, ◌-◌, ◌<◌, if◌then◌else◌, List, [], ◌∷◌, ◌++◌, Option, length, map, sum_by, count_by, unwrap_or, slice_get, vec_items, IsPermutation}
 use Rattle.std.specs.List.{range_with_len, enumerate_from}
 use Rattle.std.specs.declared.vec.Vec.{Vec}
@@ -11,7 +11,7 @@ use Rattle.vote_steps.specs.declared.Step.TheVariants.{Cast, Close}
 use Rattle.vote_steps.specs.History.{is_cast, is_valid, reply_to, standing_ranks}
 use Rattle.vote_steps.specs.Boxes.{BoxState, box_of}
 
--- a desk: its number, how many slips it has room for, its slips, and what it has of the books of valid and refused lines
+-- a desk: its number, the number of slips that it has room for, its slips, and its shares of the books of valid and refused lines
 pub record DeskState : Type 0 where
   pub number : ℕ
   pub limit : ℕ
@@ -35,7 +35,7 @@ valid_by reply = if is_valid reply then 1 else 0
 abbrev pub refused_by : Reply → ℕ
 refused_by reply = if is_valid reply then 0 else 1
 
--- the desk once it has noted this slip
+-- the desk after it has noted this slip
 abbrev pub with_slip : DeskState → Slip → DeskState
 with_slip desk slip =
     record desk {
@@ -48,7 +48,7 @@ with_slip desk slip =
 abbrev pub HasRoom : DeskState → Type 0
 HasRoom desk = length desk.slips < desk.limit
 
--- a box that desks share: how many they are, and the box as it was opened, with no steps
+-- a box that desks share: the number of desks, and the box as it was opened, with no steps
 pub record SharedState : Type 0 where
   pub desks : ℕ
   pub opened : BoxState
@@ -57,7 +57,7 @@ pub record SharedState : Type 0 where
 abbrev pub shared_for : PollContent → ℕ → ℕ → SharedState
 shared_for poll limit desks = record { desks = desks; opened = box_of poll limit [] }
 
--- the box as it was opened, after some steps: its sizes, its limit and its last envelope never change
+-- the opened box after some steps: its sizes, its limit and its last envelope are the same
 abbrev pub IsLater : BoxState → BoxState → Type 0
 IsLater opened b = b ≡ record opened { steps = b.steps }
 
@@ -67,11 +67,11 @@ pub record HeldState : Type 0 where
   pub valid_book : ℕ
   pub refused_book : ℕ
 
--- a ballot is of a voter of the box, and has as many ranks as the box has options
+-- a reading fits the box: a ballot has a voter of the box and as many ranks as the box has options; a bad line always fits
 abbrev pub FitsBox : BoxState → Reading → Type 0
 FitsBox b reading = ReadingFits b.options b.electors reading
 
--- the slip of the next cast: its step comes after those of the box, and its reply is the one that they call for
+-- the slip of the next cast: its step follows those of the box, and its reply is the one that these steps call for
 abbrev pub next_slip : BoxState → ℕ → Reading → Slip
 next_slip b stamp reading = record {
   number = length b.steps + 1;
@@ -79,7 +79,7 @@ next_slip b stamp reading = record {
   reply = reply_to b.last_in_time b.steps stamp reading;
 }
 
--- the box and its books once a desk has made the cast that this slip notes
+-- the box and its books after a desk has made the cast that this slip notes
 abbrev pub with_cast : HeldState → DeskState → Reading → Slip → HeldState
 with_cast held desk reading slip =
     record {
@@ -88,7 +88,7 @@ with_cast held desk reading slip =
       refused_book = held.refused_book + refused_by slip.reply;
     }
 
--- the box with its books once it is closed
+-- the box and its books after the box is closed
 abbrev pub with_close : HeldState → HeldState
 with_close held = record held { ballot_box = record held.ballot_box { steps = held.ballot_box.steps ++ Close ∷ [] } }
 
@@ -96,7 +96,7 @@ with_close held = record held { ballot_box = record held.ballot_box { steps = he
 abbrev pub standing_in : BoxState → ℕ → Option (List (Option ℕ))
 standing_in b voter = standing_ranks b.last_in_time b.steps voter
 
--- a box whose desks have handed in their slips, those of desk d at place d - 1
+-- a box whose desks have handed in their slips; desk d has index d - 1
 pub record SealedState : Type 0 where
   pub ballot_box : BoxState
   pub sheets : List (List Slip)
@@ -113,11 +113,11 @@ slips_of desks = map (λ desk. desk.slips) desks.items
 abbrev pub slips_on : {Z : Type 0} → List (Vec Slip Z) → List (List Slip)
 slips_on sheets = map vec_items sheets
 
--- the slips of these desks come after those that were there
+-- the slips of these desks are appended to those before
 abbrev pub AddsSlips : {Y Z : Type 0} → Vec DeskState Y → List (Vec Slip Z) → List (Vec Slip Z) → Type 0
 AddsSlips desks before after = slips_on after ≡ slips_on before ++ slips_of desks
 
--- these are the slips of desks 1, 2 and so on, whatever the order in which the desks come
+-- these are the slips of desks 1, 2 and so on, in this order; the desks may come in any order
 abbrev pub AreSlipsInOrder : {Z : Type 0} → Vec DeskState Z → List (List Slip) → Type 0
 AreSlipsInOrder desks sheets = IsPermutation (map (λ desk. (desk.number, desk.slips)) desks.items) (enumerate_from 1 sheets)
 
@@ -125,6 +125,6 @@ AreSlipsInOrder desks sheets = IsPermutation (map (λ desk. (desk.number, desk.s
 abbrev pub AreAllDesks : {Z : Type 0} → Vec DeskState Z → ℕ → Type 0
 AreAllDesks desks count = IsPermutation (map (λ desk. desk.number) desks.items) (range_with_len 1 count)
 
--- the slips of a desk, none if it handed in none
+-- the slips of a desk, numbered from 1; empty if it handed in none
 abbrev pub sheet_at : List (List Slip) → ℕ → List Slip
 sheet_at sheets desk = unwrap_or (slice_get sheets (desk - 1)) []

@@ -1,4 +1,4 @@
--- What the desks note of their casts.
+-- The slips that desks note of their casts.
 use Rattle.std.specs.Prelude.{◌≡◌, ℕ, ◌+◌, ◌==◌, not, if◌then◌else◌, List, [], ◌∷◌, Option, Some, None, count_by, map}
 use Rattle.std.specs.List.{cons_option}
 use Rattle.std.specs.List.Sorted.{IsStrictlyIncreasing}
@@ -7,21 +7,21 @@ use Rattle.vote_steps.specs.declared.Step.{Step}
 use Rattle.vote_steps.specs.declared.Step.TheVariants.{Cast, Close}
 use Rattle.vote_steps.specs.History.{is_valid}
 
--- the slip that a step of this number gives a desk
+-- the slip that the step with this number gives a desk; None if the step is not a cast at this desk
 abbrev pub slip_of : ℕ → ℕ → Step → Option Slip
 slip_of desk number Close = None
 slip_of desk number (Cast d stamp reading reply) = if d == desk then Some (record { number = number; stamp = stamp; reply = reply }) else None
 
--- the slips that the casts of a desk give, in order, where the first step has this number
+-- the slips that its casts give a desk, in order; the first step has this number
 abbrev pub slips_from : ℕ → List Step → ℕ → List Slip
 slips_from number [] desk = []
 slips_from number (step ∷ steps) desk = cons_option (slip_of desk number step) (slips_from (number + 1) steps desk)
 
--- how many slips say that the line is a valid ballot
+-- the number of slips that say that the line is a valid ballot
 abbrev pub valid_slips : List Slip → ℕ
 valid_slips sheet = count_by (λ slip. is_valid slip.reply) sheet
 
--- how many slips say that it is not, or that it was late or came after the close
+-- the number of slips that say that the line is not a valid ballot, that it was late, or that it came after the close
 abbrev pub refused_slips : List Slip → ℕ
 refused_slips sheet = count_by (λ slip. not (is_valid slip.reply)) sheet
 
@@ -29,6 +29,6 @@ refused_slips sheet = count_by (λ slip. not (is_valid slip.reply)) sheet
 abbrev pub stamps_of : List Slip → List ℕ
 stamps_of sheet = map (λ slip. slip.stamp) sheet
 
--- these slips are of envelopes that were cast in the order of their stamps
+-- the stamps of these slips increase: the envelopes were cast in the order of their stamps
 abbrev pub Rises : List Slip → Type 0
 Rises sheet = IsStrictlyIncreasing (stamps_of sheet)

@@ -1,4 +1,4 @@
-//! A desk, and the box with its books that stands behind the lock.
+//! A desk, and the box with its books behind the lock.
 ghost use Rattle.std.specs.Prelude.{◌≡◌, ℕ, []};
 ghost use Rattle.vote_steps.specs.Boxes.{BoxState};
 ghost use Rattle.vote_steps.specs.History.{valid, refused};
@@ -9,20 +9,20 @@ use std::marker::{Brand, Model};
 use std::sync::ledger::{Book, Ledger, Share};
 use vote_steps::{BallotBox, MAX_DESKS};
 
-/// A ledger of what the desks of one box have done. It names the box: a desk of another box has
-/// another type. What a box keeps from its opening on is in the ledger of its valid lines.
+/// A ledger of what the desks of one box have done. The ledger is part of a desk's type, so a desk
+/// of another box has another type. Contracts take `opened` from the ledger of valid lines.
 pub trait Tally: Ledger {
-    /// How many desks there are.
+    /// The number of desks.
     ghost desks: { ℕ };
 
     /// The box as it was opened, with no steps.
     ghost opened: { BoxState };
 }
 
-/// `Brand`, of the kit, is the type that a caller passes for a ledger: it has no bytes, and does
-/// nothing. A function over `VL: Tally` is proved whatever the members of `VL` are, so the proof of a
-/// call that passes `Brand` picks them, in its file `Invariants.antt`: how many desks there are, and
-/// which box was opened. The members here are those of a call that picks none.
+/// `Brand`, of the kit, is the type that a caller passes for a ledger: it has no bytes and does
+/// nothing. A function over `VL: Tally` is proved for any members of `VL`. So the proof of a call
+/// that passes `Brand` picks the members, the number of desks and the opened box, in its file
+/// `Invariants.antt`. A call that picks none has the members below.
 impl Tally for Brand {
     ghost desks = { 0 };
 
@@ -35,8 +35,8 @@ impl Tally for Brand {
     } };
 }
 
-/// A box, with the books of what was valid and what was refused. It is behind the lock of a
-/// shared box, and no call hands one out: it is public for the contract of `enter`.
+/// A box, with its books of valid and refused lines. It is behind the lock of a shared box, and no
+/// call returns it. It is public for the contract of `enter`.
 #[derive(Drop)]
 pub struct Held<VL: Tally, RL: Tally> {
     pub(crate) ballot_box: BallotBox,
@@ -65,8 +65,8 @@ impl<VL: Tally, RL: Tally> Model for Held<VL, RL> {
 impl<VL: Tally, RL: Tally> Held<VL, RL> {
     /// The box.
     ///
-    /// For readers of contracts: it says what the books are. Nobody can call it, since no call hands
-    /// out a `Held`.
+    /// Its contract tells readers what the books are. Nobody can call it, since no call returns a
+    /// `Held`.
     pub fn ballot_box(&self) -> &BallotBox
         ensures box_is { result.now ≡ self.now.ballot_box }
         ensures valid { self.now.valid_book ≡ valid result.now.last_in_time result.now.steps }
@@ -110,14 +110,14 @@ impl<VL: Tally, RL: Tally> Model for Desk<VL, RL> {
 }
 
 impl<VL: Tally, RL: Tally> Desk<VL, RL> {
-    /// Its number, from 1.
+    /// The desk's number, from 1.
     pub fn number(&self) -> u8
         ensures { result ≡ self.now.number }
     {
         self.number
     }
 
-    /// Its slips, in the order of its casts.
+    /// The desk's slips, in the order of its casts.
     ///
     /// For callers of the library; the program does not call it.
     pub fn slips(&self) -> &[Slip]

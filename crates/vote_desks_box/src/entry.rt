@@ -1,4 +1,4 @@
-//! Entering an envelope at a desk.
+//! Enters an envelope at a desk.
 ghost use Rattle.std.specs.Prelude.{◌≡◌, ◌≢◌, ◌+◌, ◌<◌, ◌↔◌, Err, IsTrue, IfOk, OnErr, OnOk};
 ghost use Rattle.vote_steps.specs.Boxes.{HasUsed, IsLegal, IsOutOfRange};
 ghost use Rattle.vote_desks_box.specs.declared.fault.EnterFault.TheVariants.{Sizes, SheetFull, StampRange, StampUsed};
@@ -12,7 +12,7 @@ use std::sync::ledger::{Book, Share};
 use vote_poll::Reading;
 use vote_steps::{BallotBox, Reply, StepFault};
 
-/// Casts an envelope at a desk, which notes the slip. It takes no memory.
+/// Casts an envelope at a desk. The desk notes the slip. Nothing is allocated.
 pub fn enter<VL: Tally, RL: Tally>(
     held: &mut Held<VL, RL>,
     desk: &mut Desk<VL, RL>,
@@ -40,7 +40,8 @@ pub fn enter<VL: Tally, RL: Tally>(
     cast_and_note(held, desk, stamp, reading)
 }
 
-/// Casts an envelope that fits the box at a desk with room for its slip, which notes it.
+/// Casts an envelope at a desk, which notes the slip. The envelope fits the box, and the desk has
+/// room for the slip.
 fn cast_and_note<VL: Tally, RL: Tally>(
     held: &mut Held<VL, RL>,
     desk: &mut Desk<VL, RL>,
@@ -80,7 +81,7 @@ fn cast_and_note<VL: Tally, RL: Tally>(
     Ok(slip)
 }
 
-/// Counts a reply in its book, and in the share of that book.
+/// Counts a reply in the book of valid or of refused lines, and in the desk's share of that book.
 fn count_reply<VL: Tally, RL: Tally>(
     reply: Reply,
     valid_book: &mut Book<VL>,
@@ -106,7 +107,8 @@ fn count_reply<VL: Tally, RL: Tally>(
     }
 }
 
-/// Whether a ballot is of a voter of the box, and has as many ranks as the box has options.
+/// Whether a reading fits the box. A ballot fits if the box has its voter and as many options as it
+/// has ranks; a bad line always fits.
 fn fits(ballot_box: &BallotBox, reading: &Reading) -> bool
     ensures { IsTrue result ↔ FitsBox ballot_box.now reading.now }
 {

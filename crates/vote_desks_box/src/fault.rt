@@ -1,14 +1,14 @@
-//! Why a cast, an opening or a gathering ends without its result.
+//! Why a cast, the opening of desks or a gathering fails.
 ghost use Rattle.std.specs.Prelude.{◌≡◌};
 ghost use Rattle.vote_desks_box.specs.declared.fault.DeskFault.TheVariants.{Memory};
 
 use std::alloc::{AllocError, AllocFailed};
 use thiserror::Error;
 
-/// Why a cast at a desk is refused. The first case that holds is returned, and nothing is changed.
+/// Why a cast at a desk is refused. The first case that holds is returned, and nothing changes.
 #[derive(Clone, Copy, Debug, PartialEq, Eq, Error)]
 pub enum EnterFault {
-    /// The ballot is of a voter whom the box does not have, or has another number of ranks than the
+    /// The box does not have the ballot's voter, or the ballot does not have as many ranks as the
     /// box has options.
     #[error("the ballot does not have the sizes of the box")]
     Sizes,
@@ -23,7 +23,7 @@ pub enum EnterFault {
     StampUsed,
 }
 
-/// The box has no voter of this number.
+/// The box has no voter with this number.
 #[derive(Clone, Copy, Debug, PartialEq, Eq, Error)]
 #[error("the box has no voter of this number")]
 pub struct NoVoter;
@@ -31,7 +31,7 @@ pub struct NoVoter;
 /// Why desks are not opened or not gathered.
 #[derive(Clone, Copy, Debug, PartialEq, Eq, Error)]
 pub enum DeskFault {
-    /// The desks' numbers are not 1 to the number opened, each once.
+    /// The numbers of the desks are not 1 to the number of opened desks, each once.
     #[error("the desks are not those that were opened, each once")]
     MissingDesk,
     /// No memory was left.

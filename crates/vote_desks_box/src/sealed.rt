@@ -1,4 +1,4 @@
-//! Gathering the desks and their slips round the closed box.
+//! Gathers the desks and their slips, and closes the box.
 ghost use Rattle.std.specs.Prelude.{◌≡◌, ◌+◌, ◌≤◌, ◌<◌, ◌↔◌, Err, length, map, IsTrue, IfOk, OnOk, vec_len};
 ghost use Rattle.std.specs.List.{range_with_len};
 ghost use Rattle.vote_steps.specs.Boxes.{IsLegal};
@@ -49,7 +49,7 @@ impl Sealed {
         &self.ballot_box
     }
 
-    /// The slips of all desks, those of desk `d` at place `d - 1`.
+    /// The slips of all desks. Desk `d` has index `d - 1`.
     pub fn sheets(&self) -> &[Vec<Slip>]
         ensures sheets { slips_on result.now ≡ self.now.sheets }
         ensures few { length result.now ≤ MAX_DESKS }
@@ -57,7 +57,7 @@ impl Sealed {
         self.sheets.as_slice()
     }
 
-    /// How many desks there were.
+    /// The number of desks.
     ///
     /// For callers of the library; the program does not call it.
     pub fn desks(&self) -> u8
@@ -66,7 +66,7 @@ impl Sealed {
         self.sheets.len() as u8
     }
 
-    /// The slips of a desk, by its number from 1.
+    /// The slips of the desk with this number, from 1.
     ///
     /// For callers of the library; the program does not call it.
     pub fn sheet_of(&self, desk: u8) -> &[Slip]
@@ -77,8 +77,8 @@ impl Sealed {
     }
 }
 
-/// Merges the shares of desks with those of the desks before them, and takes their slips after
-/// those of the desks before.
+/// Merges the shares of these desks into `valid` and `refused`, and appends their slips to
+/// `sheets`.
 fn merge_each<VL: Tally, RL: Tally>(
     desks: &mut Vec<Desk<VL, RL>>,
     valid: &mut Share<VL>,
@@ -104,7 +104,7 @@ fn merge_each<VL: Tally, RL: Tally>(
     Ok(())
 }
 
-/// Merges the shares of all desks, which are then what the books say, and takes their slips.
+/// Merges the shares of all desks, shows that they equal the books, and returns the slips.
 fn meet<VL: Tally, RL: Tally>(
     alloc: Global,
     held: &mut Held<VL, RL>,
@@ -138,7 +138,7 @@ fn meet<VL: Tally, RL: Tally>(
     Ok(sheets)
 }
 
-/// Closes the box, if it is open, and meets the shares of all desks with the books.
+/// Closes the box if it is open, and shows that the shares of all desks together equal the books.
 fn seal<VL: Tally, RL: Tally>(
     alloc: Global,
     held: Held<VL, RL>,
@@ -164,7 +164,7 @@ fn seal<VL: Tally, RL: Tally>(
     Ok(Sealed { ballot_box, sheets })
 }
 
-/// Whether the desks are numbered from 1 to the number opened, in order.
+/// Whether the desks have the numbers 1 to `opened`, in order.
 fn are_complete<VL: Tally, RL: Tally>(desks: &[Desk<VL, RL>], opened: u8) -> bool
     ensures { IsTrue result ↔ (map (λ desk. desk.number) desks.now ≡ range_with_len 1 opened) }
 {
@@ -179,10 +179,11 @@ fn are_complete<VL: Tally, RL: Tally>(desks: &[Desk<VL, RL>], opened: u8) -> boo
     true
 }
 
-/// Closes the box, if it is open, and gathers the slips of all desks, which may come in any order.
+/// Closes the box if it is open, and gathers the slips of all desks. The desks may come in any
+/// order.
 ///
-/// `MissingDesk` is tested before any memory is taken. On a fault the box and the desks are given
-/// up.
+/// `MissingDesk` is tested before anything is allocated. On a fault the box and the desks are
+/// dropped.
 pub fn gather<VL: Tally, RL: Tally>(
     alloc: Global,
     shared: SharedBox<VL, RL>,

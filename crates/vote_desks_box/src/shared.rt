@@ -19,8 +19,8 @@ use std::sync::{Mutex, Wait};
 use vote_poll::{MAX_LINES, Poll, Ranks, Reading};
 use vote_steps::{AlreadyClosed, BallotBox, MAX_DESKS};
 
-/// A box that desks share, behind one lock. Contracts see how many desks were opened, and the box
-/// as it was then.
+/// A box that desks share, behind one lock. Contracts see the number of opened desks, and the box
+/// as it was opened.
 #[derive(Drop)]
 pub struct SharedBox<VL: Tally, RL: Tally> {
     pub(crate) desks: u8,
@@ -91,9 +91,9 @@ fn open_each<VL: Tally, RL: Tally>(
 
 /// Opens an empty box for a poll, with desks 1 to `desks` that share it.
 ///
-/// A desk has room for `limit` slips, which is also the greatest stamp that the box takes. The box
-/// and all desks take their memory here. Each blank is for one ledger, and is cut into as many
-/// parts as there are desks. The only fault is `Memory`.
+/// `limit` is the number of slips that each desk has room for, and the greatest stamp that the box
+/// takes. The memory for the box and all desks is allocated here. Each blank is for one ledger, and
+/// is cut into one part for each desk. The only fault is `Memory`.
 pub fn open_desks<VL: Tally, RL: Tally>(
     alloc: Global,
     poll: &Poll,
@@ -131,10 +131,10 @@ pub fn open_desks<VL: Tally, RL: Tally>(
 }
 
 impl<VL: Tally, RL: Tally> SharedBox<VL, RL> {
-    /// Casts an envelope at a desk, as `enter` does, and holds the lock for no longer.
+    /// Casts an envelope at a desk, as `enter` does. The lock is held only for the cast.
     ///
-    /// No caller can know before which stamps were used, and whether the box is open: another desk
-    /// may cast or close first.
+    /// A caller cannot know in advance which stamps are used, or whether the box is open: another
+    /// desk may cast or close first.
     pub fn cast(
         &self,
         rt: &impl Wait,
@@ -162,7 +162,7 @@ impl<VL: Tally, RL: Tally> SharedBox<VL, RL> {
         close(&mut *self.held.lock(rt))
     }
 
-    /// The ranks of the ballot of a voter that stands, by the voter's number from 0.
+    /// The ranks of a voter's ballot that stands. Voters are numbered from 0.
     ///
     /// For callers of the library; the program does not call it.
     pub fn standing(&self, rt: &impl Wait, voter: usize) -> Result<Option<Ranks>, NoVoter>
@@ -184,12 +184,12 @@ pub(crate) fn close<VL: Tally, RL: Tally>(held: &mut Held<VL, RL>) -> Result<(),
     ensures already { (result ≡ Err record {}) ↔ IsTrue (is_closed held.old.ballot_box.steps) }
     ensures err { OnErr result (held.new ≡ held.old) }
 {
-    // Only a call tells that the steps are legal.
+    // The contract of this call says that the steps are legal.
     let _ = held.ballot_box.steps();
     held.ballot_box.close()
 }
 
-/// The ranks of the ballot of a voter that stands.
+/// The ranks of a voter's ballot that stands.
 fn standing<VL: Tally, RL: Tally>(
     held: &Held<VL, RL>,
     voter: usize,
@@ -199,7 +199,7 @@ fn standing<VL: Tally, RL: Tally>(
     ensures ok { IfOk result (λ ranks. ranks ≡ standing_in held.now.ballot_box voter) }
     ensures none { (result ≡ Err record {}) ↔ (held.now.ballot_box.electors ≤ voter) }
 {
-    // Only a call tells that the steps are legal.
+    // The contract of this call says that the steps are legal.
     let _ = held.ballot_box.steps();
     if voter >= held.ballot_box.electors() {
         return Err(NoVoter);

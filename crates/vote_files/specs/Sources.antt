@@ -3,7 +3,7 @@ use Rattle.std.specs.Prelude.{◌≡◌, ℕ, List, ◌++◌, Option, Some, IfSo
 use Rattle.vote_files.specs.declared.input.ReadFault.{ReadFault}
 
 -- one reading of a file: its name, and why it was not read, if it was not
-pub record Reading : Type 0 where
+pub record FileReading : Type 0 where
   pub name : List ℕ
   pub fault : Option ReadFault
 

@@ -5,7 +5,8 @@
 //! contracts of [`read_limited`] and [`write_text`] hold at every device, whatever it does and whenever it fails.
 //!
 //! - [`read_limited`] reads an input to its end, in no more than so many bytes and so many reads, or says why not: its
-//!   device failed, more came than the limit, or memory ran out. [`read_all`] does so for a reader of std.
+//!   device failed, more came than the limit, or memory ran out. Then it asks for nothing more. [`read_all`] does so for a
+//!   reader of std.
 //! - [`write_text`] writes a text, all of it and nothing else, and flushes it; if it can't, a prefix of the text is
 //!   written.
 //! - [`Sources`] are files that are read by their names, and [`StandardInput`] is read whole. Those of the system are lent as

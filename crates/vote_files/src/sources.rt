@@ -4,7 +4,7 @@ ghost use Rattle.std.specs.Prelude.{◌≡◌, ◌≤◌, ℕ, List, [], ◌∷�
 ghost use Rattle.std.specs.Result.{result_err};
 ghost use Rattle.vote_files.specs.declared.input.ReadFault.{ReadFault};
 ghost use Rattle.vote_files.specs.Device.{IsTooLong, IsWhole};
-ghost use Rattle.vote_files.specs.Sources.{HasRead, Reading};
+ghost use Rattle.vote_files.specs.Sources.{FileReading, HasRead};
 
 use crate::input::ReadFault;
 use crate::readable::{ReadableFiles, ReadableInput};
@@ -18,7 +18,7 @@ pub trait Sources {
     ghost file_bytes: { Self → List ℕ → Option (List ℕ) };
 
     /// The readings that were made, the oldest first, if they are told.
-    ghost readings: { Self → Option (List Reading) };
+    ghost file_readings: { Self → Option (List FileReading) };
 
     /// All bytes of the file of this name, if they are no more than the limit.
     fn read_file(&mut self, alloc: Global, name: &str, limit: usize) -> Result<Vec<u8>, ReadFault>
@@ -26,7 +26,7 @@ pub trait Sources {
         ensures within { IfOk result (λ bytes. vec_len bytes ≤ limit) }
         ensures too_long { IsErrOf result ReadFault.TooLong → IsTooLong (file_bytes self.old name.now) limit }
         ensures kept { file_bytes self.new ≡ file_bytes self.old }
-        ensures read { HasRead readings self.old self.new (record { name = name.now; fault = result_err result } ∷ []) };
+        ensures read { HasRead file_readings self.old self.new (record { name = name.now; fault = result_err result } ∷ []) };
 }
 
 /// The standard input of a program.
@@ -35,14 +35,14 @@ pub trait StandardInput {
     ghost standard_bytes: { Self → Option (List ℕ) };
 
     /// Why each reading failed, if it did, the oldest first, if readings are told.
-    ghost readings: { Self → Option (List (Option ReadFault)) };
+    ghost standard_readings: { Self → Option (List (Option ReadFault)) };
 
     /// All bytes of standard input, if they are no more than the limit.
     fn read_standard_input(&mut self, alloc: Global, limit: usize) -> Result<Vec<u8>, ReadFault>
         ensures whole { IfOk result (λ bytes. IsWhole (standard_bytes self.old) bytes.items) }
         ensures within { IfOk result (λ bytes. vec_len bytes ≤ limit) }
         ensures too_long { IsErrOf result ReadFault.TooLong → IsTooLong (standard_bytes self.old) limit }
-        ensures read { HasRead readings self.old self.new (result_err result ∷ []) };
+        ensures read { HasRead standard_readings self.old self.new (result_err result ∷ []) };
 }
 
 /// The files of the system tell no bytes and no readings: that a name opens its file, and which bytes come from it, no contract of
@@ -50,7 +50,7 @@ pub trait StandardInput {
 impl<'r, R: Files> Sources for ReadableFiles<'r, R> {
     ghost file_bytes = { λ _ _. None };
 
-    ghost readings = { λ _. None };
+    ghost file_readings = { λ _. None };
 
     fn read_file(&mut self, alloc: Global, name: &str, limit: usize) -> Result<Vec<u8>, ReadFault> {
         match self.open(name) {
@@ -64,7 +64,7 @@ impl<'r, R: Files> Sources for ReadableFiles<'r, R> {
 impl<'r, R: Input> StandardInput for ReadableInput<'r, R> {
     ghost standard_bytes = { λ _. None };
 
-    ghost readings = { λ _. None };
+    ghost standard_readings = { λ _. None };
 
     fn read_standard_input(&mut self, alloc: Global, limit: usize) -> Result<Vec<u8>, ReadFault> {
         read_all(alloc, self.reader(), limit)

@@ -1,9 +1,9 @@
--- Faults that are added to a list, one part after another.
+-- Faults that are appended to a list, one part after another.
 use Rattle.std.proofs.Common.{◌≡◌, ◌++◌, ◌∙◌, List, Bool, Result, Ok, Err, OnOk, ap, append_assoc}
 use Rattle.vote_poll_keys.specs.KeyFaults.{fault_unless}
 use Rattle.vote_poll_keys.specs.declared.fault.PollFault.{PollFault}
 
--- the fault was judged, and added unless it is not there
+-- the fault was judged, and appended if there is one
 pub judged : (right : Bool) (e : PollFault) (faults before after : List PollFault) → fault_unless right e ≡ faults → after ≡ before ++ fault_unless right e → after ≡ before ++ faults
 judged right e faults before after is added = added ∙ ap (λ es. before ++ es) is
 

@@ -1,4 +1,4 @@
--- The limits that the poll keeps which keys give with which nothing is wrong.
+-- If a poll file's keys have no fault, the poll that they give keeps the limits.
 use Rattle.std.proofs.Common.{◌≡◌, ◌+◌, ◌≤◌, ◌==◌, ◌&&◌, ◌∷◌, ◌++◌, [], ℕ, ℤ, List, Bool, true, false, cond, map, length, Option, Some, None, IfSome, refl, ap, sym, ◌∙◌, arith, nat_abs, length-append, pos, Bor, unwrap_or, slice_get}
 use Rattle.std.specs.Prelude.{is_some}
 use Rattle.std.specs.Option.{option_and_then, option_copied}
@@ -78,7 +78,7 @@ pub record IsWhole (f : FoundKeys) : Type 0 where
   pub roll : first_bad is_voter_name (unwrap_or f.roll []) ≡ None
   pub poll : IsPoll (poll_of f)
 
--- the values of the keys that have to be there
+-- the values of the required keys
 record AreThere (f : FoundKeys) : Type 0 where
   title : List ℕ
   options : List (List ℕ)
@@ -185,7 +185,7 @@ whole_if_judged table f judged =
     let parts = nothing_in (of_keys table f) (of_contents f) none in
     is_whole f (are_there table f parts.0) parts.1
 
--- ---- two polls that have the same
+-- ---- two polls with the same values
 pub same_poll : (p q : PollContent) → p.title ≡ q.title → p.options ≡ q.options → p.ratios ≡ q.ratios → p.quorum_multiple ≡ q.quorum_multiple → p.roll ≡ q.roll → p.last_envelope ≡ q.last_envelope
     → p.wording ≡ q.wording → p ≡ q
 same_poll p q title options ratios quorum roll last wording =

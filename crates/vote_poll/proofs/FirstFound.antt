@@ -17,7 +17,7 @@ chosen true n = refl
 chosen false n = refl
 
 module _ {X : Type 0} (p : X → Bool) where
-  -- none of the first passes
+  -- none of the first elements passes
   not_before : (xs : List X) (i k : ℕ) (d : X) → i ≤ length xs → list_any p (take i xs) ≡ false → k < i → p (get_or xs k d) ≡ false
   not_before xs i k d within none below =
       elim (cases_Bool (p (get_or xs k d))) [
@@ -53,6 +53,6 @@ module _ {X : Type 0} (p : X → Bool) where
     | inr other ↦ rw other (one_more (position_or_len p xs) (length xs) (list_any p xs) (is_within xs))
   ]
 
-  -- the search finds one just where there is one
+  -- the search finds an element exactly when there is one
   pub is_some-position : (xs : List X) → is_some (position p xs) ≡ list_any p xs
   is_some-position xs = chosen (nat_lt (position_or_len p xs) (length xs)) (position_or_len p xs) ∙ is_within xs

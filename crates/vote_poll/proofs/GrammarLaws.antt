@@ -1,4 +1,4 @@
--- The function that reads a line finds what the grammar of a ballot line says.
+-- The function that reads a line agrees with the grammar of a ballot line.
 use Rattle.std.proofs.Common.{◌≡◌, ◌+◌, ◌-◌, ◌*◌, ◌/◌, ◌%◌, ◌^◌, ◌<◌, ◌≤◌, ◌++◌, ℕ, List, [], ◌∷◌, map, refl, ap, sym, subst, ◌∙◌, length, take, drop, get_or, Option, Some, None, arith, Bool, true, false, cond, ◌==◌, ◌&&◌, ◌⊎◌, inl, inr, nat_le, nat_lt, append_assoc, length-append}
 use Rattle.std.specs.Prelude.{unwrap_or}
 use Rattle.std.specs.Option.{option_map}
@@ -55,7 +55,7 @@ rank_in-rank_text (Some n) h =
           rw (decimal_step n from_ten fits, tens) (two_digits (n / 10) (n % 10) (omega arith) (omega (arith, h.1)) (omega arith) ∙ ap (λ k. Some (Some k)) same)
     ]
 
--- which way a test went
+-- which branch was taken
 chosen : {X : Type 0} (b : Bool) (x y z : X) → cond b x y ≡ z → ((b ≡ true) × (x ≡ z)) ⊎ ((b ≡ false) × (y ≡ z))
 chosen true x y z h = inl (refl, h)
 chosen false x y z h = inr (refl, h)
@@ -131,7 +131,7 @@ spell_all (part ∷ parts) ranks h = spell_parts part parts (rank_in part) ranks
 abbrev is_comma : ℕ → Bool
 is_comma b = b == 44
 
--- what a text lists is what it spells
+-- a text that lists ranks spells them
 pub join-ranks_in : (text : List ℕ) (ranks : List (Option ℕ)) → ranks_in text ≡ Some ranks → All IsRank ranks × (text ≡ join_with_byte 44 (map rank_text ranks))
 join-ranks_in text ranks h =
     let spelled = spell_all (slice_split is_comma text) ranks h in
@@ -219,7 +219,7 @@ named_is_ballot line (Some ranks) ballot short voter is h =
       is_short = grind (arith, nat_tests);
     })
 
--- what is read is in the grammar
+-- a line that is read as a ballot is in the grammar
 pub ballot_in-sound : (line : List ℕ) (ballot : List ℕ × List (Option ℕ)) → ballot_in line ≡ Some ballot → IsBallotLine line ballot.0 ballot.1
 ballot_in-sound line ballot h =
     elim (chosen (nat_le (length line) MAX_LINE && is_voter_name (before_first is_space line)) _ _ _ h) [
@@ -228,7 +228,7 @@ ballot_in-sound line ballot h =
       | inr misshapen ↦ let impossible : None ≡ Some ballot = misshapen.1 in cc
     ]
 
--- ---- what is in the grammar is read
+-- ---- a line in the grammar is read
 abbrev HasNoSpace : List ℕ → Type 0
 HasNoSpace text = All (λ b. is_space b ≡ false) text
 
@@ -263,7 +263,7 @@ ballot_in-complete line name ranks h =
     ap ballot_in spelled ∙ read_parts name (join_with_byte 44 (map rank_text ranks)) ranks h.is_name (ranks_in-join ranks h.has_rank h.are_ranks) short
 
 -- ---- the reading
--- a ballot with these ranks, where its voter is on the roll
+-- a ballot with these ranks, if its voter is on the roll
 abbrev reading_at : List (Option ℕ) → Option ℕ → Reading
 reading_at ranks place = unwrap_or (option_map (λ voter. Ballot voter ranks) place) (Bad Roll)
 

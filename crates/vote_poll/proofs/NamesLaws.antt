@@ -49,7 +49,7 @@ none_if_not_some : {X : Type 0} (o : Option X) → ((x : X) → o ≡ Some x →
 none_if_not_some None h = refl
 none_if_not_some (Some x) h = absurd (h x refl)
 
--- what is found among voters' names is a voter's name
+-- a name that is found among voters' names is a voter's name
 pub place_of-name : (name : List ℕ) (roll : List (List ℕ)) (i : ℕ) → AllPass is_voter_name roll → place_of name roll ≡ Some i → is_voter_name name ≡ true
 place_of-name name roll i names found =
     let at = position-Some (bytes_eq name) roll i [] found in
@@ -60,7 +60,7 @@ pub found-name : (name : List ℕ) (roll : List (List ℕ)) (o : Option ℕ) →
 found-name name roll None names found = tt
 found-name name roll (Some i) names found = place_of-name name roll i names (sym found)
 
--- bytes that are no text are nowhere among voters' names
+-- bytes that are not text are not found among voters' names
 pub place_of-no_text : (name : List ℕ) (roll : List (List ℕ)) → AllPass is_voter_name roll → ¬ (IsUtf8 name) → place_of name roll ≡ None
 place_of-no_text name roll names no_text = none_if_not_some (place_of name roll) (λ i found.
     let at = position-Some (bytes_eq name) roll i [] found in
@@ -70,7 +70,7 @@ place_of-no_text name roll names no_text = none_if_not_some (place_of name roll)
 pub ruleset name_laws = (position-map)
 
 -- ---- the names of a roll
--- the name at a place of the roll stands there and nowhere else
+-- the name at a position of the roll is found at this position
 pub name-at : (name : List ℕ) (roll : List (List ℕ)) (i : ℕ) → first_bad is_voter_name roll ≡ None → i < length roll → name ≡ get_or roll i []
     → (place_of name roll ≡ Some i) × (is_voter_name name ≡ true)
 name-at name roll i good within is =

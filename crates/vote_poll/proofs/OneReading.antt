@@ -1,4 +1,4 @@
--- A poll reads one thing in a line.
+-- A poll reads a line in only one way.
 use Rattle.std.proofs.Common.{◌≡◌, ℕ, List, Option, Some, None, sym, ◌∙◌, refl, length}
 use Rattle.std.proofs.lemmas.Bool.{eq-eqb, ne_eqb}
 use Rattle.vote_poll.specs.BallotLine.{IsBallotLine}
@@ -13,7 +13,7 @@ no_ballot : (line : List ℕ) (o : Option (List ℕ × List (Option ℕ))) → b
 no_ballot line None is none = refl
 no_ballot line (Some ballot) is none = absurd (none ballot.0 ballot.1 (ballot_in-sound line ballot is))
 
--- what is read in a line is what the function reads
+-- each reading of a line by the grammar is the function's reading
 read_as : (poll : PollContent) (line : List ℕ) (r : Reading) → IsReading poll line r → reading poll line ≡ r
 read_as poll line (Bad Shape) h = rw (no_ballot line (ballot_in line) refl h)
 read_as poll line (Bad RankCount) h = rw (ballot_in-complete line h.0 h.1 h.2, ne_eqb (length h.1) (option_count poll) h.3)

@@ -1,4 +1,4 @@
--- The first of all faults is the one that is told.
+-- The first of all faults is reported.
 use Rattle.std.proofs.Common.{◌≡◌, ◌<◌, ◌≤◌, ◌+◌, ◌∷◌, [], zero, suc, ℕ, List, Bool, true, false, filter, length, Some, None, Ok, Err, Result, refl, ap, sym, ◌∙◌, arith, slice_get, inl, inr, ◌⊎◌}
 use Rattle.std.specs.List.{range_with_len}
 use Rattle.std.proofs.lemmas.Bool.{cases_Bool, cases_lt}
@@ -14,7 +14,7 @@ use Rattle.vote_poll_keys.specs.declared.fault.PollFault.{PollFault}
 use Rattle.vote_poll_keys.specs.declared.fault.PollFault.TheVariants as fault
 
 -- ---- the first of the numbers that pass a test
--- none passes, or one is the first
+-- no number passes, or one is the first
 abbrev FirstOf : (ℕ → Bool) → ℕ → ℕ → List ℕ → Type 0
 FirstOf p a n passing = ((passing ≡ []) × ((k : ℕ) → a ≤ k → k < a + n → p k ≡ false))
     ⊎ ((i : ℕ) × (rest : List ℕ) × (passing ≡ i ∷ rest) × (a ≤ i) × (i < a + n) × (p i ≡ true) × ((k : ℕ) → a ≤ k → k < i → p k ≡ false))
@@ -82,7 +82,7 @@ none_left : (faults : List PollFault) → slice_get faults 0 ≡ None → faults
 none_left [] none = refl
 none_left (e ∷ faults) none = cc
 
--- nothing is wrong where there is no first fault
+-- if there is no first fault, nothing is wrong
 pub nothing_wrong : (table : Members) (keys : FoundKeys) (faults : List PollFault) → IsJudged table keys faults → slice_get faults 0 ≡ None → IsJudged table keys []
 nothing_wrong table keys faults is none = record { found = is.found; all = sym (none_left faults none) ∙ is.all }
 

@@ -18,7 +18,7 @@ kinds-table = refl
 pub kinds-at : (b : ℕ) → b < 256 → get_or KINDS b 0 ≡ kind_of b
 kinds-at b fits = ap (λ (xs : List ℕ). get_or xs b 0) kinds-table ∙ get_or-map-range_with_len kind_of 0 256 b b 0 fits (omega arith)
 
--- what stands at two kinds
+-- the table's entry at two kinds of bytes
 abbrev key_at : ℕ → ℕ → ℕ
 key_at first second =
     cond (is_within 1 9 first) (cond (nat_lt second 10) (10 * first + second) (cond (second == 10) first 0))
@@ -35,11 +35,11 @@ keys-at first second few small =
     let column : (16 * first + second) % 16 ≡ second = omega arith in
     here ∙ rw (row, column)
 
--- a digit, a comma, a hyphen or none of these
+-- a digit, a comma, a hyphen, or any other byte
 pub kind-small : (b : ℕ) → kind_of b < 13
 kind-small b = grind (arith, nat_tests)
 
--- the rank at a key, where 0 is none
+-- the rank of a key; 0 has none
 abbrev spelled : ℕ → Option (Option ℕ)
 spelled key = cond (key == 0) None (Some (rank_of_key key))
 
@@ -131,8 +131,8 @@ key-none a b i j first second zero = ap spelled (sym zero) ∙ key-found a b i j
 pub key-some : (a b i j : ℕ) → i ≡ kind_of a → j ≡ kind_of b → get_or KEYS (16 * i + j) 0 ≢ 0 → Some (rank_of_key (get_or KEYS (16 * i + j) 0)) ≡ rank_in (rank_bytes a b)
 key-some a b i j first second some = some-key (get_or KEYS (16 * i + j) 0) some ∙ key-found a b i j first second
 
--- ---- the bytes that spell the rank of an option that stands somewhere
--- the rank that the two bytes of a key spell, and what it is to be
+-- ---- the bytes that spell the rank of a sort key
+-- the rank that the two bytes of a sort key spell
 abbrev spelled_at : ℕ → Option (Option ℕ)
 spelled_at key = rank_in (rank_bytes (get_or PAIRS key 0 % 256) (get_or PAIRS key 0 / 256))
 

@@ -1,4 +1,4 @@
--- Names that were seen, and those of them that are bad.
+-- The names seen so far, and the bad names among them.
 use Rattle.std.proofs.Common.{◌≡◌, ◌<◌, ◌+◌, ◌∷◌, ◌++◌, [], ℕ, zero, suc, List, Bool, true, false, filter, map, take, length, get_or, refl, ap, sym, ◌∙◌, arith, append_assoc, Bor, cond, inl, inr}
 use Rattle.std.specs.List.{list_any, range_with_len}
 use Rattle.std.specs.Prelude.{◌||◌, ◌&&◌, not}
@@ -13,7 +13,7 @@ use Rattle.vote_poll_keys.specs.KeyFaults.{fault_unless}
 use Rattle.vote_poll_keys.specs.declared.fault.PollFault.{PollFault}
 use Rattle.vote_poll.specs.declared.names.NameList.{NameList}
 
--- ---- places that pass a test
+-- ---- numbers that pass a test
 range_more : (a n : ℕ) → range_with_len a (suc n) ≡ range_with_len a n ++ (a + n) ∷ []
 range_more a zero = ap (λ k. k ∷ []) (omega arith)
 range_more a (suc n) =
@@ -32,7 +32,7 @@ places_more p naming n =
     one true e = rw e refl
     one false e = rw e refl
 
--- ---- names that are the same
+-- ---- equal names
 abbrev pub text : List ℕ → Bor (List ℕ)
 text bytes = record { ref_ptr = (0, 0); now = bytes }
 
@@ -64,7 +64,7 @@ list_any-push : {X : Type 0} (p : X → Bool) (xs : List X) (x : X) → list_any
 list_any-push p [] x = or_false (p x)
 list_any-push p (y ∷ xs) x = ap (λ b. p y || b) (list_any-push p xs x) ∙ or_assoc (p y) (list_any p xs) (p x)
 
--- the names that were seen are those before a place; with one more, those before the next
+-- the names seen are those before an index; with one more, those before the next index
 pub seen_more : (names : List (List ℕ)) (place : ℕ) (name other : List ℕ) (before after : Bool) → place < length names → name ≡ get_or names place []
     → before ≡ list_any (bytes_eq other) (take place names) → after ≡ (before || bytes_eq other name) → after ≡ list_any (bytes_eq other) (take (place + 1) names)
 seen_more names place name other before after within is seen more =
@@ -72,7 +72,7 @@ seen_more names place name other before after within is seen more =
     more ∙ ap (λ b. b || bytes_eq other name) seen ∙ ap (λ n. list_any (bytes_eq other) (take place names) || bytes_eq other n) is
     ∙ sym (list_any-push (bytes_eq other) (take place names) (get_or names place [])) ∙ ap (list_any (bytes_eq other)) (sym longer)
 
--- the faults of the names before a place, and of the one at the place
+-- the faults of the names before an index
 abbrev pub bad_before : NameList → List (List ℕ) → ℕ → List PollFault
 bad_before list names place = map (bad_name list) (filter (is_bad_at (has_shape list) names) (range_with_len 0 place))
 

@@ -1,4 +1,4 @@
--- Where options stand in the order of a ballot, and their ranks; a row of keys of which the first are taken and the others empty.
+-- The sort keys of options, and their ranks; a row of keys whose first keys are a ballot's and whose others are empty.
 use Rattle.std.proofs.Common.{◌≡◌, ◌≢◌, ℕ, ◌<◌, ◌≤◌, ◌-◌, nat_eq, List, ◌++◌, map, length, get_or, take, replicate, length-take-le, Option, Some, None, refl, sym, ap, ◌∙◌, inl, inr, arith}
 use Rattle.std.specs.Bool.{Decides}
 use Rattle.std.specs.Cmp.{unsigned_Decides}
@@ -12,11 +12,11 @@ use Rattle.vote_poll.specs.Comparisons.{are_same_ranks}
 use Rattle.vote_poll.specs.SortKeys.{IsSortKey, key_of, keys_again, rank_of_key}
 use Rattle.vote_poll.proofs.Equality.{same_ranks}
 
--- what stands behind all ranks has none
+-- the key after all ranks has no rank
 pub rank_of_key-unranked : (key : ℕ) → key ≡ UNRANKED → rank_of_key key ≡ None
 rank_of_key-unranked key h = rw (eq-eqb key UNRANKED h)
 
--- what stands elsewhere stands at its rank
+-- any other key is its rank
 pub rank_of_key-ranked : (key : ℕ) → key ≢ UNRANKED → rank_of_key key ≡ Some key
 rank_of_key-ranked key h = rw (ne_eqb key UNRANKED h)
 
@@ -27,7 +27,7 @@ is_sort_key key byte =
       | inr above ↦ rw (rank_of_key-unranked key (omega arith)) (omega arith)
     ]
 
--- ballots of equal keys have equal ranks, and only they
+-- ballots have equal ranks exactly when their keys are equal
 same_keys : (xs ys : List ℕ) → Decides (are_same_ranks (map rank_of_key xs) (map rank_of_key ys)) (xs ≡ ys)
 same_keys xs ys = (
   λ h. sym (keys_again xs) ∙ ap (map key_of) ((same_ranks (map rank_of_key xs) (map rank_of_key ys)).0 h) ∙ keys_again ys,
@@ -37,7 +37,7 @@ same_keys xs ys = (
 pub pointwise-keys : (xs ys : List ℕ) → pointwise nat_eq xs ys ≡ are_same_ranks (map rank_of_key xs) (map rank_of_key ys)
 pointwise-keys xs ys = same_from_decides (pointwise nat_eq xs ys) (are_same_ranks (map rank_of_key xs) (map rank_of_key ys)) (pointwise_decides unsigned_Decides xs ys) (same_keys xs ys)
 
--- the first n of a row are a ballot's
+-- the first n keys of a row are a ballot's
 pub ranks_there : (ranks : List (Option ℕ)) (n : ℕ) (keys : List ℕ) → map rank_of_key (take n keys) ≡ ranks → n ≤ length keys → (k : ℕ) → k < length ranks → get_or ranks k None ≡ rank_of_key (get_or keys k 0)
 ranks_there ranks n keys are few k within =
     let long : length ranks ≡ n = ap length (sym are) ∙ length-map (take n keys) rank_of_key ∙ length-take-le n keys few in

@@ -6,11 +6,11 @@ use Rattle.std.specs.Str.{byte}
 use Rattle.vote_poll_text.specs.Names.{is_voter_name}
 use Rattle.vote_poll.specs.declared.TheConstants.{MAX_LINE, MAX_RANK}
 
--- a rank is none, or a number from 1 to the greatest rank
+-- there is no rank, or it is a number from 1 to the greatest rank
 abbrev pub IsRank : Option ℕ → Type 0
 IsRank rank = IfSome rank (λ number. (1 ≤ number) × (number ≤ MAX_RANK))
 
--- a hyphen leaves the option unranked
+-- a rank is written in decimal digits, and a hyphen leaves the option unranked
 abbrev pub rank_text : Option ℕ → List ℕ
 rank_text None = codes "-"
 rank_text (Some number) = decimal number

@@ -7,7 +7,7 @@ use Rattle.vote_poll.specs.declared.reading.Reading.{Reading}
 use Rattle.vote_poll.specs.declared.reading.Reading.TheVariants.{Ballot, Bad}
 use Rattle.vote_poll.specs.declared.reading.LineFault.TheVariants.{Shape, RankCount, Roll}
 
--- as many ranks, and each the same
+-- the same number of ranks, and each rank the same
 abbrev pub are_same_ranks : List (Option ℕ) → List (Option ℕ) → Bool
 are_same_ranks = pointwise (option_eq nat_eq)
 

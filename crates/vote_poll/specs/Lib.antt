@@ -13,7 +13,7 @@ pub mod Readings
 pub mod Spelling
 pub mod Comparisons
 pub mod SortKeys
--- what types stand for, and what private functions say of their parts
+-- the values that contracts see of types, and definitions for the parts of private functions
 pub mod PollView
 pub mod NameLists
 pub mod Parsing

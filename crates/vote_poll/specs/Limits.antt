@@ -1,4 +1,4 @@
--- The limits of a poll and of a ballot line, as docs/FORMATS.md writes them.
+-- The limits of a poll and of a ballot line, which are also in docs/FORMATS.md.
 use Rattle.std.specs.Prelude.{◌≡◌}
 use Rattle.vote_poll.specs.declared.TheConstants.{MAX_OPTIONS, MAX_ELECTORS, MAX_RATIO, MAX_QUORUM_MULTIPLE, MAX_RANK, MAX_LINE}
 

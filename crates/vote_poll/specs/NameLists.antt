@@ -1,4 +1,4 @@
--- The lists of names in a poll file: the names that each can have, and the faults of the others.
+-- The lists of names in a poll file: which names each can have, and the faults of the others.
 use Rattle.std.specs.Prelude.{◌≡◌, ℕ, ◌+◌, List, Bool, ◌||◌, ◌&&◌, not, map}
 use Rattle.std.specs.Borrow.{Bor}
 use Rattle.std.specs.List.{list_any}
@@ -16,7 +16,7 @@ abbrev pub has_shape : NameList → List ℕ → Bool
 has_shape Options name = is_option_name name
 has_shape Roll name = is_voter_name name
 
--- options are numbered from 1, voters from 0
+-- the fault of a bad name at an index; options are numbered from 1, voters from 0
 abbrev pub bad_name : NameList → ℕ → PollFault
 bad_name Options place = OptionName (place + 1)
 bad_name Roll place = VoterName place
@@ -25,14 +25,14 @@ bad_name Roll place = VoterName place
 abbrev pub bad_names : NameList → List (List ℕ) → List PollFault
 bad_names list names = map (bad_name list) (bad_places (has_shape list) names)
 
--- a name is one of those that were seen
+-- the name is one of the names seen
 abbrev pub was_seen : {S : Type 0} → IndexSet (Bor (List ℕ)) S → List ℕ → Bool
 was_seen seen name = list_any (λ n. bytes_eq name n.now) seen.keys
 
--- the fault of the name at a place, if it is malformed or was seen before
+-- the fault of the name at an index, if it is malformed or was seen before
 abbrev pub of_name : {S : Type 0} → NameList → IndexSet (Bor (List ℕ)) S → List ℕ → ℕ → List PollFault
 of_name list seen name place = fault_unless (has_shape list name && not (was_seen seen name)) (bad_name list place)
 
--- those that were seen are the earlier ones and this name
+-- the names seen are the earlier names and this name
 abbrev pub NotesName : {S : Type 0} → List ℕ → IndexSet (Bor (List ℕ)) S → IndexSet (Bor (List ℕ)) S → Type 0
 NotesName name before after = (other : List ℕ) → was_seen after other ≡ (was_seen before other || bytes_eq other name)

@@ -1,6 +1,6 @@
--- What a poll file says. The quorum is of section 4.2 of the Constitution, the default option and the ratios of A.5 of its
--- Appendix A; this project's own are that a poll sets the multiple of Q, that envelopes can be late, and that a majority can be
--- worded in two ways.
+-- What a poll file says. The quorum is from section 4.2 of the Constitution, and the default option and the ratios are from A.5 of its
+-- Appendix A. It is this project's own that a poll sets the multiple of Q, that envelopes can be late, and that a majority can be worded
+-- in two ways.
 use Rattle.std.specs.Prelude.{◌≡◌, ℕ, ◌+◌, ◌≤◌, List, length, Option, None, IfSome, unwrap_or, IsTrue}
 use Rattle.std.specs.List.{All}
 use Rattle.vote_poll.specs.Names.{first_bad}
@@ -10,7 +10,7 @@ use Rattle.vote_poll.specs.declared.TheConstants.{MAX_OPTIONS, MAX_ELECTORS, MAX
 use Rattle.vote_poll_text.specs.declared.lines.TheConstants.{MAX_LINES}
 use Rattle.vote_poll.specs.declared.wording.Wording.{Wording}
 
--- The default option is the last one, and each other has a ratio. Where there is a last envelope, those with a greater number are late.
+-- The default option is the last option, and each other option has a ratio. If there is a last envelope, envelopes with a greater number are late.
 pub record PollContent : Type 0 where
   pub title : List ℕ
   pub options : List (List ℕ)
@@ -20,7 +20,7 @@ pub record PollContent : Type 0 where
   pub last_envelope : Option ℕ
   pub wording : Wording
 
--- the number of options, which is the number of the default option
+-- the number of options, which is also the number of the default option
 abbrev pub option_count : PollContent → ℕ
 option_count poll = length poll.options
 
@@ -32,7 +32,7 @@ elector_count poll = length poll.roll
 abbrev pub ratio_of : PollContent → ℕ → ℕ
 ratio_of poll option = at_option poll.ratios option 0
 
--- the greatest number that is in time: the poll's last envelope, or else `MAX_LINES`, the most lines of a file that is counted
+-- the greatest number of an envelope in time: the poll's last envelope, or else `MAX_LINES`, the most lines of a file that is counted
 abbrev pub last_in_time : PollContent → ℕ
 last_in_time poll = unwrap_or poll.last_envelope MAX_LINES
 

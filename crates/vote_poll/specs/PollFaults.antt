@@ -1,5 +1,5 @@
--- All faults of a poll file, in their order. Each is judged by itself: wherever the keys that it speaks of are there and of their
--- kind, whatever else is wrong. Those of the keys are in `KeyFaults` of vote_poll_keys.
+-- All faults of a poll file, in their order. Each is judged by itself: if the keys that it concerns are present and of the right
+-- kind, whatever else is wrong. The faults of the keys themselves are in `KeyFaults` of vote_poll_keys.
 use Rattle.std.specs.Prelude.{◌≡◌, ℕ, ◌+◌, List, [], ◌∷◌, ◌++◌, map, filter, length, Bool, ◌==◌, ◌&&◌, Option, Some, None, is_some, Result, Ok, Err}
 use Rattle.std.specs.List.{list_all, range_with_len}
 use Rattle.toml.specs.Data.{Members}
@@ -14,25 +14,25 @@ use Rattle.vote_poll.specs.declared.TheConstants.{MAX_OPTIONS, MAX_ELECTORS, MAX
 
 -- ---- one fault
 
--- the faults of a value, where there is one
+-- the faults of a value, if there is one
 abbrev pub where_found : {X : Type 0} → Option X → (X → List PollFault) → List PollFault
 where_found None faults = []
 where_found (Some x) faults = faults x
 
--- the places of the names that are malformed or equal an earlier one
+-- the indexes of the names that are malformed or equal an earlier name
 abbrev pub bad_places : (List ℕ → Bool) → List (List ℕ) → List ℕ
 bad_places has_shape names = filter (is_bad_at has_shape names) (range_with_len 0 (length names))
 
--- ---- what the keys say
+-- ---- the values of the keys
 
 unfoldable pub of_title : FoundKeys → List PollFault
 of_title f = where_found f.title (λ title. fault_unless (is_title title) fault.Title)
 
--- the default option is one more
+-- the default option is counted, too
 unfoldable pub of_option_count : FoundKeys → List PollFault
 of_option_count f = where_found f.options (λ options. fault_unless (is_within 2 MAX_OPTIONS (length options + 1)) fault.OptionCount)
 
--- options are numbered from 1, and the voters below from 0; the default option is the last, where it is there
+-- options are numbered from 1, and the voters below from 0; the default option is the last, if it is present
 unfoldable pub of_option_names : FoundKeys → List PollFault
 of_option_names f = where_found (names_of_options f) (λ names. map (λ place. fault.OptionName (place + 1)) (bad_places is_option_name names))
 
@@ -58,7 +58,7 @@ of_wording f = where_found f.wording (λ wording. fault_unless (is_some (wording
 
 -- ---- the file
 
--- the faults of what the keys say, in their order
+-- the faults of the keys' values, in their order
 unfoldable pub of_contents : FoundKeys → List PollFault
 of_contents f =
     of_title f
@@ -71,7 +71,7 @@ of_contents f =
     ++ of_last_envelope f
     ++ of_wording f
 
--- all faults of a poll file, whose table was read or not; where it was, those of keys come first
+-- all faults of a poll file: if its table was read, those of its keys and then those of the keys' values; else the one fault of the reading
 abbrev pub faults_in : Result Members PollFault → List PollFault
 faults_in (Ok table) = of_keys table (found_in table) ++ of_contents (found_in table)
 faults_in (Err e) = e ∷ []
@@ -80,7 +80,7 @@ faults_in (Err e) = e ∷ []
 abbrev pub poll_faults : List ℕ → List PollFault
 poll_faults text = faults_in (document text)
 
--- the keys are those of this table, and the faults are all that it has
+-- the keys are those of this table, and the faults are all its faults
 pub record IsJudged (table : Members) (keys : FoundKeys) (faults : List PollFault) : Type 0 where
   pub found : keys ≡ found_in table
   pub all : faults ≡ faults_in (Ok table)

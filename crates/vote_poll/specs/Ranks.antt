@@ -1,5 +1,5 @@
 -- What a ballot says: for each option its rank, or none. By A.5 of the Constitution's Appendix A ranked options are preferred
--- to unranked ones, which are equal with one another; that a rank is a number, and the smaller preferred, is this project's own.
+-- to unranked options, and unranked options are equal. That a rank is a number, and the smaller is preferred, is this project's own.
 use Rattle.std.specs.Prelude.{ℕ, List, Bool, true, false, nat_lt, Option, Some, None}
 use Rattle.vote_poll.specs.Options.{at_option}
 
@@ -8,7 +8,7 @@ use Rattle.vote_poll.specs.Options.{at_option}
 abbrev pub rank_of : List (Option ℕ) → ℕ → Option ℕ
 rank_of ranks option = at_option ranks option None
 
--- Whether one rank is preferred to another: any rank to none, and of two ranks the smaller.
+-- Whether one rank is preferred to another: any rank is preferred to none, and of two ranks the smaller one.
 -- A.5.1: "Ranked options are considered preferred to all unranked options. Voters may rank options equally. Unranked options are considered to be ranked equally with one another."
 abbrev pub is_preferred : Option ℕ → Option ℕ → Bool
 is_preferred None other = false

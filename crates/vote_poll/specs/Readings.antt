@@ -1,4 +1,4 @@
--- What a poll reads in a line.
+-- How a poll reads a line.
 use Rattle.std.specs.Prelude.{◌≡◌, ◌≢◌, ℕ, ◌<◌, List, [], ◌∷◌, length, map, Bool, true, false, ◌==◌, ◌&&◌, nat_le, if◌then◌else◌, Option, Some, None, option_map, unwrap_or, ◌*◌, ◌+◌, ◌-◌}
 use Rattle.std.specs.List.{slice_split, before_first, after_first}
 use Rattle.std.specs.Str.{byte}
@@ -12,20 +12,20 @@ use Rattle.vote_poll.specs.declared.reading.Reading.{Reading}
 use Rattle.vote_poll.specs.declared.reading.Reading.TheVariants.{Ballot, Bad}
 use Rattle.vote_poll.specs.declared.reading.LineFault.TheVariants.{Shape, RankCount, Roll}
 
--- The first case that holds: the line is no ballot line; it has another number of ranks than the poll has options; its voter
--- is not on the roll; it is a ballot of the voter at this place of the roll.
+-- The first case that holds: the line is no ballot line; it has more or fewer ranks than the poll has options; its voter
+-- is not on the roll; it is a ballot of the voter at this position of the roll.
 abbrev pub IsReading : PollContent → List ℕ → Reading → Type 0
 IsReading poll line (Bad Shape) = (voter : List ℕ) (ranks : List (Option ℕ)) → IsBallotLine line voter ranks → ⊥
 IsReading poll line (Bad RankCount) = (voter : List ℕ) × (ranks : List (Option ℕ)) × IsBallotLine line voter ranks × (length ranks ≢ option_count poll)
 IsReading poll line (Bad Roll) = (voter : List ℕ) × (ranks : List (Option ℕ)) × IsBallotLine line voter ranks × (length ranks ≡ option_count poll) × (place_of voter poll.roll ≡ None)
 IsReading poll line (Ballot place ranks) = (voter : List ℕ) × IsBallotLine line voter ranks × (length ranks ≡ option_count poll) × (place_of voter poll.roll ≡ Some place)
 
--- a ballot is of one of the electors, and has a rank or none for each option
+-- a ballot is from one of the electors, and has a rank or no rank for each option
 abbrev pub ReadingFits : ℕ → ℕ → Reading → Type 0
 ReadingFits options electors (Bad line_fault) = Unit {0}
 ReadingFits options electors (Ballot voter ranks) = (voter < electors) × (length ranks ≡ options)
 
--- ---- the same as a function, by the first space and by the commas after it
+-- ---- the same as a function, which splits the line at its first space and at the commas after it
 
 -- the rank that a text spells
 abbrev pub rank_in : List ℕ → Option (Option ℕ)
@@ -46,7 +46,7 @@ ballot_in line =
     if nat_le (length line) MAX_LINE && is_voter_name (before_first is_space line)
     then option_map (λ ranks. (before_first is_space line, ranks)) (ranks_in (after_first is_space line)) else None
 
--- what the poll reads in a line: a ballot; or why it is none, in this order: shape, number of ranks, name that is not on the roll
+-- how the poll reads a line: as a ballot, or as the first of these faults: shape, number of ranks, name that is not on the roll
 abbrev pub reading_of : PollContent → Option (List ℕ × List (Option ℕ)) → Reading
 reading_of poll None = Bad Shape
 reading_of poll (Some ballot) =
@@ -56,7 +56,7 @@ reading_of poll (Some ballot) =
 abbrev pub reading : PollContent → List ℕ → Reading
 reading poll line = reading_of poll (ballot_in line)
 
--- what the poll reads in the lines, in their order
+-- how the poll reads the lines, in their order
 abbrev pub readings : PollContent → List (List ℕ) → List Reading
 readings poll lines = map (reading poll) lines
 

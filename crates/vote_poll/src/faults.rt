@@ -1,4 +1,4 @@
-//! What is wrong with what the keys of a poll file say: each fault judged by itself, once for all who ask.
+//! The faults in the values of a poll file's keys. Each is judged by itself, in this one place.
 ghost use Rattle.std.specs.Prelude.{◌≡◌, ◌+◌};
 ghost use Rattle.std.specs.List.{list_all};
 ghost use Rattle.vote_poll_keys.specs.FoundView.{AddsFaults, found_view};
@@ -16,7 +16,7 @@ use std::alloc::{AllocError, Global};
 use vote_poll_keys::{FoundKeys, PollFault};
 use vote_poll_text::{MAX_LINES, is_title};
 
-/// Adds a fault, unless what it speaks of is right.
+/// Appends a fault, unless the value is right.
 fn push_unless(
     faults: &mut Vec<PollFault>,
     is_right: bool,
@@ -30,7 +30,7 @@ fn push_unless(
     Ok(())
 }
 
-/// Whether the title is one, if there is a text.
+/// Whether the title is valid. True if it was not found.
 #[tactic(auto, unfolding(crate::specs::PollFaults::of_title))]
 fn is_title_right(keys: &FoundKeys<'_>) -> bool
     ensures { fault_unless result fault.Title ≡ of_title (found_view keys.now) }
@@ -41,14 +41,14 @@ fn is_title_right(keys: &FoundKeys<'_>) -> bool
     }
 }
 
-/// Whether a poll can have so many options, the default option not counted.
+/// Whether a poll can have this many options besides the default option.
 fn can_have_options(others: usize) -> bool
     ensures { result ≡ is_within 2 MAX_OPTIONS (others + 1) }
 {
     1 <= others && others < MAX_OPTIONS
 }
 
-/// Whether a poll can have so many options, if there is a list of them.
+/// Whether the number of options is valid. True if their list was not found.
 #[tactic(auto, unfolding(crate::specs::PollFaults::of_option_count))]
 fn is_option_count_right(keys: &FoundKeys<'_>) -> bool
     ensures { fault_unless result fault.OptionCount ≡ of_option_count (found_view keys.now) }
@@ -59,7 +59,7 @@ fn is_option_count_right(keys: &FoundKeys<'_>) -> bool
     }
 }
 
-/// Adds the faults of the names of options.
+/// Appends the faults of the options' names.
 #[tactic(auto, unfolding(crate::specs::PollFaults::of_option_names))]
 fn push_option_names(
     alloc: Global,
@@ -74,7 +74,7 @@ fn push_option_names(
     }
 }
 
-/// The majority ratio that a whole number is, if it is one.
+/// The number as a majority ratio, if it is from 1 to [`MAX_RATIO`].
 pub fn parse_ratio(number: i64) -> Option<u8>
     ensures { result ≡ ratio_in number }
 {
@@ -96,7 +96,7 @@ fn are_ratios(numbers: &[i64]) -> bool
     true
 }
 
-/// Whether there is one majority ratio for each option but the default, if there are lists of both.
+/// Whether there is one majority ratio for each option but the default. True if one of the two lists was not found.
 #[tactic(auto, unfolding(crate::specs::PollFaults::of_ratios))]
 fn are_ratios_right(keys: &FoundKeys<'_>) -> bool
     ensures { fault_unless result fault.Ratio ≡ of_ratios (found_view keys.now) }
@@ -110,7 +110,7 @@ fn are_ratios_right(keys: &FoundKeys<'_>) -> bool
     ratios.len() == options.len() && are_ratios(ratios)
 }
 
-/// The multiple of Q that a whole number is, if it is one.
+/// The number as a multiple of Q, if it is from 0 to [`MAX_QUORUM_MULTIPLE`].
 pub(crate) fn parse_quorum(number: i64) -> Option<u8>
     ensures { result ≡ quorum_in number }
 {
@@ -120,7 +120,7 @@ pub(crate) fn parse_quorum(number: i64) -> Option<u8>
     Some(number as u8)
 }
 
-/// Whether the quorum is a multiple of Q that a poll can have, if there is a number.
+/// Whether a poll can have this multiple of Q as its quorum. True if it was not found.
 #[tactic(auto, unfolding(crate::specs::PollFaults::of_quorum))]
 fn is_quorum_right(keys: &FoundKeys<'_>) -> bool
     ensures { fault_unless result fault.Quorum ≡ of_quorum (found_view keys.now) }
@@ -131,14 +131,14 @@ fn is_quorum_right(keys: &FoundKeys<'_>) -> bool
     }
 }
 
-/// Whether a roll can have so many names.
+/// Whether a roll can have this many names.
 fn can_have_electors(electors: usize) -> bool
     ensures { result ≡ is_within 1 MAX_ELECTORS electors }
 {
     1 <= electors && electors <= MAX_ELECTORS
 }
 
-/// Whether the roll can have so many names, if there is one.
+/// Whether the roll has a valid number of names. True if it was not found.
 #[tactic(auto, unfolding(crate::specs::PollFaults::of_roll_size))]
 fn is_roll_size_right(keys: &FoundKeys<'_>) -> bool
     ensures { fault_unless result fault.RollSize ≡ of_roll_size (found_view keys.now) }
@@ -149,7 +149,7 @@ fn is_roll_size_right(keys: &FoundKeys<'_>) -> bool
     }
 }
 
-/// Adds the faults of the names of voters.
+/// Appends the faults of the voters' names.
 #[tactic(auto, unfolding(crate::specs::PollFaults::of_voter_names))]
 fn push_voter_names(
     alloc: Global,
@@ -164,7 +164,7 @@ fn push_voter_names(
     }
 }
 
-/// The last envelope that a whole number is, if it is one.
+/// The number as a last envelope, if it is from 0 to [`MAX_LINES`].
 pub(crate) fn parse_last_envelope(number: i64) -> Option<u32>
     ensures { result ≡ last_envelope_in number }
 {
@@ -174,7 +174,7 @@ pub(crate) fn parse_last_envelope(number: i64) -> Option<u32>
     Some(number as u32)
 }
 
-/// Whether the last envelope is one that a poll can have, if there is a number.
+/// Whether a poll can have this last envelope. True if it was not found.
 #[tactic(auto, unfolding(crate::specs::PollFaults::of_last_envelope))]
 fn is_last_envelope_right(keys: &FoundKeys<'_>) -> bool
     ensures { fault_unless result fault.LastEnvelope ≡ of_last_envelope (found_view keys.now) }
@@ -185,7 +185,7 @@ fn is_last_envelope_right(keys: &FoundKeys<'_>) -> bool
     }
 }
 
-/// Whether the wording is one, if there is a text.
+/// Whether the wording is valid. True if it was not found.
 #[tactic(auto, unfolding(crate::specs::PollFaults::of_wording))]
 fn is_wording_right(keys: &FoundKeys<'_>) -> bool
     ensures { fault_unless result fault.Wording ≡ of_wording (found_view keys.now) }
@@ -196,8 +196,8 @@ fn is_wording_right(keys: &FoundKeys<'_>) -> bool
     }
 }
 
-/// Adds the faults of what the keys of a poll file say to those of the keys, in the order of [`PollFault`]. Each is judged by
-/// itself: wherever the keys that it speaks of were found, whatever else is wrong.
+/// Appends the faults of the keys' values to the faults of the keys, in the order of [`PollFault`]. Each is judged by itself:
+/// if the keys that it concerns were found, whatever else is wrong.
 ///
 /// # Errors
 ///

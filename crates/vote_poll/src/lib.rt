@@ -1,36 +1,36 @@
 //! What was written down before the count: the poll, its roll, and the lines of the ballot file.
 //!
-//! The words of this crate:
-//! - [`Poll`]: what a poll file says. It has a title, two to [`MAX_OPTIONS`] options of which the last is the
-//!   default option, a majority ratio for each other option, the multiple of Q that is its quorum, and the
-//!   roll of its electors. It may have a last envelope, and those after it are then late, and a [`Wording`] of
-//!   its majorities.
-//!   [`Poll::from_text`] reads it, or returns the first [`PollFault`]. So does [`Poll::unless_faulty`] for a file of which all
-//!   faults were found: those of its keys by `vote_poll_keys`, the others by [`push_faults`].
+//! The terms of this crate:
+//! - [`Poll`]: what a poll file says. It has a title, two to [`MAX_OPTIONS`] options, the last of them the default option, a
+//!   majority ratio for each other option, a quorum as a multiple of Q, the roll of its electors, and a [`Wording`] of its
+//!   majorities. It may have a last envelope; envelopes after it are late. [`Poll::from_text`] reads it, or returns the first
+//!   [`PollFault`]. [`Poll::unless_faulty`] does the same for a file whose faults have all been found: those of its keys by
+//!   `vote_poll_keys`, the others by [`push_faults`].
 //! - [`Ranks`]: what one ballot says of the options, and which option it prefers to which.
-//! - [`Reading`]: what a poll reads in a line, by [`read_line`]: a ballot of an elector, or a [`LineFault`].
-//!   [`is_reading`] says whether a reading is that of a line, and [`is_ballot_line`] whether the line is one of some poll.
-//! - [`Lines`], [`is_voter_name`] and the other calls of `vote_poll_text`: what the texts of both files are by themselves, whatever the
+//! - [`Reading`]: how a poll reads a line: as a ballot of an elector, or as a [`LineFault`]. [`read_line`] returns it.
+//!   [`is_reading`] says whether a reading is the reading of a line, and [`is_ballot_line`] whether the line is a ballot line
+//!   of some poll.
+//! - [`Lines`], [`is_voter_name`] and the other calls of `vote_poll_text`: the texts of both files by themselves, whatever the
 //!   poll.
 //!
-//! Options are numbered from 1, as in the file, and the default option has the greatest number. Voters are
-//! numbered from 0, by their place on the roll. Places of lines are numbered from 0; the line at place `i` is
-//! the envelope with stamp `i + 1`. All texts are bytes, and names are compared byte for byte.
+//! Options are numbered from 1, as in the file, and the default option has the greatest number. Voters are numbered from 0, by
+//! their position on the roll. Lines are numbered from 0: the line at index `i` is the envelope with stamp `i + 1`. All texts
+//! are bytes, and names are compared byte for byte.
 //!
-//! What is promised, memory aside:
-//! - A poll file means one poll or one fault (`specs/PollFile.antt`), and `from_text` returns just that. If
-//!   several faults hold it is the first in the order of [`PollFault`].
+//! What is promised, unless memory runs out:
+//! - A poll file means one poll or one fault (`specs/PollFile.antt`), and `from_text` returns exactly that. If there are
+//!   several faults, it is the first in the order of [`PollFault`].
 //! - A poll that a text means keeps the limits of a poll ([`polls_keep_the_limits`]).
-//! - All faults of a poll file, each judged by itself, are those of `specs/PollFaults.antt`, and the one that is returned is
-//!   the first of them ([`first_fault_is_told`]).
-//! - A poll reads one thing in a line (`specs/Readings.antt`, [`readings_are_unique`]), by a grammar that says
-//!   how a ballot is spelled (`specs/BallotLine.antt`). `read_line` returns it for each line of bytes, whatever
-//!   they are; it takes no memory and refuses nothing.
-//! - A ballot that was read is of a voter on the roll, and has a rank or none for each option.
+//! - `specs/PollFaults.antt` has all faults of a poll file, each judged by itself. The fault that is returned is the first of
+//!   them ([`first_fault_is_told`]).
+//! - A poll reads a line in only one way (`specs/Readings.antt`, [`readings_are_unique`]), by a grammar that says how a ballot
+//!   is spelled (`specs/BallotLine.antt`). `read_line` returns this reading for each line, whatever its bytes. It takes no
+//!   memory and has no errors.
+//! - A ballot that was read is of a voter on the roll, and has a rank or no rank for each option.
 //!
-//! The Constitution's sections are named where a rule is the Constitution's: 4.2 for the quorum, and A.5 of
-//! Appendix A for ranks, ratios and the default option. The formats of the two files are this project's own, and
-//! so are that envelopes can be late and that a majority can be worded as more than its ratio.
+//! The Constitution's sections are named if a rule is the Constitution's: 4.2 for the quorum, and A.5 of Appendix A for ranks,
+//! ratios and the default option. This project's own are the formats of the two files, that envelopes can be late, and that a
+//! majority can be worded as more than its ratio.
 #![tactic(auto)]
 
 ghost use Rattle.vote_poll.specs.Limits.{LimitsAreAsWritten};
@@ -61,10 +61,10 @@ pub use vote_poll_text::{
 };
 pub use wording::Wording;
 
-/// The most options that a poll can have, the default among them. It has two at least.
+/// The most options that a poll can have, with the default option. It has at least two.
 pub const MAX_OPTIONS: usize = 32;
 
-/// The most electors that a roll can have. It has one at least.
+/// The most electors that a roll can have. It has at least one.
 pub const MAX_ELECTORS: usize = 10_000;
 
 /// The greatest majority ratio of an option. The least is 1.
@@ -76,13 +76,13 @@ pub const MAX_QUORUM_MULTIPLE: u8 = 10;
 /// The greatest rank that a ballot can give an option. The least is 1.
 pub const MAX_RANK: u8 = 99;
 
-/// Where an unranked option stands in the order of a ballot: behind all ranks.
+/// The sort key of an unranked option. It comes after all ranks.
 pub const UNRANKED: u8 = 255;
 
-/// The most bytes that a ballot line can have, its line feed not counted.
+/// The most bytes that a ballot line can have, without its line feed.
 pub const MAX_LINE: usize = 200;
 
-/// A law: the limits of a poll and of a ballot line are those that `docs/FORMATS.md` writes.
+/// A law: the limits of a poll and of a ballot line are those in `docs/FORMATS.md`.
 pub fn limits_are_as_written()
     ensures { LimitsAreAsWritten }
 {}

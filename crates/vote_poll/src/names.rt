@@ -1,4 +1,4 @@
-//! The names on the lists of a poll file: its options and the voters on its roll.
+//! The names in the lists of a poll file: its options and the voters on its roll.
 ghost use Rattle.std.specs.Prelude.{◌≡◌, ◌+◌, ◌<◌, ◌^◌, [], OnOk, position, string_bytes};
 ghost use Rattle.std.specs.Str.{bytes_eq};
 ghost use Rattle.vote_poll_keys.specs.FoundView.{AddsFaults, texts};
@@ -20,7 +20,7 @@ pub(crate) enum NameList {
 }
 
 impl NameList {
-    /// Whether a text is a name for the list.
+    /// Whether a text is a valid name in the list.
     fn has_shape(self, name: &[u8]) -> bool
         ensures { result ≡ has_shape self name.now }
     {
@@ -30,7 +30,7 @@ impl NameList {
         }
     }
 
-    /// The fault that the name at a place is malformed or double.
+    /// The fault of the name at an index that is malformed or a duplicate.
     fn bad_name(self, place: usize) -> PollFault
         requires { place + 1 < 2 ^ 64 }
         ensures { result ≡ bad_name self place }
@@ -42,7 +42,7 @@ impl NameList {
     }
 }
 
-/// Notes the name at a place of a list among those that were seen, and adds its fault, if it is malformed or was seen before.
+/// Adds the name at an index of a list to the names seen, and appends its fault if it is malformed or was seen before.
 fn judge_name<'t>(
     faults: &mut Vec<PollFault>,
     list: NameList,
@@ -61,7 +61,7 @@ fn judge_name<'t>(
     Ok(())
 }
 
-/// Adds the faults of the names of a list, none of which was seen before.
+/// Appends the faults of a list's names. `seen` is empty at the start.
 fn judge_names<'t>(
     faults: &mut Vec<PollFault>,
     list: NameList,
@@ -77,7 +77,7 @@ fn judge_names<'t>(
     Ok(())
 }
 
-/// Adds the faults of the names of a list: those that are malformed, or the same as an earlier one.
+/// Appends the faults of a list's names: those that are malformed, or the same as an earlier name.
 pub(crate) fn push_bad_names(
     alloc: Global,
     faults: &mut Vec<PollFault>,
@@ -90,7 +90,7 @@ pub(crate) fn push_bad_names(
     judge_names(faults, list, &mut seen, names)
 }
 
-/// The place of a name among the names of options.
+/// The index of a name among the names of options, if it is there.
 pub(crate) fn place_of(options: &[String], name: &[u8]) -> Option<usize>
     ensures { result ≡ position (λ option. bytes_eq name.now (string_bytes option)) options.now }
 {
@@ -102,7 +102,7 @@ pub(crate) fn place_of(options: &[String], name: &[u8]) -> Option<usize>
     None
 }
 
-/// A law: on a roll without a bad name each name is that of the voter at its place, and of no other.
+/// A law: on a roll without a bad name, each name belongs to the voter at its position, and to no other.
 pub fn names_are_distinct()
     ensures { NamesAreDistinct }
 {}

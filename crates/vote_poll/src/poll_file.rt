@@ -1,4 +1,4 @@
-//! Reading a poll file: its keys, what is wrong with them, and the poll if nothing is.
+//! Reading a poll file: its keys, their faults, and the poll if there is no fault.
 ghost use Rattle.std.specs.Prelude.{◌≡◌, [], None, true, IfOk, map, nat_abs, option_and_then, option_copied, string_bytes, unwrap_or};
 ghost use Rattle.std.specs.List.{list_all};
 ghost use Rattle.toml.specs.Data.{Members};
@@ -20,7 +20,7 @@ use indexmap::IndexSet;
 use std::alloc::{AllocError, Global};
 use vote_poll_keys::{FoundKeys, PollFault, document};
 
-/// The texts of a list that was found, or none.
+/// The texts of a list, or no texts if the list was not found.
 fn texts_or_none<'l, 't>(list: &'l Option<Vec<&'t str>>) -> &'l [&'t str]
     ensures { texts result.now ≡ unwrap_or (texts_view list.now) [] }
 {
@@ -30,7 +30,7 @@ fn texts_or_none<'l, 't>(list: &'l Option<Vec<&'t str>>) -> &'l [&'t str]
     }
 }
 
-/// The numbers of a list that was found, or none.
+/// The numbers of a list, or no numbers if the list was not found.
 fn numbers_or_none(list: &Option<Vec<i64>>) -> &[i64]
     ensures { result.now ≡ unwrap_or (numbers_view list.now) [] }
 {
@@ -51,7 +51,7 @@ fn copies_of(alloc: Global, names: &[&str]) -> Result<Vec<String>, AllocError>
     Ok(copies)
 }
 
-/// The roll of voters, none of whose names is bad. The number of a voter is the place of the name.
+/// The roll of voters. None of the names is bad. The number of a voter is the index of the name.
 fn roll_of(alloc: Global, names: &[&str]) -> Result<IndexSet<String>, AllocError>
     requires { first_bad is_voter_name (texts names.now) ≡ None }
     ensures { IfOk result (λ roll. map string_bytes roll.keys ≡ texts names.now) }
@@ -63,7 +63,7 @@ fn roll_of(alloc: Global, names: &[&str]) -> Result<IndexSet<String>, AllocError
     Ok(roll)
 }
 
-/// The majority ratios that whole numbers are, each of which is one.
+/// The numbers as majority ratios. All of them are valid.
 fn ratios_of(alloc: Global, numbers: &[i64]) -> Result<Vec<u8>, AllocError>
     requires { list_all (is_integer_within 1 MAX_RATIO) numbers.now ≡ true }
     ensures { IfOk result (λ ratios. ratios.items ≡ map nat_abs numbers.now) }
@@ -75,7 +75,7 @@ fn ratios_of(alloc: Global, numbers: &[i64]) -> Result<Vec<u8>, AllocError>
     Ok(ratios)
 }
 
-/// The multiple of Q, where the key gives one.
+/// The multiple of Q that the key gives, or 0.
 fn quorum_of(number: Option<i64>) -> u8
     ensures { result ≡ unwrap_or (option_and_then quorum_in number) 0 }
 {
@@ -85,7 +85,7 @@ fn quorum_of(number: Option<i64>) -> u8
     }
 }
 
-/// The last envelope that is not late, where the key gives one.
+/// The last envelope that is not late, if the key gives one.
 fn last_envelope_of(number: Option<i64>) -> Option<u32>
     ensures { result ≡ option_and_then last_envelope_in number }
 {
@@ -95,7 +95,7 @@ fn last_envelope_of(number: Option<i64>) -> Option<u32>
     }
 }
 
-/// The wording that the key gives, and the Constitution's where there is no key.
+/// The wording that the key gives, or the Constitution's if there is no key.
 fn wording_of(text: Option<&str>) -> Wording
     ensures { result ≡ unwrap_or (option_and_then wording_in (option_copied text.entry)) AtLeast }
 {
@@ -106,7 +106,7 @@ fn wording_of(text: Option<&str>) -> Wording
 }
 
 impl Poll {
-    /// The poll that the keys of a poll file give, with which nothing is wrong.
+    /// The poll of a poll file's keys, which have no fault.
     fn of_keys(alloc: Global, keys: &FoundKeys<'_>) -> Result<Poll, AllocError>
         requires { (table : Members) × IsJudged table (found_view keys.now) [] }
         ensures { IfOk result (λ poll. poll ≡ poll_of (found_view keys.now)) }
@@ -123,8 +123,8 @@ impl Poll {
         })
     }
 
-    /// The poll that the keys of a poll file give, or the first of its faults, all of which were found
-    /// (`FoundKeys::key_faults`, [`push_faults`](crate::push_faults)).
+    /// The poll of a poll file's keys, or the first of the file's faults. All its faults have been found, by
+    /// `FoundKeys::key_faults` and [`push_faults`](crate::push_faults).
     ///
     /// # Errors
     ///
@@ -144,12 +144,11 @@ impl Poll {
     }
 
     /// The poll that the text of a poll file means, or the first of its faults. The text is TOML. Its table has the keys of
-    /// [`PollKey`](crate::PollKey), of which the last two may be missing; other keys are passed over.
+    /// [`PollKey`](crate::PollKey); the last two may be missing. Other keys are ignored.
     ///
     /// # Errors
     ///
-    /// The first [`PollFault`] that holds, in the order of that type, each exactly when it holds; or
-    /// [`PollFault::Memory`].
+    /// The first [`PollFault`] that holds, in the order of that type, each exactly when it holds; or [`PollFault::Memory`].
     #[tactic(auto, unfolding(crate::specs::PollFile::poll_in))]
     pub fn from_text(alloc: Global, text: &[u8]) -> Result<Poll, PollFault>
         ensures { Gives (λ poll. poll) result (poll_in text.now) }
@@ -162,8 +161,8 @@ impl Poll {
     }
 }
 
-/// A law: the fault that [`Poll::from_text`] returns is the first of all faults of its text, and it returns a poll exactly when
-/// there is none.
+/// A law: a text means a poll exactly when it has no fault, and else it means the first of its faults. [`Poll::from_text`]
+/// returns what the text means.
 #[tactic(auto, using(crate::proofs::PollFaultsLaws::first_is_told))]
 pub fn first_fault_is_told()
     ensures { FirstIsTold }

@@ -1,6 +1,6 @@
-//! Where an option stands whose rank a ballot line spells, by two look-ups in place of tests: which
-//! way a test of a rank's length goes is a coin toss, and a processor that guesses wrong loses the
-//! time of several ranks.
+//! Finds the sort key of a rank that a ballot line spells, by two look-ups instead of tests. A test
+//! of a rank's length is a coin toss, and a processor that guesses wrong loses the time of several
+//! ranks.
 ghost use Rattle.std.specs.Prelude.{◌≡◌, if◌then◌else◌, ◌==◌, IfSome, Some, option_map};
 ghost use Rattle.std.specs.Str.{byte};
 ghost use Rattle.vote_poll.specs.Parsing.{kind_of};
@@ -10,8 +10,8 @@ ghost use Rattle.vote_poll.specs.Spelling.{rank_bytes};
 
 use crate::UNRANKED;
 
-/// What each byte is in a list of ranks: a digit is its value, a comma 10, a hyphen 11, and any
-/// other byte 12.
+/// The kind of each byte in a list of ranks: a digit's kind is its value, a comma's 10, a hyphen's
+/// 11, and any other byte's 12.
 const KINDS: [u8; 256] = [
     12, 12, 12, 12, 12, 12, 12, 12, 12, 12, 12, 12, 12, 12, 12, 12, 12, 12, 12, 12, 12, 12, 12, 12,
     12, 12, 12, 12, 12, 12, 12, 12, 12, 12, 12, 12, 12, 12, 12, 12, 12, 12, 12, 12, 10, 11, 12, 12,
@@ -26,9 +26,9 @@ const KINDS: [u8; 256] = [
     12, 12, 12, 12, 12, 12, 12, 12, 12, 12, 12, 12, 12, 12,
 ];
 
-/// Where an option stands whose rank two bytes spell, at sixteen times the first byte's kind and
-/// the second's kind more. A second byte that is a comma is no part of the rank. There is a 0 where
-/// they spell none.
+/// The sort key of the rank that two bytes spell. Index: 16 * kind of the first byte + kind of the
+/// second. If the second byte is a comma, it is not part of the rank. The entry is 0 if the bytes
+/// spell no rank.
 const KEYS: [u8; 208] = [
     0, 0, 0, 0, 0, 0, 0, 0, 0, 0, 0, 0, 0, 0, 0, 0, 10, 11, 12, 13, 14, 15, 16, 17, 18, 19, 1, 0,
     0, 0, 0, 0, 20, 21, 22, 23, 24, 25, 26, 27, 28, 29, 2, 0, 0, 0, 0, 0, 30, 31, 32, 33, 34, 35,
@@ -40,9 +40,9 @@ const KEYS: [u8; 208] = [
     0, 0, 0, 0, 0, 0, 0, 0, 0, 0, 0, 0, 0, 0, 0, 0, 0, 0, 0,
 ];
 
-/// The two bytes by which a text tells the rank of an option that stands here, as the first and 256
-/// times the second; the second is the comma after a rank of one byte. There is a number that no
-/// two bytes make where no rank is.
+/// The two bytes that spell the rank with this sort key, as the first + 256 * the second. After a
+/// rank of one byte the second is the comma. If no rank has this sort key, the entry is 65536,
+/// which no two bytes make.
 const PAIRS: [u32; 256] = [
     65536, 11313, 11314, 11315, 11316, 11317, 11318, 11319, 11320, 11321, 12337, 12593, 12849,
     13105, 13361, 13617, 13873, 14129, 14385, 14641, 12338, 12594, 12850, 13106, 13362, 13618,
@@ -66,7 +66,7 @@ const PAIRS: [u32; 256] = [
     65536, 65536, 65536, 65536, 65536, 65536, 65536, 65536, 11309,
 ];
 
-/// How many bytes spell the rank of an option that stands here, 2 where no rank is.
+/// How many bytes spell the rank with this sort key; 2 if no rank has it.
 const LENGTHS: [u8; 256] = [
     2, 1, 1, 1, 1, 1, 1, 1, 1, 1, 2, 2, 2, 2, 2, 2, 2, 2, 2, 2, 2, 2, 2, 2, 2, 2, 2, 2, 2, 2, 2, 2,
     2, 2, 2, 2, 2, 2, 2, 2, 2, 2, 2, 2, 2, 2, 2, 2, 2, 2, 2, 2, 2, 2, 2, 2, 2, 2, 2, 2, 2, 2, 2, 2,
@@ -78,15 +78,15 @@ const LENGTHS: [u8; 256] = [
     2, 2, 2, 2, 2, 2, 2, 2, 2, 2, 2, 2, 2, 2, 2, 2, 2, 2, 2, 2, 2, 2, 2, 2, 2, 2, 2, 2, 2, 2, 2, 1,
 ];
 
-/// What a byte is in a list of ranks.
+/// The kind of a byte in a list of ranks.
 fn kind_of(byte: u8) -> u8
     ensures { result ≡ kind_of byte }
 {
     KINDS[byte as usize]
 }
 
-/// Where an option stands whose rank is spelled by one byte and a comma after it, or else by both
-/// bytes.
+/// The sort key of the rank that the first byte spells if the second is a comma, and both bytes
+/// spell if it is not. `None` if they spell no rank.
 pub(crate) fn spelled_key(first: u8, second: u8) -> Option<u8>
     ensures { option_map rank_of_key result ≡ rank_in (rank_bytes first second) }
 {
@@ -94,8 +94,8 @@ pub(crate) fn spelled_key(first: u8, second: u8) -> Option<u8>
     if key == 0 { None } else { Some(key) }
 }
 
-/// How many bytes spell the rank of an option that stands here, if a text that begins with these
-/// two bytes may begin with this rank and a comma.
+/// How many bytes spell the rank with this sort key, if a text that begins with these two bytes may
+/// begin with this rank and a comma.
 pub(crate) fn spelled_length(first: u8, second: u8, key: u8) -> Option<usize>
     ensures length { IfSome result (λ length. length ≡ (if second == byte "," then 1 else 2)) }
     ensures rank { IfSome result (λ _. rank_in (rank_bytes first second) ≡ Some (rank_of_key key)) }

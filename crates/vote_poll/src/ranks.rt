@@ -10,13 +10,13 @@ ghost use Rattle.std.specs.Cmp.Rules.{comparing};
 use crate::{MAX_OPTIONS, UNRANKED};
 use std::marker::Model;
 
-/// The rank that a ballot gives each option, or none; contracts see the list of these. Options are numbered from 1,
-/// ranks lie in 1 to [`MAX_RANK`](crate::MAX_RANK) where a line was read, and the smaller rank is preferred. Two
-/// ballots are the same for `==` just where they are equal for contracts.
+/// The rank that a ballot gives each option, or no rank. Contracts see the list of them. Options are numbered from 1. Ranks
+/// are from 1 to [`MAX_RANK`](crate::MAX_RANK) if a line was read, and the smaller rank is preferred. Two ballots are the
+/// same for `==` exactly when they are equal for contracts.
 #[derive(Clone, Copy)]
 pub struct Ranks {
-    /// Where each option stands in the order of the ballot, as [`Ranks::sort_keys`] says. They stand in front, so that what
-    /// was copied is read again from where a part of the copy began: otherwise a processor waits until the copy is done.
+    /// The sort key of each option, as [`Ranks::sort_keys`] says. This field comes first, so a read after a copy begins
+    /// where a part of the copy began. Otherwise a processor waits until the copy is done.
     sort_keys: [u8; MAX_OPTIONS],
     options: u8,
 }
@@ -38,7 +38,7 @@ impl Model for Ranks {
 }
 
 impl Ranks {
-    /// The ranks of the first options, as many as a poll can have, of `count` of which a row says where each stands.
+    /// The ranks of `count` options, whose sort keys are in a row. At most [`MAX_OPTIONS`] of them are kept.
     pub(crate) fn of_row(count: usize, row: &[u8; MAX_OPTIONS]) -> Ranks
         requires { (keys : List ℕ) × (length keys ≡ count) × (row.now ≡ row_of keys) }
         ensures { (keys : List ℕ) → length keys ≡ count → row.now ≡ row_of keys → result ≡ take MAX_OPTIONS (map rank_of_key keys) }
@@ -49,7 +49,7 @@ impl Ranks {
         }
     }
 
-    /// How many options there are, ranked or not.
+    /// The number of options, ranked or not.
     pub fn options(&self) -> u8
         ensures number { result ≡ length self.now }
         ensures at_most { result ≤ MAX_OPTIONS }
@@ -57,9 +57,9 @@ impl Ranks {
         self.options
     }
 
-    /// Where each option stands in the order of the ballot, that of option `k` at place `k - 1`: at its rank, or at
-    /// [`UNRANKED`] where it has none. So of two options the ballot prefers the one with the smaller number, and neither
-    /// where the numbers are equal. Behind the options there are zeros.
+    /// The sort key of each option, at index `k - 1` for option `k`: its rank, or [`UNRANKED`] if it has no rank. So of two
+    /// options the ballot prefers the option with the smaller key, and neither if the keys are equal. After the options'
+    /// keys there are zeros.
     pub fn sort_keys(&self) -> &[u8]
         ensures long { length result.now ≡ MAX_OPTIONS }
         ensures options { (k : ℕ) → k < length self.now → IsSortKey (slice_index_or self.now k None) (slice_index_or result.now k 0) }
@@ -68,14 +68,14 @@ impl Ranks {
         &self.sort_keys
     }
 
-    /// Where the options stand in the order of the ballot, and no zeros behind them.
+    /// The sort keys of the options, without the zeros after them.
     pub(crate) fn keys(&self) -> &[u8]
         ensures { map rank_of_key result.now ≡ self.now }
     {
         self.sort_keys.split_at(self.options as usize).0
     }
 
-    /// The rank of an option, or none where the ballot leaves it unranked.
+    /// The rank of an option, or `None` if the ballot leaves it unranked.
     pub fn rank(&self, option: u8) -> Option<u8>
         requires { IsOption (length self.now) option }
         ensures { result ≡ rank_of self.now option }
@@ -85,9 +85,9 @@ impl Ranks {
     }
 
     /// Whether the ballot prefers option `a` to option `b`: it ranks `a`, and leaves `b` unranked or gives it a greater
-    /// rank. Of two unranked options, or two of equal rank, neither is preferred (A.5 of the Constitution's Appendix A;
-    /// that ranks are numbers of which the smaller is preferred is this project's own).
-    /// For callers of the library; the program does not call it.
+    /// rank. Of two unranked options, or two of equal rank, it prefers neither (A.5 of the Constitution's Appendix A; that
+    /// ranks are numbers and the smaller is preferred is this project's own). For callers of the library; the program does
+    /// not call it.
     pub fn prefers(&self, a: u8, b: u8) -> bool
         requires a { IsOption (length self.now) a }
         requires b { IsOption (length self.now) b }
@@ -106,7 +106,7 @@ impl PartialEq for Ranks {
 
     ghost laws = { Prim.search (comparing, rules) };
 
-    /// Whether two ballots have as many options, and give each the same rank.
+    /// Whether two ballots have the same number of options, and give each the same rank.
     #[tactic(auto, using(crate::proofs::Equality::same_ranks))]
     fn eq(&self, other: &Ranks) -> bool
         ensures test { result ≡ are_same_ranks self.now other.now }

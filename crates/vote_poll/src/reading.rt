@@ -20,22 +20,23 @@ use crate::ranks::Ranks;
 use crate::{MAX_LINE, MAX_OPTIONS};
 use vote_poll_text::is_voter_name;
 
-/// What a poll reads in a line. Two readings are the same for `==` exactly when they are equal for
+/// How a poll reads a line. Two readings are the same for `==` exactly when they are equal for
 /// contracts.
 #[derive(Clone, Copy)]
 pub enum Reading {
-    /// A ballot of the voter at this place of the roll (from 0), with a rank or none for each
+    /// A ballot of the voter at this position of the roll (from 0), with a rank or no rank for each
     /// option of the poll.
     Ballot { voter: usize, ranks: Ranks },
-    /// No ballot of this poll, for the first reason that holds.
+    /// The line is no ballot of this poll, for the first reason that holds.
     Bad(LineFault),
 }
 
-/// Why a line is no ballot. If several hold, the first in this order is returned.
+/// Why a line is no ballot. If several reasons hold, the first in this order is returned.
 #[derive(Clone, Copy, Debug, PartialEq, Eq)]
 pub enum LineFault {
-    /// The line has more than [`MAX_LINE`] bytes, or is not a voter's name, one space, and ranks
-    /// from 1 to [`MAX_RANK`](crate::MAX_RANK) or hyphens with a comma between each two.
+    /// The line has more than [`MAX_LINE`] bytes, or it is not a voter's name, one space, and ranks
+    /// with a comma between each two. A rank is a hyphen, or a number from 1 to
+    /// [`MAX_RANK`](crate::MAX_RANK).
     Shape,
     /// The line has more or fewer ranks than there are options.
     RankCount,
@@ -43,8 +44,8 @@ pub enum LineFault {
     Roll,
 }
 
-/// Where an option stands whose rank a text spells: one byte, as if a comma came after it, or two
-/// of which the second is no comma.
+/// The sort key of the rank that a text spells: one byte, as if a comma came after it, or two bytes
+/// if the second is not a comma.
 fn parse_rank(text: &[u8]) -> Option<u8>
     ensures { option_map rank_of_key result ≡ rank_in text.now }
 {
@@ -57,8 +58,7 @@ fn parse_rank(text: &[u8]) -> Option<u8>
     spelled_key(text[0], text[1])
 }
 
-/// Where the option of the first rank in a text stands, and the text after the comma that ends this
-/// rank.
+/// The sort key of the first rank in a text, and the text after the comma that ends this rank.
 fn first_key(text: &[u8]) -> Option<(u8, &[u8])>
     requires { 3 ≤ length text.now }
     ensures first { IfSome result (λ first. ListsFirst text.now first.0 first.1.now) }
@@ -74,7 +74,7 @@ fn first_key(text: &[u8]) -> Option<(u8, &[u8])>
     Some((key, &text[end + 1..]))
 }
 
-/// Writes where the next option stands into a row, where there is room for it.
+/// Writes the sort key of the next option into a row, if there is room for it.
 fn keep(row: &mut [u8; MAX_OPTIONS], count: usize, key: u8)
     ensures { KeepsKey row.old count key row.new }
 {
@@ -83,8 +83,7 @@ fn keep(row: &mut [u8; MAX_OPTIONS], count: usize, key: u8)
     }
 }
 
-/// The ranks that a text lists, of which as many are kept as a poll can have options, and how many
-/// there are.
+/// The ranks that a text lists, and how many there are. At most [`MAX_OPTIONS`] ranks are kept.
 fn ranks_of(text: &[u8]) -> Option<(Ranks, usize)>
     requires { length text.now ≤ MAX_LINE }
     ensures { result ≡ option_map kept_and_count (ranks_in text.now) }
@@ -104,7 +103,7 @@ fn ranks_of(text: &[u8]) -> Option<(Ranks, usize)>
     Some((Ranks::of_row(count, &row), count))
 }
 
-/// The texts before and after the first space, where there is one.
+/// The texts before and after the first space, if there is one.
 fn split_at_space(line: &[u8]) -> Option<(&[u8], &[u8])>
     ensures before { IfSome result (λ parts. parts.0.now ≡ before_first is_space line.now) }
     ensures after { IfSome result (λ parts. parts.1.now ≡ after_first is_space line.now) }
@@ -118,18 +117,17 @@ fn split_at_space(line: &[u8]) -> Option<(&[u8], &[u8])>
     None
 }
 
-/// The parts of a ballot line, where the voter may be any text.
+/// The parts of a ballot line. The voter may be any text.
 #[derive(Clone, Copy)]
 struct BallotLine<'t> {
     voter: &'t [u8],
-    /// The first ranks, as many as a poll can have options.
+    /// The first ranks, at most as many as a poll can have options.
     ranks: Ranks,
-    /// How many ranks there are.
+    /// The number of ranks in the line.
     count: usize,
 }
 
-/// The parts of a line, where it is a ballot line if the text before the first space is a voter's
-/// name.
+/// The parts of a line, if it would be a ballot line with a voter's name before its first space.
 fn parse(line: &[u8]) -> Option<BallotLine<'_>>
     ensures { option_map (λ parts. (parts.voter.now, parts.ranks, parts.count)) result ≡ option_map voter_kept_and_count (parts_in line.now) }
 {
@@ -145,8 +143,8 @@ fn parse(line: &[u8]) -> Option<BallotLine<'_>>
     })
 }
 
-/// The ballot that a line gives, as the voter's place on the roll and the ranks. What is on the
-/// roll is a voter's name, so only what is not is tested for one.
+/// The ballot that a line gives: the voter's position on the roll, and the ranks. Each text on the
+/// roll is a voter's name, so only a text that is not on the roll is tested.
 fn ballot(poll: &Poll, line: &[u8]) -> Result<(usize, Ranks), LineFault>
     ensures { reading_from result ≡ reading poll.now line.now }
 {
@@ -166,9 +164,9 @@ fn ballot(poll: &Poll, line: &[u8]) -> Result<(usize, Ranks), LineFault>
     Ok((voter, parts.ranks))
 }
 
-/// What the poll reads in a line, which is given without its line feed. Each line has a reading,
-/// whatever its bytes. A ballot gives the `k`-th rank to option `k`; by A.5 of the Constitution's
-/// Appendix A what it leaves unranked is below all that it ranks.
+/// How the poll reads a line. The line is given without its line feed. Each line has a reading,
+/// whatever its bytes. A ballot gives the `k`-th rank to option `k`. By A.5 of the Constitution's
+/// Appendix A an unranked option is below all ranked options.
 #[tactic(auto, using(crate::proofs::GrammarLaws::reading_laws))]
 pub fn read_line(poll: &Poll, line: &[u8]) -> Reading
     ensures same { result ≡ reading poll.now line.now }
@@ -191,11 +189,9 @@ pub fn is_ballot_line(line: &[u8]) -> bool
     }
 }
 
-/// The text after a rank and its comma, if a text begins with the rank of an option that stands
-/// here.
+/// The text after a rank and its comma, if a text begins with the rank that has this sort key.
 ///
-/// How long the rank is, is known from where the option stands, so no look at the text has to wait
-/// for the one before.
+/// The sort key says how long the rank is. So no look at the text has to wait for the one before.
 fn behind_rank(text: &[u8], key: u8) -> Option<&[u8]>
     ensures { IfSome result (λ rest. ListsFirst text.now key rest.now) }
 {
@@ -209,7 +205,7 @@ fn behind_rank(text: &[u8], key: u8) -> Option<&[u8]>
     Some(&text[end + 1..])
 }
 
-/// Whether a text lists the ranks of a ballot.
+/// Whether a text lists the ranks of this ballot.
 fn lists_ranks(text: &[u8], ranks: &Ranks) -> bool
     ensures { IsTrue result → ranks_in text.now ≡ Some ranks.now }
 {
@@ -226,14 +222,14 @@ fn lists_ranks(text: &[u8], ranks: &Ranks) -> bool
     parse_rank(left) == Some(*last)
 }
 
-/// The text after a name and a space.
+/// The text after a name and a space, if the line begins with them.
 fn behind_name<'t>(line: &'t [u8], name: &[u8]) -> Option<&'t [u8]>
     ensures { IfSome result (λ text. line.now ≡ name.now ++ byte " " ∷ text.now) }
 {
     line.strip_prefix(name)?.strip_prefix(b" ")
 }
 
-/// Whether a line spells a ballot of the voter at this place of the roll, with these ranks.
+/// Whether a line spells a ballot of the voter at this position of the roll, with these ranks.
 fn spells(poll: &Poll, line: &[u8], voter: usize, ranks: &Ranks) -> bool
     ensures { IsTrue result → reading poll.now line.now ≡ Ballot voter ranks.now }
 {
@@ -249,9 +245,9 @@ fn spells(poll: &Poll, line: &[u8], voter: usize, ranks: &Ranks) -> bool
     }
 }
 
-/// Whether this is what the poll reads in a line, so what [`read_line`] returns. A ballot is
-/// compared with the line by the name at the voter's place on the roll, which takes no look-up, and
-/// by how its ranks are spelled.
+/// Whether this is the poll's reading of a line, as [`read_line`] returns it. A ballot is compared
+/// with the line by the name at the voter's position on the roll, which takes no look-up, and by
+/// the spelling of its ranks.
 pub fn is_reading(poll: &Poll, line: &[u8], answer: &Reading) -> bool
     ensures { IsTrue result ↔ (answer.now ≡ reading poll.now line.now) }
 {
@@ -263,13 +259,13 @@ pub fn is_reading(poll: &Poll, line: &[u8], answer: &Reading) -> bool
     read_line(poll, line) == *answer
 }
 
-/// Each line reads as something by the grammar: as what [`read_line`] returns.
+/// A law: [`read_line`] returns a reading of each line by the grammar.
 #[tactic(auto, using(crate::proofs::GrammarLaws::reading_is))]
 pub fn each_line_is_read()
     ensures { (poll : PollContent) (line : List ℕ) → IsReading poll line (reading poll line) }
 {}
 
-/// A law: a poll reads one thing in a line, so what [`read_line`] returns is the only reading.
+/// A law: a poll reads a line in only one way, so [`read_line`] returns its only reading.
 #[tactic(auto, using(crate::proofs::OneReading::readings_are_one))]
 pub fn readings_are_unique()
     ensures { ReadingsAreUnique }
@@ -280,7 +276,8 @@ impl PartialEq for Reading {
 
     ghost laws = { Prim.search (comparing, rules) depth 9 };
 
-    /// Whether two readings are ballots of one voter with the same ranks, or have the same fault.
+    /// Whether two readings are ballots of the same voter with the same ranks, or have the same
+    /// fault.
     #[tactic(auto, using(crate::proofs::Equality::same_reading))]
     fn eq(&self, other: &Reading) -> bool
         ensures test { result ≡ is_same_reading self.now other.now }

@@ -9,10 +9,10 @@ use Rattle.vote_poll_keys.specs.FaultWords.{fault_words}
 use Rattle.vote_poll_keys.specs.declared.fault.PollFault.{PollFault}
 use Rattle.vote_poll_hints.specs.Hints.{IsHint}
 use Rattle.vote_poll_hints.specs.Places.{KeyPlace, path_of}
-use Rattle.vote_poll_hints.specs.Remarks.{IsRemark}
+use Rattle.vote_poll_hints.specs.Remarks.{IsKeyRemark}
 use Rattle.vote_poll_hints.specs.declared.TheConstants.{MAX_SHOWN}
 use Rattle.vote_poll_findings.specs.Syntax.{IsSyntaxFinding}
-use Rattle.vote_poll_findings.specs.UnreadKeys.{unread_keys}
+use Rattle.vote_poll_findings.specs.UnreadKeys.{unread_in}
 
 -- ---- a line
 abbrev pub fault_head : PollFault → List ℕ
@@ -25,7 +25,7 @@ abbrev pub key_head : List ℕ → List ℕ
 key_head path = codes "poll: key " ++ shown MAX_SHOWN path ++ codes " is not read"
 
 abbrev pub SaysKey : Members → KeyPlace → List ℕ → Type 0
-SaysKey file place line = (remark : List ℕ) × IsRemark file place.name remark × (line ≡ key_head (path_of place) ++ remark ++ line_feed)
+SaysKey file place line = (remark : List ℕ) × IsKeyRemark file place.name remark × (line ≡ key_head (path_of place) ++ remark ++ line_feed)
 
 -- ---- the text
 -- a line that says each of these, in their order
@@ -36,7 +36,7 @@ AreLinesFor Says (x ∷ xs) text = (line : List ℕ) × (rest : List ℕ) × Say
 -- the findings of a table with these faults
 abbrev pub AreFindings : List PollFault → Members → List ℕ → Type 0
 AreFindings faults table text =
-    (lines : List ℕ) × (keys : List ℕ) × AreLinesFor SaysFault faults lines × AreLinesFor (SaysKey table) (unread_keys table) keys × (text ≡ lines ++ keys)
+    (lines : List ℕ) × (keys : List ℕ) × AreLinesFor SaysFault faults lines × AreLinesFor (SaysKey table) (unread_in [] table) keys × (text ≡ lines ++ keys)
 
 -- the findings of a poll file whose table, or whose only fault, is this
 abbrev pub AreFindingsOf : List ℕ → Result Members PollFault → List ℕ → Type 0

@@ -3,7 +3,7 @@ ghost use Rattle.std.specs.Prelude.{◌≡◌, IfOk};
 ghost use Rattle.toml.specs.View.{table_view};
 ghost use Rattle.vote_poll_text.specs.Adding.{Adds};
 ghost use Rattle.vote_poll_hints.specs.Hints.{IsHint, Tells};
-ghost use Rattle.vote_poll_hints.specs.Remarks.{IsOpenRemark, IsRemark, suggestion};
+ghost use Rattle.vote_poll_hints.specs.Remarks.{IsOpenRemark, IsKeyRemark, suggestion};
 
 use crate::characters::push_character;
 use crate::near::{Claim, Near, claims_of, meant_by};
@@ -386,7 +386,7 @@ impl<'f> Hints<'f> {
         text: &mut String,
         key: &UnreadKey<'_>,
     ) -> Result<(), AllocError>
-        ensures { Tells result text.old (IsRemark (table_view self.now.file.now) key.now.name) text.new }
+        ensures { Tells result text.old (IsKeyRemark (table_view self.now.file.now) key.now.name) text.new }
     {
         let near = meant_by(alloc, self.file, key.name())?;
         match near {

@@ -1,4 +1,4 @@
--- What a poll file means, step by step.
+-- The meaning of a poll file, step by step.
 use Rattle.std.proofs.Common.{◌≡◌, zero, suc, arith, ◌+◌, ◌<◌, ◌≤◌, ◌++◌, ◌∷◌, [], length, take, get_or, map, ℕ, List, Option, Some, None, refl, ap, sym, ◌∙◌, inl, inr, Ok, Err}
 use Rattle.std.specs.Str.{IsUtf8, is_utf8}
 use Rattle.std.proofs.lemmas.Bool.{cases_Bool}
@@ -59,7 +59,7 @@ none_behind : {X : Type 0} (o : Option X) (values : List (Option X)) → all_som
 none_behind None values none = refl
 none_behind (Some x) values none = rw none
 
--- where one item is none of its kind, the list is none
+-- if one item is not of the kind, the list is not of the kind
 pub all_some-none : {X Y : Type 0} (f : X → Option Y) (xs : List X) (i : ℕ) (d : X) → i < length xs → f (get_or xs i d) ≡ None → all_some (map f xs) ≡ None
 all_some-none f [] i d within none = absurd (omega arith)
 all_some-none f (x ∷ xs) zero d within none = rw none
@@ -73,7 +73,7 @@ found-list kind name table items h = at_value kind (value_at name table) items h
     at_value kind None items h = cc
     at_value kind (Some value) items h = ap (option_and_then (each_of kind)) (sym h)
 
--- where there is no list at a key there is none of a kind
+-- if a key has no list, it has no list of any kind
 pub found-no_list : {X : Type 0} (kind : Data → Option X) (name : PollKey) (table : Members) → None ≡ found name as_array table → found name (list_of kind) table ≡ None
 found-no_list kind name table h = at_value kind (value_at name table) h
   where

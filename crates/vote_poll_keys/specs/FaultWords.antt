@@ -1,10 +1,10 @@
--- The words of a fault of a poll file: those of its fault line, and of what `explain` says of it.
+-- The words of a poll file's fault, in its fault line and in what `explain` says.
 use Rattle.std.specs.Prelude.{ℕ, List, ◌++◌, codes, decimal}
 use Rattle.vote_poll_keys.specs.Keys.{key_name}
 use Rattle.vote_poll_keys.specs.declared.fault.PollFault.{PollFault}
 use Rattle.vote_poll_keys.specs.declared.fault.PollFault.TheVariants as fault
 
--- what stands behind `poll refused: `, and at the head of what `explain` says
+-- the words after `poll refused: `, with which `explain` begins too
 abbrev pub fault_words : PollFault → List ℕ
 fault_words fault.Syntax = codes "syntax"
 fault_words (fault.Key name) = codes "key " ++ key_name name
@@ -19,7 +19,7 @@ fault_words fault.LastEnvelope = codes "last envelope"
 fault_words fault.Wording = codes "wording"
 fault_words fault.Memory = codes "out of memory"
 
--- the whole fault line, behind `debvote: `; want of memory refuses no poll
+-- the whole fault line, after `debvote: `; running out of memory does not refuse a poll
 abbrev pub fault_line : PollFault → List ℕ
 fault_line fault.Memory = fault_words fault.Memory
 fault_line e = codes "poll refused: " ++ fault_words e

@@ -1,4 +1,4 @@
--- What the keys that were found stand for.
+-- The values that contracts see of the keys that were found.
 use Rattle.std.specs.Prelude.{◌≡◌, ◌++◌, ℕ, ℤ, List, Option, Result, String, OnOk, map, option_copied, option_map}
 use Rattle.std.specs.Borrow.{Bor}
 use Rattle.std.specs.BTreeMap.{BTreeMap}
@@ -24,7 +24,7 @@ numbers_view list = option_map (λ found. found.items) list
 abbrev pub list_view : Option (Bor (List Value)) → Option Items
 list_view list = option_map (λ items. items_view items.now) list
 
--- the list that was found is this one
+-- the list that was found is this list
 abbrev pub AreTexts : Option (List (List ℕ)) → Option (Vec (Bor (List ℕ))) → Type 0
 AreTexts meant list = texts_view list ≡ meant
 
@@ -53,6 +53,6 @@ key_fault table keys key = fault_of_key (table_view table) (found_view keys) key
 abbrev pub AreKeyFaults : BTreeMap (String Global) Value → Inside → Vec PollFault → Type 0
 AreKeyFaults table keys faults = faults.items ≡ of_keys (table_view table) (found_view keys)
 
--- faults were added to a list
+-- if the call returned Ok, it has appended these faults to the list
 abbrev pub AddsFaults : {X E : Type 0} → Result X E → Vec PollFault → List PollFault → Vec PollFault → Type 0
 AddsFaults r before faults after = OnOk r (after.items ≡ before.items ++ faults)

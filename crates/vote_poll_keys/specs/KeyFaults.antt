@@ -1,4 +1,4 @@
--- The keys of a poll file, each judged by itself: those that are there and of their kind, and the faults of the others.
+-- The keys of a poll file, each judged by itself: which are present and of the right kind, and the faults of the others.
 use Rattle.std.specs.Prelude.{ℕ, ℤ, List, [], ◌∷◌, ◌++◌, Bool, true, false, ◌&&◌, ◌||◌, if◌then◌else◌, Option, is_some, is_none, option_map, option_to_list}
 use Rattle.std.specs.List.{flat_map}
 use Rattle.toml.specs.Data.{Members, as_str, as_integer}
@@ -10,7 +10,7 @@ use Rattle.vote_poll_keys.specs.declared.fault.PollFault.TheVariants as fault
 
 -- ---- what is found
 
--- the keys, each where it is there and of its kind
+-- the keys, each with its value if it is present and of the right kind
 pub record FoundKeys : Type 0 where
   pub title : Option (List ℕ)
   pub options : Option (List (List ℕ))
@@ -21,7 +21,7 @@ pub record FoundKeys : Type 0 where
   pub last_envelope : Option ℤ
   pub wording : Option (List ℕ)
 
--- what a table has at the keys
+-- the keys of a table that are present and of the right kind
 abbrev pub found_in : Members → FoundKeys
 found_in table = record {
   title = found key.Title as_str table;
@@ -34,17 +34,17 @@ found_in table = record {
   wording = found key.Wording as_str table;
 }
 
--- the names of the options as far as they were found, the default option after the others
+-- the names of the options that were found, the default option after the others; None if the list of options was not found
 abbrev pub names_of_options : FoundKeys → Option (List (List ℕ))
 names_of_options f = option_map (λ options. options ++ option_to_list f.default_option) f.options
 
 -- ---- one fault
 
--- the fault, if it is not right
+-- no fault if it is right, else this fault
 abbrev pub fault_unless : Bool → PollFault → List PollFault
 fault_unless right e = if right then [] else e ∷ []
 
--- the key is there and of its kind
+-- the key is present and of the right kind
 abbrev pub is_found : FoundKeys → PollKey → Bool
 is_found f key.Title = is_some f.title
 is_found f key.Options = is_some f.options
@@ -60,11 +60,11 @@ may_be_missing key.LastEnvelope = true
 may_be_missing key.Wording = true
 may_be_missing other = false
 
--- the key may be missing and is so, or is there and of its kind
+-- the key is missing and may be missing, or it is present and of the right kind
 abbrev pub is_right : Members → FoundKeys → PollKey → Bool
 is_right table f name = (may_be_missing name && is_none (value_at name table)) || is_found f name
 
--- the fault of a key that is missing where it has to be there, or of the wrong kind
+-- the fault of a key that is missing although it is required, or is of the wrong kind
 abbrev pub fault_of_key : Members → FoundKeys → PollKey → List PollFault
 fault_of_key table f name = fault_unless (is_right table f name) (fault.Key name)
 

@@ -1,4 +1,4 @@
--- What the keys of a poll file are, and what the table of a text has at them.
+-- The keys of a poll file, and the values at them in the table of a text.
 use Rattle.std.specs.Prelude.{◌≡◌, ℕ, List, [], ◌∷◌, map, if◌then◌else◌, Option, None, option_and_then, Result, Ok, Err, codes}
 use Rattle.std.specs.Option.{ok_or}
 use Rattle.std.specs.List.{find}
@@ -18,15 +18,15 @@ abbrev pub items_list : Items → List Data
 items_list no_items = []
 items_list (item value values) = value ∷ items_list values
 
--- each of the items, where each is of the kind
+-- the items, if each is of the kind
 abbrev pub each_of : {X : Type 0} → (Data → Option X) → Items → Option (List X)
 each_of kind items = all_some (map kind (items_list items))
 
--- a list whose items are of the kind
+-- the items of a list, if each is of the kind
 abbrev pub list_of : {X : Type 0} → (Data → Option X) → Data → Option (List X)
 list_of kind value = option_and_then (each_of kind) (as_array value)
 
--- a key as it stands in the file
+-- a key as the file writes it
 abbrev pub key_name : PollKey → List ℕ
 key_name key.Title = codes "title"
 key_name key.Options = codes "options"
@@ -48,7 +48,7 @@ key_named name = find (λ key. bytes_eq (key_name key) name) all_keys
 abbrev pub value_at : PollKey → Members → Option Data
 value_at name table = get_member (key_name name) table
 
--- the value of a key, where it is there and of the kind
+-- the value of a key, if it is present and of the kind
 abbrev pub found : {X : Type 0} → PollKey → (Data → Option X) → Members → Option X
 found name kind table = option_and_then kind (value_at name table)
 
@@ -63,13 +63,13 @@ abbrev pub ◌>>=◌ : {A B : Type 0} → Result A PollFault → (A → Result B
 unfoldable pub document : List ℕ → Result Members PollFault
 document text = ok_or (if is_utf8 text then parse_document text else None) fault.Syntax
 
--- ---- what a call gives
+-- ---- the result of a call
 
 abbrev pub Fails : {Y : Type 0} → PollFault → Result Y PollFault → Type 0
 Fails fault.Memory meaning = Unit {0}
 Fails e meaning = meaning ≡ Err e
 
--- a result is what is meant, unless memory ran out
+-- the result is the meaning, unless memory ran out
 abbrev pub Gives : {X Y : Type 0} → (X → Y) → Result X PollFault → Result Y PollFault → Type 0
 Gives view (Ok x) meaning = meaning ≡ Ok (view x)
 Gives view (Err e) meaning = Fails e meaning

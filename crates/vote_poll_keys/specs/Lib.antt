@@ -3,5 +3,5 @@ pub mod Keys
 pub mod KeyFaults
 pub mod FaultWords
 pub mod Lists
--- what types stand for
+-- the values that contracts see of types
 pub mod FoundView

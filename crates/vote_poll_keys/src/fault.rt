@@ -8,14 +8,14 @@ use std::alloc::{AllocError, AllocFailed};
 use std::fmt;
 use thiserror::Error;
 
-/// A key of a poll file, in the order in which they are looked for. It is displayed as it stands in the file.
+/// A key of a poll file, in the order in which keys are looked for. It is displayed as the file writes it.
 #[derive(Clone, Copy, Debug, PartialEq, Eq)]
 pub enum PollKey {
     /// `title`, a text.
     Title,
-    /// `options`, a list of texts: the names of the options but the default.
+    /// `options`, a list of texts: the names of all options but the default.
     Options,
-    /// `ratios`, a list of whole numbers: the majority ratios of these options.
+    /// `ratios`, a list of whole numbers: the majority ratio of each of these options.
     Ratios,
     /// `default`, a text: the name of the default option.
     DefaultOption,
@@ -25,7 +25,7 @@ pub enum PollKey {
     Roll,
     /// `last_envelope`, a whole number: the last envelope that is not late. This key may be missing.
     LastEnvelope,
-    /// `wording`, a text: how the poll words a majority, as `Wording` of vote_poll has it. This key may be missing.
+    /// `wording`, a text: how the poll words a majority, as one of `Wording` in vote_poll. This key may be missing.
     Wording,
 }
 
@@ -42,7 +42,7 @@ impl PollKey {
         PollKey::Wording,
     ];
 
-    /// The key as it stands in the file.
+    /// The key as the file writes it.
     pub fn name(self) -> &'static str
         ensures { result.now ≡ key_name self }
     {
@@ -79,41 +79,41 @@ impl fmt::Display for PollKey {
     }
 }
 
-/// Why a poll file is refused. If several of these hold, the first in this order is returned; memory alone can
-/// take the place of another. The limits that are named are those of vote_poll. It is displayed as its fault line.
+/// Why a poll file is refused. If it has several faults, the first in this order is returned; only
+/// [`PollFault::Memory`] can come instead. The limits named here are constants that vote_poll exports. A fault is
+/// displayed as its fault line.
 #[derive(Clone, Copy, Debug, PartialEq, Eq, Error)]
 pub enum PollFault {
     /// The text is not UTF-8, or not a TOML document.
     Syntax,
-    /// The key is missing where it has to be there, or is of the wrong kind, or an entry of its list is.
+    /// The key is missing although it is required, or it is of the wrong kind, or an entry of its list is.
     Key(PollKey),
-    /// The title has no byte or more than `MAX_TITLE`, or one outside 0x20 to 0x7E.
+    /// The title has no byte, or more than `MAX_TITLE` bytes, or a byte outside 0x20 to 0x7E.
     Title,
-    /// With the default there are fewer than 2 options, or more than `MAX_OPTIONS`.
+    /// There are fewer than 2 options, or more than `MAX_OPTIONS`, with the default option.
     OptionCount,
-    /// The name of the option with this number (from 1) is malformed, or is that of an option before it. A name has
-    /// 1 to `MAX_OPTION_NAME` bytes from 0x20 to 0x7E, no space first or last.
+    /// The name of the option with this number (from 1) is malformed, or an earlier option has the same name. A name
+    /// has 1 to `MAX_OPTION_NAME` bytes from 0x20 to 0x7E, without a space at either end.
     OptionName(usize),
-    /// There is not one ratio for each option but the default, or a ratio is not from 1 to
-    /// `MAX_RATIO`.
+    /// There is not exactly one ratio for each option but the default, or a ratio is not from 1 to `MAX_RATIO`.
     Ratio,
     /// The multiple of Q is not from 0 to `MAX_QUORUM_MULTIPLE`.
     Quorum,
     /// The roll has no name, or more than `MAX_ELECTORS`.
     RollSize,
-    /// The name of the voter at this place of the roll (from 0) is malformed, or is that of a voter before. A name has
-    /// 1 to `MAX_VOTER_NAME` bytes of `a` to `z`, `0` to `9`, `.` and `-`.
+    /// The name of the voter at this position of the roll (from 0) is malformed, or an earlier voter has the same
+    /// name. A name has 1 to `MAX_VOTER_NAME` bytes of `a` to `z`, `0` to `9`, `.` and `-`.
     VoterName(usize),
     /// The last envelope is not from 0 to `MAX_LINES`.
     LastEnvelope,
     /// The wording is neither `at_least` nor `more_than`.
     Wording,
-    /// Memory was asked for and refused. It can come in place of any other result.
+    /// Memory was asked for and refused. This fault can come in place of any other result.
     Memory,
 }
 
 impl PollFault {
-    /// The words of the fault, which its fault line has after `poll refused: `.
+    /// The words of the fault, which follow `poll refused: ` in its fault line.
     pub fn words(self) -> FaultWords
         ensures { result.fault ≡ self }
     {
@@ -121,7 +121,7 @@ impl PollFault {
     }
 }
 
-/// The words of a fault, by themselves.
+/// The words of a fault, without `poll refused: `.
 #[derive(Clone, Copy)]
 pub struct FaultWords {
     pub fault: PollFault,

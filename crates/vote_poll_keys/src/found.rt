@@ -1,4 +1,4 @@
-//! The keys of a poll file that are there and of their kind, and the faults of the others.
+//! The keys of a poll file that are present and of the right kind, and the faults of the other keys.
 ghost use Rattle.std.specs.Prelude.{◌≡◌, IfOk};
 ghost use Rattle.toml.specs.View.{table_view};
 ghost use Rattle.vote_poll_keys.specs.FoundView.{AddsFaults, AreKeyFaults, AreTexts, found_view, key_fault};
@@ -9,8 +9,8 @@ use crate::keys::{integer_at, integers_at, text_at, texts_at, value_at};
 use std::alloc::{AllocError, Global};
 use toml::Table;
 
-/// The keys of a poll file, each where it is there and of its kind; contracts see the record `FoundKeys` of
-/// `specs/KeyFaults.antt`. What the keys say is not judged. The texts are borrowed from the table.
+/// The keys of a poll file. Each has a value if it is present and of the right kind. Contracts see the record `FoundKeys` of
+/// `specs/KeyFaults.antt`. The values are not judged here. The texts are borrowed from the table.
 #[derive(Drop)]
 pub struct FoundKeys<'t> {
     pub title: Option<&'t str>,
@@ -33,7 +33,7 @@ fn may_be_missing(key: PollKey) -> bool
     }
 }
 
-/// Adds the fault of a key, if it is missing where it has to be there, or is of the wrong kind.
+/// Appends the fault of a key that is missing although it is required, or is of the wrong kind.
 fn push_key_fault(
     faults: &mut Vec<PollFault>,
     table: &Table,
@@ -49,7 +49,7 @@ fn push_key_fault(
 }
 
 impl<'t> FoundKeys<'t> {
-    /// The keys of a poll file's table that are there and of their kind. Other keys than those of [`PollKey`] are passed over.
+    /// The keys of a poll file's table that are present and of the right kind. A key that is not in [`PollKey`] is ignored.
     ///
     /// # Errors
     ///
@@ -69,7 +69,7 @@ impl<'t> FoundKeys<'t> {
         })
     }
 
-    /// Whether a key is there and of its kind.
+    /// Whether a key is present and of the right kind.
     fn is_found(&self, key: PollKey) -> bool
         ensures { result ≡ is_found (found_view self.now) key }
     {
@@ -85,14 +85,15 @@ impl<'t> FoundKeys<'t> {
         }
     }
 
-    /// Whether a key of the table in which these were found may be missing and is so, or is there and of its kind.
+    /// Whether a key has no fault: it is missing and may be missing, or it is present and of the right kind. `table` is the table
+    /// in which these keys were found.
     fn is_right(&self, table: &Table, key: PollKey) -> bool
         ensures { result ≡ is_right (table_view table.now) (found_view self.now) key }
     {
         (may_be_missing(key) && value_at(table, key).is_none()) || self.is_found(key)
     }
 
-    /// The faults of the keys of the table in which these were found, in the order of [`PollKey`].
+    /// The faults of the keys, in the order of [`PollKey`]. `table` is the table in which these keys were found.
     ///
     /// # Errors
     ///
@@ -107,7 +108,7 @@ impl<'t> FoundKeys<'t> {
         Ok(faults)
     }
 
-    /// The names of the options as far as they were found, the default option after the others; none where the list was not found.
+    /// The names of the options that were found, the default option after the others. `None` if the list of options was not found.
     ///
     /// # Errors
     ///

@@ -1,4 +1,4 @@
-//! What the table of a poll file has at its keys.
+//! The values at the keys of a poll file's table.
 ghost use Rattle.std.specs.Prelude.{◌≡◌, IfOk, option_copied, option_map};
 ghost use Rattle.toml.specs.Data.{as_array, as_integer, as_str};
 ghost use Rattle.toml.specs.View.{items_view, table_view, view};
@@ -9,11 +9,11 @@ use crate::fault::{PollFault, PollKey};
 use std::alloc::{AllocError, Global};
 use toml::{Table, Value};
 
-/// The table of the text of a poll file.
+/// The table of a poll file's text.
 ///
 /// # Errors
 ///
-/// [`PollFault::Syntax`], where the text is no UTF-8, or no TOML document; or [`PollFault::Memory`].
+/// [`PollFault::Syntax`] if the text is not UTF-8, or not a TOML document; or [`PollFault::Memory`].
 pub fn document(alloc: Global, text: &[u8]) -> Result<Table, PollFault>
     ensures { Gives table_view result (document text.now) }
 {
@@ -28,14 +28,14 @@ pub fn document(alloc: Global, text: &[u8]) -> Result<Table, PollFault>
     }
 }
 
-/// The value at a key of a poll file's table, where there is one.
+/// The value at a key of a poll file's table, if there is one.
 pub fn value_at<'t>(table: &'t Table, key: PollKey) -> Option<&'t Value>
     ensures { option_map (λ value. view value.now) result ≡ value_at key (table_view table.now) }
 {
     table.get(key.name())
 }
 
-/// The text at a key, where there is one.
+/// The text at a key, if there is one.
 pub(crate) fn text_at<'t>(table: &'t Table, key: PollKey) -> Option<&'t str>
     ensures { option_copied result ≡ found key as_str (table_view table.now) }
 {
@@ -45,7 +45,7 @@ pub(crate) fn text_at<'t>(table: &'t Table, key: PollKey) -> Option<&'t str>
     }
 }
 
-/// The whole number at a key, where there is one.
+/// The whole number at a key, if there is one.
 pub(crate) fn integer_at(table: &Table, key: PollKey) -> Option<i64>
     ensures { result ≡ found key as_integer (table_view table.now) }
 {
@@ -55,7 +55,7 @@ pub(crate) fn integer_at(table: &Table, key: PollKey) -> Option<i64>
     }
 }
 
-/// The list at a key, where there is one.
+/// The list at a key, if there is one.
 fn items_at<'t>(table: &'t Table, key: PollKey) -> Option<&'t [Value]>
     ensures { list_view result ≡ found key as_array (table_view table.now) }
 {
@@ -65,7 +65,7 @@ fn items_at<'t>(table: &'t Table, key: PollKey) -> Option<&'t [Value]>
     }
 }
 
-/// The texts of a list, where it has texts alone.
+/// The texts of a list, if all its items are texts.
 fn texts_of(alloc: Global, items: &[Value]) -> Result<Option<Vec<&str>>, AllocError>
     ensures { IfOk result (AreTexts (each_of as_str (items_view items.now))) }
 {
@@ -79,7 +79,7 @@ fn texts_of(alloc: Global, items: &[Value]) -> Result<Option<Vec<&str>>, AllocEr
     Ok(Some(texts))
 }
 
-/// The whole numbers of a list, where it has whole numbers alone.
+/// The whole numbers of a list, if all its items are whole numbers.
 fn integers_of(alloc: Global, items: &[Value]) -> Result<Option<Vec<i64>>, AllocError>
     ensures { IfOk result (AreNumbers (each_of as_integer (items_view items.now))) }
 {
@@ -93,7 +93,7 @@ fn integers_of(alloc: Global, items: &[Value]) -> Result<Option<Vec<i64>>, Alloc
     Ok(Some(numbers))
 }
 
-/// The texts of the list at a key in their order, where there is a list of texts.
+/// The texts of the list at a key, in their order, if there is a list of texts.
 pub(crate) fn texts_at(
     alloc: Global,
     table: &Table,
@@ -107,7 +107,7 @@ pub(crate) fn texts_at(
     }
 }
 
-/// The whole numbers of the list at a key in their order, where there is a list of whole numbers.
+/// The whole numbers of the list at a key, in their order, if there is a list of whole numbers.
 pub(crate) fn integers_at(
     alloc: Global,
     table: &Table,

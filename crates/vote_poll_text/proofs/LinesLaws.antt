@@ -1,4 +1,4 @@
--- What the lines of a text are, and how many.
+-- The lines of a text, and how many there are.
 use Rattle.std.proofs.Common.{◌≡◌, ◌≢◌, ℕ, ◌+◌, ◌-◌, ◌<◌, ◌≤◌, ◌==◌, ◌++◌, Bool, true, false, cond, List, [], ◌∷◌, map, length, get_or, take, drop, nat_eq, arith, refl, ap, sym, ◌∙◌, append_assoc, append-nil, inl, inr}
 use Rattle.std.specs.List.{All, slice_split, onto_first, ends_with, count_by, join_with_byte, position_or_len}
 use Rattle.std.specs.Cmp.Lexicographic.{bytes_decides}
@@ -26,12 +26,12 @@ feed-found text i within before here =
 pub feed-none : (text : List ℕ) → ((k : ℕ) → 0 ≤ k → k < length text → ¬ (is_feed (get_or text k 0) ≡ true)) → slice_split is_feed text ≡ text ∷ []
 feed-none text none = slice_split_none is_feed text (All-from_get_or (λ b. is_feed b ≡ false) text 0 (λ i within. false_from_ne_true (is_feed (get_or text i 0)) (none i (omega arith) within)))
 
--- the feeds of a text are those of its first bytes and those of the others
+-- the line feeds of a text are those of its first n bytes and those of the rest
 pub feeds_parted : (n : ℕ) (text : List ℕ) → feed_count text ≡ feed_count (take n text) + feed_count (drop n text)
 feeds_parted n text =
     ap feed_count (sym (take-append-drop n text)) ∙ sum_by-append (λ byte. cond {A = ℕ} (is_feed byte) 1 0) (take n text) (drop n text)
 
--- one more part before the others
+-- one more part is found, and the rest is shorter
 pub more-parts : {X : Type 0} (view : X → List ℕ) (parts : List X) (part : X) (rest after text : List ℕ) → map view parts ++ slice_split is_feed rest ≡ slice_split is_feed text
     → slice_split is_feed rest ≡ view part ∷ slice_split is_feed after → map view (parts ++ part ∷ []) ++ slice_split is_feed after ≡ slice_split is_feed text
 more-parts view parts part rest after text so_far next =

@@ -1,4 +1,4 @@
--- The fault line of a fault of a ballot file, after `debvote: `.
+-- The fault line of a ballot file's fault: the words after `debvote: `.
 use Rattle.std.specs.Prelude.{ℕ, List, codes}
 use Rattle.vote_poll_text.specs.declared.lines.LinesFault.{LinesFault}
 use Rattle.vote_poll_text.specs.declared.lines.LinesFault.TheVariants as fault

@@ -1,4 +1,4 @@
--- The limits of texts, as docs/FORMATS.md writes them.
+-- The limits of texts, which are also in docs/FORMATS.md.
 use Rattle.std.specs.Prelude.{◌≡◌}
 use Rattle.vote_poll_text.specs.declared.TheConstants.{MAX_VOTER_NAME, MAX_TITLE, MAX_OPTION_NAME}
 use Rattle.vote_poll_text.specs.declared.lines.TheConstants.{MAX_LINES}

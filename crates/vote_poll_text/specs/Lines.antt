@@ -10,7 +10,7 @@ line_feed = 10 ∷ []
 abbrev pub text_of_lines : List (List ℕ) → List ℕ
 text_of_lines lines = flat_map (λ line. line ++ line_feed) lines
 
--- the text, and a line feed where it has a last line without one
+-- the text, with a line feed added if its last line lacks one
 abbrev pub with_last_feed : List ℕ → List ℕ
 with_last_feed [] = []
 with_last_feed text = if ends_with nat_eq text line_feed then text else text ++ line_feed
@@ -32,11 +32,11 @@ without_last_feed text = if ends_with nat_eq text line_feed then take (length te
 abbrev pub feed_count : List ℕ → ℕ
 feed_count text = count_by (λ byte. byte == 10) text
 
--- the parts of the text before, between and after its line feeds: one more than it has line feeds
+-- the parts of the text before, between and after its line feeds: one more part than line feeds
 abbrev pub parts_of : List ℕ → List (List ℕ)
 parts_of text = slice_split (λ byte. byte == 10) text
 
--- the lines of the text: its parts, where a line feed at its end begins no other part
+-- the lines of the text: its parts, except that a line feed at its end begins no further part; an empty text has no lines
 abbrev pub lines_of : List ℕ → List (List ℕ)
 lines_of [] = []
 lines_of text = parts_of (without_last_feed text)

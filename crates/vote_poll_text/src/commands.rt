@@ -1,4 +1,4 @@
-//! A command that mends a file, for a shell.
+//! A shell command that mends a file.
 
 ghost use Rattle.std.specs.Prelude.{◌≡◌, not, option_copied};
 ghost use Rattle.std.specs.List.{list_any};
@@ -8,7 +8,7 @@ ghost use Rattle.vote_poll_text.specs.Commands.{command_text, is_plain, is_tella
 use crate::names::is_printable;
 use std::alloc::AllocError;
 
-/// Whether a byte means itself in a shell.
+/// Whether a shell takes a byte as it is, without quotes.
 fn is_plain(byte: u8) -> bool
     ensures { result ≡ is_plain byte }
 {
@@ -22,21 +22,21 @@ fn needs_quotes(name: &[u8]) -> bool
     name.iter().any(|byte| !is_plain(*byte))
 }
 
-/// Whether a byte can stand in single quotes on a line.
+/// Whether a byte may be in single quotes on one line: it is printable and not a single quote.
 fn is_tellable(byte: u8) -> bool
     ensures { result ≡ is_tellable byte }
 {
     is_printable(byte) && byte != b'\''
 }
 
-/// Whether a name can't be told in single quotes.
+/// Whether a name has a byte that may not be in single quotes.
 fn is_untold(name: &[u8]) -> bool
     ensures { result ≡ list_any (λ b. not (is_tellable b)) name.now }
 {
     name.iter().any(|byte| !is_tellable(*byte))
 }
 
-/// Adds a name as a shell reads it, in quotes if it needs them.
+/// Appends a file's name as a word for a shell, in single quotes if it needs them.
 #[tactic(auto, unfolding(crate::specs::Commands::shell_word))]
 fn push_shell_word(text: &mut String, name: &str) -> Result<(), AllocError>
     ensures { Adds result text.old (shell_word name.now) text.new }
@@ -49,7 +49,8 @@ fn push_shell_word(text: &mut String, name: &str) -> Result<(), AllocError>
     text.push_str("'")
 }
 
-/// Adds a command that changes a file's bytes by one program, or by two, into another file.
+/// Appends the command that writes a changed copy of a file: `first < name`, then `next`, then ` >
+/// name.new`.
 #[tactic(auto, unfolding(crate::specs::Commands::command_text))]
 fn push_command(text: &mut String, first: &str, next: &str, name: &str) -> Result<(), AllocError>
     ensures { Adds result text.old (command_text first.now next.now name.now) text.new }
@@ -63,7 +64,7 @@ fn push_command(text: &mut String, first: &str, next: &str, name: &str) -> Resul
     text.push_str(".new")
 }
 
-/// Adds how a file is mended, with the command if the file has a name that can be told.
+/// Appends how to mend a file, and the command for it if single quotes can hold the file's name.
 #[tactic(auto, unfolding(crate::specs::Commands::mending_text))]
 pub fn push_mending(
     text: &mut String,

@@ -1,4 +1,4 @@
-//! Letters with a mark, by name.
+//! The names of letters with a mark.
 
 ghost use Rattle.std.specs.Prelude.{◌≡◌, ◌<◌, IfSome};
 ghost use Rattle.vote_poll_text.specs.Adding.{Adds};
@@ -7,10 +7,10 @@ ghost use Rattle.vote_poll_text.specs.Letters.{base_words, letter_place, letter_
 use crate::shown::{hex_digit, push_shown};
 use std::alloc::AllocError;
 
-/// How many characters there are from U+00C0 to U+017F, which have all letters of the English alphabet with a mark.
+/// The number of characters from U+00C0 to U+017F. Letters with a mark are looked for only there.
 pub const LETTERS: u8 = 192;
 
-/// From which letter of the English alphabet each of these characters is made; 0 where it is no such letter.
+/// The letter of the English alphabet from which each of these characters is made; 0 if there is none.
 const BASES: [u8; 192] = [
     b'A', b'A', b'A', b'A', b'A', b'A', 0, b'C', b'E', b'E', b'E', b'E', b'I', b'I', b'I', b'I', 0,
     b'N', b'O', b'O', b'O', b'O', b'O', 0, b'O', b'U', b'U', b'U', b'U', b'Y', 0, 0, b'a', b'a',
@@ -26,7 +26,7 @@ const BASES: [u8; 192] = [
     b'Y', b'Z', b'z', b'Z', b'z', b'Z', b'z', 0,
 ];
 
-/// The mark of each of these characters, by its number in [`mark_words`].
+/// The mark of each of these characters, by its number in [`mark_words`]; 0 if there is none.
 const MARKS: [u8; 192] = [
     2, 1, 3, 4, 5, 6, 0, 7, 2, 1, 3, 5, 2, 1, 3, 5, 0, 4, 2, 1, 3, 4, 5, 0, 9, 2, 1, 3, 5, 1, 0, 0,
     2, 1, 3, 4, 5, 6, 0, 7, 2, 1, 3, 5, 2, 1, 3, 5, 0, 4, 2, 1, 3, 4, 5, 0, 9, 2, 1, 3, 5, 1, 0, 5,
@@ -37,7 +37,7 @@ const MARKS: [u8; 192] = [
     10, 10, 3, 3, 3, 3, 5, 1, 1, 14, 14, 8, 8, 0,
 ];
 
-/// The place from U+00C0 on, from 0, of the letter with a mark with which a text in UTF-8 begins, if it begins with one.
+/// If a text in UTF-8 begins with one of these letters with a mark, returns the letter's index. Index 0 is U+00C0.
 pub fn letter_place(text: &[u8]) -> Option<u8>
     ensures place { result ≡ letter_place text.now }
     ensures within { IfSome result (λ place. place < LETTERS) }
@@ -56,7 +56,7 @@ pub fn letter_place(text: &[u8]) -> Option<u8>
     Some(place)
 }
 
-/// What is added to a letter.
+/// The name of a mark.
 fn mark_words(mark: u8) -> &'static str
     ensures { result.now ≡ mark_words mark }
 {
@@ -78,7 +78,7 @@ fn mark_words(mark: u8) -> &'static str
     }
 }
 
-/// Adds the letter of the English alphabet from which a letter is made, and whether it is a capital one.
+/// Appends a letter of the English alphabet, as `letter e` or `capital letter e`.
 #[tactic(auto, unfolding(crate::specs::Letters::base_words))]
 fn push_base(text: &mut String, base: u8) -> Result<(), AllocError>
     ensures { Adds result text.old (base_words base) text.new }
@@ -90,7 +90,7 @@ fn push_base(text: &mut String, base: u8) -> Result<(), AllocError>
     push_shown(text, &[base.to_ascii_lowercase()], 1)
 }
 
-/// Adds the number of the character at a place, as `U+00E9`.
+/// Appends the code point of the character at an index, as `U+00E9`.
 #[tactic(auto, unfolding(crate::specs::Letters::number_words))]
 fn push_number(text: &mut String, place: u8) -> Result<(), AllocError>
     requires { place < LETTERS }
@@ -103,7 +103,7 @@ fn push_number(text: &mut String, place: u8) -> Result<(), AllocError>
     text.push(hex_digit((number % 16) as u8) as char)
 }
 
-/// Adds the name of the letter with a mark at a place, as `letter e with acute (U+00E9)`.
+/// Appends the name of the letter with a mark at an index, as `letter e with acute (U+00E9)`.
 #[tactic(auto, unfolding(crate::specs::Letters::letter_words))]
 pub fn push_letter(text: &mut String, place: u8) -> Result<(), AllocError>
     requires { place < LETTERS }

@@ -1,23 +1,23 @@
-//! What the texts of a poll file and of a ballot file are by themselves, whatever the poll: lines, names, and bytes that are
-//! shown.
+//! The texts of poll files and ballot files, whatever the poll: lines, names, and how bytes are shown.
 //!
-//! - [`Lines`]: the lines of a ballot file, each an envelope. [`Lines::split`] makes them.
-//! - [`is_title`], [`is_option_name`] and [`is_voter_name`] say whether a text is a name of a poll, of an option or of a voter, and
-//!   [`is_printable`] and [`is_voter_byte`] of which bytes these are. Whoever reads a file and whoever says what is wrong with it judge
-//!   its names by the same calls.
-//! - [`push_shown`]: adds bytes of a file to a text, so that what is no printable ASCII is seen by its number, in the digits of
+//! - [`Lines`]: the lines of a ballot file. Each is an envelope. [`Lines::split`] makes them.
+//! - [`is_title`], [`is_option_name`] and [`is_voter_name`] say whether a text can be the title of a poll, or the name of an option
+//!   or a voter. [`is_printable`] and [`is_voter_byte`] say which bytes it may have. The reader of a file and the commands that
+//!   explain its faults judge names by the same calls.
+//! - [`push_shown`]: appends bytes of a file to a text. A byte that is not printable ASCII appears as its number, in the digits of
 //!   [`hex_digit`].
-//! - [`push_letter`]: adds the name of a letter with a mark, which [`letter_place`] finds.
-//! - [`push_mending`]: adds how a file is mended, with a command for a shell if the file has a name that can be told.
+//! - [`push_letter`]: appends the name of a letter with a mark, which [`letter_place`] finds.
+//! - [`push_mending`]: appends how to mend a file, with a shell command if single quotes can hold the file's name.
 //!
-//! Places of lines are numbered from 0; the line at place `i` is the envelope with stamp `i + 1`. All texts are bytes, and names are
-//! compared byte for byte.
+//! Lines are numbered from 0: the line at index `i` is the envelope with stamp `i + 1`. All texts are bytes, and names are compared
+//! byte for byte.
 //!
-//! What is promised, memory aside:
-//! - A text has one list of lines (`specs/Lines.antt`, [`lines_are_unique`]), and `split` returns that list, or that it is too long.
-//! - Whether a text is a name depends on its length and its bytes alone (`specs/Names.antt`).
-//! - What is shown of a text has no line feed (`specs/Shown.antt`).
-//! - Which words are added for a letter and for a command is said by `specs/Letters.antt` and `specs/Commands.antt`.
+//! What is promised, unless memory runs out:
+//! - A text has one list of lines (`specs/Lines.antt`, [`lines_are_unique`]). `split` returns that list, or reports that it is too
+//!   long.
+//! - Whether a text is a name depends only on its length and its bytes (`specs/Names.antt`).
+//! - The shown form of a text has no line feed (`specs/Shown.antt`).
+//! - `specs/Letters.antt` and `specs/Commands.antt` say which words are appended for a letter and for a command.
 //!
 //! The formats of the two files are this project's own.
 #![tactic(auto)]
@@ -47,7 +47,7 @@ pub const MAX_TITLE: usize = 80;
 /// The most bytes that the name of an option can have.
 pub const MAX_OPTION_NAME: usize = 40;
 
-/// A law: the limits of texts are those that `docs/FORMATS.md` writes.
+/// A law: the limits of texts are those in `docs/FORMATS.md`.
 pub fn limits_are_as_written()
     ensures { LimitsAreAsWritten }
 {}

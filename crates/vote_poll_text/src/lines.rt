@@ -13,8 +13,8 @@ use thiserror::Error;
 /// The most lines that a ballot file can have. It may have none.
 pub const MAX_LINES: usize = 100_000;
 
-/// The lines of a text, without their line feeds; contracts see the list of them. Places are numbered from 0: the
-/// line at place `i` is the envelope with stamp `i + 1`. The text is borrowed, so no line is copied.
+/// The lines of a text, without their line feeds. Contracts see the list of lines. The line at index `i` (from 0) is the envelope
+/// with stamp `i + 1`. The text is borrowed, so no line is copied.
 #[derive(Drop)]
 pub struct Lines<'t> {
     lines: Vec<&'t [u8]>,
@@ -31,7 +31,7 @@ impl<'t> Model for Lines<'t> {
     ghost invariant = { λ l. length l.lines.items ≤ MAX_LINES };
 }
 
-/// Why a text has no [`Lines`], in the order tested. It is displayed as its fault line.
+/// Why a text has no [`Lines`], in the order tested. A fault is displayed as its fault line.
 #[derive(Clone, Copy, Debug, PartialEq, Eq, Error)]
 pub enum LinesFault {
     /// The text has more than [`MAX_LINES`] lines. They are counted before any memory is asked for.
@@ -59,7 +59,7 @@ impl From<AllocError> for LinesFault {
     }
 }
 
-/// A law: a text has one list of lines, so what [`Lines::split`] returns is the only one.
+/// A law: a text has only one list of lines, which [`Lines::split`] returns.
 #[tactic(auto, using(crate::proofs::LinesLaws::lines_are_one))]
 pub fn lines_are_unique()
     ensures { (text : List ℕ) (a b : List (List ℕ)) → AreLines text a → AreLines text b → a ≡ b }
@@ -82,11 +82,11 @@ pub fn split_at_feed(text: &[u8]) -> Option<(&[u8], &[u8])>
     Some((&text[..end], &text[end + 1..]))
 }
 
-/// How many bytes are counted at once: whole vectors of bytes, and no more than a byte can count.
+/// How many bytes are counted at once: a whole number of vectors, and few enough for the count to fit in a byte.
 const STRETCH: usize = 224;
 
-/// How many line feeds a short text has. They are counted in a byte, so LLVM counts sixteen bytes at once; and it knows the length
-/// of a stretch, since this is inlined.
+/// The number of line feeds in a short text. The count is a byte, so LLVM counts sixteen bytes at once. The function is inlined,
+/// so LLVM knows the length of a stretch.
 #[inline(always)]
 fn count_few_feeds(text: &[u8]) -> u8
     requires { length text.now ≤ 255 }
@@ -101,7 +101,7 @@ fn count_few_feeds(text: &[u8]) -> u8
     feeds
 }
 
-/// How many line feeds a text has.
+/// The number of line feeds in a text.
 pub fn count_feeds(text: &[u8]) -> usize
     ensures { result ≡ feed_count text.now }
 {
@@ -115,7 +115,7 @@ pub fn count_feeds(text: &[u8]) -> usize
     feeds + count_few_feeds(rest) as usize
 }
 
-/// The parts of a text between its line feeds, in a list that has room for `count` of them from the start.
+/// The parts of a text between its line feeds. The list has room for `count` parts from the start.
 fn parts(alloc: Global, text: &[u8], count: usize) -> Result<Vec<&[u8]>, AllocError>
     ensures { IfOk result (λ parts. map (λ part. part.now) parts.items ≡ parts_of text.now) }
 {
@@ -130,8 +130,8 @@ fn parts(alloc: Global, text: &[u8], count: usize) -> Result<Vec<&[u8]>, AllocEr
 }
 
 impl<'t> Lines<'t> {
-    /// Splits a text into its lines. A line feed ends each line, and the last may lack it; so an empty text has no line,
-    /// and a line feed alone has one, which is empty. A carriage return is a byte of its line.
+    /// Splits a text into its lines. Each line ends with a line feed, but the last may lack it. So an empty text has no line, and
+    /// a line feed alone is one empty line. A carriage return is a byte of its line.
     #[tactic(auto, using(crate::proofs::LinesLaws::line_laws))]
     pub fn split(alloc: Global, text: &'t [u8]) -> Result<Lines<'t>, LinesFault>
         ensures lines { IfOk result (AreLines text.now) }
@@ -153,7 +153,7 @@ impl<'t> Lines<'t> {
         Ok(Lines { lines })
     }
 
-    /// How many lines there are, 0 to [`MAX_LINES`].
+    /// The number of lines, 0 to [`MAX_LINES`].
     pub fn len(&self) -> usize
         ensures number { result ≡ length self.now }
         ensures at_most { result ≤ MAX_LINES }
@@ -169,7 +169,7 @@ impl<'t> Lines<'t> {
         self.lines.is_empty()
     }
 
-    /// The line at a place, numbered from 0.
+    /// The line at an index, from 0.
     pub fn line(&self, place: usize) -> &'t [u8]
         requires { place < length self.now }
         ensures { slice_get self.now place ≡ Some result.now }

@@ -31,7 +31,7 @@ pub fn is_voter_name(text: &[u8]) -> bool
     1 <= text.len() && text.len() <= MAX_VOTER_NAME && are_voter_bytes(text)
 }
 
-/// Whether a byte is a printable ASCII character or a space: one from 0x20 to 0x7E.
+/// Whether a byte is a printable ASCII character or a space: 0x20 to 0x7E.
 pub fn is_printable(byte: u8) -> bool
     ensures { result ≡ is_printable byte }
 {
@@ -64,8 +64,8 @@ fn has_outer_space(name: &[u8]) -> bool
     matches!(name, [b' ', ..] | [.., b' '])
 }
 
-/// Whether a text is the name of an option: 1 to [`MAX_OPTION_NAME`] of the bytes that [`is_printable`] admits, no space first
-/// or last.
+/// Whether a text is the name of an option: 1 to [`MAX_OPTION_NAME`] of the bytes that [`is_printable`] admits, without a
+/// space at either end.
 pub fn is_option_name(name: &[u8]) -> bool
     ensures { result ≡ is_option_name name.now }
 {

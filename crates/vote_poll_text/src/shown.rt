@@ -1,4 +1,4 @@
-//! Bytes of a file, as a line of text shows them.
+//! How a line of text shows the bytes of a file.
 
 ghost use Rattle.std.specs.Prelude.{◌≡◌, ◌<◌};
 ghost use Rattle.std.specs.List.{flat_map};
@@ -8,7 +8,7 @@ ghost use Rattle.vote_poll_text.specs.Shown.{hex_digit, shown, shown_byte};
 use crate::names::is_printable;
 use std::alloc::AllocError;
 
-/// The digit of base 16 with this value: `0` to `9`, or `A` to `F`.
+/// The hexadecimal digit with this value: `0` to `9`, or `A` to `F`.
 pub fn hex_digit(value: u8) -> u8
     requires { value < 16 }
     ensures digit { result ≡ hex_digit value }
@@ -21,7 +21,7 @@ pub fn hex_digit(value: u8) -> u8
     }
 }
 
-/// Adds a byte: a printable one as it is, another by its number, as `\x0D`.
+/// Appends a byte: a printable one as it is, any other as its number, such as `\x0D`.
 #[tactic(auto, unfolding(crate::specs::Shown::shown_byte))]
 fn push_byte(text: &mut String, byte: u8) -> Result<(), AllocError>
     ensures { Adds result text.old (shown_byte byte) text.new }
@@ -34,7 +34,7 @@ fn push_byte(text: &mut String, byte: u8) -> Result<(), AllocError>
     text.push(hex_digit(byte % 16) as char)
 }
 
-/// Adds the bytes, one after another.
+/// Appends the bytes, one after another.
 fn push_bytes(text: &mut String, bytes: &[u8]) -> Result<(), AllocError>
     ensures { Adds result text.old (flat_map shown_byte bytes.now) text.new }
 {
@@ -44,12 +44,12 @@ fn push_bytes(text: &mut String, bytes: &[u8]) -> Result<(), AllocError>
     Ok(())
 }
 
-/// Adds the first bytes of a text, at most so many: printable ASCII characters and spaces as they are, other bytes by their
-/// numbers, as `\x0D`. What is added has no line feed, whatever the text.
+/// Appends at most the first `most` bytes of a text: printable ASCII characters and spaces as they are, other bytes as
+/// their numbers, such as `\x0D`. Nothing that it appends is a line feed, whatever the text.
 ///
 /// # Errors
 ///
-/// Memory ran out; a part of the bytes may have been added.
+/// Memory ran out; some of the bytes may have been appended.
 pub fn push_shown(text: &mut String, bytes: &[u8], most: usize) -> Result<(), AllocError>
     ensures { Adds result text.old (shown most bytes.now) text.new }
 {

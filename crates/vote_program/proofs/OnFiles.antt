@@ -1,13 +1,13 @@
 -- How a request ends, once its files are read.
 use Rattle.std.proofs.Common.{ℕ, Bor, IfSome, List, Option, inr, subst, sym}
-use Rattle.vote_files.specs.Sources.{Reading}
+use Rattle.vote_files.specs.Sources.{FileReading}
 use Rattle.vote_commands.specs.declared.InputFile.TheVariants as file
 use Rattle.vote_commands.specs.declared.FinishedRun.{FinishedRun}
 use Rattle.vote_command_line.specs.ParsedArgs.{NamedRequest}
 use Rattle.vote_program.specs.Outputs.{Written}
 use Rattle.vote_program.specs.RequestEnds.{EndsRequest, IsDone, IsRequestDone}
 use Rattle.vote_program.specs.LoadedRequests.{AreReadOf, IsReadWithin}
-use Rattle.vote_program.specs.Reading.{all_read, limit_of, named_files}
+use Rattle.vote_program.specs.FileReadings.{all_read, limit_of, named_files}
 use Rattle.vote_program.specs.declared.inputs.Inputs.{Inputs}
 use Rattle.vote_request.specs.Requests.{DesksFit, ballot_file, poll_file, request_on, sheet_file}
 use Rattle.vote_request.specs.declared.Request.TheVariants as request
@@ -20,7 +20,7 @@ desks_stay (request.Check old_poll) poll ballots sheet fit = tt
 desks_stay (request.Explain old_poll given file poll_name) poll ballots sheet fit = tt
 
 -- the files that were read are those of the request, so it ends as it does on their bytes
-pub done_on_its_files : (file_bytes : List ℕ → Option (List ℕ)) (Reads : List Reading → Type 0) (request : NamedRequest) (inputs : Inputs) (written : Written) (finished : FinishedRun)
+pub done_on_its_files : (file_bytes : List ℕ → Option (List ℕ)) (Reads : List FileReading → Type 0) (request : NamedRequest) (inputs : Inputs) (written : Written) (finished : FinishedRun)
     → Reads (all_read (named_files request)) → AreReadOf file_bytes request inputs → IsRequestDone request inputs written finished
     → EndsRequest file_bytes Reads request written finished
 done_on_its_files file_bytes Reads request inputs written finished read files done =

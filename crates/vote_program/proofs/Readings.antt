@@ -2,13 +2,13 @@
 use Rattle.std.proofs.Common.{◌≡◌, ◌∙◌, ℕ, ap, append_assoc, Bor, IfSome, List, [], ◌∷◌, ◌++◌, None, Option, Some, refl, subst}
 use Rattle.std.specs.Prelude.{IsSomeAnd, option_map, option_to_list}
 use Rattle.vote_files.specs.Device.{IsTooLong}
-use Rattle.vote_files.specs.Sources.{HasRead, Reading}
+use Rattle.vote_files.specs.Sources.{FileReading, HasRead}
 use Rattle.vote_files.specs.declared.ReadFault.{ReadFault}
 use Rattle.vote_files.specs.declared.ReadFault.TheVariants as read
 use Rattle.vote_commands.specs.declared.InputFile.{InputFile}
 use Rattle.vote_commands.specs.declared.InputFile.TheVariants as file
 use Rattle.vote_commands.specs.declared.RunFault.{RunFault}
-use Rattle.vote_program.specs.Reading.{IsUnread, all_read, limit_of, read_whole}
+use Rattle.vote_program.specs.FileReadings.{IsUnread, all_read, limit_of, read_whole}
 
 -- ---- what is told of readings
 told_more : {A : Type 0} (old mid new : Option (List A)) (first second : List A)
@@ -24,11 +24,11 @@ module _ {S A : Type 0} (readings : S → Option (List A)) (old mid new : S) (fi
 
 -- ---- the files of a request
 -- the reading of a file that is named, if one is
-abbrev pub read_of : Option (Bor (List ℕ)) → List Reading
+abbrev pub read_of : Option (Bor (List ℕ)) → List FileReading
 read_of named = option_to_list (option_map (λ name. read_whole name.now) named)
 
 -- this reading ends with the fault
-abbrev pub failed_at : List ℕ → ReadFault → Reading
+abbrev pub failed_at : List ℕ → ReadFault → FileReading
 failed_at name fault = record { name = name; fault = Some fault }
 
 -- all that a request names
@@ -37,7 +37,7 @@ files_named poll ballots sheet =
     (file.Poll, poll) ∷ option_to_list (option_map (λ name. (file.Ballots, name.now)) ballots) ++ option_to_list (option_map (λ name. (file.Sheet, name.now)) sheet)
 
 -- one of these files was not read
-abbrev pub IsAmongUnread : (List ℕ → Option (List ℕ)) → (List Reading → Type 0) → RunFault → List (InputFile × List ℕ) → Type 0
+abbrev pub IsAmongUnread : (List ℕ → Option (List ℕ)) → (List FileReading → Type 0) → RunFault → List (InputFile × List ℕ) → Type 0
 IsAmongUnread file_bytes Reads told files =
     (before after : List (InputFile × List ℕ)) × (file : InputFile) × (name : List ℕ) × (files ≡ before ++ (file, name) ∷ after)
     × IsUnread file (file_bytes name) (limit_of file) (λ fault. Reads (all_read before ++ failed_at name fault ∷ [])) told
@@ -50,7 +50,7 @@ module _ (file_bytes : List ℕ → Option (List ℕ)) (told : RunFault) where
   unread_after kind name bytes same on unread =
       (unread.0, on unread.0 unread.1, subst (λ known. unread.0 ≡ read.TooLong → IsTooLong (known name) (limit_of kind)) same unread.2, unread.3)
 
-module _ {S : Type 0} (readings : S → Option (List Reading)) (file_bytes : List ℕ → Option (List ℕ)) (told : RunFault) where
+module _ {S : Type 0} (readings : S → Option (List FileReading)) (file_bytes : List ℕ → Option (List ℕ)) (told : RunFault) where
   -- the poll was not read
   pub poll_unread : (start end : S) (poll : List ℕ) (ballots sheet : Option (Bor (List ℕ)))
       → IsUnread file.Poll (file_bytes poll) (limit_of file.Poll) (λ fault. HasRead readings start end (failed_at poll fault ∷ [])) told

@@ -1,6 +1,6 @@
 -- what the contracts of public calls say
 pub mod LoadedRequests
-pub mod Reading
+pub mod FileReadings
 pub mod ArgsStatus
 pub mod Outputs
 pub mod Errors

@@ -6,7 +6,7 @@ use Rattle.vote_request.specs.Requests.{ballot_file, poll_file, request_on, shee
 use Rattle.vote_command_line.specs.ParsedArgs.{NamedRequest}
 use Rattle.vote_commands.specs.Performing.{LoadedRequest}
 use Rattle.vote_commands.specs.declared.InputFile.TheVariants as file
-use Rattle.vote_program.specs.Reading.{limit_of}
+use Rattle.vote_program.specs.FileReadings.{limit_of}
 use Rattle.vote_program.specs.declared.inputs.Inputs.{Inputs}
 
 -- these bytes are the whole input, if that is known, and at most as many as the limit

@@ -1,7 +1,7 @@
 -- What the program answers to its words: the exit status, and what is written then.
 use Rattle.std.specs.Prelude.{◌≡◌, ◌⊎◌, ℕ, Bool, List, [], Option, Err, drop, map, string_bytes}
 use Rattle.std.specs.declared.string.String.{String}
-use Rattle.vote_files.specs.Sources.{Reading}
+use Rattle.vote_files.specs.Sources.{FileReading}
 use Rattle.vote_files.specs.declared.ReadFault.{ReadFault}
 use Rattle.vote_command_line.specs.Words.{AreArgsOf, HaveArgsFault}
 use Rattle.vote_command_line.specs.ParsedArgs.{NamedRequest}
@@ -31,13 +31,13 @@ AnswersWords (Help text) written errors answered = AnswersHelp (string_bytes tex
 AnswersWords fault written errors answered = (answered ≡ args_status fault) × WritesNothing written × Says (args_text fault) errors
 
 -- the words make a request, which ends so on the bytes known of the names of its files; or they make none, for this fault, and no file is read
-abbrev pub AnswersWorded : (List ℕ → Option (List ℕ)) → (List Reading → Type 0) → List (List ℕ) → Written → Written → ℕ → Type 0
+abbrev pub AnswersWorded : (List ℕ → Option (List ℕ)) → (List FileReading → Type 0) → List (List ℕ) → Written → Written → ℕ → Type 0
 AnswersWorded file_bytes Reads words written errors answered =
     ((request : NamedRequest) × (finished : FinishedRun) × AreArgsOf words request × EndsRequest file_bytes Reads request written finished
     × (answered ≡ status finished.end) × SaysEnd finished.end errors)
     ⊎ ((fault : ArgsFault) × HaveArgsFault words fault × Reads [] × AnswersWords fault written errors answered)
 
--- without words a joined input ends so, by the bytes known of standard input; at a terminal the hint comes first
+-- without words a joined input ends so, by the bytes known of standard input; at a terminal the hint is said before any fault line: whether before the reading, no clause says
 abbrev pub AnswersJoined : Bool → Option (List ℕ) → (List (Option ReadFault) → Type 0) → Written → Written → ℕ → Type 0
 AnswersJoined at_terminal standard_bytes Reads written errors answered =
     (finished : FinishedRun) × (hinted : OutputState) × EndsJoined standard_bytes Reads written finished × (answered ≡ status finished.end)

@@ -1,7 +1,7 @@
 -- How the run of a request, or of a joined input, ends, and what is written then.
 use Rattle.std.specs.Prelude.{◌≡◌, ◌⊎◌, ℕ, true, false, List, [], ◌∷◌, None, Some, Option, Err, OnOk}
 use Rattle.std.proofs.Common.{Bor}
-use Rattle.vote_files.specs.Sources.{Reading}
+use Rattle.vote_files.specs.Sources.{FileReading}
 use Rattle.vote_files.specs.declared.ReadFault.{ReadFault}
 use Rattle.vote_request.specs.Requests.{request_on}
 use Rattle.vote_request.specs.declared.Listing.TheVariants as listing
@@ -14,7 +14,7 @@ use Rattle.vote_commands.specs.declared.FinishedRun.{FinishedRun}
 use Rattle.vote_commands.specs.declared.RunFault.{RunFault}
 use Rattle.vote_program.specs.LoadedRequests.{AreFilesOf, IsLoadedWith, IsReadWithin}
 use Rattle.vote_program.specs.Outputs.{WritesNothing, Written}
-use Rattle.vote_program.specs.Reading.{IsOneUnread, IsUnread, all_read, named_files}
+use Rattle.vote_program.specs.FileReadings.{IsOneUnread, IsUnread, all_read, named_files}
 use Rattle.vote_program.specs.declared.inputs.Inputs.{Inputs}
 use Rattle.vote_program.specs.declared.inputs.TheConstants.{JOINED_LIMIT}
 
@@ -32,7 +32,7 @@ abbrev pub IsRequestDone : NamedRequest → Inputs → Written → FinishedRun �
 IsRequestDone request inputs written finished = (loaded : LoadedRequest) × IsLoadedWith request inputs loaded × IsDone loaded written finished
 
 -- a file that the request names was not read; or all are read, each once, in their order, and the request is performed on the bytes known of the names
-abbrev pub EndsRequest : (List ℕ → Option (List ℕ)) → (List Reading → Type 0) → NamedRequest → Written → FinishedRun → Type 0
+abbrev pub EndsRequest : (List ℕ → Option (List ℕ)) → (List FileReading → Type 0) → NamedRequest → Written → FinishedRun → Type 0
 EndsRequest file_bytes Reads request written finished =
     StopsUnread (IsOneUnread file_bytes Reads request) written finished
     ⊎ ((poll ballots sheet : Bor (List ℕ)) × Reads (all_read (named_files request)) × AreFilesOf file_bytes request poll.now ballots.now sheet.now

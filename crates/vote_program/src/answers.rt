@@ -56,7 +56,7 @@ fn answer_words<S: Sources, W: Sink, E: Sink, R: AllocGlobal + Threads + Wait + 
     sink: &mut W,
     errors: &mut E,
 ) -> u8
-    ensures answers { AnswersWorded (S.file_bytes files.old) (HasRead S.readings files.old files.new) (texts_of words.now)
+    ensures answers { AnswersWorded (S.file_bytes files.old) (HasRead S.file_readings files.old files.new) (texts_of words.now)
         (written_by W.contents W.faults W.flushed sink.old sink.new)
         (written_by E.contents E.faults E.flushed errors.old errors.new) result }
     ensures output { (result ≡ 7) ↔ (W.faults sink.old < W.faults sink.new) }
@@ -87,7 +87,7 @@ fn answer_joined<I: StandardInput, W: Sink, E: Sink, R: AllocGlobal + Threads + 
     sink: &mut W,
     errors: &mut E,
 ) -> u8
-    ensures answers { AnswersJoined at_terminal (I.standard_bytes input.old) (HasRead I.readings input.old input.new)
+    ensures answers { AnswersJoined at_terminal (I.standard_bytes input.old) (HasRead I.standard_readings input.old input.new)
         (written_by W.contents W.faults W.flushed sink.old sink.new)
         (written_by E.contents E.faults E.flushed errors.old errors.new) result }
     ensures output { (result ≡ 7) ↔ (W.faults sink.old < W.faults sink.new) }
@@ -135,15 +135,15 @@ pub fn answer<
     errors: &mut E,
 ) -> u8
     ensures sheet { 1 < length given.now
-        → WritesTheSheet (S.file_bytes files.old) (HasRead S.readings files.old files.new) (words_in given.now)
+        → WritesTheSheet (S.file_bytes files.old) (HasRead S.file_readings files.old files.new) (words_in given.now)
         (written_by W.contents W.faults W.flushed sink.old sink.new)
         (written_by E.contents E.faults E.flushed errors.old errors.new) result }
     ensures alone { length given.now ≤ 1
-        → AnswersJoined at_terminal (I.standard_bytes input.old) (HasRead I.readings input.old input.new)
+        → AnswersJoined at_terminal (I.standard_bytes input.old) (HasRead I.standard_readings input.old input.new)
         (written_by W.contents W.faults W.flushed sink.old sink.new)
         (written_by E.contents E.faults E.flushed errors.old errors.new) result }
     ensures worded { 1 < length given.now
-        → AnswersWorded (S.file_bytes files.old) (HasRead S.readings files.old files.new) (words_in given.now)
+        → AnswersWorded (S.file_bytes files.old) (HasRead S.file_readings files.old files.new) (words_in given.now)
         (written_by W.contents W.faults W.flushed sink.old sink.new)
         (written_by E.contents E.faults E.flushed errors.old errors.new) result }
     ensures no_input { 1 < length given.now → input.new ≡ input.old }

@@ -56,7 +56,7 @@ pub fn carry_out<S: Sources, W: Sink, R: Threads + Wait + Sync>(
     sink: &mut W,
 ) -> FinishedRun
     requires { DesksFit request.now }
-    ensures ends { EndsRequest (S.file_bytes files.old) (HasRead S.readings files.old files.new) request.now (written_by W.contents W.faults W.flushed sink.old sink.new) result }
+    ensures ends { EndsRequest (S.file_bytes files.old) (HasRead S.file_readings files.old files.new) request.now (written_by W.contents W.faults W.flushed sink.old sink.new) result }
     ensures output { IsErrOf result.end RunFault.Output ↔ (W.faults sink.old < W.faults sink.new) }
 {
     let inputs = match read_inputs(files, alloc, request) {
@@ -73,7 +73,7 @@ pub fn print_joined<I: StandardInput, W: Sink, R: Threads + Wait + Sync>(
     input: &mut I,
     sink: &mut W,
 ) -> FinishedRun
-    ensures ends { EndsJoined (I.standard_bytes input.old) (HasRead I.readings input.old input.new) (written_by W.contents W.faults W.flushed sink.old sink.new) result }
+    ensures ends { EndsJoined (I.standard_bytes input.old) (HasRead I.standard_readings input.old input.new) (written_by W.contents W.faults W.flushed sink.old sink.new) result }
     ensures output { IsErrOf result.end RunFault.Output ↔ (W.faults sink.old < W.faults sink.new) }
 {
     let text = match read_joined(input, alloc) {

@@ -1,2 +1,2 @@
--- what contracts say of requests
+-- what contracts say about requests
 pub mod Requests

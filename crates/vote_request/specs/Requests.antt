@@ -1,4 +1,4 @@
--- Requests on files, which are known by their names or by their bytes.
+-- Requests on files. A file is known by its name or by its bytes.
 use Rattle.std.specs.Prelude.{◌≤◌, Option, Some, None, option_map}
 use Rattle.vote_request.specs.declared.TheConstants.{MAX_DESKS}
 use Rattle.vote_request.specs.declared.request.Purpose.{Purpose}
@@ -30,7 +30,7 @@ abbrev pub sheet_file : {T : Type 0} → Request T → Option T
 sheet_file (request.Count poll ballots desks casting (purpose.Verification sheet)) = Some sheet
 sheet_file other = None
 
--- the same purpose, with this sheet in place of the one that is compared
+-- the same purpose; if a sheet is compared, with this sheet instead
 abbrev pub purpose_on : {T U : Type 0} → Purpose T → U → Purpose U
 purpose_on purpose.Sheet sheet = purpose.Sheet
 purpose_on purpose.Picture sheet = purpose.Picture

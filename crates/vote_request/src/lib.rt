@@ -1,9 +1,9 @@
-//! What the program can be asked for, in one type.
+//! What the program can be asked for, as one type.
 //!
-//! - [`Request`] is generic over what is known of a file: the command line gives its name, and a run has its bytes.
-//!   [`Purpose`] is what a count is made for, and [`Listing`] what is listed of the ballots.
+//! - [`Request`] is generic over what is known about a file: the command line gives its name, and a run has its bytes. [`Purpose`]
+//!   says what a count is for, and [`Listing`] what is listed about the ballots.
 //!
-//! Nothing of votes or of command lines is known here.
+//! This crate knows nothing about votes or command lines.
 #![tactic(auto)]
 
 pub mod laws;
@@ -11,5 +11,5 @@ mod request;
 
 pub use request::{Listing, Purpose, Request};
 
-/// The most desks that can be asked for.
+/// The greatest number of desks that can be asked for.
 pub const MAX_DESKS: u8 = 8;

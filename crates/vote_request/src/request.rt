@@ -3,30 +3,30 @@
 ghost use Rattle.std.specs.Prelude.{◌≡◌};
 ghost use Rattle.vote_request.specs.Requests.{ballot_file, poll_file, purpose_on, request_on, sheet_file};
 
-/// What a count is made for.
+/// What a count is for.
 #[derive(Clone, Copy)]
 pub enum Purpose<T> {
     /// The result sheet.
     Sheet,
     /// The outcome as a graph for Graphviz.
     Picture,
-    /// Whether this file is a sheet of the count, whatever the casting vote.
+    /// Whether this file is a sheet of the count, with any casting vote or none.
     Verification(T),
 }
 
-/// What is listed of the ballots, which one desk casts in their order.
+/// What is listed about the ballots. One desk casts them in their order.
 #[derive(Clone, Copy)]
 pub enum Listing {
     /// The reply to each ballot.
     Steps,
-    /// The ballots that count: the last valid one of each elector.
+    /// The ballots that count: the last valid ballot of each elector.
     Standing,
 }
 
-/// A request, on files that are known by a `T`: their names, or their bytes.
+/// A request on files that are known by a `T`: their names, or their bytes.
 #[derive(Clone, Copy)]
 pub enum Request<'a, T> {
-    /// Count the ballots, and print what the count is made for.
+    /// Count the ballots, and print what the purpose asks for.
     Count {
         poll: T,
         ballots: T,
@@ -36,7 +36,7 @@ pub enum Request<'a, T> {
         casting: Option<&'a [u8]>,
         purpose: Purpose<T>,
     },
-    /// Print a list of something of the ballots.
+    /// Print a listing of the ballots.
     List {
         poll: T,
         ballots: T,
@@ -46,19 +46,19 @@ pub enum Request<'a, T> {
     Check {
         poll: T,
     },
-    /// Print all that is wrong with the poll, and with the ballots where they are given.
+    /// Print all that is wrong with the poll and, if they are given, with the ballots.
     Explain {
         poll: T,
         ballots: Option<T>,
-        /// The name of the ballot file, for a command that mends it.
+        /// The name of the ballot file, for a command that repairs it.
         file: Option<&'a str>,
-        /// The name of the poll file, for the same.
+        /// The name of the poll file, for a command that repairs it.
         poll_name: Option<&'a str>,
     },
 }
 
 impl<T: Copy> Purpose<T> {
-    /// The same purpose, with this sheet in place of the one that is compared.
+    /// The same purpose; if a sheet is compared, with this sheet instead.
     fn with_sheet<U: Copy>(&self, sheet: U) -> Purpose<U>
         ensures { result ≡ purpose_on self.now sheet }
     {

@@ -1,4 +1,4 @@
--- The text of a ballot, rank after rank, and that of the ballots, voter after voter.
+-- The text of a ballot, rank by rank, and the text of the ballots, voter by voter.
 use Rattle.std.proofs.Common.{◌≡◌, ℕ, ◌+◌, ◌<◌, ◌≤◌, true, false, inl, inr, List, [], ◌∷◌, ◌++◌, Option, None, length, length-take-le, get_or, take, drop, map, refl, sym, ap, ◌∙◌, arith, append_assoc, codes}
 use Rattle.std.specs.List.{join_with_byte, list_all}
 use Rattle.std.specs.Str.{IsUtf8}
@@ -45,7 +45,7 @@ first_rank (first ∷ ranks) rank some is = ap rank_text (is ∙ at_option-next 
 pub after_comma : (t0 t1 t2 t3 front comma last whole : List ℕ) → t1 ≡ t0 ++ front → t2 ≡ t1 ++ comma → t3 ≡ t2 ++ last → whole ≡ (front ++ comma) ++ last → t3 ≡ t0 ++ whole
 after_comma t0 t1 t2 t3 front comma last whole e1 e2 e3 e = rw (e3, e2, e1, e) (simp append_assoc)
 
--- the line of one voter, and the lines of those that are left
+-- the line of one voter, and the lines of the voters that are left
 pub one_ballot_more : (voters : List (List ℕ)) (ballots : List (Option (List (Option ℕ)))) (k : ℕ) → k < length voters → k < length ballots
     → text_of_lines (ballot_lines (drop k voters) (drop k ballots))
     ≡ text_of_lines (ballot_line (get_or voters k []) (get_or ballots k None)) ++ text_of_lines (ballot_lines (drop (k + 1) voters) (drop (k + 1) ballots))

@@ -25,7 +25,7 @@ map_same : {X : Type 0} (f g : ℕ → X) (ns : List ℕ) → ((n : ℕ) → f n
 map_same f g [] same = refl
 map_same f g (n ∷ ns) same = ap (λ x. x ∷ map f ns) (same n) ∙ ap (λ xs. g n ∷ xs) (map_same f g ns same)
 
--- the same last ballot of each place, and so the same last ballots
+-- if each elector's last ballot is the same, so are the lists of last ballots
 same_last : (rs ss : List Reading) (n : ℕ) → ((v : ℕ) → last_ballot rs v ≡ last_ballot ss v) → map (last_ballot rs) (range_with_len 0 n) ≡ map (last_ballot ss) (range_with_len 0 n)
 same_last rs ss n same = map_same (last_ballot rs) (last_ballot ss) (range_with_len 0 n) same
 
@@ -91,7 +91,7 @@ refused_lines poll lines others differ =
 
 -- ---- a refused line at the end
 module _ (poll : PollContent) (line : Text) where
-  -- the line is refused, where so many lines are in time and it comes after these
+  -- the line is refused if n lines are in time and it comes after these lines
   abbrev IsRefused : ℕ → List Text → Type 0
   IsRefused n lines = (n ≤ length lines) ⊎ (is_ballot (reading poll line) ≡ false)
 
@@ -144,7 +144,7 @@ pub some_ranks : (later : Entry) (ranks : List (Option ℕ)) → (found : List (
 some_ranks None ranks = (ranks, refl)
 some_ranks (Some found) ranks = (found, refl)
 
--- what an elector's ballot is to a place of the roll
+-- an elector's ballot, as it is read for the elector at index v
 read_of : (elector v : ℕ) (ranks : List (Option ℕ)) (r : Reading) → r ≡ Ballot elector ranks → ranks_read v r ≡ cond (eqb elector v) (Some ranks) None
 read_of elector v ranks r is = ap (ranks_read v) is
 

@@ -1,4 +1,4 @@
--- That the sums of a sheet show that nobody counts twice.
+-- The sums of a sheet show that nobody counts twice.
 use Rattle.std.proofs.Common.{◌≡◌, ℕ, ◌+◌, ◌≤◌, List, [], ◌∷◌, Option, None, Some, length, ltb, ap, inl, inr, arith}
 use Rattle.std.specs.Prelude.{count_by, is_some}
 use Rattle.std.proofs.lemmas.Bool.{cases_lt, le-ltb, lt-ltb}

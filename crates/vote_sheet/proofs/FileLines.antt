@@ -23,7 +23,7 @@ tail_at [] (suc k) part later is = cc
 tail_at (first ∷ parts) zero part later is = cc
 tail_at (first ∷ parts) (suc k) part later is = tail_at parts k part later is
 
--- after so many parts, the next ones
+-- after k parts, the next parts
 pub after_part : (parts : List (List ℕ)) (k : ℕ) (rest after part : List ℕ) → drop k parts ≡ slice_split is_feed rest → slice_split is_feed rest ≡ part ∷ slice_split is_feed after → drop (k + 1) parts ≡ slice_split is_feed after
 after_part parts k rest after part so_far next = rw add-one (tail_at parts k part (slice_split is_feed after) (so_far ∙ next))
 
@@ -33,7 +33,7 @@ part_at [] (suc k) part later is = cc
 part_at (first ∷ parts) zero part later is = cc
 part_at (first ∷ parts) (suc k) part later is = part_at parts k part later is
 
--- after the last part there is none
+-- after the last part there is no part
 pub no_part : (parts : List (List ℕ)) (k n : ℕ) (part : List ℕ) → drop k parts ≡ part ∷ [] → k < n → slice_get parts n ≡ None
 no_part [] zero n part is later = cc
 no_part [] (suc k) n part is later = cc

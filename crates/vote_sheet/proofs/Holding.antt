@@ -1,4 +1,4 @@
--- What a box that holds the lines of a poll says of them, in the words of the sheet.
+-- What a box that holds the lines of a poll says about them, in the terms of the sheet.
 use Rattle.std.proofs.Common.{◌≡◌, ℕ, ◌+◌, zero, suc, not, List, [], ◌∷◌, length, map, take, drop, refl, ap, ◌∙◌, arith}
 use Rattle.std.specs.Prelude.{Bool, count_by, is_some}
 use Rattle.std.specs.List.{range_with_len}
@@ -15,13 +15,13 @@ use Rattle.vote_steps.specs.Standing.{CountsLines}
 use Rattle.vote_steps.specs.HeldLines.{HasSizes}
 use Rattle.vote_sheet.specs.LastBallots.{readings_in_time, refused_count, valid_count, voter_count, votes_for}
 
--- those that pass a test and those that do not are all
+-- the elements that pass a test and those that do not are all elements
 pub count-not : {X : Type 0} (p : X → Bool) (xs : List X) → count_by p xs + count_by (λ x. not (p x)) xs ≡ length xs
 count-not {X} p xs =
     let q : X → Bool = λ x. not (p x) in
     omega (arith, length-filter_both p q (λ x. refl) xs, length-filter p xs, length-filter q xs)
 
--- what the first lines read as, and the lines that are left, are all
+-- the readings of the first n lines and the lines that are left are as many as all lines
 pub taken_and_left : (poll : PollContent) (lines : List (List ℕ)) (n : ℕ) → length (take n (readings poll lines)) + length (drop n lines) ≡ length lines
 taken_and_left poll [] zero = omega arith
 taken_and_left poll [] (suc n) = omega arith

@@ -1,4 +1,4 @@
--- From the line `Voters:` on a sheet says nothing but what the poll, without its names and its last envelope, and the orders of the last valid ballots come to.
+-- From the line `Voters:` on, a sheet depends only on the poll, without its names and its last envelope, and on the orders of the last valid ballots.
 use Rattle.std.proofs.Common.{◌≡◌, ℕ, ◌<◌, ◌++◌, [], ◌∷◌, List, None, Some, get_or, length, map, refl, sym, ap, ◌∙◌, subst, arith, decimal, codes, append_assoc}
 use Rattle.std.specs.Prelude.{slice_get}
 use Rattle.std.specs.List.{range_with_len}

@@ -1,4 +1,4 @@
--- Ranks in normal form keep the order: of two ranks of a ballot the greater has, below it, the smaller itself and all that this one has.
+-- Ranks in normal form keep the order: of two ranks of a ballot, the greater has more ranks below it: the smaller rank, and all ranks below that one.
 use Rattle.std.proofs.Common.{◌≡◌, ℕ, zero, suc, ◌+◌, ◌-◌, ◌<◌, ◌≤◌, true, ltb, List, [], ◌∷◌, Option, None, Some, get_or, length, map, inl, inr, refl, sym, ap, ◌∙◌, subst, arith}
 use Rattle.std.specs.Prelude.{count_by, option_map}
 use Rattle.std.specs.List.{All, range_with_len}
@@ -38,7 +38,7 @@ given-and ranks a (suc n) k =
     )
 
 -- ---- the place of a rank
--- a rank of the ballot comes before each greater one
+-- a rank of the ballot comes before each greater rank
 pub place-less : (ranks : List (Option ℕ)) (n m : ℕ) → gives_rank ranks n ≡ true → 1 ≤ n → n < m → place_of ranks n < place_of ranks m
 place-less ranks n m gives least less =
     let rest = m - n - 1 in
@@ -73,7 +73,7 @@ place-alike ranks n m gives_n least_n gives_m least_m =
         ]
 
 -- ---- the ranks of a ballot
--- none, or one that the ballot gives
+-- no rank, or a rank that the ballot gives
 abbrev pub IsOf : List (Option ℕ) → Option ℕ → Type 0
 IsOf ranks None = Unit {0}
 IsOf ranks (Some n) = (gives_rank ranks n ≡ true) × (1 ≤ n)

@@ -1,4 +1,4 @@
--- Where two ballots order the options alike, and give the same options a rank, their ranks in normal form are the same: a rank has as many below it in the one as in the other, counted down from one to the next.
+-- If two ballots order the options alike, and give the same options a rank, their ranks in normal form are the same: a rank has as many ranks below it in one ballot as in the other, counted down rank by rank.
 use Rattle.std.proofs.Common.{◌≡◌, ℕ, zero, suc, ◌+◌, ◌-◌, ◌<◌, ◌≤◌, ◌⊎◌, Bool, true, false, eqb, ltb, List, [], ◌∷◌, Option, None, Some, get_or, length, inl, inr, refl, sym, ap, ◌∙◌, subst, arith}
 use Rattle.std.specs.Prelude.{◌||◌, is_some, option_map}
 use Rattle.std.specs.List.{All}
@@ -11,8 +11,8 @@ use Rattle.vote_sheet.specs.Publishing.{NormalRanksTellTheOrderAlone, SayTheSame
 use Rattle.vote_sheet.proofs.NormalRanks.{given, given-and, is_of, place-less, rank_at}
 use Rattle.vote_count.proofs.Counts.{count-cons, one}
 
--- ---- the ranks of a ballot by their places
--- the ballot gives the option at this place this rank
+-- ---- the ranks of a ballot by their indexes
+-- the ballot gives the option at this index this rank
 abbrev Gives : List (Option ℕ) → ℕ → ℕ → Type 0
 Gives ranks k n = get_or ranks k None ≡ Some n
 
@@ -30,7 +30,7 @@ rank_is ranks k n is =
     let here : k + 1 - 1 ≡ k = omega arith in
     rank_at ranks (k + 1) (omega arith) ∙ ap (λ i. get_or ranks i None) here ∙ is
 
--- a rank that the ballot gives stands somewhere
+-- a rank that the ballot gives is at some index
 gives_at : (ranks : List (Option ℕ)) (n : ℕ) → gives_rank ranks n ≡ true → (k : ℕ) × Gives ranks k n
 gives_at [] n gives = cc
 gives_at (None ∷ ranks) n gives = let at = gives_at ranks n gives in (suc at.0, at.1)
@@ -43,7 +43,7 @@ gives_at (Some m ∷ ranks) n gives = here_or (eqb m n) refl (gives_at ranks n)
         let at = later (subst P is gives) in
         (suc at.0, at.1)
 
--- up to a number the ballot gives none, or there is a greatest that it gives
+-- up to this number the ballot gives no rank, or there is a greatest rank that it gives
 abbrev Last : List (Option ℕ) → ℕ → Type 0
 Last ranks m = (given ranks 1 m ≡ 0) ⊎ ((g : ℕ) × (1 ≤ g) × (g ≤ m) × (gives_rank ranks g ≡ true) × (given ranks 1 m ≡ given ranks 1 (g - 1) + 1))
 
@@ -76,7 +76,7 @@ last_given ranks (suc m) = here_or (gives_rank ranks (m + 1)) refl (last_given r
         ]
 
 -- ---- one ballot beside another
--- where one prefers, the other does; and what one ranks, the other does
+-- what one ballot prefers, the other prefers; and what one ranks, the other ranks
 abbrev Follows : List (Option ℕ) → List (Option ℕ) → Type 0
 Follows ranks other = (j k g r h s : ℕ) → Gives ranks j g → Gives ranks k r → g < r → Gives other j h → Gives other k s → h < s
 

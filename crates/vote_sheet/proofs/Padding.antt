@@ -1,4 +1,4 @@
--- What a hole with a width writes, in the words of the sheet.
+-- What a format with a width writes, in the terms of the sheet.
 use Rattle.std.proofs.Common.{◌≡◌, ◌-◌, ◌^◌, ℕ, zero, suc, [], ◌∷◌, replicate, refl, ap, decimal}
 use Rattle.std.proofs.Math.Nat.{sub-zero, sub_self}
 use Rattle.std.specs.List.{repeat}

@@ -8,7 +8,7 @@ use Rattle.vote_sheet.specs.Sheet.{Text, count_text, options_text, sheet_text, t
 use Rattle.vote_sheet.specs.declared.sheet.Count.{Count}
 use mathlib.Core.List.{append-nil}
 
--- the sheet of a count of so many lines
+-- the sheet of a count with this many lines
 counted_of : PollContent → Count → Decision → ℕ → Text
 counted_of poll count decision lines = concat (
     head_of poll count.quorum_votes

@@ -1,4 +1,4 @@
--- What is published of a secret vote says the same as the files that came.
+-- The published files of a secret vote say the same as the received files.
 use Rattle.std.proofs.Common.{◌≡◌, ℕ, zero, suc, ◌+◌, ◌*◌, ◌<◌, ◌≤◌, ◌⊎◌, true, cond, List, [], ◌∷◌, ◌++◌, Option, Some, None, length, length-append, get_or, map, inl, inr, refl, sym, ap, ◌∙◌, subst, arith}
 use Rattle.std.specs.Prelude.{count_by, is_some, option_map, slice_get}
 use Rattle.std.specs.List.{All, Contains, join_with_byte, list_all, range_with_len}
@@ -100,7 +100,7 @@ has_last poll (first ∷ lines) v (suc k) ranks line reads below is =
     let found = has_last poll lines v k ranks line reads (omega (arith, below)) is in
     (found.0, ap (λ o. option_or o (ranks_read v (reading poll first))) found.1)
 
--- an entry is none, or this one
+-- an entry is None, or this entry
 abbrev IsNoneOr : Entry → Entry → Type 0
 IsNoneOr entry o = (o ≡ None) ⊎ (o ≡ entry)
 
@@ -120,7 +120,7 @@ decided (Some ranks) found is some =
     ]
 
 -- ---- a ballot that stands, and how it is written
--- there is such a ballot, of a poll with so many options
+-- the ranks are those of a ballot of a poll with this many options
 record IsGiven (options : ℕ) (ranks : List (Option ℕ)) : Type 0 where
   pub are_ranks : All IsRank ranks
   pub has_rank : 1 ≤ length ranks
@@ -188,7 +188,7 @@ module _ (read : EachLineIsRead) (unique : ReadingsAreUnique) (distinct : NamesA
       } in
       unique again line (reading again line) (Ballot (mapped v) ranks) (read again line) (name, is_line, count ∙ sym options, at.0)
 
-  -- a reading is the ballot that stands of an elector
+  -- a reading is the ballot that stands of some elector
   abbrev Stands : Reading → Type 0
   Stands r = (v : ℕ) × (ranks : List (Option ℕ)) × (v < elector_count poll) × (entry_of v ≡ Some ranks) × (r ≡ Ballot (mapped v) ranks)
 
@@ -215,7 +215,7 @@ module _ (read : EachLineIsRead) (unique : ReadingsAreUnique) (distinct : NamesA
       All-permutation P (renamed_lines written mapped poll lines again) others are.ballots
       (subst (All P) spelled_there (each_line P entry_of 0 (other_names mapped poll again) line_stands))
 
-  -- none or the ballot that stands
+  -- a reading that is a ballot that stands gives each elector None, or the ballot of this elector that stands
   of_one : (r : Reading) → Stands r → (v : ℕ) → v < elector_count poll → IsNoneOr (entry_of v) (ranks_read (mapped v) r)
   of_one r (u, ranks, below_u, here, is) v below =
       let read : ranks_read (mapped v) r ≡ ranks_read (mapped v) (Ballot (mapped u) ranks) = ap (ranks_read (mapped v)) is in
@@ -232,7 +232,7 @@ module _ (read : EachLineIsRead) (unique : ReadingsAreUnique) (distinct : NamesA
       (of_all some (All-tail P line some stand) v below)
       (of_one (reading again line) (All-head P line some stand) v below)
 
-  -- the ballot that stands is there
+  -- if an elector's ballot stands, the published lines have a ballot of this elector
   is_there : (v : ℕ) (ranks : List (Option ℕ)) → v < elector_count poll → entry_of v ≡ Some ranks
       → (other : List (Option ℕ)) × (last_ballot (readings again others) (mapped v) ≡ Some other)
   is_there v ranks below is =

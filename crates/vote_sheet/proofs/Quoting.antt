@@ -1,4 +1,4 @@
--- A name within quotes, character after character.
+-- A name within quotes, character by character.
 use Rattle.std.proofs.Common.{◌≡◌, ◌≢◌, ℕ, ◌+◌, ◌/◌, ◌%◌, ◌≤◌, List, [], ◌∷◌, ◌++◌, inl, inr, refl, map, sym, ap, ◌∙◌, arith, append_assoc}
 use Rattle.std.specs.Char.{encode_utf8}
 use Rattle.std.specs.Str.{chars, encode_utf8_all, IsUtf8}
@@ -15,7 +15,7 @@ plain_byte b no_quote no_backslash = rw (ne_eqb b 34 no_quote, ne_eqb b 92 no_ba
 high_byte : (b : ℕ) → 128 ≤ b → quoted_byte b ≡ b ∷ []
 high_byte b high = plain_byte b (λ e. absurd (omega arith)) (λ e. absurd (omega arith))
 
--- of other characters than quotes and backslashes each byte is as it is
+-- the bytes of characters other than quotes and backslashes are unchanged
 pub plain_char : (c : ℕ) → c ≢ 34 → c ≢ 92 → quoted (encode_utf8 c) ≡ encode_utf8 c
 unfolding quoted encode_utf8
 plain_char c no_quote no_backslash =

@@ -1,4 +1,4 @@
--- The sheet knows no names: what counts of an elector is the place on the roll, and of the places only that they are apart.
+-- The sheet knows no names: only an elector's index on the roll counts, and only that different electors have different indexes.
 use Rattle.std.proofs.Common.{◌≡◌, ℕ, ◌+◌, ◌<◌, ◌≤◌, suc, zero, Bool, false, not, cond, eqb, List, [], ◌∷◌, None, Some, map, take, refl, sym, ap, ◌∙◌, subst, inl, inr, arith}
 use Rattle.std.specs.Prelude.{count_by, is_some}
 use Rattle.std.specs.List.{AllZip, range_with_len}
@@ -23,7 +23,7 @@ use Rattle.vote_sheet.proofs.SameSheets.{CountTheSame, VoteTheSame, same_sheets_
 use Rattle.vote_count.proofs.Counts.{count-cons, one}
 use Rattle.vote_sheet.proofs.StandingLemmas.{EachLineIsRead, Entry}
 
--- ---- how many places pass a test
+-- ---- how many indexes pass a test
 abbrev tally : (ℕ → Bool) → ℕ → ℕ → ℕ
 tally p a n = count_by p (range_with_len a n)
 
@@ -35,7 +35,7 @@ tally_same p q a zero same = refl
 tally_same p q a (suc n) same =
     omega (arith, tally-suc p a n, tally-suc q a n, ap one (same a (omega arith) (omega arith)), tally_same p q (a + 1) n (λ v low high. same v (omega (arith, low)) (omega (arith, high))))
 
--- a test that this place does not pass, and each other as before
+-- the test fails at index x, and is as before at each other index
 abbrev but : ℕ → (ℕ → Bool) → ℕ → Bool
 but x p v = cond (eqb v x) false (p v)
 
@@ -69,7 +69,7 @@ taken_out x p a (suc n) low high =
           )
     ]
 
--- a map of places, no two to the same: no more pass by it than there are
+-- a map that takes no two indexes to the same: at most as many indexes pass a test by it as pass the test
 under : (mapped : ℕ → ℕ) (m : ℕ) (p : ℕ → Bool) (a n : ℕ) → ((v : ℕ) → a ≤ v → v < a + n → mapped v < m)
     → ((v w : ℕ) → a ≤ v → v < a + n → a ≤ w → w < a + n → mapped v ≡ mapped w → v ≡ w) → tally (λ v. p (mapped v)) a n ≤ tally p 0 m
 under mapped m p a zero within apart = omega arith
@@ -89,7 +89,7 @@ under mapped m p a (suc n) within apart =
 all_or_not : (p : ℕ → Bool) (n : ℕ) → tally p 0 n + tally (λ v. not (p v)) 0 n ≡ n
 all_or_not p n = count-not p (range_with_len 0 n) ∙ length-range_with_len 0 n
 
--- by a map from a roll to one of the same size as many pass as there are
+-- by a map from a roll to a roll of the same size, as many indexes pass a test as pass it without the map
 tally_mapped : (n : ℕ) (mapped : ℕ → ℕ) → IsOneToOne n mapped → (p : ℕ → Bool) → tally (λ v. p (mapped v)) 0 n ≡ tally p 0 n
 tally_mapped n mapped one_to_one p =
     let within : (v : ℕ) → 0 ≤ v → v < 0 + n → mapped v < n = λ v low high. one_to_one.on_roll v (omega (arith, high)) in
@@ -107,7 +107,7 @@ count-map : {X : Type 0} (p : X → Bool) (f : ℕ → X) (ns : List ℕ) → co
 count-map p f [] = refl
 count-map p f (n ∷ ns) = omega (arith, count-cons p (f n) (map f ns), count-cons (λ m. p (f m)) n ns, count-map p f ns)
 
--- as many entries pass a test by the places of two rolls, where those at places that are mapped to each other pass it alike
+-- as many entries of two rolls pass a test, if entries whose indexes are mapped to each other pass it alike
 count_mapped : {X : Type 0} (n : ℕ) (mapped : ℕ → ℕ) → IsOneToOne n mapped → (f g : ℕ → X) (p : X → Bool) → ((v : ℕ) → v < n → p (g (mapped v)) ≡ p (f v))
     → count_by p (map g (range_with_len 0 n)) ≡ count_by p (map f (range_with_len 0 n))
 count_mapped n mapped one_to_one f g p same =
@@ -117,7 +117,7 @@ count_mapped n mapped one_to_one f g p same =
     ∙ sym (count-map p f (range_with_len 0 n))
 
 -- ---- lines that read alike
--- a ballot is of a place on a roll of this size
+-- the elector of a ballot is on a roll of this size
 abbrev IsOnRoll : ℕ → Reading → Type 0
 IsOnRoll n (Ballot elector ranks) = elector < n
 IsOnRoll n (Bad fault) = Unit {0}
@@ -167,7 +167,7 @@ valid_alike mapped (r ∷ rs) (s ∷ ss) alike =
     omega (arith, count-cons is_ballot r rs, count-cons is_ballot s ss, ap one (kind_alike mapped r s alike.0), valid_alike mapped rs ss alike.1)
 
 -- ---- two files whose last valid ballots order the options alike
--- the last ballot of each place of a roll and, in the other file, that of the place that this one is mapped to
+-- each elector's last ballot and, in the other file, the last ballot of the elector that this elector is mapped to order the options alike
 abbrev pub AreLastAlike : (ℕ → ℕ) → PollContent → List Text → PollContent → List Text → Type 0
 AreLastAlike mapped poll lines again others =
     (v : ℕ) → v < elector_count poll → OrderAlike (option_count poll) (last_ballot (readings_in_time poll lines) v) (last_ballot (readings_in_time again others) (mapped v))

@@ -1,4 +1,4 @@
--- Two polls that differ in the names on their rolls and in their last envelopes, and files whose voters count the same in them: the sheets are the same but for the last envelope and the numbers of lines.
+-- Two polls differ in the names on their rolls and in their last envelopes, and their files have voters that count the same: the sheets are the same but for the last envelope and the numbers of lines.
 use Rattle.std.proofs.Common.{◌≡◌, ℕ, ◌*◌, ◌^◌, ◌<◌, ◌≤◌, ◌⊎◌, ◌↔◌, List, [], ◌∷◌, Option, None, Some, length, refl, sym, ap, ◌∙◌, subst, arith}
 use Rattle.std.specs.Prelude.{count_by, is_some}
 use Rattle.std.specs.List.{concat}
@@ -20,12 +20,12 @@ use Rattle.vote_sheet.proofs.ElectorSums.{valid-refused}
 abbrev pub with_roll : PollContent → List Text → Option ℕ → PollContent
 with_roll poll roll last = record poll { roll = roll; last_envelope = last }
 
--- there are as many voters in two files, and their votes are the same
+-- two files have the same number of voters, and the same votes
 pub record VoteTheSame (poll : PollContent) (lines : List Text) (again : PollContent) (others : List Text) : Type 0 where
   pub voters : voter_count again others ≡ voter_count poll lines
   pub counts : EachTwo (option_count poll) (λ a b. votes_for again others a b ≡ votes_for poll lines a b)
 
--- what a sheet counts of two files is the same
+-- a sheet counts the same for two files
 pub record CountTheSame (poll : PollContent) (lines : List Text) (again : PollContent) (others : List Text) : Type 0 where
   pub as_long : length others ≡ length lines
   pub valid : valid_count again others ≡ valid_count poll lines
@@ -42,7 +42,7 @@ count_the_same-back poll lines again others options same = record {
   };
 }
 
--- files of one poll with the same last valid ballots, as many lines and as many valid ones count the same
+-- files of one poll count the same if they have the same last valid ballots, as many lines and as many valid lines
 pub from_last_ballots : (poll : PollContent) (lines others : List Text) → length others ≡ length lines → valid_count poll others ≡ valid_count poll lines
     → last_valid_ballots poll others ≡ last_valid_ballots poll lines → CountTheSame poll lines poll others
 from_last_ballots poll lines others long valid last = record {
@@ -51,9 +51,9 @@ from_last_ballots poll lines others long valid last = record {
   votes = record { voters = ap (count_by is_some) last; counts = λ a b of_a of_b. ap (count_by (entry_prefers a b)) last };
 }
 
--- ---- what a poll has to do with its roll: of how many electors it is
+-- ---- of its roll, a poll uses only the number of electors
 module _ (poll : PollContent) (matrix : Votes) where
-  -- an option is kept where there are so many electors
+  -- an option is kept if there are this many electors
   abbrev kept_among : ℕ → ℕ → Type 0
   kept_among electors o =
       (o ≡ option_count poll)
@@ -101,7 +101,7 @@ sheet_there poll roll last electors lines others same casting s is valid refused
       decision = is.decision;
     }
 
--- files that count the same, where only the names differ
+-- files that count the same, if only the names differ
 same_sheet_there : (poll : PollContent) (roll : List Text) → elector_count poll ≡ length roll
     → (lines others : List Text) → CountTheSame poll lines (with_roll poll roll poll.last_envelope) others
     → (casting : Option ℕ) (s : Sheet) → IsSheetOf poll lines casting s → IsSheetOf (with_roll poll roll poll.last_envelope) others casting s
@@ -111,7 +111,7 @@ same_sheet_there poll roll electors lines others same casting s is =
     (is.valid ∙ sym same.valid)
     (omega (arith, is.refused, same.as_long, same.valid, valid-refused poll lines, valid-refused again others))
 
--- the text of a sheet, of so many electors and lines
+-- the text of a sheet with this many electors and lines
 text_among : PollContent → Sheet → ℕ → ℕ → Text
 text_among poll s electors lines = concat (
     head_text poll.title electors poll.quorum_multiple s.quorum_votes poll.wording
@@ -140,6 +140,6 @@ same_sheets_there poll roll electors lines others same casting text =
       ),
     )
 
--- of one poll
+-- the same for one poll
 pub same_sheets_here : (poll : PollContent) (lines others : List Text) → CountTheSame poll lines poll others → HaveSameSheets poll lines poll others
 same_sheets_here poll lines others same = same_sheets_there poll poll.roll refl lines others same

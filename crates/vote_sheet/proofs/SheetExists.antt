@@ -1,4 +1,4 @@
--- Each poll that a text means has a sheet: its parts are numbers of the lines, and what the laws of the count say that there is.
+-- Each poll that is read from a poll file has a sheet: its parts are counts of the lines, and what exists by the laws of the count.
 use Rattle.std.proofs.Common.{◌≡◌, ◌-◌, ℕ, List, map, refl, ap, ◌∙◌, arith}
 use Rattle.std.specs.List.{range_with_len}
 use Rattle.std.proofs.lemmas.List.FromFn.{get_or-map-range_with_len}

@@ -1,4 +1,4 @@
--- From the lines of a ballot file to the sheet: what the laws of the count say of matrices and rounds holds of what people see.
+-- From the lines of a ballot file to the sheet: what the laws of the count say about matrices and rounds holds for what people see.
 use Rattle.std.proofs.Common.{◌≡◌, ℕ, ◌≤◌, ◌<◌, List, Option, None, Some, inl, inr, refl, subst, arith}
 use Rattle.vote_poll.specs.Options.{IsOption}
 use Rattle.vote_poll.specs.PollContent.{PollContent, option_count}

@@ -33,13 +33,13 @@ EachLineIsRead = (poll : PollContent) (line : List ℕ) → IsReading poll line 
 abbrev pub Entry : Type 0
 Entry = Option (List (Option ℕ))
 
--- ---- what a list of ballots reads as, the first being that of the elector at this place
+-- ---- the readings of a list of ballots; the first ballot is that of the elector at this index
 abbrev read_from : ℕ → List Entry → List Reading
 read_from a [] = []
 read_from a (None ∷ entries) = read_from (a + 1) entries
 read_from a (Some ranks ∷ entries) = Ballot a ranks ∷ read_from (a + 1) entries
 
--- no ballot is of an elector before the first
+-- no ballot is from an elector before the first
 read_before : (a v : ℕ) (entries : List Entry) → v < a → last_ballot (read_from a entries) v ≡ None
 read_before a v [] below = refl
 read_before a v (None ∷ entries) below = read_before (a + 1) v entries (omega arith)
@@ -51,7 +51,7 @@ pub either_none : (o : Entry) → option_or o None ≡ o
 either_none None = refl
 either_none (Some ranks) = refl
 
--- the ballot that is read of an elector is the one of that place
+-- the ballot that is read for an elector is the entry with the elector's index
 read_at : (a i v : ℕ) (entries : List Entry) → v ≡ a + i → last_ballot (read_from a entries) v ≡ get_or entries i None
 read_at a i v [] is = refl
 read_at a zero v (None ∷ entries) is = read_before (a + 1) v entries (omega arith)
@@ -84,7 +84,7 @@ read_others a (Some ranks ∷ entries) =
 abbrev pub ballots_of : List Reading → ℕ → ℕ → ℕ
 ballots_of rs a n = count_by is_some (map (last_ballot rs) (range_with_len a n))
 
--- how many of the electors from this place a reading is a ballot of
+-- the number of electors, from this index on, whose ballot a reading is
 abbrev pub hits : Reading → ℕ → ℕ → ℕ
 hits r a n = count_by (λ v. is_some (ranks_read v r)) (range_with_len a n)
 
@@ -175,7 +175,7 @@ later_line : (poll : PollContent) (line : List ℕ) (v : ℕ) (ranks : List (Opt
 later_line poll line v ranks None rest is = (line, chosen_line poll line v ranks (reading poll line) refl is)
 later_line poll line v ranks (Some others) rest is = rest is
 
--- the last ballot of an elector stands in a line
+-- the last ballot of an elector is in a line
 pub has_line : (poll : PollContent) (n : ℕ) (lines : List (List ℕ)) (v : ℕ) (ranks : List (Option ℕ)) → last_ballot (take n (readings poll lines)) v ≡ Some ranks
     → (found : List ℕ) × IsLineOf poll v ranks found
 has_line poll zero lines v ranks is = cc
@@ -183,7 +183,7 @@ has_line poll (suc n) [] v ranks is = cc
 has_line poll (suc n) (line ∷ lines) v ranks is =
     later_line poll line v ranks (last_ballot (take n (readings poll lines)) v) (has_line poll n lines v ranks) is
 
--- what a ballot line is that reads as the ballot of this elector
+-- the facts of a ballot line that reads as the ballot of this elector
 pub record IsSpelled (poll : PollContent) (v : ℕ) (ranks : List (Option ℕ)) : Type 0 where
   pub line : IsBallotLine (line_text (get_or poll.roll v []) ranks) (get_or poll.roll v []) ranks
   pub reads : reading poll (line_text (get_or poll.roll v []) ranks) ≡ Ballot v ranks
@@ -206,7 +206,7 @@ spelled read poll v ranks found is =
 abbrev pub spell : (ℕ → Entry) → ℕ → List (List ℕ) → List (List ℕ)
 spell f a voters = ballot_lines voters (map f (range_with_len a (length voters)))
 
--- a fact of the line of each elector, of whom the first has this place
+-- a fact about the line of each elector; the first elector has this index
 abbrev pub OfEachLine : (ℕ → Entry) → ℕ → List (List ℕ) → (ℕ → List (Option ℕ) → List ℕ → Type 0) → Type 0
 OfEachLine f a voters P =
     (i : ℕ) (ranks : List (Option ℕ)) → i < length voters → f (a + i) ≡ Some ranks → P (a + i) ranks (line_text (get_or voters i []) ranks)
@@ -237,7 +237,7 @@ readings_are poll f a (voter ∷ voters) h =
     read_one poll a voter (f a) (first_line f a voter voters (IsLineOf poll) h) (spell f (a + 1) voters) (map f (range_with_len (a + 1) (length voters)))
     (readings_are poll f (a + 1) voters (later_lines f a voter voters (IsLineOf poll) h))
 
--- a fact of the line of each elector is one of each line
+-- a fact about the line of each elector is a fact about each line
 one_of_each : (P : List ℕ → Type 0) (voter : List ℕ) (entry : Entry) → ((ranks : List (Option ℕ)) → entry ≡ Some ranks → P (line_text voter ranks))
     → (rest : List (List ℕ)) → All P rest → All P (ballot_line voter entry ++ rest)
 one_of_each P voter None h rest are = are
@@ -323,7 +323,7 @@ spelled_at read poll lines v ranks is =
     let found = has_line poll (last_in_time poll) lines v ranks is in
     spelled read poll v ranks found.0 found.1
 
--- the line of the elector at a place of the roll
+-- the line of the elector at an index of the roll
 of_place : EachLineIsRead → (poll : PollContent) (lines : List (List ℕ)) (P : ℕ → List (Option ℕ) → List ℕ → Type 0)
     → ((v : ℕ) (ranks : List (Option ℕ)) → IsSpelled poll v ranks → P v ranks (line_text (get_or poll.roll v []) ranks)) → OfEachLine (last_of poll lines) 0 poll.roll P
 of_place read poll lines P each i ranks below is =

@@ -1,4 +1,4 @@
--- A poll, its lines and the casting vote have one sheet.
+-- A poll, its lines and the casting vote have at most one sheet.
 use Rattle.std.proofs.Common.{◌≡◌, ℕ, zero, suc, ◌+◌, ◌↔◌, Bool, eqb, cond, List, [], ◌∷◌, ◌++◌, Option, None, Some, inl, inr, length, refl, sym, ap, ◌∙◌, arith, codes, decimal}
 use Rattle.std.specs.Prelude.{nat_lt}
 use Rattle.std.specs.Cmp.{both_ways}
@@ -133,7 +133,7 @@ by_casting_of_same s t same (Some choice) d is =
       | inr outside ↦ inr ((λ is_in. outside.0 ((same choice).1 is_in)), outside.1)
     ]
 
--- what is decided with one of two sets of the same options is decided with the other
+-- a decision with one of two sets of the same options is a decision with the other
 pub decision_of_same : (s t : List Bool) → ((o : ℕ) → In s o ↔ In t o) → (casting : Option ℕ) (d : Decision) → IsDecision s casting d → IsDecision t casting d
 decision_of_same s t same casting d is = record {
   alone = λ o alone. is.alone o (alone_of_same s t same o alone);

@@ -1,4 +1,4 @@
--- Poll, lines and text leave no choice in what `verify` says, nor in its words.
+-- The poll, the lines and the text determine what `verify` says, and its words.
 use Rattle.std.proofs.Common.{◌≡◌, ℕ, ◌<◌, ◌⊎◌, List, Option, None, Some, inl, inr, refl, sym, ap, ◌∙◌, subst, arith}
 use Rattle.std.proofs.lemmas.Bool.{cases_lt}
 use Rattle.vote_poll.specs.PollContent.{PollContent}
@@ -23,7 +23,7 @@ module _ (unique : SheetIsUnique) (poll : PollContent) (lines : List Text) (text
   abbrev Closest : Option ℕ → Text → Type 0
   Closest = AgreesLongest poll (IsSheet poll lines) text
 
-  -- no sheet with a later casting vote agrees longest beside this one
+  -- no sheet with a later casting vote agrees longest, too
   not_before : (casting other : Option ℕ) (sheet another : Text) → Closest casting sheet → Closest other another → ComesBefore casting other → ⊥
   not_before casting other sheet another is is_other before =
       absurd (omega (arith, is_other.first casting sheet is.vote before is.is_sheet, is.longest other another is_other.vote is_other.is_sheet))

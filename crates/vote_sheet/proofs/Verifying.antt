@@ -21,7 +21,7 @@ use Rattle.vote_sheet.proofs.Parts.{sheet_parts}
 use Rattle.vote_sheet.proofs.Uniqueness.{decision_of_same, final_sets_are_same}
 
 -- ---- the order of casting votes
--- the place of a casting vote in this order
+-- the position of a casting vote in this order
 abbrev pub place : Option ℕ → ℕ
 place None = 0
 place (Some o) = o
@@ -32,7 +32,7 @@ comes_first poll None (Some o) is before = omega (arith, is.0)
 comes_first poll (Some p) None is before = absurd before
 comes_first poll (Some p) (Some o) is before = before
 
--- a casting vote at a place above 0 is that of this option
+-- a casting vote with a position above 0 is for the option with this number
 at_place : (casting : Option ℕ) (o : ℕ) → 0 < o → place casting ≡ o → casting ≡ Some o
 at_place None o some is = absurd (omega arith)
 at_place (Some p) o some is = ap Some is
@@ -42,7 +42,7 @@ at_start poll None is below = refl
 at_start poll (Some o) is below = absurd (omega (arith, is.0))
 
 -- ---- the search
--- What is known once the casting votes below a place were tried: the text is the line of none of them, and of those that agree longest with it the first has the casting vote `closest`, and so many lines in common.
+-- What is known after the casting votes below a position were tried: the text is the line of none of them; of the lines that agree longest with it, the first has the casting vote `closest`, and this many lines in common.
 pub record Searched (poll : PollContent) (S : Option ℕ → Text → Type 0) (text : Text) (upto : ℕ) (closest : Option ℕ) (longest : ℕ) : Type 0 where
   pub none : (casting : Option ℕ) → IsCasting poll casting → place casting < upto → ¬ S casting text
   pub most : (casting : Option ℕ) (t : Text) → IsCasting poll casting → place casting < upto → S casting t → common_lines text t ≤ longest
@@ -98,7 +98,7 @@ module _ (poll : PollContent) (S : Option ℕ → Text → Type 0) (unique : (ca
       vote = vote_next;
     }
 
-    -- it has no more
+    -- the next line has no more
     no_longer : common_lines text t ≤ longest → Searched poll S text (upto + 1) closest longest
     no_longer most = record {
       none = none_more;
@@ -155,7 +155,7 @@ module _ (poll : PollContent) (S : Option ℕ → Text → Type 0) (text : Text)
     },
   )
 
-  -- the same of the lines of another kind, if these are the same lines
+  -- the same for lines of another kind, if they are the same lines
   pub found_again : (R : Option ℕ → Text → Type 0) → ((casting : Option ℕ) (t : Text) → S casting t → R casting t) → ((casting : Option ℕ) (t : Text) → R casting t → S casting t)
       → (found : Found) → IsFound poll S text found → IsFound poll R text found
   found_again R to from (Same casting) is = (is.0, to casting text is.1, λ earlier vote before is_earlier. is.2 earlier vote before (from earlier text is_earlier))
@@ -241,7 +241,7 @@ module _ (poll : PollContent) (lines : List Text) (count : Count) (is_count : Is
         whole.2 ∙ ap (λ u. shared_text poll count ++ u) last.2 ∙ sym (sheet_parts poll lines count last.0 is_count.line_count),
       )
 
-  -- where something is decided with one casting vote, each sheet is such a whole
+  -- if there is a decision with one casting vote, each sheet is such a whole
   pub sheet_is_whole : OutcomesAreDetermined → SheetIsUnique → (tried : Option ℕ) (decided : Decision) → IsDecision (final_set count.verdict.rounds) tried decided
       → (casting : Option ℕ) (t : Text) → IsSheet poll lines casting t → IsWhole poll count (shared_text poll count) casting t
   sheet_is_whole outcomes unique tried decided is_decided casting t sheet =

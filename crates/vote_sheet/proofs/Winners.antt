@@ -14,7 +14,7 @@ unfolding at_option
 least_in set zero is = absurd (false≢true is)
 least_in set (suc o) is = omega arith
 
--- what is in the final set is kept, and so it is one of the options
+-- an option of the final set is kept, so it is an option of the poll
 pub final_is_option : (poll : PollContent) (count : Count) → FinalSetIsKept poll count → (o : ℕ) → In (final_set count.verdict.rounds) o → IsOption (option_count poll) o
 final_is_option poll count kept o in_set =
     elim (kept o in_set) [

@@ -1,4 +1,4 @@
--- What the program counts before anything is decided, and the sheets that this gives.
+-- What the program counts before the decision, and the sheets that this count gives.
 use Rattle.std.specs.Prelude.{◌≡◌, ℕ, List, [], ◌∷◌, ◌++◌, Option, length, string_bytes}
 use Rattle.std.specs.List.{concat}
 use Rattle.std.specs.declared.string.String.{String}
@@ -14,7 +14,7 @@ use Rattle.vote_sheet.specs.Sheet.{Sheet, Text, counted_text, decision_text, hea
 use Rattle.vote_sheet.specs.SheetOf.{IsSheetOf}
 use Rattle.vote_sheet.specs.declared.sheet.Count.{Count}
 
--- the sheet of what the lines come to, and of what is decided
+-- the sheet with this count and this decision
 abbrev pub as_sheet : Count → Decision → Sheet
 as_sheet count decision = record {
   quorum_votes = count.quorum_votes;
@@ -26,7 +26,7 @@ as_sheet count decision = record {
   decision = decision;
 }
 
--- the lines come to this count: with each decision of its final set it is a sheet of the poll, the lines and the casting vote
+-- this is the count of the lines: with each decision of its final set it is a sheet of the poll, the lines and the casting vote
 pub record IsCountOf (poll : PollContent) (lines : List Text) (count : Count) : Type 0 where
   pub line_count : count.lines ≡ length lines
   pub sheets : (casting : Option ℕ) (decision : Decision) → IsDecision (final_set count.verdict.rounds) casting decision
@@ -36,13 +36,13 @@ pub record IsCountOf (poll : PollContent) (lines : List Text) (count : Count) : 
 abbrev pub FinalSetIsKept : PollContent → Count → Type 0
 FinalSetIsKept poll count = (o : ℕ) → In (final_set count.verdict.rounds) o → IsKept poll count.matrix o
 
--- a winner is one of the options of the poll
+-- if there is a winner, it is one of the options of the poll
 abbrev pub WinnerIsOption : PollContent → Decision → Type 0
 WinnerIsOption poll decision = (o : ℕ) → decision ≡ Winner o → IsOption (option_count poll) o
 
 -- ---- the parts of these sheets
 
--- the head, where so many votes are the least that meet the quorum
+-- the head, in which this is the least number of votes that meets the quorum
 abbrev pub head_of : PollContent → ℕ → Text
 head_of poll quorum_votes = head_text poll.title (elector_count poll) poll.quorum_multiple quorum_votes poll.wording
 
@@ -50,7 +50,7 @@ head_of poll quorum_votes = head_text poll.title (elector_count poll) poll.quoru
 abbrev pub totals_of : PollContent → ℕ → Totals → Text
 totals_of poll lines totals = totals_text lines poll.last_envelope totals.valid totals.refused totals.voters
 
--- all lines but the last, which alone depends on the casting vote
+-- all lines but the last; only the last line depends on the casting vote
 abbrev pub shared_text : PollContent → Count → Text
 shared_text poll count = concat (
     head_of poll count.quorum_votes
@@ -69,10 +69,10 @@ IsLastLine poll count casting last =
     let set = final_set count.verdict.rounds in
     (decision : Decision) × IsDecision set casting decision × (last ≡ decision_text poll.options set decision)
 
--- these shared lines, and the last line of the sheet with this casting vote
+-- the sheet is these shared lines, and then the last line with this casting vote
 abbrev pub IsWhole : PollContent → Count → Text → Option ℕ → Text → Type 0
 IsWhole poll count shared casting sheet = (last : Text) × IsLastLine poll count casting last × (sheet ≡ shared ++ last)
 
--- the last line of the sheet with this casting vote was added to the text
+-- the last line of the sheet with this casting vote was appended to the text
 abbrev pub AddsLastLine : {Z : Type 0} → PollContent → Count → Option ℕ → String Z → String Z → Type 0
 AddsLastLine poll count casting before after = IsWhole poll count (string_bytes before) casting (string_bytes after)

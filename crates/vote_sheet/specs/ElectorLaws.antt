@@ -1,4 +1,4 @@
--- What an elector can rely on: laws of the sheet that is printed. It counts nobody twice, knows no names, and shows nothing of a refused or an outdated line but that it is there; and one ballot moves each of its counts by one at most.
+-- What an elector can rely on: laws of the printed sheet. It counts nobody twice and knows no names. Of a refused or outdated line it shows only that there is one. One ballot changes each of its counts by at most one.
 use Rattle.std.specs.Prelude.{◌≡◌, ◌≢◌, ℕ, ◌+◌, ◌<◌, ◌≤◌, ◌⊎◌, ◌↔◌, false, is_some, List, [], ◌∷◌, ◌++◌, length, take, slice_get, slice_index_or, Option, None}
 use Rattle.std.specs.List.{AllZip}
 use Rattle.vote_poll.specs.Options.{IsOption}
@@ -15,7 +15,7 @@ use Rattle.vote_sheet.specs.Standing.{AreSameFromVoters}
 
 -- ---- the sums of a sheet
 
--- Of each two options a voter is for one at most. Each voter is an elector and has a valid line, and each line is valid or refused.
+-- For two options, the votes for the first over the second and for the second over the first are together at most the number of voters. There are at most as many voters as electors, and as valid lines. The valid and the refused lines together are all lines.
 pub record CountsOnce (poll : PollContent) (lines : List Text) (s : Sheet) : Type 0 where
   pub of_two : (a b : ℕ) → IsOption (option_count poll) a → IsOption (option_count poll) b → votes s.matrix a b + votes s.matrix b a ≤ s.voters
   pub on_roll : s.voters ≤ elector_count poll
@@ -28,7 +28,7 @@ NobodyCountsTwice = (poll : PollContent) (lines : List Text) (casting : Option �
 
 -- ---- files with the same sheets
 
--- for each casting vote a text is a sheet of the first poll and file exactly when it is one of the second
+-- for each casting vote, a text is a sheet of the first poll and file exactly when it is a sheet of the second
 abbrev pub HaveSameSheets : PollContent → List Text → PollContent → List Text → Type 0
 HaveSameSheets poll lines again others = (casting : Option ℕ) (text : Text) → IsSheet poll lines casting text ↔ IsSheet again others casting text
 
@@ -38,24 +38,24 @@ HaveSameSheets poll lines again others = (casting : Option ℕ) (text : Text) �
 abbrev pub AreSameOrNoBallots : PollContent → Text → Text → Type 0
 AreSameOrNoBallots poll line other = (line ≡ other) ⊎ ((is_ballot (reading poll line) ≡ false) × (is_ballot (reading poll other) ≡ false))
 
--- Two files are as long as each other, and of the lines that are not late those that differ are no ballots in either.
+-- Two files have the same number of lines. If two lines with the same number are not late and differ, neither is a ballot.
 pub record DifferInRefusedLines (poll : PollContent) (lines others : List Text) : Type 0 where
   pub as_long : length others ≡ length lines
   pub in_time : AllZip (AreSameOrNoBallots poll) (take (last_in_time poll) lines) (take (last_in_time poll) others)
 
--- Refused lines have no influence: files that differ in them alone have the same sheets.
+-- Refused lines have no influence: files that differ only in refused lines have the same sheets.
 abbrev pub RefusedLinesHaveNoInfluence : Type 0
 RefusedLinesHaveNoInfluence = (poll : PollContent) (lines others : List Text) → DifferInRefusedLines poll lines others → HaveSameSheets poll lines poll others
 
--- the line is refused after these: it is late there, or no ballot
+-- the line is refused if it comes after these lines: it is late there, or not a ballot
 abbrev pub IsRefusedAfter : PollContent → List Text → Text → Type 0
 IsRefusedAfter poll lines line = (last_in_time poll ≤ length lines) ⊎ (is_ballot (reading poll line) ≡ false)
 
--- the sheet with one line more, which is refused
+-- the sheet with one more refused line
 abbrev pub with_refused_line : Sheet → Sheet
 with_refused_line s = record s { refused = s.refused + 1 }
 
--- A refused line at the end of a file is counted as a line and as refused, and changes nothing else on the sheet.
+-- A refused line at the end of a file is counted as a line and as refused. It changes nothing else on the sheet.
 abbrev pub RefusedLinesAreOnlyCounted : Type 0
 RefusedLinesAreOnlyCounted =
     (poll : PollContent) (lines : List Text) (line : Text) (casting : Option ℕ) (s : Sheet) →
@@ -63,11 +63,11 @@ RefusedLinesAreOnlyCounted =
 
 -- ---- outdated lines
 
--- the line reads as a ballot of the elector at this place of the roll
+-- the line reads as a ballot of the elector with this index on the roll
 abbrev pub IsBallotFrom : PollContent → ℕ → Text → Type 0
 IsBallotFrom poll elector line = (ranks : List (Option ℕ)) × (reading poll line ≡ Ballot elector ranks)
 
--- Only the last ballot counts: where an elector has a later one that is not late, another ballot of this elector in the place of the earlier one leaves the sheets the same.
+-- Only the last ballot counts: if an elector has a later ballot that is not late, another ballot of this elector in place of the earlier ballot leaves the sheets the same.
 abbrev pub OnlyTheLastBallotCounts : Type 0
 OnlyTheLastBallotCounts =
     (poll : PollContent) (elector : ℕ) (before between after : List Text) (line other later : Text) →
@@ -76,27 +76,27 @@ OnlyTheLastBallotCounts =
 
 -- ---- names
 
--- two polls have the same number of electors, and are the same but for the names on their rolls
+-- two polls have the same number of electors, and differ only in the names on their rolls
 pub record DifferInNames (poll again : PollContent) : Type 0 where
   pub electors : elector_count again ≡ elector_count poll
   pub all_else : again ≡ record poll { roll = again.roll }
 
--- each place of a roll of so many electors is mapped to one of another such roll, and no two to the same
+-- each index of a roll with this many electors is mapped to an index of such a roll, and no two to the same index
 pub record IsOneToOne (electors : ℕ) (mapped : ℕ → ℕ) : Type 0 where
   pub on_roll : (v : ℕ) → v < electors → mapped v < electors
   pub apart : (v w : ℕ) → v < electors → w < electors → mapped v ≡ mapped w → v ≡ w
 
--- one line reads as a ballot of an elector and the other as one of the elector that this one is mapped to, with the same ranks, or both as no ballot
+-- one line reads as a ballot of an elector, and the other as a ballot with the same ranks of the elector that this elector is mapped to; or neither reads as a ballot
 abbrev pub ReadAlike : (ℕ → ℕ) → Reading → Reading → Type 0
 ReadAlike mapped (Ballot elector ranks) other = other ≡ Ballot (mapped elector) ranks
 ReadAlike mapped (Bad fault) other = is_ballot other ≡ false
 
--- two files of two polls are as long as each other, and their lines that are not late read alike, line by line
+-- two files of two polls have the same number of lines, and their lines that are not late read alike, line by line
 pub record AreAlike (mapped : ℕ → ℕ) (poll : PollContent) (lines : List Text) (again : PollContent) (others : List Text) : Type 0 where
   pub as_long : length others ≡ length lines
   pub alike : AllZip (ReadAlike mapped) (readings_in_time poll lines) (readings_in_time again others)
 
--- Names do not matter: where the electors of a poll have other names, or stand in another order on the roll, and the lines say the same of them, the sheets are the same.
+-- Names do not matter: if the electors of a poll have other names, or are in another order on the roll, and the lines say the same about them, the sheets are the same.
 abbrev pub NamesDoNotMatter : Type 0
 NamesDoNotMatter =
     (poll again : PollContent) (lines others : List Text) (mapped : ℕ → ℕ) →
@@ -104,17 +104,17 @@ NamesDoNotMatter =
 
 -- ---- the last valid ballots
 
--- two polls have the same number of electors, and are the same but for the names on their rolls and their last envelopes
+-- two polls have the same number of electors, and differ only in the names on their rolls and in their last envelopes
 pub record DifferInNamesAndLastEnvelope (poll again : PollContent) : Type 0 where
   pub electors : elector_count again ≡ elector_count poll
   pub all_else : again ≡ record poll { roll = again.roll; last_envelope = again.last_envelope }
 
--- the last valid ballot of each elector of the first poll is, in the second file, that of the elector that this one is mapped to, or neither has one
+-- each elector of the first poll and the elector of the second poll that this elector is mapped to have the same last valid ballot, or neither has one
 abbrev pub HaveTheSameLastBallots : (ℕ → ℕ) → PollContent → List Text → PollContent → List Text → Type 0
 HaveTheSameLastBallots mapped poll lines again others =
     (v : ℕ) → v < elector_count poll → slice_get (last_valid_ballots again others) (mapped v) ≡ slice_get (last_valid_ballots poll lines) v
 
--- Only the last valid ballots decide: if two polls differ in names and last envelope alone, and two files have the same last valid ballots, then for every casting vote their sheets are the same from the line `Voters:` on, whatever else the files have, and in whatever order.
+-- Only the last valid ballots decide: if two polls differ only in names and last envelope, and two files have the same last valid ballots, then for every casting vote their sheets are the same from the line `Voters:` on, whatever else the files have, and in whatever order.
 abbrev pub OnlyLastBallotsDecide : Type 0
 OnlyLastBallotsDecide =
     (poll again : PollContent) (lines others : List Text) (mapped : ℕ → ℕ) (casting : Option ℕ) (text other : Text) →
@@ -123,17 +123,17 @@ OnlyLastBallotsDecide =
 
 -- ---- ballots that order the options alike
 
--- Of two electors, both have a ballot or neither has one, and of each two options the one prefers the first to the second exactly when the other does. By which numbers is not asked.
+-- Two electors both have a ballot, or neither has one; and for each two options, one ballot prefers the first to the second exactly when the other does. The numbers that are the ranks do not matter.
 pub record OrderAlike (options : ℕ) (entry other : Option (List (Option ℕ))) : Type 0 where
   pub voted : is_some other ≡ is_some entry
   pub preferred : EachTwo options (λ a b. entry_prefers a b other ≡ entry_prefers a b entry)
 
--- the last valid ballot of each elector of the first poll, and that of the elector that this one is mapped to in the second file, order the options alike
+-- for each elector of the first poll, the elector's last valid ballot and, in the second file, the last valid ballot of the elector that this elector is mapped to order the options alike
 abbrev pub HaveLastBallotsAlike : (ℕ → ℕ) → PollContent → List Text → PollContent → List Text → Type 0
 HaveLastBallotsAlike mapped poll lines again others =
     (v : ℕ) → v < elector_count poll → OrderAlike (option_count poll) (slice_index_or (last_valid_ballots poll lines) v None) (slice_index_or (last_valid_ballots again others) (mapped v) None)
 
--- Two ballots that order the options alike count alike: if two polls differ in names and last envelope alone, and the last valid ballots of two files order the options alike, then for every casting vote their sheets are the same from the line `Voters:` on.
+-- Two ballots that order the options alike count alike: if two polls differ only in names and last envelope, and the last valid ballots of two files order the options alike, then for every casting vote their sheets are the same from the line `Voters:` on.
 abbrev pub BallotsThatOrderAlikeCountAlike : Type 0
 BallotsThatOrderAlikeCountAlike =
     (poll again : PollContent) (lines others : List Text) (mapped : ℕ → ℕ) (casting : Option ℕ) (text other : Text) →
@@ -150,7 +150,7 @@ DifferInOneBallot poll elector lines others =
 abbrev pub IsWithinOne : ℕ → ℕ → Type 0
 IsWithinOne n m = (n ≤ m + 1) × (m ≤ n + 1)
 
--- One ballot moves each count by one: where the last valid ballot of one elector is another, or is there in one file alone, the votes for each option over each other differ by one at most, and so does the number of voters.
+-- One ballot changes each count by at most one: if one elector's last valid ballot differs in two files, or only one file has it, the votes for each option over each other option differ by at most one, and so do the numbers of voters.
 abbrev pub OneBallotMovesEachCountByOne : Type 0
 OneBallotMovesEachCountByOne =
     (poll : PollContent) (elector : ℕ) (lines others : List Text) (casting other : Option ℕ) (s t : Sheet) →

@@ -1,4 +1,4 @@
--- The limit of what is shown of a line, as docs/FORMATS.md writes it.
+-- How much of a line is shown at most, as docs/FORMATS.md says.
 use Rattle.std.specs.Prelude.{◌≡◌}
 use Rattle.vote_sheet.specs.declared.TheConstants.{MAX_SHOWN_OF_LINE}
 

@@ -14,7 +14,7 @@ use Rattle.vote_sheet.specs.Sheet.{Sheet, cause_name, each, name_of, when}
 use Rattle.vote_sheet.specs.SheetOf.{IsSheetOf}
 use Rattle.vote_sheet.specs.Texts.{Text, line}
 
--- a byte within quotes: before a quote or a backslash there is a backslash
+-- a byte within quotes: a quote and a backslash have a backslash before them
 unfoldable pub quoted_byte : ℕ → Text
 quoted_byte b = if (b == 34) || (b == 92) then 92 ∷ b ∷ [] else b ∷ []
 
@@ -22,7 +22,7 @@ quoted_byte b = if (b == 34) || (b == 92) then 92 ∷ b ∷ [] else b ∷ []
 unfoldable pub quoted : Text → Text
 quoted name = flat_map quoted_byte name
 
--- options are boxes, and lie from left to right as they defeat one another
+-- options are boxes, and defeats go from left to right
 unfoldable pub graph_style : Text
 graph_style = codes "  rankdir=LR;\n  node [shape=box];\n"
 
@@ -31,7 +31,7 @@ graph_head title = line (codes "digraph \"" ∷ quoted title ∷ codes "\" {" �
 
 -- ---- options
 
--- why an option is dropped, as a second line of its label: Graphviz ends a line of a label at a backslash and an n
+-- why an option is dropped, as a second line of its label: in a label, a backslash and an n begin a new line
 abbrev pub cause_label : Option Cause → Text
 cause_label None = []
 cause_label (Some cause) = codes "\\n" ++ cause_name cause
@@ -63,7 +63,7 @@ node_lines names outcome decision = each (length names) (node_of names outcome d
 
 -- ---- defeats
 
--- the number of the round that removes the defeat of b by a, if one does; the first of the rounds has this number
+-- the number of the round that removes the defeat of b by a, if there is one; the first of these rounds has this number
 abbrev pub removing_round : ℕ → List Round → ℕ → ℕ → Option ℕ
 removing_round number [] a b = None
 removing_round number (round ∷ rounds) a b = if has_pair round.removed a b then Some number else removing_round (number + 1) rounds a b
@@ -95,10 +95,10 @@ picture_text poll s = concat (
     ∷ line (codes "}" ∷ [])
     ∷ [])
 
--- the text is the picture of a sheet of the poll, the lines and the casting vote, and this is what the sheet decides
+-- the text is the picture of a sheet of the poll, the lines and the casting vote, and this is the decision of the sheet
 abbrev pub IsPictureAndDecision : PollContent → List Text → Option ℕ → Text → Decision → Type 0
 IsPictureAndDecision poll lines casting text decision = (s : Sheet) × IsSheetOf poll lines casting s × (text ≡ picture_text poll s) × (decision ≡ s.decision)
 
--- the picture of a sheet of the poll, the lines and the casting vote was printed, and this is what the sheet decides
+-- the picture of a sheet of the poll, the lines and the casting vote was printed, and this is the decision of the sheet
 abbrev pub PrintsPicture : {Z : Type 0} → PollContent → List Text → Option ℕ → String Z × Decision → Type 0
 PrintsPicture poll lines casting printed = IsPictureAndDecision poll lines casting (string_bytes printed.0) printed.1

@@ -1,4 +1,4 @@
--- What is published of a secret vote: the poll with other names on its roll and without its last envelope, and the ballots that stand under these names, with their ranks in a form that keeps the order of the options. It says the same of the electors, and from the line `Voters:` on it has the same sheet.
+-- What is published of a secret vote: the poll with other names on its roll and without its last envelope, and the ballots that stand under these names, with their ranks in a form that keeps the order of the options. It says the same about the electors, and has the same sheet from the line `Voters:` on.
 use Rattle.std.specs.Prelude.{is_some, ◌≡◌, ℕ, ◌+◌, ◌-◌, ◌<◌, ◌==◌, Bool, false, List, All, length, map, count_by, slice_get, Option, None, Some, option_map, IsPermutation}
 use Rattle.std.specs.List.{list_any, range_with_len}
 use Rattle.vote_poll.specs.BallotLine.{IsRank}
@@ -13,7 +13,7 @@ use Rattle.vote_sheet.specs.Texts.{Text}
 
 -- ---- how ranks are written
 
--- A form of ranks keeps the order: a ballot has as many ranks in it, each from 1 to the greatest rank or none, and orders the options alike.
+-- A form of ranks keeps the order: in it a ballot has the same number of ranks, each is a valid rank or absent, and the ballot orders the options alike.
 pub record KeepsTheOrder (written : List (Option ℕ) → List (Option ℕ)) : Type 0 where
   pub as_many : (ranks : List (Option ℕ)) → All IsRank ranks → length (written ranks) ≡ length ranks
   pub are_ranks : (ranks : List (Option ℕ)) → All IsRank ranks → All IsRank (written ranks)
@@ -24,31 +24,31 @@ abbrev pub is_number : ℕ → Option ℕ → Bool
 is_number number None = false
 is_number number (Some rank) = rank == number
 
--- whether a ballot with these ranks gives an option this one
+-- whether a ballot with these ranks gives some option this rank
 abbrev pub gives_rank : List (Option ℕ) → ℕ → Bool
 gives_rank ranks number = list_any (is_number number) ranks
 
--- a rank as it is among those of a ballot: 1 where it is the smallest, and for each smaller one that the ballot gives one more
+-- the position of a rank among the ranks of a ballot: 1, and one more for each smaller rank that the ballot gives
 abbrev pub place_of : List (Option ℕ) → ℕ → ℕ
 place_of ranks number = 1 + count_by (gives_rank ranks) (range_with_len 1 (number - 1))
 
--- The ranks in normal form: 1, 2 and so on, in the same order, equal ones equal, and none where there is none.
+-- The ranks in normal form: 1, 2 and so on, in the same order. Equal ranks stay equal, and an option without a rank stays without.
 abbrev pub normal_ranks : List (Option ℕ) → List (Option ℕ)
 normal_ranks ranks = map (option_map (place_of ranks)) ranks
 
--- Two lists of ranks say the same: the same options have a rank, and of each two options the one prefers the first to the second exactly when the other does.
+-- Two lists of ranks say the same: they rank the same options, and for each two options, one list prefers the first to the second exactly when the other does.
 pub record SayTheSameOrder (ranks other : List (Option ℕ)) : Type 0 where
   pub as_many : length other ≡ length ranks
   pub ranked : (o : ℕ) → IsOption (length ranks) o → is_some (rank_of other o) ≡ is_some (rank_of ranks o)
   pub alike : OrderAlike (length ranks) (Some ranks) (Some other)
 
--- a law: normal form tells which options have a rank, and their order, and nothing else: where these are the same, it is the same
+-- a law: normal form shows which options have a rank, and their order, and nothing else: two lists for which these are the same have the same normal form
 abbrev pub NormalRanksTellTheOrderAlone : Type 0
 NormalRanksTellTheOrderAlone = (ranks other : List (Option ℕ)) → All IsRank ranks → All IsRank other → SayTheSameOrder ranks other → normal_ranks other ≡ normal_ranks ranks
 
 -- ---- what is published
 
--- of each elector, in the order of the roll, the name on the other roll
+-- for each elector, in the order of the roll, the name on the other roll
 abbrev pub other_names : (ℕ → ℕ) → PollContent → PollContent → List Text
 other_names mapped poll again = map (λ v. voter_at again (mapped v)) (range_with_len 0 (elector_count poll))
 
@@ -56,11 +56,11 @@ other_names mapped poll again = map (λ v. voter_at again (mapped v)) (range_wit
 abbrev pub written_ballots : (List (Option ℕ) → List (Option ℕ)) → PollContent → List Text → List (Option (List (Option ℕ)))
 written_ballots written poll lines = map (option_map written) (last_valid_ballots poll lines)
 
--- the lines of `standing`, each with the voter's name on the other roll in the place of the name, and its ranks in this form
+-- the lines of `standing`, each with the voter's name on the other roll instead, and with its ranks in this form
 abbrev pub renamed_lines : (List (Option ℕ) → List (Option ℕ)) → (ℕ → ℕ) → PollContent → List Text → PollContent → List Text
 renamed_lines written mapped poll lines again = ballot_lines (other_names mapped poll again) (written_ballots written poll lines)
 
--- The second poll is the first with other names, in another order, and without a last envelope. The second lines are those of `standing` with these names and with their ranks in a form that keeps the order, in any order.
+-- The second poll is the first with other names, in another order, and without a last envelope. The second lines are the lines of `standing`, in any order, with these names and with their ranks in a form that keeps the order.
 pub record ArePublished (written : List (Option ℕ) → List (Option ℕ)) (mapped : ℕ → ℕ) (poll : PollContent) (lines : List Text) (again : PollContent) (others : List Text) : Type 0 where
   pub keeps : KeepsTheOrder written
   pub is_poll : IsPoll again
@@ -69,20 +69,20 @@ pub record ArePublished (written : List (Option ℕ) → List (Option ℕ)) (map
   pub one_to_one : IsOneToOne (elector_count poll) mapped
   pub ballots : IsPermutation (renamed_lines written mapped poll lines again) others
 
--- The second lines say of the electors what the first say, and nothing else: there are as many as voters, each is a ballot that is not late, and the last valid ballot of each elector is the same, with its ranks in this form.
+-- The second lines say the same about the electors as the first, and nothing else: there are as many lines as voters, each is a ballot that is not late, and each elector's last valid ballot is the same, with its ranks in this form.
 pub record SaysTheSameByOtherNames (written : List (Option ℕ) → List (Option ℕ)) (mapped : ℕ → ℕ) (poll : PollContent) (lines : List Text) (again : PollContent) (others : List Text) : Type 0 where
   pub count : length others ≡ voter_count poll lines
   pub valid : valid_count again others ≡ voter_count poll lines
   pub refused : refused_count again others ≡ 0
   pub last : (v : ℕ) → v < elector_count poll → slice_get (last_valid_ballots again others) (mapped v) ≡ slice_get (written_ballots written poll lines) v
 
--- a law: what is published says the same
+-- a law: the published files say the same
 abbrev pub PublishedFilesSayTheSame : Type 0
 PublishedFilesSayTheSame =
     (written : List (Option ℕ) → List (Option ℕ)) (poll again : PollContent) (lines others : List Text) (mapped : ℕ → ℕ) →
     ArePublished written mapped poll lines again others → SaysTheSameByOtherNames written mapped poll lines again others
 
--- a law: for every casting vote the sheet of what is published and that of the files that came are the same from the line `Voters:` on
+-- a law: for every casting vote, the sheet of the published files and the sheet of the received files are the same from the line `Voters:` on
 abbrev pub PublishedFilesHaveTheSameSheet : Type 0
 PublishedFilesHaveTheSameSheet =
     (written : List (Option ℕ) → List (Option ℕ)) (poll again : PollContent) (lines others : List Text) (mapped : ℕ → ℕ) (casting : Option ℕ) (text other : Text) →

@@ -27,7 +27,7 @@ pub record Sheet : Type 0 where
 
 -- ---- pieces
 
--- the text at the right of so many places, with spaces before it
+-- the text, with spaces before it up to this width
 unfoldable pub right : ℕ → Text → Text
 right places text = replicate (places - length text) 32 ++ text
 
@@ -56,7 +56,7 @@ numbers n set = each n (λ o. when (has set o) (codes " " ++ decimal o))
 
 -- ---- the parts of a sheet, in order
 
--- how the majority is worded, if it is not as the Constitution words it
+-- the wording of the majority, if it is not the Constitution's
 unfoldable pub wording_text : Wording → Text
 wording_text AtLeast = []
 wording_text MoreThan = line (codes "Majority: more than" ∷ [])
@@ -118,7 +118,7 @@ abbrev pub cause_name : Cause → Text
 cause_name Quorum = codes "quorum"
 cause_name Majority = codes "majority"
 
--- the line of an option that is dropped from consideration, and why it is
+-- the line of an option that is dropped from consideration, with the cause
 unfoldable pub dropped_line : ℕ → Option Cause → Text
 dropped_line o None = []
 dropped_line o (Some cause) = line (right 3 (decimal o) ∷ codes " " ∷ cause_name cause ∷ [])
@@ -148,7 +148,7 @@ defeat_lines matrix defeats = each matrix.options (defeats_by matrix defeats)
 unfoldable pub defeats_text : Votes → List (List Bool) → Text
 defeats_text matrix defeats = line (codes "Defeats:" ∷ []) ++ or_none (defeat_lines matrix defeats)
 
--- the line of a defeat, of b by a, that a round drops from the list of defeats
+-- the line for a defeat of b by a that a round drops from the list of defeats
 unfoldable pub drop_line : ℕ → ℕ → Text
 drop_line a b = line (codes "  drop " ∷ decimal a ∷ codes " over " ∷ decimal b ∷ [])
 
@@ -156,17 +156,17 @@ drop_line a b = line (codes "  drop " ∷ decimal a ∷ codes " over " ∷ decim
 unfoldable pub drops_of : ℕ → List (List Bool) → ℕ → Text
 drops_of n removed a = each n (λ b. when (has_pair removed a b) (drop_line a b))
 
--- the round of this number, with n options
+-- the round with this number, for n options
 unfoldable pub round_text : ℕ → ℕ → Round → Text
 round_text n number round =
     line (codes "Round " ∷ decimal number ∷ codes ":" ∷ numbers n round.set ∷ []) ++ each n (drops_of n round.removed)
 
--- the rounds, the first with this number
+-- the rounds; the first has this number
 abbrev pub rounds_from : ℕ → ℕ → List Round → Text
 rounds_from n number [] = []
 rounds_from n number (round ∷ rounds) = round_text n number round ++ rounds_from n (number + 1) rounds
 
--- only among several options the casting vote decides
+-- the casting vote decides only among several options
 unfoldable pub casting_note : List Bool → Text
 casting_note set = when (nat_lt 1 (size set)) (codes " by casting vote")
 
@@ -176,7 +176,7 @@ winner_text names set o = concat (codes "Winner: " ∷ decimal o ∷ codes " " �
 unfoldable pub tie_text : ℕ → List Bool → Text
 tie_text n set = codes "Tie:" ++ numbers n set
 
--- what the last line says of the decision
+-- what the last line says about the decision
 abbrev pub ending : List Text → List Bool → Decision → Text
 ending names set (Winner o) = winner_text names set o
 ending names set Tie = tie_text (length names) set
@@ -187,7 +187,7 @@ ending names set (CastingOutside c) =
 unfoldable pub decision_text : List Text → List Bool → Decision → Text
 decision_text names set decision = line (ending names set decision ∷ [])
 
--- what the votes come to, before the decision
+-- the result of the votes, before the decision
 unfoldable pub counted_text : ℕ → Votes → VerdictState → Text
 counted_text n matrix outcome = concat (
     table_text matrix
@@ -196,7 +196,7 @@ counted_text n matrix outcome = concat (
     ∷ rounds_from n 1 outcome.rounds
     ∷ [])
 
--- the same, and the decision
+-- the same, with the decision
 unfoldable pub count_text : List Text → Votes → VerdictState → Decision → Text
 count_text names matrix outcome decision = counted_text (length names) matrix outcome ++ decision_text names (final_set outcome.rounds) decision
 

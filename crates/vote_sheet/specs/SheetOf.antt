@@ -1,4 +1,4 @@
--- Which sheet a poll, its lines and the casting vote have. No history, desk or reply occurs in it.
+-- The sheet of a poll, its lines and the casting vote. Its definition names no history, desk or reply.
 use Rattle.std.specs.Prelude.{◌≡◌, ℕ, List, Ok, Option, string_bytes}
 use Rattle.std.specs.declared.string.String.{String}
 use Rattle.vote_poll.specs.Options.{IsOption}
@@ -11,7 +11,7 @@ use Rattle.vote_count.specs.declared.Decision.{Decision}
 use Rattle.vote_sheet.specs.LastBallots.{refused_count, valid_count, voter_count, votes_for}
 use Rattle.vote_sheet.specs.Sheet.{Sheet, Text, sheet_text}
 
--- the fewest votes that meet the quorum, what the lines are, the votes over each elector's last valid ballot, and what they come to
+-- the sheet has the least number of votes that meets the quorum, the numbers of valid and refused lines and of voters, the votes over each elector's last valid ballot, and their outcome and decision
 pub record IsSheetOf (poll : PollContent) (lines : List (List ℕ)) (casting : Option ℕ) (s : Sheet) : Type 0 where
   pub quorum : IsQuorum poll s.quorum_votes
   pub valid : s.valid ≡ valid_count poll lines
@@ -22,12 +22,12 @@ pub record IsSheetOf (poll : PollContent) (lines : List (List ℕ)) (casting : O
   pub outcome : IsOutcome poll s.matrix s.outcome
   pub decision : IsDecision (final_set s.outcome.rounds) casting s.decision
 
--- the text is a sheet of the poll, the lines and the casting vote, and this is what the sheet decides
+-- the text is a sheet of the poll, the lines and the casting vote, and this is the decision of the sheet
 abbrev pub IsSheetAndDecision : PollContent → List Text → Option ℕ → Text → Decision → Type 0
 IsSheetAndDecision poll lines casting text decision =
     (s : Sheet) × IsSheetOf poll lines casting s × (text ≡ sheet_text poll lines s) × (decision ≡ s.decision)
 
--- a sheet of the poll, the lines and the casting vote was printed, and this is what it decides
+-- a sheet of the poll, the lines and the casting vote was printed, and this is its decision
 abbrev pub PrintsSheet : {Z : Type 0} → PollContent → List Text → Option ℕ → String Z × Decision → Type 0
 PrintsSheet poll lines casting printed = IsSheetAndDecision poll lines casting (string_bytes printed.0) printed.1
 
@@ -35,11 +35,11 @@ PrintsSheet poll lines casting printed = IsSheetAndDecision poll lines casting (
 abbrev pub IsSheet : PollContent → List Text → Option ℕ → Text → Type 0
 IsSheet poll lines casting text = (s : Sheet) × IsSheetOf poll lines casting s × (text ≡ sheet_text poll lines s)
 
--- the poll, the lines and the casting vote leave no choice in a sheet
+-- a poll, its lines and the casting vote have at most one sheet
 abbrev pub SheetIsUnique : Type 0
 SheetIsUnique =
     (poll : PollContent) (lines : List Text) (casting : Option ℕ) (text other : Text) → IsSheet poll lines casting text → IsSheet poll lines casting other → text ≡ other
 
--- each poll that a text means has a sheet of any lines and any casting vote
+-- each poll that is read from a poll file has a sheet, for any lines and any casting vote
 abbrev pub SheetExists : Type 0
 SheetExists = (file : Text) (poll : PollContent) (lines : List Text) (casting : Option ℕ) → poll_in file ≡ Ok poll → (text : Text) × IsSheet poll lines casting text

@@ -1,4 +1,4 @@
--- What `standing` writes: of each elector with a ballot that stands the line that spells this ballot.
+-- What `standing` writes: for each elector with a ballot that stands, the line that spells this ballot.
 use Rattle.std.specs.Prelude.{◌≡◌, ℕ, List, [], ◌∷◌, ◌++◌, length, Option, Some, None, codes, slice_index_or}
 use Rattle.vote_poll.specs.BallotLine.{line_text}
 use Rattle.vote_poll_text.specs.Lines.{AreLines, text_of_lines}
@@ -7,7 +7,7 @@ use Rattle.vote_sheet.specs.LastBallots.{last_valid_ballots, refused_count, vali
 use Rattle.vote_sheet.specs.SheetOf.{IsSheet}
 use Rattle.vote_sheet.specs.Texts.{Text}
 
--- the name at a place of the roll
+-- the name at this index of the roll
 abbrev pub voter_at : PollContent → ℕ → Text
 voter_at poll voter = slice_index_or poll.roll voter []
 
@@ -16,11 +16,11 @@ abbrev pub ballot_line : Text → Option (List (Option ℕ)) → List Text
 ballot_line voter None = []
 ballot_line voter (Some ranks) = line_text voter ranks ∷ []
 
--- this line with its line feed
+-- this line with its line feed; empty if there is no ballot
 abbrev pub ballot_text : Text → Option (List (Option ℕ)) → Text
 ballot_text voter ballot = text_of_lines (ballot_line voter ballot)
 
--- the lines of all voters with a ballot, where each voter's entry stands at the voter's place
+-- the lines of all voters with a ballot; each voter's ballot has the voter's index
 abbrev pub ballot_lines : List Text → List (Option (List (Option ℕ))) → List Text
 ballot_lines [] ballots = []
 ballot_lines (voter ∷ voters) [] = []
@@ -33,8 +33,8 @@ standing_lines poll lines = ballot_lines poll.roll (last_valid_ballots poll line
 abbrev pub standing_text : PollContent → List Text → Text
 standing_text poll lines = text_of_lines (standing_lines poll lines)
 
--- The second lines say of the voters what the first say, and nothing else: there are as many as voters, each is a ballot that is
--- not late, and the last valid ballot of each elector is the same.
+-- The second lines say the same about the voters as the first, and nothing else: there are as many lines as voters, each is a ballot
+-- that is not late, and the last valid ballot of each elector is the same.
 pub record SaysTheSame (poll : PollContent) (lines again : List Text) : Type 0 where
   pub count : length again ≡ voter_count poll lines
   pub valid : valid_count poll again ≡ voter_count poll lines
@@ -45,7 +45,7 @@ pub record SaysTheSame (poll : PollContent) (lines again : List Text) : Type 0 w
 abbrev pub StandingSaysTheSame : Type 0
 StandingSaysTheSame = (poll : PollContent) (lines again : List Text) → AreLines (standing_text poll lines) again → SaysTheSame poll lines again
 
--- from the line `Voters:` on two texts are the same
+-- two texts are the same from the line `Voters:` on
 abbrev pub AreSameFromVoters : Text → Text → Type 0
 AreSameFromVoters text other =
     (before : Text) × (other_before : Text) × (rest : Text) × (text ≡ before ++ codes "\nVoters: " ++ rest) × (other ≡ other_before ++ codes "\nVoters: " ++ rest)

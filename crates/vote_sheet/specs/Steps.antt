@@ -26,7 +26,7 @@ reply_words (BadLine fault) = line_fault_words fault
 reply_words Late = codes "late"
 reply_words BoxClosed = codes "closed"
 
--- the line of a cast: the number of its envelope and the words of its reply; the close has none
+-- the line of a cast: the number of its envelope and the words of its reply; a close has no line
 unfoldable pub step_line : Step → Text
 step_line Close = []
 step_line (Cast desk stamp reading reply) = line (decimal stamp ∷ codes " " ∷ reply_words reply ∷ [])
@@ -34,14 +34,14 @@ step_line (Cast desk stamp reading reply) = line (decimal stamp ∷ codes " " �
 abbrev pub step_lines : List Step → Text
 step_lines steps = flat_map step_line steps
 
--- the text of the box that holds the lines as desk 1 cast them in their order
+-- the text of the steps of a box that holds the lines, which desk 1 cast in their order
 abbrev pub IsStepsText : PollContent → List Text → Text → Type 0
 IsStepsText poll lines text = (b : BoxState) × HoldsLines poll lines b × AreCastInOrder (readings poll lines) b.steps × (text ≡ step_lines b.steps)
 
--- the line of a poll that is in order
+-- the line for a valid poll
 unfoldable pub check_text : PollContent → Text
 check_text poll = line (codes "poll ok: " ∷ decimal (option_count poll) ∷ codes " options, " ∷ decimal (elector_count poll) ∷ codes " electors" ∷ [])
 
--- the lines of a poll have one such text
+-- a poll and its lines have at most one such text
 abbrev pub StepsAreDetermined : Type 0
 StepsAreDetermined = (poll : PollContent) (lines : List Text) (text other : Text) → IsStepsText poll lines text → IsStepsText poll lines other → text ≡ other

@@ -5,7 +5,7 @@ use Rattle.std.specs.Prelude.{ℕ, List, [], ◌∷◌, ◌++◌, codes}
 abbrev pub Text : Type 0
 Text = List ℕ
 
--- the pieces, one after another, on a line
+-- a line of these pieces, with its line feed
 abbrev pub line : List Text → Text
 line [] = codes "\n"
 line (piece ∷ pieces) = piece ++ line pieces

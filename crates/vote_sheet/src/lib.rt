@@ -1,23 +1,23 @@
-//! What is printed of a poll and its lines: the result sheet and its picture, the lines of `steps` and of
-//! `standing`, and the line of `check`.
+//! What is printed for a poll and its lines: the result sheet and its picture, the lines of `steps` and of `standing`, and the line
+//! of `check`.
 //!
-//! - [`sheet_of_box`] gives the sheet of a box that holds the lines of the poll, and what the sheet decides. What the sheet
-//!   says is a relation between the poll, the lines, the casting vote and the sheet (`IsSheetOf`), in which no history, desk or
-//!   reply occurs; its text is a function of it, the poll and the number of lines (`sheet_text`). Each poll that a text means has
-//!   a sheet ([`sheet_exists`]), and just one ([`sheet_is_unique`]): it is the same for every number of desks and every order in
-//!   which the lines came, byte for byte.
-//! - [`steps_text`] gives the reply of the box to each line, where one desk casts the lines in their order. By
-//!   [`steps_are_determined`] the poll and the lines leave no choice in it.
+//! - [`sheet_of_box`] returns the sheet of a box that holds the lines of the poll, and the decision of the sheet. What the sheet
+//!   says is a relation between the poll, the lines, the casting vote and the sheet (`IsSheetOf`), without history, desks or
+//!   replies. Its text is a function of the sheet, the poll and the number of lines (`sheet_text`). Each poll that is read from a
+//!   poll file has a sheet ([`sheet_exists`]), and only one ([`sheet_is_unique`]): it is the same for every number of desks and
+//!   every order in which the lines are cast, byte for byte.
+//! - [`steps_text`] returns the reply of the box to each line, if one desk casts the lines in their order. By
+//!   [`steps_are_determined`] the poll and the lines determine this text.
 //! - [`verify_sheet`] compares a text with the sheets of a box, without a casting vote and with each ([`Verification`]).
-//! - [`standing_text`] gives the ballots that stand, as a ballot file.
-//! - [`picture_of_box`] gives what the sheet of the same box says as a graph in the language of Graphviz.
-//! - [`check_text`] gives the line of a poll that is in order, and [`reply_words`] the words of a reply.
-//! - The functions of [`laws`] bring laws of the count to what people see: ballot files, and the winner that a sheet names. They
-//!   also say what an elector can rely on: the sheet knows no names and counts nobody twice, and refused and outdated lines have
-//!   no influence on it. What is published of a secret vote says the same as the files that came.
+//! - [`standing_text`] returns the ballots that stand, as a ballot file.
+//! - [`picture_of_box`] returns what the sheet of the same box says, as a graph in the language of Graphviz.
+//! - [`check_text`] returns the line for a valid poll, and [`reply_words`] the words of a reply.
+//! - The functions of [`laws`] state laws of the count in terms of what people see: ballot files, and the winner that a sheet
+//!   names. They also state what an elector can rely on: the sheet knows no names and counts nobody twice, and refused and outdated
+//!   lines have no influence on it. The published files of a secret vote say the same as the received files.
 //!
-//! Nothing here knows a file, a thread or a device: each call makes a text in memory, or runs out of it. The modules: `sheet`,
-//! `verify`, `picture`, `steps` and `standing` have the public calls, and `sheet_text` the parts of a sheet.
+//! Nothing here knows a file, a thread or a device: each call makes a text in memory, or fails when memory runs out. The modules
+//! `sheet`, `verify`, `picture`, `steps` and `standing` have the public calls, and `sheet_text` has the parts of a sheet.
 #![tactic(auto)]
 
 pub mod laws;
@@ -34,5 +34,5 @@ pub use standing::standing_text;
 pub use steps::{check_text, reply_words, steps_are_determined, steps_text};
 pub use verify::{Verification, verify_sheet};
 
-/// The most bytes of a line that [`verify_sheet`] shows.
+/// The maximum number of bytes of a line that [`verify_sheet`] shows.
 pub const MAX_SHOWN_OF_LINE: usize = 120;

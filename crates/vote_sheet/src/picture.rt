@@ -1,4 +1,4 @@
-//! The outcome of a sheet as a graph, in the language of Graphviz. Each function adds its part at the end of the text.
+//! The outcome of a sheet as a graph, in the language of Graphviz. Each function appends its part to the text.
 
 ghost use Rattle.std.specs.Prelude.{◌≡◌, [], ◌∷◌, ◌≤◌, IfOk, IfSome};
 ghost use Rattle.std.specs.Char.{encode_utf8};
@@ -33,8 +33,8 @@ fn push_quoted_char(text: &mut String, character: char) -> Result<(), AllocError
     text.push(character)
 }
 
-/// A name within quotes. The title of a poll and the names of its options have printable ASCII bytes alone, so nothing else
-/// needs a backslash.
+/// A name within quotes. The title of a poll and the names of its options have only printable ASCII bytes, so only quotes and
+/// backslashes need a backslash.
 fn push_quoted(text: &mut String, name: &str) -> Result<(), AllocError>
     ensures { Adds result text.old (quoted name.now) text.new }
 {
@@ -44,7 +44,7 @@ fn push_quoted(text: &mut String, name: &str) -> Result<(), AllocError>
     Ok(())
 }
 
-/// The first lines: the title of the poll is the name of the graph, and then comes how it is drawn.
+/// The first lines: the title of the poll as the name of the graph, and then the style.
 #[tactic(auto, unfolding(crate::specs::Picture::graph_head, crate::specs::Picture::graph_style))]
 fn push_graph_head(text: &mut String, poll: &Poll) -> Result<(), AllocError>
     ensures { Adds result text.old (graph_head poll.now.title) text.new }
@@ -54,7 +54,7 @@ fn push_graph_head(text: &mut String, poll: &Poll) -> Result<(), AllocError>
     write!(text, "\" {{\n  rankdir=LR;\n  node [shape=box];\n")
 }
 
-/// Why an option is dropped, in its label.
+/// Why an option is dropped, for its label.
 fn cause_label(cause: Option<Cause>) -> &'static str
     ensures { result.now ≡ cause_label cause }
 {
@@ -123,7 +123,7 @@ fn push_nodes(
     Ok(())
 }
 
-/// The number of the round that removes the defeat of `b` by `a`, if one does. Rounds are numbered from 1.
+/// The number of the round that removes the defeat of `b` by `a`, if there is one. Rounds are numbered from 1.
 fn removing_round(rounds: &[Round], a: u8, b: u8) -> Option<usize>
     ensures { result ≡ removing_round 1 rounds.now a b }
 {
@@ -135,7 +135,7 @@ fn removing_round(rounds: &[Round], a: u8, b: u8) -> Option<usize>
     None
 }
 
-/// What the line of a defeat says after the votes.
+/// The end of the line of a defeat, after the votes.
 fn push_removal(text: &mut String, round: Option<usize>) -> Result<(), AllocError>
     ensures { Adds result text.old (line (removal_text round ∷ [])) text.new }
 {
@@ -145,7 +145,7 @@ fn push_removal(text: &mut String, round: Option<usize>) -> Result<(), AllocErro
     }
 }
 
-/// The line of the defeat of `b` by `a`, which is removed in this round.
+/// The line of the defeat of `b` by `a`, with the round that removes it, if there is one.
 #[tactic(auto, unfolding(crate::specs::Picture::edge_line))]
 fn push_edge_line(
     text: &mut String,
@@ -195,7 +195,7 @@ fn push_edges(text: &mut String, matrix: &Matrix, verdict: &Verdict) -> Result<(
     Ok(())
 }
 
-/// The picture of a count, and of what is decided.
+/// The picture of a count and a decision.
 fn push_picture(
     text: &mut String,
     poll: &Poll,
@@ -210,9 +210,9 @@ fn push_picture(
     text.push_str("}\n")
 }
 
-/// The picture of the outcome of a closed box that holds the lines of the poll, with the option of the casting vote, and what
-/// is decided. It is a text in the language of Graphviz, made of what the sheet of the same box says. Options are numbered
-/// from 1.
+/// Returns the picture of the outcome of a closed box that holds the lines of the poll, and the decision, with this option as the
+/// casting vote. The picture is a text in the language of Graphviz, made from what the sheet of the same box says. Options are
+/// numbered from 1.
 pub fn picture_of_box(
     alloc: Global,
     poll: &Poll,

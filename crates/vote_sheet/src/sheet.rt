@@ -18,7 +18,7 @@ use vote_poll::{Lines, Poll, polls_keep_the_limits};
 use vote_steps::laws::lines_are_counted;
 use vote_steps::{BallotBox, Totals};
 
-/// What the lines of a poll come to: all that its sheets say, but the poll's own words and the decision.
+/// The count of the lines of a poll: all that its sheets say, without the poll's own words and the decision.
 #[derive(Drop)]
 pub(crate) struct Count {
     /// The number of lines.
@@ -30,7 +30,7 @@ pub(crate) struct Count {
     pub(crate) verdict: Verdict,
 }
 
-/// Counts a closed box that holds the lines of the poll. With each decision of the final set it gives a sheet.
+/// Counts a closed box that holds the lines of the poll. With each decision of its final set the count gives a sheet.
 pub(crate) fn count_of_box(
     alloc: Global,
     poll: &Poll,
@@ -54,7 +54,7 @@ pub(crate) fn count_of_box(
     })
 }
 
-/// All lines but the last, which alone depends on the casting vote.
+/// All lines but the last. Only the last line depends on the casting vote.
 pub(crate) fn push_shared(text: &mut String, poll: &Poll, count: &Count) -> Result<(), AllocError>
     ensures { Adds result text.old (shared_text poll.now count.now) text.new }
 {
@@ -64,7 +64,7 @@ pub(crate) fn push_shared(text: &mut String, poll: &Poll, count: &Count) -> Resu
     push_counted(text, poll.options(), &count.matrix, &count.verdict)
 }
 
-/// The sheet of a count and of what is decided.
+/// The sheet of a count and a decision.
 fn push_sheet(
     text: &mut String,
     poll: &Poll,
@@ -78,8 +78,8 @@ fn push_sheet(
     push_decision(text, poll, &count.verdict.final_set(), decision)
 }
 
-/// A sheet of the poll, its lines and the casting vote, made from a box that holds the lines; and what the sheet decides. Options
-/// are numbered from 1. No desk, reply or order of the box occurs in what is promised of the sheet.
+/// Returns a sheet of the poll, its lines and the casting vote, made from a box that holds the lines, and the decision of the
+/// sheet. Options are numbered from 1. What is promised about the sheet names no desk, reply or order of the box.
 pub fn sheet_of_box(
     alloc: Global,
     poll: &Poll,
@@ -98,7 +98,7 @@ pub fn sheet_of_box(
     Ok((text, decision))
 }
 
-/// A poll, its lines and the casting vote have one sheet.
+/// A poll, its lines and the casting vote have at most one sheet.
 pub fn sheet_is_unique()
     ensures { SheetIsUnique }
 {
@@ -106,7 +106,7 @@ pub fn sheet_is_unique()
     decisions_are_determined();
 }
 
-/// Each poll that a text means has a sheet, of any lines and any casting vote. With [`sheet_is_unique`] it has just one.
+/// Each poll that is read from a poll file has a sheet, for any lines and any casting vote. By [`sheet_is_unique`] it has only one.
 pub fn sheet_exists()
     ensures { SheetExists }
 {

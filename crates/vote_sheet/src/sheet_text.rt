@@ -1,4 +1,4 @@
-//! The text of a result sheet, part by part. Each function adds its part at the end of the text.
+//! The text of a result sheet, part by part. Each function appends its part to the text.
 
 ghost use Rattle.std.specs.Prelude.{◌≡◌, ◌≤◌, ◌<◌};
 ghost use Rattle.vote_poll_text.specs.Adding.{Adds};
@@ -14,14 +14,14 @@ use vote_count::{Cause, Decision, Defeats, Matrix, OptionSet, Round, Verdict};
 use vote_poll::{Poll, Wording};
 use vote_steps::Totals;
 
-/// The words if the test holds, and else no words.
+/// The words if the test holds, otherwise no words.
 pub(crate) fn when(holds: bool, words: &'static str) -> &'static str
     ensures { result.now ≡ when holds words.now }
 {
     if holds { words } else { "" }
 }
 
-/// How the majority is worded, if it is not as the Constitution words it.
+/// The wording of the majority, if it is not the Constitution's.
 #[tactic(auto, unfolding(crate::specs::Sheet::wording_text))]
 fn wording_text(wording: Wording) -> &'static str
     ensures { result.now ≡ wording_text wording }
@@ -74,7 +74,7 @@ pub(crate) fn push_totals(
     writeln!(text, "Valid: {valid}\nRefused: {refused}\nVoters: {voters}")
 }
 
-/// The name of an option, the default among them.
+/// The name of an option, also of the default option.
 #[tactic(auto, using(crate::proofs::Texts::name_found))]
 pub(crate) fn option_name(poll: &Poll, option: u8) -> &str
     requires { IsOption (option_count poll.now) option }
@@ -130,7 +130,7 @@ fn push_votes(text: &mut String, matrix: &Matrix, a: u8, b: u8) -> Result<(), Al
     }
 }
 
-/// The row of an option: the votes for it over each.
+/// The row of an option: the votes for it over each option.
 #[tactic(auto, using(crate::proofs::Texts::each_one_more, crate::proofs::Padding::number_in_3), unfolding(crate::specs::Sheet::row_text))]
 fn push_row(text: &mut String, matrix: &Matrix, a: u8) -> Result<(), AllocError>
     requires { IsOption matrix.now.options a }
@@ -354,7 +354,7 @@ fn push_rounds(text: &mut String, options: u8, rounds: &[Round]) -> Result<(), A
     Ok(())
 }
 
-/// That the casting vote decided: it does so only among several options.
+/// The note that the casting vote decided, which it does only among several options.
 #[tactic(auto, unfolding(crate::specs::Sheet::casting_note))]
 fn casting_note(set: &OptionSet) -> &'static str
     ensures { result.now ≡ casting_note set.now }
@@ -422,7 +422,7 @@ pub(crate) fn push_decision(
     text.push_str("\n")
 }
 
-/// What the votes come to, before the decision: the votes themselves, who is dropped, the defeats and the rounds.
+/// The result of the votes, before the decision: the votes themselves, the dropped options, the defeats and the rounds.
 #[tactic(auto, unfolding(crate::specs::Sheet::counted_text))]
 pub(crate) fn push_counted(
     text: &mut String,

@@ -13,7 +13,7 @@ use vote_poll::{Lines, Poll, Ranks};
 use vote_steps::cast_all;
 use vote_steps::laws::last_lines_stand;
 
-/// A rank, or a hyphen for an option that is left unranked.
+/// A rank, or a hyphen for an unranked option.
 fn push_rank(text: &mut String, rank: Option<u8>) -> Result<(), AllocError>
     ensures { Adds result text.old (rank_text rank) text.new }
 {
@@ -23,7 +23,7 @@ fn push_rank(text: &mut String, rank: Option<u8>) -> Result<(), AllocError>
     }
 }
 
-/// The ranks of a ballot of so many options, with a comma between each two.
+/// The ranks of a ballot with this many options, separated by commas.
 fn push_ranks(text: &mut String, options: u8, ranks: &Ranks) -> Result<(), AllocError>
     requires some { 1 ≤ options }
     requires options { length ranks.now ≡ options }
@@ -37,7 +37,7 @@ fn push_ranks(text: &mut String, options: u8, ranks: &Ranks) -> Result<(), Alloc
     Ok(())
 }
 
-/// The name of the voter at a place of the roll.
+/// The name of the voter at this index of the roll.
 fn voter_name(poll: &Poll, voter: usize) -> &str
     requires { voter < elector_count poll.now }
     ensures { result.now ≡ voter_at poll.now voter }
@@ -51,7 +51,7 @@ fn voter_name(poll: &Poll, voter: usize) -> &str
     name
 }
 
-/// Adds the line of a voter's ballot, if there is one. Voters are numbered from 0, by their place on the roll.
+/// Appends the line of a voter's ballot, if there is one. Voters are numbered from 0, by their index on the roll.
 fn push_ballot(
     text: &mut String,
     poll: &Poll,
@@ -72,10 +72,10 @@ fn push_ballot(
     }
 }
 
-/// The text of `standing`, for which one desk casts the lines in their order: for each elector with a ballot that stands, in the
-/// order of the roll, the line that spells it.
+/// Returns the text of `standing`: for each elector with a ballot that stands, in the order of the roll, the line that spells this
+/// ballot. To find them, one desk casts the lines in their order.
 ///
-/// It is a ballot file of the same poll, and says of the voters what the lines say (`laws`).
+/// The text is a ballot file of the same poll, and says the same about the voters as the lines (`laws`).
 pub fn standing_text(alloc: Global, poll: &Poll, lines: &Lines<'_>) -> Result<String, AllocError>
     ensures { IfOk result (λ text. string_bytes text ≡ standing_text poll.now lines.now) }
 {

@@ -1,4 +1,4 @@
-//! The texts of `steps` and `check`: a line for each envelope, and the line of a poll that is in order.
+//! The texts of `steps` and `check`: a line for each envelope, and the line for a valid poll.
 
 ghost use Rattle.std.specs.Prelude.{◌≡◌, IfOk, string_bytes};
 ghost use Rattle.vote_poll_text.specs.Adding.{Adds};
@@ -47,7 +47,8 @@ fn step_lines(alloc: Global, steps: &[Step]) -> Result<String, AllocError>
     Ok(text)
 }
 
-/// The text of `steps`, for which one desk casts the lines in their order: the reply of the box to each line.
+/// Returns the text of `steps`: the reply of the box to each line. One desk casts the lines in
+/// their order.
 pub fn steps_text(alloc: Global, poll: &Poll, lines: &Lines<'_>) -> Result<String, AllocError>
     ensures { IfOk result (λ text. IsStepsText poll.now lines.now (string_bytes text)) }
 {
@@ -55,7 +56,7 @@ pub fn steps_text(alloc: Global, poll: &Poll, lines: &Lines<'_>) -> Result<Strin
     step_lines(alloc, ballot_box.steps())
 }
 
-/// The line of a poll that is in order.
+/// The line for a valid poll.
 #[tactic(auto, unfolding(crate::specs::Steps::check_text))]
 pub fn check_text(alloc: Global, poll: &Poll) -> Result<String, AllocError>
     ensures { IfOk result (λ text. string_bytes text ≡ check_text poll.now) }
@@ -65,7 +66,7 @@ pub fn check_text(alloc: Global, poll: &Poll) -> Result<String, AllocError>
     format!(in alloc; "poll ok: {options} options, {electors} electors\n")
 }
 
-/// The lines of a poll have one text of `steps`.
+/// A poll and its lines have at most one text of `steps`.
 pub fn steps_are_determined()
     ensures { StepsAreDetermined }
 {

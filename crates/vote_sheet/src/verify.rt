@@ -1,4 +1,4 @@
-//! Comparing a text with the sheets of a poll and its lines.
+//! Compares a text with the sheets of a poll and its lines.
 
 ghost use Rattle.std.specs.Prelude.{◌≡◌, ◌<◌, ◌≤◌, IfOk, OnOk, length, option_map, slice_get, string_bytes};
 ghost use Rattle.vote_poll_text.specs.Adding.{Adds};
@@ -16,18 +16,18 @@ use vote_poll::{Lines, Poll};
 use vote_poll_text::{count_feeds, push_shown, split_at_feed, without_last_feed};
 use vote_steps::BallotBox;
 
-/// Whether a text is one of the sheets of a poll and its lines, and of which casting vote.
+/// Whether a text is one of the sheets of a poll and its lines, and with which casting vote.
 #[derive(Clone, Copy, Debug, PartialEq, Eq)]
 pub enum Verification {
-    /// It is the sheet without a casting vote.
+    /// The text is the sheet without a casting vote.
     Matches,
-    /// It is not that sheet, but the one with this option as the casting vote.
+    /// The text is not that sheet, but the sheet with this option as the casting vote.
     MatchesCasting(u8),
-    /// It is none of the sheets.
+    /// The text is none of the sheets.
     Differs,
 }
 
-/// How many bytes the common prefix of two texts has.
+/// The length in bytes of the common prefix of two texts.
 fn common_bytes(text: &[u8], other: &[u8]) -> usize
     ensures agree { result ≡ common_bytes text.now other.now }
     ensures at_most { result ≤ length text.now }
@@ -39,14 +39,14 @@ fn common_bytes(text: &[u8], other: &[u8]) -> usize
     count
 }
 
-/// How many lines the common prefix of two texts has, each with its line feed.
+/// The number of lines, each with its line feed, in the common prefix of two texts.
 fn common_lines(text: &[u8], other: &[u8]) -> usize
     ensures { result ≡ common_lines text.now other.now }
 {
     count_feeds(&text[..common_bytes(text, other)])
 }
 
-/// The line at a place, from 0, if there is one.
+/// The line at this index, if there is one.
 fn line_at(text: &[u8], place: usize) -> Option<&[u8]>
     ensures { option_map (λ line. line.now) result ≡ slice_get (lines_of text.now) place }
 {
@@ -64,7 +64,7 @@ fn line_at(text: &[u8], place: usize) -> Option<&[u8]>
     }
 }
 
-/// The first bytes of the line at a place of the text, from 0, or that the text has ended.
+/// The first bytes of the line at this index of the text, or a note that the text has ended.
 fn push_shown_line(words: &mut String, text: &[u8], place: usize) -> Result<(), AllocError>
     ensures { Adds result words.old (shown_line (slice_get (lines_of text.now) place)) words.new }
 {
@@ -74,7 +74,7 @@ fn push_shown_line(words: &mut String, text: &[u8], place: usize) -> Result<(), 
     }
 }
 
-/// The first line, from 1, in which a text differs from a sheet, and this line of both.
+/// The number, from 1, of the first line in which a text differs from a sheet, and this line of both.
 #[tactic(auto, unfolding(crate::specs::Verify::difference_text))]
 fn push_difference(words: &mut String, text: &[u8], sheet: &[u8]) -> Result<(), AllocError>
     ensures { Adds result words.old (difference_text text.now sheet.now) words.new }
@@ -102,7 +102,7 @@ fn verified_text(alloc: Global, poll: &Poll, casting: Option<u8>) -> Result<Stri
     }
 }
 
-/// That a text is the sheet with this casting vote.
+/// The verification of a text that is the sheet with this casting vote.
 fn matching(casting: Option<u8>) -> Verification
     ensures { result ≡ matching casting }
 {
@@ -112,7 +112,7 @@ fn matching(casting: Option<u8>) -> Verification
     }
 }
 
-/// Adds the last line of the sheet with this casting vote.
+/// Appends the last line of the sheet with this casting vote.
 fn push_last_line(
     text: &mut String,
     poll: &Poll,
@@ -126,7 +126,7 @@ fn push_last_line(
     push_decision(text, poll, &count.verdict.final_set(), decision)
 }
 
-/// How many lines a text has in common with the last line of the sheet with this casting vote, or none if it is that line.
+/// The number of lines that a text has in common with the last line of the sheet with this casting vote; `None` if it is that line.
 fn compare(
     alloc: Global,
     poll: &Poll,
@@ -145,14 +145,14 @@ fn compare(
     Ok(Some(common_lines(text, last.as_bytes())))
 }
 
-/// A casting vote, and how many lines its sheet has in common with a text.
+/// A casting vote, and the number of lines that its sheet has in common with a text.
 #[derive(Clone, Copy)]
 struct Candidate {
     casting: Option<u8>,
     lines: usize,
 }
 
-/// The sheet with this casting vote if it has more lines in common with the text, and else the closest so far.
+/// The sheet with this casting vote if it has more lines in common with the text, otherwise the closest so far.
 fn closer(closest: Candidate, casting: Option<u8>, lines: usize) -> Candidate
     ensures longer { closest.lines < lines → result ≡ record { casting = casting; lines = lines } }
     ensures no_longer { lines ≤ closest.lines → result ≡ closest }
@@ -164,12 +164,13 @@ fn closer(closest: Candidate, casting: Option<u8>, lines: usize) -> Candidate
     }
 }
 
-/// What is found of a text among the sheets with all casting votes, in their order: none, and then each option by its number.
+/// Where a text was found among the sheets with all casting votes, in their order: none, and then each option by its number.
 #[derive(Clone, Copy)]
 enum Found {
-    /// It is the sheet with this casting vote, and with no earlier one.
+    /// The text is the sheet with this casting vote, and with no earlier one.
     Same(Option<u8>),
-    /// It is none of the sheets. The one with this casting vote agrees longest, and none with an earlier one as long.
+    /// The text is none of the sheets. The sheet with this casting vote agrees longest, and no sheet with an earlier one agrees as
+    /// long.
     Closest(Option<u8>),
 }
 
@@ -196,7 +197,7 @@ fn find_last(alloc: Global, poll: &Poll, count: &Count, text: &[u8]) -> Result<F
     Ok(Found::Closest(closest.casting))
 }
 
-/// Finds a text among the sheets with these shared lines. A text without them agrees with all sheets alike.
+/// Finds a text among the sheets with these shared lines. A text without these lines agrees equally long with all sheets.
 fn find_sheet(
     alloc: Global,
     poll: &Poll,
@@ -222,11 +223,11 @@ fn differing_words(alloc: Global, text: &[u8], sheet: &[u8]) -> Result<String, A
     Ok(words)
 }
 
-/// Compares a text with the sheets of a closed box that holds the lines of the poll: with the one without a casting vote, and
-/// with those with each option as the casting vote. The words say which of them it is, or in which line it first differs from
-/// the one that agrees longest with it. Options are numbered from 1.
+/// Compares a text with the sheets of a closed box that holds the lines of the poll: the sheet without a casting vote, and the
+/// sheets with each option as the casting vote. The words say which of them the text is, or in which line it first differs from the
+/// sheet that agrees longest with it. Options are numbered from 1.
 ///
-/// The votes are counted once. What the sheets share is made and compared once, and then their last lines.
+/// The votes are counted once. The lines that the sheets share are made and compared once, and then their last lines.
 pub fn verify_sheet(
     alloc: Global,
     poll: &Poll,

@@ -25,7 +25,7 @@ use Rattle.vote_steps.proofs.StandingLemmas.{as_long}
 abbrev reading_at : List Reading → ℕ → Reading
 reading_at readings k = get_or readings k (Bad Shape)
 
--- the casts of the first lines, this many
+-- the casts of this many first lines
 pub casts_of : ℕ → List Reading → ℕ → List Step
 casts_of last readings zero = []
 casts_of last readings (suc k) =
@@ -65,7 +65,7 @@ casts_of_open last readings (suc k) =
     let step = Cast 1 (suc k) (reading_at readings k) (reply_to last (casts_of last readings k) (suc k) (reading_at readings k)) in
     is_closed-append (casts_of last readings k) step ∙ ap (λ b. b || false) (casts_of_open last readings k)
 
--- the number of a line that is still to come is not used
+-- the number of a line that is not yet cast is not used
 pub casts_of_unused : (last : ℕ) (readings : List Reading) (k n : ℕ) → k < n → is_used (casts_of last readings k) n ≡ false
 unfolding casts_of
 casts_of_unused last readings zero n h = refl
@@ -116,7 +116,7 @@ casts_of_at last readings (suc k) place h =
           )
     ]
 
--- such a history, closed
+-- this history, closed
 module _ (last : ℕ) (readings : List Reading) (steps : List Step) (is : steps ≡ casts_of last readings (length readings) ++ Close ∷ []) where
   pub in_order : AreCastInOrder readings steps
   in_order place r h =
@@ -145,7 +145,7 @@ holds_lines poll lines b sizes steps legal =
           subst P (sym steps) (All-push (HasOwnReading (readings poll lines)) xs Close (casts_of_own (last_in_time poll) (readings poll lines) (length lines) (omega (arith, as_long poll lines))) tt);
     }
 
--- ---- there is one such history
+-- ---- there is only one such history
 split_at : (steps : List Step) (k : ℕ) (step : Step) → slice_get steps k ≡ Some step → steps ≡ take k steps ++ step ∷ drop (suc k) steps
 split_at [] k step h = cc
 split_at (x ∷ xs) zero step h = let same : x ≡ step = cc in ap (λ y. y ∷ xs) same

@@ -1,4 +1,4 @@
--- Examples in numbers: the desks of a history, and the replies to an envelope.
+-- Examples: the desks of a history, and the replies to an envelope.
 use Rattle.std.proofs.Common.{refl}
 use Rattle.vote_steps.specs.Laws.{CastsAreAtDesks, RepliesAsInTheExamples}
 use Rattle.vote_steps.specs.declared.step.Step.TheVariants.{Cast}

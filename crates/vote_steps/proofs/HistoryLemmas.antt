@@ -25,7 +25,7 @@ use Rattle.vote_steps.specs.History.{is_close, is_cast, is_ballot, is_refused, i
 abbrev pub ballots : ℕ → List Step → ℕ → List Received
 ballots last_in_time steps voter = filter_map (ballot_of last_in_time voter) (before_close steps)
 
--- an open history is all before its close
+-- all steps of an open history are before its close
 pub before_close-append_open : (steps more : List Step) → is_closed steps ≡ false → before_close (steps ++ more) ≡ steps ++ before_close more
 before_close-append_open [] more h = refl
 before_close-append_open (Cast d n r p ∷ steps) more h = ap (λ xs. Cast d n r p ∷ xs) (before_close-append_open steps more h)
@@ -60,7 +60,7 @@ pub latest-append : (xs : List Received) (b : Received) → latest (xs ++ b ∷ 
 latest-append [] b = refl
 latest-append (x ∷ xs) b = ap (later x) (latest-append xs b) ∙ later-after_ballot x (latest xs) b
 
--- what stands after one more step of an open box
+-- a voter's ballots after one more step of an open box
 pub ballots-append_open : (last : ℕ) (steps : List Step) (step : Step) (v : ℕ) → is_closed steps ≡ false
     → ballots last (steps ++ step ∷ []) v ≡ ballots last steps v ++ filter_map (ballot_of last v) (before_close (step ∷ []))
 ballots-append_open last steps step v h =
@@ -70,7 +70,7 @@ ballots-append_open last steps step v h =
 pub standing-append_closed : (last : ℕ) (steps : List Step) (step : Step) (v : ℕ) → is_closed steps ≡ true → standing last (steps ++ step ∷ []) v ≡ standing last steps v
 standing-append_closed last steps step v h = ap (λ xs. latest (filter_map (ballot_of last v) xs)) (before_close-append_closed steps (step ∷ []) h)
 
--- what a step leaves standing, where it is a ballot of the voter or none
+-- the ballot that stands after a step, which may be a ballot of the voter
 abbrev pub after_step : Option Received → Option Received → Option Received
 after_step old None = old
 after_step old (Some ballot) = Some (after_ballot old ballot)
@@ -111,7 +111,7 @@ only_casts (Close ∷ steps) = refl
 only_casts (Cast desk stamp reading reply ∷ steps) =
     omega (arith, count-cons is_cast (Cast desk stamp reading reply) (before_close steps), only_casts steps)
 
--- where the only close is the last step, all others are casts
+-- if the only close is the last step, all other steps are casts
 pub casts_before : (steps : List Step) → steps ≡ before_close steps ++ Close ∷ [] → count_by is_cast steps ≡ length (before_close steps)
 casts_before steps last = omega (arith, ap (count_by is_cast) last, count_by-cast (before_close steps) Close, only_casts steps)
 
@@ -178,7 +178,7 @@ stamped n ranks = option_map (λ ranks. record { stamp = n; ranks = ranks }) ran
 abbrev pub ballot_read : ℕ → ℕ → Reading → Option Received
 ballot_read v n r = stamped n (ranks_read v r)
 
--- what a cast gives
+-- the ballot that a cast gives
 pub late_gives_none : (last v d n : ℕ) (r : Reading) (p : Reply) → last < n → ballot_of last v (Cast d n r p) ≡ None
 late_gives_none last v d n r p h = ap (λ t. cond t None (ballot_read v n r)) (lt-ltb last n h)
 
@@ -205,7 +205,7 @@ roll-same last steps more electors same =
 pub roll-closed : (last : ℕ) (steps : List Step) (step : Step) (electors : ℕ) → is_closed steps ≡ true → roll last (steps ++ step ∷ []) electors ≡ roll last steps electors
 roll-closed last steps step electors h = roll-same last steps (steps ++ step ∷ []) electors (λ v. standing-append_closed last steps step v h)
 
--- a step that gives nobody a ballot leaves the roll
+-- a step that gives no voter a ballot does not change the roll
 roll-none : (last : ℕ) (steps : List Step) (step : Step) (electors : ℕ) → is_closed steps ≡ false → ((v : ℕ) → ballot_of last v step ≡ None)
     → roll last (steps ++ step ∷ []) electors ≡ roll last steps electors
 roll-none last steps step electors h none =

@@ -24,7 +24,7 @@ use Rattle.vote_steps.proofs.HistoryLemmas.{or_false, is_closed-append, valid-ap
 use Rattle.vote_steps.proofs.LegalLemmas.{one_at_most, casts_within, casts_below, length-steps}
 use Rattle.vote_steps.proofs.BoxLemmas.{IsLegal-append, standing_past}
 
--- the box has taken in a cast, and has not yet marked its number and noted its step
+-- the box has taken in a cast, but has not yet marked its number and added its step
 pub record TookIn (a b : Inside) (d n : ℕ) (r : Reading) (p : Reply) : Type 0 where
   pub options_are : b.roll.matrix.options ≡ a.roll.matrix.options
   pub limit_is : b.limit ≡ a.limit
@@ -126,13 +126,13 @@ took_in_by a b x d n r r' p p' e f g t =
     let S : Reply → Type 0 = λ y. TookIn a x d n r' y in
     subst P (sym e) (subst Q (sym f) (subst S (sym g) t))
 
--- a number that is not marked has not been used, and so there is room for its step
+-- a number that is not marked has not been used, so there is room for its step
 pub unused : (a : Inside) (n : ℕ) → KeepsHistory a → 1 ≤ n → n ≤ a.limit → get_or a.used.items (n - 1) false ≡ false → is_used a.steps.items n ≡ false
 unused a n k low high mark =
     let same : n - 1 + 1 ≡ n = omega arith in
     sym (ap (is_used a.steps.items) same) ∙ sym (k.used_is (n - 1) (omega arith)) ∙ mark
 
--- there is a number left, so not all casts are made
+-- a number is left, so not all casts are made
 steps_left : (a : Inside) (n : ℕ) → KeepsHistory a → 1 ≤ n → n ≤ a.limit → get_or a.used.items (n - 1) false ≡ false → length a.steps.items ≤ a.limit
 steps_left a n k low high mark =
     let less = casts_below (state_of a) n k.legal low high (unused a n k low high mark) in
@@ -206,7 +206,7 @@ keeps_close a new k h items len more =
       room = omega (arith, more, k.room);
     }
 
--- what the roll has of a voter, and none past its end
+-- the roll's entry of a voter, and None after its end
 pub standing_at : (a : Inside) (v : ℕ) → KeepsHistory a → get_or a.roll.ballots.items v None ≡ standing a.last_in_time a.steps.items v
 standing_at a v k =
     ⊎_elim

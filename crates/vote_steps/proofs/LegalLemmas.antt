@@ -1,4 +1,4 @@
--- What every legal history has, by going through its steps.
+-- Facts about every legal history, proved step by step.
 use Rattle.std.proofs.Common.{◌≡◌, ℕ, ◌+◌, ◌<◌, ◌≤◌, Bool, true, false, ◌||◌, cond, eqb, List, [], ◌∷◌, ◌++◌, ⊎_elim, refl, sym, ap, ◌∙◌, subst, arith, length, length-append, append-nil, append_assoc}
 use Rattle.std.proofs.lemmas.Cmp.{nat_eq_equiv}
 use Rattle.std.specs.List.{IsDistinct, list_any, count_by}
@@ -17,14 +17,14 @@ use Rattle.vote_steps.specs.Boxes.{BoxState, MayFollow, IsLegal}
 use Rattle.vote_steps.specs.Laws.{StampsAreDistinct, EachStampIsUsed, ClosesOnce, HasRoomForAll}
 use Rattle.vote_steps.proofs.HistoryLemmas.{or_false, is_closed-append, count_by-push}
 
--- what holds of no steps, and goes on to one more step that may follow, holds of a legal history
+-- if a fact holds of no steps, and still holds after each step that may follow, it holds of a legal history
 by_steps_from : (b : BoxState) (P : List Step → Type 0) → ((before : List Step) (step : Step) → MayFollow b before step → P before → P (before ++ step ∷ []))
     → IsLegal b → (before rest : List Step) → b.steps ≡ before ++ rest → P before → P b.steps
 by_steps_from b P more legal before [] e p = subst P (sym (e ∙ append-nil before)) p
 by_steps_from b P more legal before (step ∷ rest) e p =
     by_steps_from b P more legal (before ++ step ∷ []) rest (e ∙ sym (append_assoc before (step ∷ []) rest)) (more before step (legal before rest step e) p)
 
--- a number is among the numbers of a list in either spelling of the test
+-- a number is in a list by either form of the test
 any_flip : (xs : List ℕ) (n : ℕ) → list_any (eqb n) xs ≡ list_any (λ used. eqb used n) xs
 any_flip [] n = refl
 any_flip (x ∷ xs) n = ap (λ t. t || list_any (eqb n) xs) (nat_eq_equiv.symm n x) ∙ ap (λ t. eqb x n || t) (any_flip xs n)
@@ -82,7 +82,7 @@ casts-closes (Close ∷ steps) =
 casts-closes (Cast d n r p ∷ steps) =
     omega (arith, casts-closes steps, sum_by-cons (λ x. cond {A = ℕ} (is_cast x) 1 0) (Cast d n r p) steps, sum_by-cons (λ x. cond {A = ℕ} (is_close x) 1 0) (Cast d n r p) steps)
 
--- with 0, which is no stamp, and with a stamp that is not used there are still no more numbers than from 0 to the limit
+-- with 0, which is not a stamp, and with a stamp that is not used, there are still no more numbers than from 0 to the limit
 with_zero : (b : BoxState) → IsTidy b.limit b.steps → IsDistinct eqb (stamps b.steps ++ 0 ∷ [])
 with_zero b t = IsDistinct-push nat_eq_equiv (stamps b.steps) 0 t.distinct (⊎_elim (λ (h : list_any (eqb 0) (stamps b.steps) ≡ true). let low = (t.within 0 h).0 in absurd (omega (arith, low))) (λ (h : list_any (eqb 0) (stamps b.steps) ≡ false). h) (cases_Bool (list_any (eqb 0) (stamps b.steps))))
 
@@ -98,7 +98,7 @@ casts_within b legal =
     let len = length-le_from_distinct_below (xs ++ 0 ∷ []) (b.limit + 1) (with_zero b t) (zero_within b.limit xs (λ n h. (t.within n h).1)) in
     omega (arith, len, length-append xs (0 ∷ []), length-stamps b.steps)
 
--- where a stamp is not used there are fewer casts than stamps
+-- if a stamp is not used, there are fewer casts than stamps
 pub casts_below : (b : BoxState) (n : ℕ) → IsLegal b → 1 ≤ n → n ≤ b.limit → is_used b.steps n ≡ false → count_by is_cast b.steps < b.limit
 casts_below b n legal low high unused =
     let t = tidy b legal in
@@ -127,6 +127,6 @@ closes_once_lem b legal = let t = tidy b legal in omega (arith, t.closes, one_at
 pub has_room_for_all_lem : HasRoomForAll
 has_room_for_all_lem b legal = omega (arith, casts_within b legal, closes_once_lem b legal, casts-closes b.steps)
 
--- the number of steps, in an open box and in any
+-- the number of steps, in an open box and in any box
 pub length-steps : (b : BoxState) → IsLegal b → length b.steps ≡ count_by is_cast b.steps + cond (is_closed b.steps) 1 0
 length-steps b legal = let t = tidy b legal in omega (arith, t.closes, casts-closes b.steps)

@@ -1,4 +1,4 @@
--- What a box that holds the lines counts is what the lines say.
+-- The counts of a box that holds the lines follow from the lines.
 use Rattle.std.proofs.Common.{◌≡◌, ℕ, ◌+◌, ◌-◌, ◌<◌, ◌≤◌, zero, suc, cond, eqb, Bool, true, false, not, ◌||◌, List, [], ◌∷◌, ◌++◌, Option, Some, None, length, get_or, take, map, refl, sym, ap, ◌∙◌, ⊎_elim, arith, append_assoc}
 use Rattle.std.specs.Prelude.{slice_get, is_some, option_and_then}
 use Rattle.std.specs.List.{AllByRecursion, count_by, range_with_len}
@@ -37,7 +37,7 @@ has_stamp n (Cast d stamp r p) = eqb stamp n
 abbrev casts_of : ℕ → List Step → ℕ
 casts_of n steps = count_by (has_stamp n) steps
 
--- after steps that have used a stamp no cast has it, and else at most one
+-- after steps that have used a stamp no cast has it; otherwise at most one cast has it
 at_most_once : (b : BoxState) → IsLegal b → (n : ℕ) (before after : List Step) → b.steps ≡ before ++ after → casts_of n after ≤ cond {A = ℕ} (is_used before n) 0 1
 at_most_once b legal n before [] here = omega arith
 at_most_once b legal n before (Close ∷ after) here =
@@ -157,7 +157,7 @@ none_in_time readings (Cast d s (Ballot voter ranks) p ∷ steps) own =
     let first = own.0.0 in
     omega (arith, count-cons (is_ballot 0) (Cast d s (Ballot voter ranks) p) steps, none_in_time readings steps own.1, too_late 0 s (omega arith))
 
--- where the last envelope comes after all lines, none is late
+-- if the last envelope comes after all lines, no line is late
 all_in_time : (last : ℕ) (readings : List Reading) (steps : List Step) → length readings ≤ last → AllByRecursion (HasOwnReading readings) steps
     → count_by (is_ballot last) steps ≡ count_by (is_ballot (length readings)) steps
 all_in_time last readings [] above own = refl

@@ -1,4 +1,4 @@
--- What a ballot box is to its callers: its sizes, and the history of what was done to it.
+-- A ballot box as its callers see it: its sizes, and the history of what was done to it.
 use Rattle.std.specs.Prelude.{◌≡◌, ℕ, ◌+◌, ◌<◌, ◌≤◌, ◌⊎◌, false, List, [], ◌∷◌, ◌++◌, count_by, IsTrue, if◌then◌else◌}
 use Rattle.vote_poll.specs.PollContent.{PollContent, elector_count, last_in_time, option_count}
 use Rattle.vote_poll.specs.declared.Reading.{Reading}
@@ -11,7 +11,7 @@ use Rattle.vote_steps.specs.declared.step.Step.TheVariants.{Cast, Close}
 use Rattle.vote_steps.specs.declared.TheConstants.{MAX_DESKS}
 use Rattle.vote_steps.specs.History.{is_cast, is_closed, is_used, is_valid, refused, reply_to, standing_votes, valid, voters}
 
--- its options with the default, its electors, the greatest stamp that it takes, the greatest that is not late, and its steps, oldest first
+-- its options with the default, its electors, the greatest stamp that it takes, the greatest stamp that is not late, and its steps, oldest first
 pub record BoxState : Type 0 where
   pub options : ℕ
   pub electors : ℕ
@@ -50,29 +50,29 @@ votes_in b = standing_votes b.last_in_time b.steps b.electors
 abbrev pub reply_in : BoxState → ℕ → Reading → Reply
 reply_in b stamp reading = reply_to b.last_in_time b.steps stamp reading
 
--- the box has one step more, and else is as it was: a cast, or the close
+-- the box has one more step, which is a cast, or the close; otherwise it is as it was
 abbrev pub AddsCast : BoxState → BoxState → ℕ → ℕ → Reading → Reply → Type 0
 AddsCast before after desk stamp reading reply = after ≡ record before { steps = before.steps ++ Cast desk stamp reading reply ∷ [] }
 
 abbrev pub AddsClose : BoxState → BoxState → Type 0
 AddsClose before after = after ≡ record before { steps = before.steps ++ Close ∷ [] }
 
--- the box after a cast with the reply that is called for
+-- the box after a cast with the reply that the steps so far call for
 abbrev pub after_cast : BoxState → ℕ → ℕ → Reading → BoxState
 after_cast b desk stamp reading = record b { steps = b.steps ++ Cast desk stamp reading (reply_in b stamp reading) ∷ [] }
 
--- one valid line more if the reply says so, and one refused line more if it does not
+-- one more valid line if the reply says so, and one more refused line if it does not
 abbrev pub CountsValid : BoxState → BoxState → Reply → Type 0
 CountsValid before after reply = valid_in after ≡ valid_in before + (if is_valid reply then 1 else 0)
 
 abbrev pub CountsRefused : BoxState → BoxState → Reply → Type 0
 CountsRefused before after reply = refused_in after ≡ refused_in before + (if is_valid reply then 0 else 1)
 
--- the stamp is not one of the box's
+-- the stamp is not a stamp of the box
 abbrev pub IsOutOfRange : BoxState → ℕ → Type 0
 IsOutOfRange b stamp = (stamp ≡ 0) ⊎ (b.limit < stamp)
 
--- the stamp is one of the box's, and a step has it
+-- the stamp is a stamp of the box, and a step has it
 abbrev pub HasUsed : BoxState → ℕ → Type 0
 HasUsed b stamp = (1 ≤ stamp) × (stamp ≤ b.limit) × IsTrue (is_used b.steps stamp)
 
@@ -97,6 +97,6 @@ MayFollow b before (Cast desk stamp reading reply) = MayBeCast b before desk sta
 abbrev pub IsLegal : BoxState → Type 0
 IsLegal b = (before after : List Step) (step : Step) → b.steps ≡ before ++ step ∷ after → MayFollow b before step
 
--- where there are as many casts as numbers, each number is used
+-- if there are as many casts as stamps, each stamp is used
 abbrev pub UsesAll : BoxState → Type 0
 UsesAll b = count_by is_cast b.steps ≡ b.limit → (stamp : ℕ) → 1 ≤ stamp → stamp ≤ b.limit → IsTrue (is_used b.steps stamp)

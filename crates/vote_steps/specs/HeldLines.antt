@@ -10,29 +10,29 @@ use Rattle.vote_steps.specs.History.{before_close}
 use Rattle.vote_steps.specs.Boxes.{BoxState, IsLegal}
 use Rattle.vote_steps.specs.Recasts.{HasOwnReading}
 
--- the box is of the poll's size and has its last envelope, and has a number for each line
+-- the box has the sizes and the last envelope of the poll, and a stamp for each line
 abbrev pub HasSizes : PollContent → List (List ℕ) → BoxState → Type 0
 HasSizes poll lines b = (b.options ≡ option_count poll) × (b.electors ≡ elector_count poll) × (b.limit ≡ length lines) × (b.last_in_time ≡ last_in_time poll)
 
--- Each line is cast exactly once, as these say together: there are as many casts as lines, each with its own stamp from 1 to their number.
+-- Together these say that each line is cast exactly once: there are as many casts as lines, and each cast has its own stamp from 1 to their number.
 pub record HoldsLines (poll : PollContent) (lines : List (List ℕ)) (b : BoxState) : Type 0 where
   -- the box has the poll's sizes and last envelope, and a stamp for each line
   pub sizes : HasSizes poll lines b
-  -- before the first close are as many steps as lines, all of them casts
+  -- before the first close there are as many steps as lines, and all of them are casts
   pub casts : length (before_close b.steps) ≡ length lines
   -- each step may follow those before it
   pub legal : IsLegal b
   -- the only close is the last step
   pub closed_last : b.steps ≡ before_close b.steps ++ Close ∷ []
-  -- each cast has what the poll reads in the line with its stamp
+  -- each cast has the poll's reading of the line with its stamp
   pub own_readings : All (HasOwnReading (readings poll lines)) b.steps
 
--- desk 1 cast the lines in their order: the step at each line's place is the cast of that line
+-- desk 1 cast the lines in their order: the step at each line's index is the cast of that line
 abbrev pub AreCastInOrder : List Reading → List Step → Type 0
 AreCastInOrder readings steps =
     (place : ℕ) (reading : Reading) → slice_get readings place ≡ Some reading → (reply : Reply) × (slice_get steps place ≡ Some (Cast 1 (place + 1) reading reply))
 
--- there is one box that holds the lines of a poll as desk 1 cast them in their order
+-- there is only one box that holds the lines of a poll as desk 1 cast them in their order
 abbrev pub OrderLeavesNoChoice : Type 0
 OrderLeavesNoChoice =
     (poll : PollContent) (lines : List (List ℕ)) (b other : BoxState) → HoldsLines poll lines b → HoldsLines poll lines other

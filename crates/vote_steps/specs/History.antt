@@ -1,4 +1,4 @@
--- What a history says: a list of steps, oldest first, each the cast of an envelope at a desk, with its reply, or the close.
+-- A history is a list of steps, oldest first. Each step is the cast of an envelope at a desk, with its reply, or it is the close.
 -- Desks, stamps and voters range over all natural numbers here; a legal history keeps them within the box. `last_in_time` is the
 -- greatest stamp that is not late.
 use Rattle.std.specs.Prelude.{ℕ, ◌+◌, ◌==◌, nat_lt, Bool, true, false, not, if◌then◌else◌, List, [], ◌∷◌, Option, Some, None, option_and_then, option_map, is_some, map, count_by}
@@ -26,7 +26,7 @@ is_cast (Cast desk stamp reading reply) = true
 abbrev pub is_closed : List Step → Bool
 is_closed steps = list_any is_close steps
 
--- the steps up to the first close
+-- the steps before the first close
 abbrev pub before_close : List Step → List Step
 before_close [] = []
 before_close (step ∷ steps) = if is_close step then [] else step ∷ before_close steps
@@ -50,24 +50,24 @@ stamps steps = filter_map stamp_of steps
 abbrev pub is_used : List Step → ℕ → Bool
 is_used steps stamp = list_any (λ used. used == stamp) (filter_map stamp_of steps)
 
--- whether an envelope is late: its own number is above the last, whenever it came
+-- whether an envelope is late: its stamp is above the last stamp in time, whenever it came
 abbrev pub is_late : ℕ → ℕ → Bool
 is_late last_in_time stamp = nat_lt last_in_time stamp
 
--- ---- the ballot of a voter that stands
+-- ---- a voter's ballot that stands
 
--- the ranks that a line gives a voter, where it is a ballot of that voter
+-- the ranks that a line gives a voter, if it is a ballot of that voter
 abbrev pub ranks_read : ℕ → Reading → Option (List (Option ℕ))
 ranks_read voter (Bad fault) = None
 ranks_read voter (Ballot v ranks) = if v == voter then Some ranks else None
 
--- the ballot that a step gives a voter: a late cast gives nobody one
+-- the ballot that a step gives a voter; a late cast gives no ballot
 abbrev pub ballot_of : ℕ → ℕ → Step → Option Received
 ballot_of last_in_time voter Close = None
 ballot_of last_in_time voter (Cast desk stamp reading reply) =
     if is_late last_in_time stamp then None else option_map (λ ranks. record { stamp = stamp; ranks = ranks }) (ranks_read voter reading)
 
--- of two ballots the one with the greater stamp
+-- of two ballots, the one with the greater stamp
 abbrev pub later : Received → Option Received → Option Received
 later ballot None = Some ballot
 later ballot (Some other) = if nat_lt other.stamp ballot.stamp then Some ballot else Some other
@@ -77,7 +77,7 @@ abbrev pub latest : List Received → Option Received
 latest [] = None
 latest (ballot ∷ others) = later ballot (latest others)
 
--- the ballot of a voter that stands: of those before the close that are not late the one with the greatest stamp
+-- a voter's ballot that stands: of the voter's ballots that came before the close and are not late, the one with the greatest stamp
 abbrev pub standing : ℕ → List Step → ℕ → Option Received
 standing last_in_time steps voter = latest (filter_map (ballot_of last_in_time voter) (before_close steps))
 
@@ -87,7 +87,7 @@ standing_ranks last_in_time steps voter = option_and_then (λ ballot. Some ballo
 
 -- ---- the reply to a cast
 
--- the reply to a ballot with this stamp, where this ballot of the same voter stands, if one does
+-- the reply to a ballot with this stamp, given the same voter's ballot that stands, if there is one
 abbrev pub reply_beside : Option Received → ℕ → Reply
 reply_beside None stamp = Counted
 reply_beside (Some ballot) stamp = if nat_lt stamp ballot.stamp then Superseded else Replaced
@@ -113,7 +113,7 @@ is_valid BoxClosed = false
 
 -- ---- the counts
 
--- the ballots that stand, by voter
+-- the ballots that stand, one entry for each voter
 abbrev pub roll : ℕ → List Step → ℕ → List (Option Received)
 roll last_in_time steps electors = map (standing last_in_time steps) (range_with_len 0 electors)
 
@@ -132,17 +132,17 @@ is_ballot last_in_time Close = false
 is_ballot last_in_time (Cast desk stamp (Bad fault) reply) = false
 is_ballot last_in_time (Cast desk stamp (Ballot voter ranks) reply) = not (is_late last_in_time stamp)
 
--- whether a step is the cast of a line that is no ballot, or of a ballot that is late
+-- whether a step is the cast of a line that is no ballot, or of a late ballot
 abbrev pub is_refused : ℕ → Step → Bool
 is_refused last_in_time Close = false
 is_refused last_in_time (Cast desk stamp (Bad fault) reply) = true
 is_refused last_in_time (Cast desk stamp (Ballot voter ranks) reply) = is_late last_in_time stamp
 
--- the ballots that came before the close and are not late
+-- the number of ballots that came before the close and are not late
 abbrev pub valid : ℕ → List Step → ℕ
 valid last_in_time steps = count_by (is_ballot last_in_time) (before_close steps)
 
--- the lines before the close that are no ballot or are late, and all that came after it
+-- the number of lines before the close that are no ballot or are late, and of all lines that came after it
 abbrev pub refused : ℕ → List Step → ℕ
 refused last_in_time steps = count_by (is_refused last_in_time) (before_close steps) + count_by is_cast (after_close steps)
 
@@ -150,6 +150,6 @@ refused last_in_time steps = count_by (is_refused last_in_time) (before_close st
 abbrev pub standing_ballots : ℕ → List Step → ℕ → List (Option (List (Option ℕ)))
 standing_ballots last_in_time steps electors = map (standing_ranks last_in_time steps) (range_with_len 0 electors)
 
--- the voters with a ballot that stands
+-- the number of voters with a ballot that stands
 abbrev pub voters : ℕ → List Step → ℕ → ℕ
 voters last_in_time steps electors = count_by is_some (roll last_in_time steps electors)

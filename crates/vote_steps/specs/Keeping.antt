@@ -1,4 +1,4 @@
--- How a ballot box keeps its history: what its fields are to the steps.
+-- How a ballot box keeps its history: how its fields follow from the steps.
 use Rattle.std.specs.Prelude.{◌≡◌, ℕ, ◌+◌, ◌<◌, ◌≤◌, false, slice_index_or, vec_len, vec_capacity}
 use Rattle.vote_poll_text.specs.declared.lines.TheConstants.{MAX_LINES}
 use Rattle.vote_steps.specs.History.{is_closed, is_used, roll, valid, refused}
@@ -9,8 +9,8 @@ use Rattle.vote_steps.specs.declared.ballot_box.BallotBox.TheInside.{Inside}
 abbrev pub state_of : Inside → BoxState
 state_of a = record { options = a.roll.matrix.options; electors = vec_len a.roll.ballots; limit = a.limit; last_in_time = a.last_in_time; steps = a.steps.items }
 
--- The fields are those of the steps; for each stamp there is a mark, which says whether it is used; and there is room for a
--- step with each stamp and for the close.
+-- The fields follow from the steps. Each stamp has a mark, which says whether it is used. There is room for a step with each
+-- stamp and for the close.
 pub record KeepsHistory (a : Inside) : Type 0 where
   pub legal : IsLegal (state_of a)
   pub closed : a.closed ≡ is_closed a.steps.items

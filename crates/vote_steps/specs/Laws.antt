@@ -1,4 +1,4 @@
--- What holds of every legal history, and of the votes of the ballots that stand.
+-- Facts about every legal history, and about the votes of the ballots that stand.
 use Rattle.std.specs.Prelude.{◌≡◌, ℕ, ◌+◌, ◌≤◌, ◌==◌, List, [], ◌∷◌, ◌++◌, Option, length, count_by}
 use Rattle.std.specs.List.{IsDistinct}
 use Rattle.vote_count.specs.Ballots.{entry_prefers}
@@ -11,7 +11,7 @@ use Rattle.vote_steps.specs.declared.step.Step.TheVariants.{Cast, Close}
 use Rattle.vote_steps.specs.History.{is_close, reply_to, stamps, standing_votes, standing_ballots}
 use Rattle.vote_steps.specs.Boxes.{BoxState, IsLegal, UsesAll}
 
--- no two casts of a legal history have one stamp
+-- no two casts of a legal history have the same stamp
 abbrev pub StampsAreDistinct : Type 0
 StampsAreDistinct = (b : BoxState) → IsLegal b → IsDistinct ◌==◌ (stamps b.steps)
 
@@ -19,7 +19,7 @@ StampsAreDistinct = (b : BoxState) → IsLegal b → IsDistinct ◌==◌ (stamps
 abbrev pub EachStampIsUsed : Type 0
 EachStampIsUsed = (b : BoxState) → IsLegal b → UsesAll b
 
--- a box is closed once at most
+-- a box is closed at most once
 abbrev pub ClosesOnce : Type 0
 ClosesOnce = (b : BoxState) → IsLegal b → count_by is_close b.steps ≤ 1
 
@@ -27,7 +27,7 @@ ClosesOnce = (b : BoxState) → IsLegal b → count_by is_close b.steps ≤ 1
 abbrev pub HasRoomForAll : Type 0
 HasRoomForAll = (b : BoxState) → IsLegal b → length b.steps ≤ b.limit + 1
 
--- the votes of a history are those of a recount of the ballots that stand
+-- the votes of a history are the votes of a recount of the ballots that stand
 abbrev pub VotesAreRecounted : Type 0
 VotesAreRecounted = (last_in_time : ℕ) (steps : List Step) (electors a b : ℕ) → standing_votes last_in_time steps electors a b ≡ count_by (entry_prefers a b) (standing_ballots last_in_time steps electors)
 
@@ -37,7 +37,7 @@ CastsAreAtDesks =
     (b : BoxState) (before after : List Step) (desk stamp : ℕ) (reading : Reading) (reply : Reply) →
     IsLegal b → b.steps ≡ before ++ Cast desk stamp reading reply ∷ after → (1 ≤ desk) × (desk ≤ 8)
 
--- Examples to check by hand: the box has envelope 5, a ballot of voter 0, and no envelope above 9 is in time. Then these are the replies to the next envelope: 3 and 8 of this voter, 3 and 10 of another, and any after the close.
+-- Examples to check by hand: the box has envelope 5, a ballot of voter 0, and no envelope above 9 is in time. These are the replies to the next envelope: to 3 or 8 of this voter, to 3 or 10 of another voter, and to 8 of this voter after the close.
 pub record AreReplies (steps : List Step) (ranks : List (Option ℕ)) : Type 0 where
   pub earlier : reply_to 9 steps 3 (Ballot 0 ranks) ≡ Superseded
   pub later : reply_to 9 steps 8 (Ballot 0 ranks) ≡ Replaced

@@ -7,7 +7,7 @@ pub mod Recasts
 pub mod Laws
 pub mod HeldLines
 pub mod Standing
--- what types stand for, and what private functions say of their parts
+-- the values that contracts see of types, and definitions for the parts of private functions
 pub mod PackedReadings
 pub mod Keeping
 pub mod Receiving

@@ -1,4 +1,4 @@
--- What a step keeps of a line: the reading, as it is packed in memory.
+-- The reading of a line, as a step keeps it packed in memory.
 use Rattle.std.specs.Prelude.{◌≡◌, ◌<◌}
 use Rattle.std.proofs.Common.{refl, ap}
 use Rattle.vote_poll.specs.declared.TheConstants.{MAX_ELECTORS}
@@ -8,7 +8,7 @@ use Rattle.vote_steps.specs.declared.packed_reading.Packed.{Packed}
 use Rattle.vote_steps.specs.declared.packed_reading.Packed.TheVariants.{Ballot as PackedBallot, Bad as PackedBad}
 use Rattle.vote_steps.specs.declared.packed_reading.PackedReading.TheInside.{Inside}
 
--- a ballot is of a voter of a roll
+-- if the reading is a ballot, it is of a voter that a roll can have
 abbrev pub IsOfRoll : Reading → Type 0
 IsOfRoll (Bad fault) = Unit {0}
 IsOfRoll (Ballot voter ranks) = voter < MAX_ELECTORS
@@ -21,7 +21,7 @@ unpacked (PackedBad fault) = Bad fault
 abbrev pub reading_of : Inside → Reading
 reading_of a = unpacked a.packed
 
--- the same the other way round
+-- the packed form of a reading
 abbrev pub packed_of : Reading → Packed
 packed_of (Ballot voter ranks) = PackedBallot voter ranks
 packed_of (Bad fault) = PackedBad fault

@@ -1,4 +1,4 @@
--- What a box that holds the lines of a poll says of the voters: it is what the lines say, whatever the order in which they were cast.
+-- If a box holds the lines of a poll, what it says of the voters follows from the lines, whatever the order in which they were cast.
 use Rattle.std.specs.Prelude.{◌≡◌, ℕ, ◌+◌, List, is_some, length, map, take, count_by}
 use Rattle.std.specs.List.{range_with_len}
 use Rattle.vote_poll.specs.PollContent.{PollContent}
@@ -10,14 +10,14 @@ use Rattle.vote_steps.specs.Boxes.{BoxState}
 use Rattle.vote_steps.specs.Recasts.{last_ballot}
 use Rattle.vote_steps.specs.HeldLines.{HoldsLines}
 
--- of each voter the ranks of the last line stand that reads as a ballot and is not late
+-- the ranks of each voter's ballot that stands are those of the voter's last line that reads as a ballot and is not late
 abbrev pub LastLinesStand : Type 0
 LastLinesStand =
     (poll : PollContent) (lines : List (List ℕ)) (b : BoxState) (voter : ℕ) → HoldsLines poll lines b
     → standing_ranks b.last_in_time b.steps voter ≡ last_ballot (take b.last_in_time (readings poll lines)) voter
 
--- the totals and the votes of a box are those of the lines: a line is valid where it reads as a ballot and is not late, and the
--- last valid one of each voter counts
+-- The totals and the votes of a box are those of the lines: a line is valid if it reads as a ballot and is not late, and each
+-- voter's last valid line counts.
 pub record CountsLines (readings : List Reading) (b : BoxState) : Type 0 where
   pub valid_is : valid b.last_in_time b.steps ≡ count_by is_ballot (take b.last_in_time readings)
   pub refused_is : valid b.last_in_time b.steps + refused b.last_in_time b.steps ≡ length readings

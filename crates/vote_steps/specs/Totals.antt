@@ -1,4 +1,4 @@
--- What a box counts.
+-- The counts of a box.
 use Rattle.vote_steps.specs.Boxes.{BoxState, refused_in, valid_in, voters_in}
 use Rattle.vote_steps.specs.declared.ballot_box.Totals.{Totals}
 

@@ -35,10 +35,9 @@ pub struct AlreadyClosed;
 /// How many lines counted and how many did not, and how many voters have a ballot that stands.
 #[derive(Clone, Copy, Debug, PartialEq, Eq)]
 pub struct Totals {
-    /// The casts that were answered `Counted`, `Replaced` or `Superseded`: the ballots that came before the close and were
-    /// not late.
+    /// The casts with the reply `Counted`, `Replaced` or `Superseded`: the ballots that came before the close and were not late.
     pub valid: u64,
-    /// The casts that were answered `BadLine`, `Late` or `BoxClosed`: all others.
+    /// The casts with any other reply: `BadLine`, `Late` or `BoxClosed`.
     pub refused: u64,
     /// The voters with a ballot that stands.
     pub voters: u64,
@@ -50,7 +49,7 @@ pub struct BallotBox {
     limit: u32,
     last_in_time: u32,
     roll: Roll,
-    /// For each stamp whether a step has it, from stamp 1.
+    /// For each stamp, from 1, whether a step has it.
     used: Vec<bool>,
     steps: Vec<Step>,
     valid: u64,
@@ -71,11 +70,11 @@ impl Model for BallotBox {
 }
 
 impl BallotBox {
-    /// An open box with no steps, for `options` options with the default, `electors` electors and the stamps 1 to `limit`.
-    /// An envelope with a stamp above `last_in_time` is late, in whatever order the envelopes come: with 0 each is, and with
-    /// `MAX_LINES` none.
+    /// An open box with no steps. It has `options` options with the default, `electors` electors and the stamps 1 to `limit`. An
+    /// envelope with a stamp above `last_in_time` is late, in whatever order the envelopes come. With 0 every envelope is late,
+    /// and with `MAX_LINES` none is.
     ///
-    /// All memory is taken here: a ballot for each elector, a mark for each stamp, and a step for each stamp and the close.
+    /// All memory is taken here: a ballot for each elector, a mark for each stamp, and a step for each stamp and for the close.
     pub fn new(
         alloc: Global,
         options: u8,
@@ -108,8 +107,8 @@ impl BallotBox {
         })
     }
 
-    /// An open box with no steps for a poll: with its options and electors, its last envelope in time, and the stamps 1 to
-    /// `limit`. All memory is taken here, as by [`BallotBox::new`].
+    /// An open box with no steps for a poll: with the poll's options and electors, its last envelope in time, and the stamps 1
+    /// to `limit`. All memory is taken here, as in [`BallotBox::new`].
     pub fn for_poll(alloc: Global, poll: &Poll, limit: u32) -> Result<BallotBox, AllocError>
         requires { limit ≤ MAX_LINES }
         ensures { IfOk result (λ b. b ≡ box_of poll.now limit []) }
@@ -123,11 +122,11 @@ impl BallotBox {
         )
     }
 
-    /// Casts an envelope at a desk, from 1 to `MAX_DESKS`, which makes a step with the reply. A ballot in it is of an elector
-    /// of this box, and has a rank or none for each of its options.
+    /// Casts an envelope at a desk, from 1 to `MAX_DESKS`. This makes a step with the reply. If the envelope has a ballot, it is
+    /// from an elector of this box, and has a rank or no rank for each of the box's options.
     ///
-    /// The reply is the first that fits, in the order that [`Reply`] gives; a ballot that is `Counted` or `Replaced` stands from
-    /// now on. `StampRange` and then `StampUsed` are found before, and change nothing: no step, no mark, no count.
+    /// The reply is the first that fits, in the order that [`Reply`] names. A ballot with the reply `Counted` or `Replaced`
+    /// stands from now on. `StampRange` is tested first, and `StampUsed` next. Both change nothing: no step, no mark, no count.
     pub fn cast(&mut self, desk: u8, stamp: u32, reading: Reading) -> Result<Reply, StepFault>
         requires desk { (1 ≤ desk) × (desk ≤ MAX_DESKS) }
         requires reading { ReadingFits self.old.options self.old.electors reading }
@@ -180,7 +179,7 @@ impl BallotBox {
         Ok(reply)
     }
 
-    /// Closes the box, which makes a step. `AlreadyClosed` comes where the box was closed before, and changes nothing.
+    /// Closes the box, which makes a step. If the box was closed before, returns `AlreadyClosed` and changes nothing.
     pub fn close(&mut self) -> Result<(), AlreadyClosed>
         ensures ok { OnOk result (AddsClose self.old self.new) }
         ensures valid { OnOk result (valid_in self.new ≡ valid_in self.old) }
@@ -198,8 +197,9 @@ impl BallotBox {
         Ok(())
     }
 
-    /// The ranks of the ballot of a voter that stands: of those cast before the close that are not late the one with the
-    /// greatest stamp. Voters are numbered from 0. None where the voter has no such ballot, and where there is no such voter.
+    /// The ranks of the voter's ballot that stands: of the voter's ballots that were cast before the close and are not late, the
+    /// one with the greatest stamp. Voters are numbered from 0. `None` if the voter has no such ballot, or if there is no such
+    /// voter.
     pub fn standing(&self, voter: usize) -> Option<Ranks>
         ensures ranks { result ≡ standing_ranks self.now.last_in_time self.now.steps voter }
         ensures fits { IsBallotOf self.now.options result }
@@ -207,8 +207,8 @@ impl BallotBox {
         self.roll.standing(voter)
     }
 
-    /// How many voters prefer each option to each other option, by the ballots that stand. Options are numbered from 1. This
-    /// reads the matrix that the box keeps, and no ballot.
+    /// For each two options, how many voters prefer one to the other, by the ballots that stand. Options are numbered from 1.
+    /// This reads the matrix that the box keeps, and no ballot.
     pub fn matrix(&self) -> Matrix
         ensures options { result.options ≡ self.now.options }
         ensures votes { HasVotesOf self.now result }
@@ -227,11 +227,11 @@ impl BallotBox {
         }
     }
 
-    /// The steps, oldest first: step 1 is at place 0. They are a legal history.
+    /// The steps, oldest first: step 1 is at index 0. They are a legal history.
     pub fn steps(&self) -> &[Step]
         ensures steps { result.now ≡ self.now.steps }
 
-        // What every legal history has.
+        // Facts about every legal history.
         ensures legal { IsLegal self.now }
         ensures len { length self.now.steps ≤ self.now.limit + 1 }
         ensures at_most { length self.now.steps ≤ MAX_LINES + 1 }
@@ -283,9 +283,9 @@ impl BallotBox {
 
 // Adds a step, for which room is kept.
 //
-// It is taken apart and put together again, since the kit does not prove a function that moves a `Step` into a call and has no
-// value of type `Reading` in its hands, as `steps.push_reserved(Step::Close)` in `close`: a type of another crate inside an enum
-// of this one. The copy is of one step.
+// The function takes the step apart and puts it together again. The kit does not prove a function that moves a `Step` into a
+// call and has no value of type `Reading` in its hands, such as `close` with `steps.push_reserved(Step::Close)`: a type of
+// another crate is inside an enum of this crate. Only one step is copied.
 fn push_step(steps: &mut Vec<Step>, step: Step)
     requires { vec_len steps.old < vec_capacity steps.old }
     ensures items { steps.new.items ≡ steps.old.items ++ step ∷ [] }

@@ -10,7 +10,7 @@ use crate::ballot_box::BallotBox;
 use std::alloc::{AllocError, Global};
 use vote_poll::{Lines, Poll, Reading, read_line};
 
-// Casts at desk 1 what was read in the line with this stamp, which is a new one.
+// Casts at desk 1 the reading of the line with this stamp. The stamp is new.
 fn cast_at_desk_1(ballot_box: &mut BallotBox, stamp: u32, reading: Reading)
     requires stamp { (1 ≤ stamp) × (stamp ≤ ballot_box.old.limit) }
     requires unused { is_used ballot_box.old.steps stamp ≡ false }
@@ -22,8 +22,8 @@ fn cast_at_desk_1(ballot_box: &mut BallotBox, stamp: u32, reading: Reading)
     };
 }
 
-/// The closed box of the poll in which desk 1 cast the lines in their order. The stamp of a line
-/// is its number, from 1.
+/// The closed box of the poll, after desk 1 cast the lines in their order. The stamp of a line is
+/// its number, from 1.
 pub fn cast_all(alloc: Global, poll: &Poll, lines: &Lines<'_>) -> Result<BallotBox, AllocError>
     ensures held { IfOk result (HoldsLines poll.now lines.now) }
     ensures in_order { IfOk result (λ b. AreCastInOrder (readings poll.now lines.now) b.steps) }

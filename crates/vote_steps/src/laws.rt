@@ -1,15 +1,15 @@
-//! What the definitions on histories mean: each law is the contract of a function that does nothing.
+//! The meaning of the definitions on histories. Each law is the contract of a function that does nothing.
 ghost use Rattle.vote_steps.specs.Recasts.{OrderDoesNotMatter, TheGreatestStands, EachCastIsCounted};
 ghost use Rattle.vote_steps.specs.Laws.{CastsAreAtDesks, RepliesAsInTheExamples, StampsAreDistinct, EachStampIsUsed, ClosesOnce, HasRoomForAll, VotesAreRecounted};
 ghost use Rattle.vote_steps.specs.HeldLines.{OrderLeavesNoChoice};
 ghost use Rattle.vote_steps.specs.Standing.{LastLinesStand, LinesAreCounted};
 
-/// Of each voter the ballot with the greatest stamp stands, of those that came before the close and are not late.
+/// Of each voter's ballots that came before the close and are not late, the one with the greatest stamp stands.
 pub fn the_greatest_stands()
     ensures { TheGreatestStands }
 {}
 
-/// Whatever the order in which the lines are cast, the last line of each voter stands that is not late.
+/// Whatever the order in which the lines are cast, each voter's last line that is a ballot and is not late stands.
 pub fn order_does_not_matter()
     ensures { OrderDoesNotMatter }
 {}
@@ -19,7 +19,7 @@ pub fn each_cast_is_counted()
     ensures { EachCastIsCounted }
 {}
 
-/// No two casts of a legal history have one stamp.
+/// No two casts of a legal history have the same stamp.
 pub fn stamps_are_distinct()
     ensures { StampsAreDistinct }
 {}
@@ -35,7 +35,7 @@ pub fn casts_are_at_desks()
     ensures { CastsAreAtDesks }
 {}
 
-/// Examples in numbers of the reply to an envelope: an earlier one of the same voter is superseded, a later one replaces.
+/// Examples of the reply to an envelope: an earlier envelope of the same voter is superseded, and a later envelope replaces.
 #[tactic(auto, using(crate::proofs::Examples::replies_in_examples))]
 pub fn replies_are_as_in_the_examples()
     ensures { RepliesAsInTheExamples }
@@ -46,29 +46,29 @@ pub fn closes_once()
     ensures { ClosesOnce }
 {}
 
-/// A legal history has at most one step for each stamp, and one more.
+/// A legal history has at most one step for each stamp, and one more step.
 pub fn has_room_for_all()
     ensures { HasRoomForAll }
 {}
 
-/// The votes of a history are those of a recount of the ballots that stand.
+/// The votes of a history are the votes of a recount of the ballots that stand.
 pub fn votes_are_recounted()
     ensures { VotesAreRecounted }
 {}
 
-/// In a box that holds the lines of a poll the last line of each voter stands that is not late, whatever the order in which
-/// the lines were cast.
+/// In a box that holds the lines of a poll, each voter's last line that is a ballot and is not late stands, whatever the
+/// order in which the lines were cast.
 pub fn last_lines_stand()
     ensures { LastLinesStand }
 {}
 
-/// What a box counts that holds the lines of a poll is what the lines say: how many are ballots and not late, how many voters
-/// have one, and how many voters' last such ballots prefer one option to another.
+/// The counts of a box that holds the lines of a poll follow from the lines: how many lines are ballots and not late, how
+/// many voters have such a line, and how many voters' last such ballots prefer one option to another.
 pub fn lines_are_counted()
     ensures { LinesAreCounted }
 {}
 
-/// There is one history in which desk 1 casts the lines of a poll in their order.
+/// There is only one history in which desk 1 casts the lines of a poll in their order.
 pub fn order_leaves_no_choice()
     ensures { OrderLeavesNoChoice }
 {}

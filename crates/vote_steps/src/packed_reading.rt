@@ -1,12 +1,12 @@
-//! What a step keeps of a line.
+//! The reading of a line, as a step keeps it.
 ghost use Rattle.std.specs.Prelude.{◌≡◌};
 ghost use Rattle.vote_steps.specs.PackedReadings.{IsOfRoll};
 
 use std::marker::Model;
 use vote_poll::{LineFault, Ranks, Reading};
 
-/// A reading packed into 38 bytes in place of 56; contracts see the reading. A box has a step for each line, so the steps are
-/// most of the memory that it takes.
+/// A reading packed into 38 bytes instead of 56. Contracts see the reading. A box has a step for each line, so the steps take
+/// most of its memory.
 #[derive(Clone, Copy)]
 pub struct PackedReading {
     packed: Packed,
@@ -15,7 +15,7 @@ pub struct PackedReading {
 /// The form that takes fewer bytes.
 #[derive(Clone, Copy)]
 enum Packed {
-    /// A ballot of the voter at this place of the roll, from 0. A roll is short, so a place takes two bytes.
+    /// A ballot of the voter at this position of the roll, from 0. A roll is short, so a position fits in two bytes.
     Ballot { voter: u16, ranks: Ranks },
     /// No ballot.
     Bad(LineFault),
@@ -36,7 +36,7 @@ impl Model for PackedReading {
 }
 
 impl PackedReading {
-    /// Packs a reading. A ballot is of a voter on a roll.
+    /// Packs a reading. If it is a ballot, it is of a voter on a roll.
     pub fn of(reading: &Reading) -> PackedReading
         requires { IsOfRoll reading.now }
         ensures { result ≡ reading.now }

@@ -1,8 +1,8 @@
 //! The ballots that stand, and their matrix.
 //!
-//! The matrix is kept by differences: a ballot that comes to stand is added, or exchanged for the one that it replaces. Each
-//! costs n² additions of bytes at n options, of which there are at most 32, sixteen at a time, and nothing in voters or lines.
-//! A recount at each question would cost as much for each voter on the roll, and a desk may ask after each cast.
+//! The matrix is kept by differences: a ballot that comes to stand is added, or exchanged for the ballot that it replaces.
+//! With n options, at most 32, each costs n² additions of bytes, sixteen at a time, whatever the number of voters and lines. A
+//! recount at each question would cost as much for each voter on the roll, and a desk may ask after each cast.
 ghost use Rattle.std.specs.Prelude.{◌≡◌, ◌<◌, ◌≤◌, length, is_some, vec_len, count_by};
 ghost use Rattle.vote_poll.specs.declared.TheConstants.{MAX_ELECTORS};
 ghost use Rattle.vote_count.specs.Ballots.{IsBallotOf};
@@ -13,14 +13,14 @@ use crate::step::{Received, Reply};
 use vote_count::RunningMatrix;
 use vote_poll::Ranks;
 
-/// The ballots that stand, and the votes that they make together.
+/// The ballots that stand, and their votes together.
 #[derive(Drop)]
 pub struct Roll {
-    /// For each voter the ballot that stands, by the place on the roll, from 0.
+    /// The ballot that stands of each voter, by the position on the roll, from 0.
     pub ballots: Vec<Option<Received>>,
     /// How many voters have a ballot that stands.
     pub voters: u64,
-    /// How many voters prefer each option to each other option.
+    /// For each two options, how many voters prefer one to the other.
     pub matrix: RunningMatrix,
     ghost few: { vec_len ballots ≤ MAX_ELECTORS },
     ghost fit: { HaveRanks matrix.options ballots.items },
@@ -29,7 +29,7 @@ pub struct Roll {
 }
 
 impl Roll {
-    /// The ranks of the ballot of a voter that stands. None too for a voter who is not on the roll.
+    /// The ranks of a voter's ballot that stands. `None` too if the voter is not on the roll.
     pub fn standing(&self, voter: usize) -> Option<Ranks>
         ensures ranks { result ≡ ranks_at self.now.ballots.items voter }
         ensures fits { IsBallotOf self.now.matrix.options result }
@@ -40,7 +40,7 @@ impl Roll {
         }
     }
 
-    /// Takes in a ballot of a voter. It stands from now on, unless one with a greater stamp does.
+    /// Takes in a ballot of a voter. It stands from now on, unless a ballot with a greater stamp does.
     pub fn receive(&mut self, voter: usize, ballot: Received) -> Reply
         requires voter { voter < vec_len self.old.ballots }
         requires ranks { length ballot.ranks ≡ self.old.matrix.options }

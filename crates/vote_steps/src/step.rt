@@ -2,17 +2,17 @@
 use crate::packed_reading::PackedReading;
 use vote_poll::{LineFault, Ranks};
 
-/// What a cast is answered: the first of these that fits, in the order `BoxClosed`, `Late`, `BadLine`, `Superseded`,
+/// The reply to a cast: the first of these that fits, in the order `BoxClosed`, `Late`, `BadLine`, `Superseded`,
 /// `Replaced`, `Counted`.
 #[derive(Clone, Copy, Debug, PartialEq, Eq)]
 pub enum Reply {
-    /// The line is a ballot of a voter who has none yet. It stands.
+    /// The line is a ballot of a voter who has no ballot yet. It stands.
     Counted,
-    /// The voter's ballot that stood has a smaller stamp. This one stands in its place.
+    /// The voter's ballot that stood has a smaller stamp. The new ballot stands in its place.
     Replaced,
-    /// The voter's ballot that stands has a greater stamp. It goes on to stand.
+    /// The voter's ballot that stands has a greater stamp. It still stands.
     Superseded,
-    /// The line is no ballot, for the fault that is given.
+    /// The line is no ballot, because of this fault.
     BadLine(LineFault),
     /// The stamp of the envelope is above the last envelope of the box. The line does not count, whatever it says and
     /// whenever it came.
@@ -30,19 +30,19 @@ pub enum Step {
         desk: u8,
         /// Its stamp, from 1 to the limit of the box.
         stamp: u32,
-        /// What the poll reads in its line.
+        /// The poll's reading of its line.
         reading: PackedReading,
-        /// What the cast was answered.
+        /// The reply to the cast.
         reply: Reply,
     },
     /// The box was closed.
     Close,
 }
 
-/// A ballot as it came.
+/// A ballot as it was received.
 #[derive(Clone, Copy)]
 pub struct Received {
-    /// The rank that it gives each option, or none.
+    /// The rank that it gives each option, or no rank.
     pub ranks: Ranks,
     /// The stamp of its envelope, from 1.
     pub stamp: u32,

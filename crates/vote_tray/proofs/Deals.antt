@@ -1,4 +1,4 @@
--- Passes are cut off one after the other, each with the next part.
+-- Passes are cut off one after another, each with the next part.
 use Rattle.std.proofs.Common.{◌≡◌, ℕ, suc, ◌+◌, ◌-◌, ◌<◌, ◌≤◌, List, [], ◌∷◌, ◌++◌, map, take, drop, length, All, sym, refl, ap, subst, ◌∙◌, arith, zero-le}
 use Rattle.std.specs.List.{range_with_len}
 use Rattle.std.proofs.lemmas.List.FromFn.{length-range_with_len, length-map-range_with_len, get_or-map-range_with_len, map-range_with_len_more}
@@ -10,7 +10,7 @@ use Rattle.vote_tray.specs.Passes.{TrayId, PassState, new_pass, IsSound}
 abbrev pub with_parts : TrayId → List ℕ → PassState
 with_parts tray parts = record { tray = tray; seen = 0; places = []; parts = parts }
 
--- what is left of the pass with all parts once `done` of them were given away
+-- the rest of the pass with all parts, after `done` parts were given away
 abbrev pub rest_after : TrayId → ℕ → ℕ → PassState
 rest_after tray passes done = with_parts tray (range_with_len done (passes - done))
 

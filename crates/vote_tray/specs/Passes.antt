@@ -1,4 +1,4 @@
--- What contracts see of a tray and of a pass.
+-- The values that contracts see of a tray and of a pass.
 use Rattle.std.specs.Prelude.{◌≡◌, ℕ, ◌+◌, ◌<◌, ◌≤◌, max, List, [], ◌∷◌, ◌++◌, Contains, map}
 use Rattle.std.specs.List.{range_with_len}
 use Rattle.atomic_table.specs.Seated.{TableId}
@@ -17,15 +17,15 @@ pub record PassState : Type 0 where
   pub places : List ℕ
   pub parts : List ℕ
 
--- a pass that has taken nothing, and has this part alone
+-- a pass that has taken nothing, and has only this part
 abbrev pub new_pass : TrayId → ℕ → PassState
 new_pass t part = record { tray = t; seen = 0; places = []; parts = part ∷ [] }
 
--- the passes of a new tray with so many: the one at position j, from 0, has the part j alone
+-- the passes of a new tray: the pass at index j, from 0, has only part j
 abbrev pub new_passes : TrayId → ℕ → List PassState
 new_passes t passes = map (new_pass t) (range_with_len 0 passes)
 
--- these are so many, and they are those of a new tray
+-- there are this many passes, and they are the passes of a new tray
 abbrev pub AreNewPasses : TrayId → ℕ → ℕ → List PassState → Type 0
 AreNewPasses t passes count dealt = (count ≡ passes) × (dealt ≡ new_passes t passes)
 
@@ -33,19 +33,19 @@ AreNewPasses t passes count dealt = (count ≡ passes) × (dealt ≡ new_passes 
 abbrev pub whole_pass : TrayId → ℕ → PassState
 whole_pass t passes = record { tray = t; seen = 0; places = []; parts = range_with_len 0 passes }
 
--- the pass once it has seen this many places taken
+-- the pass after it has seen this many places taken
 abbrev pub with_seen : PassState → ℕ → PassState
 with_seen p word = record p { seen = word }
 
--- the pass once it has taken this place
+-- the pass after it took this place
 abbrev pub with_place : PassState → ℕ → PassState
 with_place p place = record p { seen = place + 1; places = p.places ++ place ∷ [] }
 
--- the pass took this place of the tray, below which the places are that it had seen taken
+-- the pass took this place of the tray, and the places that it had seen taken are below it
 abbrev pub TakesPlace : TrayId → PassState → ℕ → PassState → Type 0
 TakesPlace t p place q = (p.seen ≤ place) × (place < t.size) × (q ≡ with_place p place)
 
--- the places of the first and then those of the second, the parts of both, and the greater of the two numbers seen
+-- the places of the first pass and then those of the second, the parts of both, and the greater of the two numbers seen
 abbrev pub joined : PassState → PassState → PassState
 joined p q = record p { seen = max p.seen q.seen; places = p.places ++ q.places; parts = p.parts ++ q.parts }
 
@@ -53,6 +53,6 @@ joined p q = record p { seen = max p.seen q.seen; places = p.places ++ q.places;
 abbrev pub IsSound : PassState → Type 0
 IsSound p = (p.seen ≤ p.tray.size) × AtMostOnce p.tray.size p.places × AtMostOnce p.tray.passes p.parts
 
--- the pass has every part of its tray, as it has once all passes were joined into it
+-- the pass has every part of its tray, as it does after all passes were joined into it
 abbrev pub HasAllParts : PassState → Type 0
 HasAllParts p = (part : ℕ) → part < p.tray.passes → Contains p.parts part

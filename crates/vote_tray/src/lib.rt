@@ -1,33 +1,30 @@
-//! A lock-free tray of numbered places, which threads take: each place once, and none left out.
+//! A lock-free tray of numbered places. Threads take the places: each place is taken once, and none is left out.
 //!
-//! A tray of `size` places has the places 0 to `size - 1`, and hands out a fixed number of passes.
-//! A desk, which is a thread of its own, takes envelopes by taking places with its pass. When all
-//! desks are done, their passes are joined into one, and the tray is finished with it.
+//! A tray of `size` places has the places 0 to `size - 1`, and hands out a fixed number of passes. A desk is a thread of its own.
+//! It takes envelopes by taking places with its pass. When all desks are done, their passes are joined into one, and the tray is
+//! finished with that pass.
 //!
-//! **What is shared.** One word: the number of places that are taken. It starts at 0 and rises by
-//! one at a time, up to `size`. Only the owner of a pass can write it, by a compare-exchange from a
-//! number to the next one, which takes the place of the first number. A pass is used by one thread
-//! at a time, and holds the word as that thread last saw it. Which places a pass took, and which
-//! parts it has, stands in proofs alone and costs no byte. `rule` has the rule that the word and
-//! all passes keep between any two steps.
+//! **What is shared.** One word: the number of places that are taken. It starts at 0 and rises by one at a time, up to `size`.
+//! Only the owner of a pass can write it, by a compare-exchange from a number to the next number. This takes the place with the
+//! first number. A pass is used by one thread at a time, and holds the word as that thread last saw it. The places that a pass
+//! took, and its parts, exist only in proofs and cost no byte. `rule` has the rule that the word and all passes keep between any
+//! two steps.
 //!
-//! **What is promised.** Each place below the word was taken by one pass, once, and no other place
-//! was taken. `take` returns a place, or that none is left, and tries again only if another pass
-//! took a place meanwhile. A pass that all passes were joined into has taken all places below the
-//! number that `finish` returns. No call takes a `Wait`, so none can wait for another thread: a
-//! tray behind a `Mutex` does not compile under these signatures.
+//! **What is promised.** Each place below the word was taken by one pass, once, and no other place was taken. `take` returns a
+//! place, or reports that none is left, and tries again only if another pass took a place meanwhile. If all passes were joined
+//! into one pass, it has taken all places below the number that `finish` returns. No call takes a `Wait`, so no call can wait for
+//! another thread: a tray behind a `Mutex` does not compile with these signatures.
 //!
-//! **What is not promised.** Fairness, for one pass may get all places. Any order between desks:
-//! who takes which place, or that a place is worked off before the next one is taken. That an
-//! attempt wins. The places of a pass that was dropped stay taken, and its parts are lost: no pass
-//! has all parts from then on.
+//! **What is not promised.** Fairness: one pass may get all places. Any order between desks: which desk takes which place, or that
+//! a place is worked off before the next place is taken. That an attempt wins. The places of a pass that was dropped stay taken,
+//! and its parts are lost: from then on no pass has all parts.
 //!
-//! **Orderings.** Each step on the word is sequentially consistent. `atomic_table` has no weaker
-//! step, and its rules speak of one order of all steps.
+//! **Orderings.** Each step on the word is sequentially consistent. `atomic_table` has no weaker step, and its rules are about one
+//! order of all steps.
 //!
-//! **Why `join` loads.** Joining two seats tells nothing of the rule: what a caller knows of it is
-//! learnt by a step on the word. So `join` makes a load with the joined seat, which shows that no
-//! place and no part was in both passes. The number that it reads is not used.
+//! **Why `join` loads.** Joining two seats reveals nothing about the rule: a caller learns about it only by a step on the word. So
+//! `join` makes a load with the joined seat, which shows that no place and no part was in both passes. The number that it reads is
+//! not used.
 #![tactic(auto)]
 
 ghost use Rattle.std.specs.Prelude.{◌≡◌, ◌≢◌, ◌↔◌, ◌<◌, ◌≤◌, [], length, take, drop, vec_len, All, IfOk, IfSome, IfNone, Err};
@@ -52,7 +49,7 @@ pub const MAX_PASSES: u8 = 8;
 /// Why there is no tray.
 #[derive(Clone, Copy, Debug, PartialEq, Eq, Error)]
 pub enum TrayFault {
-    /// More than `MAX_PLACES` places were asked for. Memory has not been asked for then.
+    /// More than `MAX_PLACES` places were asked for. No memory was asked for.
     #[error("too many places")]
     TooMany,
     /// Memory for the word or for the list of passes was refused.
@@ -71,8 +68,7 @@ impl From<AllocError> for TrayFault {
     }
 }
 
-/// A tray of places, numbered from 0. Threads share it by reference, and each takes places with a
-/// pass of its own.
+/// A tray of places, numbered from 0. Threads share it by reference, and each takes places with a pass of its own.
 ///
 /// Contracts see which tray it is, the number of its places and the number of its passes.
 #[derive(Drop)]
@@ -94,10 +90,10 @@ impl Model for Tray {
 
 /// The right to take places of one tray, for one thread at a time.
 ///
-/// Contracts see its tray, the number of taken places that it has seen, the places that it took, in
-/// that order, and its parts. Each pass of a new tray has one part, numbered from 0, and a joined
-/// pass has those of both. It is a condition of each call that the pass is of this tray.
-// `seen` is at most what the seat has seen: the load in `join` raises the latter alone.
+/// Contracts see its tray, the number of taken places that it has seen, the places that it took, in that order, and its parts.
+/// Each pass of a new tray has one part, numbered from 0. A joined pass has the parts of both passes. Each call requires that the
+/// pass is of this tray.
+// `seen` is at most what the seat has seen: the load in `join` changes only what the seat has seen.
 #[derive(Drop)]
 pub struct Pass {
     seat: Seat<(), View>,
@@ -116,21 +112,21 @@ impl Model for Pass {
     ghost invariant = { λ p. (p.seen ≤ p.seat.me.0.seen) × (p.seat.me.1 ≡ []) × (p.seat.me.0.parts ≢ []) × IsSoundView p.seat.me.0 };
 }
 
-/// What one attempt to take a place gave.
+/// The result of one attempt to take a place.
 #[derive(Clone, Copy, Debug, PartialEq, Eq)]
 pub enum Take {
     /// The pass has seen that all places are taken. No attempt was made.
     Empty,
     /// The pass took this place.
     Got(u64),
-    /// Others were faster: this many places are taken, more than the pass had seen.
+    /// Others were faster: this many places are taken, which is more than the pass had seen.
     Lost(u64),
 }
 
 impl Tray {
-    /// A tray of `size` places, at most `MAX_PLACES`, and its passes, 1 to `MAX_PASSES` of them.
+    /// A tray of `size` places, at most `MAX_PLACES`, and its passes, from 1 to `MAX_PASSES`.
     ///
-    /// The pass at position `j` of the list, from 0, has the part `j` alone, and has taken nothing.
+    /// The pass at index `j` of the list, from 0, has only part `j`, and has taken nothing.
     pub fn new(alloc: Global, size: u64, passes: u8) -> Result<(Tray, Vec<Pass>), TrayFault>
         requires { (1 ≤ passes) × (passes ≤ MAX_PASSES) }
         ensures too_many { (result ≡ Err TrayFault.TooMany) ↔ (MAX_PLACES < size) }
@@ -187,7 +183,7 @@ impl Tray {
 
     /// Tries once to take the place that is next as far as the pass has seen.
     ///
-    /// It makes one compare-exchange, or none if the pass has seen all places taken.
+    /// It makes one compare-exchange, or none if the pass has seen that all places are taken.
     pub fn try_take(&self, pass: &mut Pass) -> Take
         requires { pass.old.tray ≡ self.now }
         ensures answer { Attempts pass.old result pass.new }
@@ -214,8 +210,8 @@ impl Tray {
 
     /// Takes the first place that is left. It returns `None` only if no place is left.
     ///
-    /// It looks at the word once and then tries until an attempt is not lost. It waits for nobody: it takes no `Wait`, and without
-    /// one a body that waits does not compile.
+    /// It loads the word once, and then tries until an attempt is not lost. It never waits for a thread: it takes no `Wait`, and
+    /// without one a body that waits does not compile.
     pub fn take(&self, pass: &mut Pass) -> Option<u64>
         requires { pass.old.tray ≡ self.now }
         ensures some { IfSome result (λ place. TakesPlace self.now pass.old place pass.new) }
@@ -233,9 +229,9 @@ impl Tray {
         }
     }
 
-    /// The two passes as one. No place and no part was in both.
+    /// Joins two passes into one. No place and no part was in both.
     ///
-    /// It has the places of the first and then those of the second, and the parts of both.
+    /// The joined pass has the places of the first and then those of the second, and the parts of both.
     pub fn join(&self, mut first: Pass, second: Pass) -> Pass
         requires { (first.tray ≡ self.now) × (second.tray ≡ self.now) }
         ensures joined { result ≡ joined first second }
@@ -245,7 +241,7 @@ impl Tray {
         let Pass { seat, seen } = second;
         let shared = &self.table.shared;
         shared.join_seat::<Glue>(&mut first.seat, seat);
-        // Only a step tells what the rule says of the joined seat: that no place and no part was in both.
+        // Only a step shows what the rule says of the joined seat: no place and no part was in both.
         shared.load::<Look>(&mut first.seat, 0);
         first.seen = first.seen.max(seen);
         first
@@ -253,7 +249,7 @@ impl Tray {
 
     /// Ends the tray with one of its passes, and returns how many places all passes took.
     ///
-    /// If every pass was joined into this one, it has taken each place below that number.
+    /// If every pass was joined into this pass, it has taken each place below that number.
     pub fn finish(self, pass: Pass) -> u64
         requires { pass.tray ≡ self }
         ensures word { (pass.seen ≤ result) × (result ≤ self.size) }

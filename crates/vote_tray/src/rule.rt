@@ -1,16 +1,17 @@
-//! The rule that a tray keeps between any two steps, and what each step tells.
+//! The rule that a tray keeps between any two steps, and what each step shows.
 //!
-//! There are seven kinds of step, each made with the seat of one pass:
+//! There are seven kinds of step. Each is made with the seat of one pass:
 //!
 //! - The table is made, and its first pass has all parts (`Dealing`).
 //! - A load: the pass has seen the word (`Look`).
 //! - A compare-exchange that wins: the word rises by one, and the pass has that place (`Claim`).
 //! - A compare-exchange that loses: the pass has seen the word, which was greater (`Claim`).
-//! - A pass is cut in two, while a tray is made and never later: one part is the new one's (`Cut`).
-//! - Two passes are joined: the first has the places and parts of both, the second none (`Glue`).
+//! - A pass is cut in two, only while a tray is made: the new pass gets one part (`Cut`).
+//! - Two passes are joined: the first has the places and parts of both, and the second has none
+//!   (`Glue`).
 //! - The table is closed, with one pass.
 //!
-//! To drop a pass is no step: what it knew stays under the rule.
+//! Dropping a pass is not a step: what the pass knew stays under the rule.
 ghost use Rattle.vote_tray.specs.Rule.{IsDealt, first_view, looked, claimed, first_part, other_parts, both_views, spent_view};
 
 use atomic_table::{Join, Play, Split, TableRule};
@@ -22,11 +23,11 @@ pub struct View {
     pub size: u64,
     /// The number of passes of its tray.
     pub passes: u8,
-    /// The word as it last saw it.
+    /// The word as the pass last saw it.
     pub seen: u64,
-    /// The places that it took, in that order, each from 0 to `size - 1`.
+    /// The places that the pass took, in that order. Each is from 0 to `size - 1`.
     pub places: LinkedList<u64>,
-    /// Its parts, each from 0 to `passes - 1`.
+    /// The parts of the pass. Each is from 0 to `passes - 1`.
     pub parts: LinkedList<u8>,
 }
 

@@ -37,7 +37,7 @@ def run(election: Election, arguments: Arguments) -> None:
             raise Fault(None, NOT_SECRET, f"see {election.command('status')}")
     history, private = election.history(), election.path(PRIVATE)
     write_slips(election, history, poll)
-    when = "The call writes into them until when one can vote and where to, so print them after it."
+    when = "The call adds when the vote ends and where ballots go, so print them after it."
     tell(f"The slips: {private / SLIPS}. {when}")
     if history.has_codes_on_roll:
         tell("Nobody may have a list of who gets which code. Destroy the slips that are left over, and the file.")

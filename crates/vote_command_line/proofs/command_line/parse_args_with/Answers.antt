@@ -33,7 +33,7 @@ refused : (kinds : Kinds) (error : Error) → HasKind kinds error → IsRefusal 
 refused kinds error (inl memory) by = absurd (by.2 memory)
 refused kinds error (inr among) by = (kind_of error, by, among)
 
--- no request, where `clap` finds an error
+-- no request, if `clap` finds an error
 at_fault : (kinds : Kinds) (subcommand : Option (Text × List Row)) (error : Error) (fault : ArgsFault) → HasKind kinds error → (fault ≢ Memory → IsFaultOfKind (kind_of error) fault)
     → IsArgsFault kinds subcommand fault
 at_fault kinds subcommand error (Help text) has by = asked kinds error has (by (λ e. cc))
@@ -49,7 +49,7 @@ returns-in-Err-clause-no_request c =
     let has = subst P same (c.in-Err.ensures.kinds (ap is_simple_and_free same ∙ free)) in
     at_fault (fault_of debvote_command texts) (subcommand_of debvote_command texts) c.in-Err.error c.args_fault_of.result has c.args_fault_of.ensures
 
--- no request, where the words ask for none: a refusal with the usage
+-- no request, if the words ask for none: a refusal with the usage
 without_request : (kinds : Kinds) (subcommand : Option (Text × List Row)) (fault : ArgsFault) → ((text : _) → fault ≢ Help text) → fault ≢ NotUtf8
     → ((request : NamedRequest) → IsSubcommandOf subcommand request → ⊥) → IsArgsFault kinds subcommand fault
 without_request kinds subcommand (Help text) no_help read none = absurd (no_help text refl)

@@ -1,4 +1,4 @@
--- Each command has the request of its options: the subcommand that `clap` found is the one whose function is called.
+-- Each command has the request of its options: the function of the subcommand that `clap` found is called.
 use Rattle.std.proofs.Common.{◌≡◌, ◌∙◌, IfNone, IfSome, List, Option, Some, None, ap, option_map, subst, sym, unwrap_or}
 use Rattle.clap.specs.Words.{Row, Text, found_of, rows_of, subcommand_name_of, subcommand_rows_of}
 use Rattle.clap.specs.declared.parser.matches.ArgMatches.{ArgMatches}
@@ -6,7 +6,7 @@ use Rattle.clap.specs.declared.parser.matches.ArgMatches.TheViews.{out-ArgMatche
 use Rattle.vote_command_line.specs.ParsedArgs.{HasValues, IsRequestOf, IsSubcommandOf, NamedRequest}
 use Rattle.vote_command_line.proofs.command_line.request_of.Goals as goal
 
--- a name and rows that stand in one subcommand
+-- a name and rows from one subcommand
 joined : {S : Type 0} (name_at : S → Text) (rows_at : S → List Row) (sub : Option S) (name : Text) (rows : List Row) → Some name ≡ option_map name_at sub
     → Some rows ≡ option_map (λ (p : Text × List Row). p.1) (option_map {U = Text × List Row} (λ s. (name_at s, rows_at s)) sub) → option_map {U = Text × List Row} (λ s. (name_at s, rows_at s)) sub ≡ Some (name, rows)
 joined name_at rows_at None name rows is has = cc

@@ -1,4 +1,4 @@
--- The loop finds the cause of each option; defeats and rounds are those of the kept options, so the verdict is an outcome.
+-- The loop finds the cause of each option. Defeats and rounds are those of the kept options, so the verdict is an outcome.
 use Rattle.std.proofs.Common.{◌≢◌, ℕ, ◌-◌, length, ◌<◌, ◌≤◌, inl, inr, sym, ◌∙◌, subst, arith}
 use Rattle.std.proofs.lemmas.Grind.{common_steps, elements, moves, pieces}
 use Rattle.std.proofs.lemmas.Bool.{cases_eq}

@@ -1,4 +1,4 @@
--- The set so far has the default option, and of the options below the next one those that are kept.
+-- The set so far has the default option, and the options below the next option that are kept.
 use Rattle.std.proofs.Common.{◌≡◌, ℕ, ◌<◌, inl, inr, sym, ◌∙◌, subst, arith}
 use Rattle.std.proofs.lemmas.Bool.{both_ways}
 use Rattle.vote_poll.specs.PollContent.{option_count}

@@ -1,4 +1,4 @@
--- What is compared are the votes for and against the option, in 64 bits; `P` says of a wording that they are a majority.
+-- The votes for and against the option are compared in 64 bits; `P` says that they are a majority in a wording.
 use Rattle.std.proofs.Common.{◌≡◌, ◌*◌, ◌≤◌, sym, ap, ◌∙◌, subst, arith}
 use Rattle.std.proofs.lemmas.Bool.{le-leb, leb-true, lt-ltb, ltb-true}
 use Rattle.std.proofs.Math.Nat.{mul-le-mul}

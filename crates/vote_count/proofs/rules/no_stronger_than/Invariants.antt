@@ -1,4 +1,4 @@
--- those of the defeats by options before `a`, and of those by `a` of options before `b`
+-- the defeats that are no stronger: those by options before `a`, and those by `a` over options before `b`
 use Rattle.std.proofs.Common.{◌≡◌, ℕ, ◌+◌, ◌<◌, ◌≤◌, ◌⊎◌, ◌↔◌}
 use Rattle.vote_count.specs.Sets.{Pairs}
 use Rattle.vote_count.specs.Rules.{IsWeaker}

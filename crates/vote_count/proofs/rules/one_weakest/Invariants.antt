@@ -1,4 +1,4 @@
--- the weakest of the defeats by options before `a`, and of those by `a` of options before `b`
+-- the weakest of the defeats by options before `a`, and of those by `a` over options before `b`
 use Rattle.std.proofs.Common.{◌≡◌, ◌+◌, ◌<◌, ◌≤◌, ◌⊎◌}
 use Rattle.vote_count.specs.Sets.{Pairs}
 use Rattle.vote_count.specs.Weakest.{IsOneWeakest}

@@ -1,4 +1,4 @@
--- Each pass of the loop moves the turn and the one as far back; up to eight options meet in no other turn.
+-- Each pass of the loop moves this turn, and the turn as far back; up to eight options meet in no other turn.
 use Rattle.std.proofs.Common.{◌≡◌, ◌≢◌, ℕ, ◌+◌, ◌-◌, ◌<◌, [], get_or, set, subst, sym, ap₂, ◌∙◌, refl, inl, inr, arith}
 use Rattle.std.proofs.lemmas.Bool.{cases_eq}
 use Rattle.std.proofs.lemmas.List.{get_or-set_other}
@@ -9,7 +9,7 @@ use Rattle.vote_count.proofs.TurnLanes.{moves_by}
 use Rattle.vote_count.proofs.Turns.{moved-here, moved-there, turns-with}
 use Rattle.vote_count.proofs.running_matrix.change_few.Goals as goal
 
--- a turn that is neither this one nor the one as far back
+-- a turn that is neither this turn nor the turn as far back
 earlier : (turn t : ℕ) → t ≢ turn → t ≢ 16 - turn → IsFewTurn (turn + 1) t → IsFewTurn turn t
 earlier turn t other other_back is =
     elim is [

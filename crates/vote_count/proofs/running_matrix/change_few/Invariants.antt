@@ -2,7 +2,7 @@ use Rattle.std.proofs.Common.{◌≡◌, ℕ, ◌+◌, ◌≤◌, ◌⊎◌, [],
 use Rattle.vote_count.specs.Changes.{AreTurns, IsFewTurn, IsMoved, lane_vote}
 use Rattle.vote_count.proofs.running_matrix.change_few.Given as goal
 
--- the turns before this one are moved, and those that are as far back, and the others are as they were
+-- the turns before this turn are moved, and so are the turns as far back; the others are as they were
 abbrev pub invariant-loop-turn : goal.invariant-loop-turn
 invariant-loop-turn l = record {
   turns : AreTurns l.changes;

@@ -2,7 +2,7 @@ use Rattle.std.proofs.Common.{◌≡◌, ℕ, ◌+◌, ◌*◌, ◌<◌, ◌≤�
 use Rattle.vote_count.specs.Changes.{AreTurns, IsMoved, lane_vote}
 use Rattle.vote_count.proofs.running_matrix.change_square.Given as goal
 
--- the turns of the square before this one are moved, and the others are as they were
+-- the turns of the square before this turn are moved, and the others are as they were
 abbrev pub invariant-loop-turn : goal.invariant-loop-turn
 invariant-loop-turn l = record {
   turns : AreTurns l.changes;

@@ -2,7 +2,7 @@ use Rattle.std.proofs.Common.{◌≡◌, ℕ, ◌+◌, ◌*◌, ◌<◌, ◌≤�
 use Rattle.vote_count.specs.Changes.{AreTurns, IsMoved, lane_vote}
 use Rattle.vote_count.proofs.running_matrix.change_squares.Given as goal
 
--- the squares before this one are moved, and the others are as they were
+-- the squares before this square are moved, and the others are as they were
 abbrev pub invariant-loop-square : goal.invariant-loop-square
 invariant-loop-square l = record {
   turns : AreTurns l.changes;

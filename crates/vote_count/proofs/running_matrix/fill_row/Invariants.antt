@@ -3,7 +3,7 @@ use Rattle.vote_poll.specs.declared.TheConstants.{MAX_OPTIONS}
 use Rattle.vote_count.specs.Changes.{sum_at}
 use Rattle.vote_count.proofs.running_matrix.fill_row.Given as goal
 
--- the columns before this one are filled
+-- the columns before this column are filled
 abbrev pub invariant-loop-column : goal.invariant-loop-column
 invariant-loop-column l = record {
   long : length l.counts ≡ MAX_OPTIONS;

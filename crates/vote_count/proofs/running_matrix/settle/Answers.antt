@@ -1,4 +1,4 @@
--- The turns so far are settled, and those that are left are as they came.
+-- The turns so far are settled, and the others are as they were.
 use Rattle.std.proofs.Common.{◌≡◌, ℕ, ◌+◌, ◌%◌, ◌<◌, ◌≤◌, List, [], get_or, subst, arith}
 use Rattle.vote_count.specs.Changes.{IsSettled, turn_of}
 use Rattle.vote_count.proofs.Cells.{rows_with}

@@ -2,7 +2,7 @@ use Rattle.std.proofs.Common.{◌≡◌, ℕ, ◌<◌, ◌≤◌, [], get_or}
 use Rattle.vote_count.specs.Changes.{AreTurns, IsSettled}
 use Rattle.vote_count.proofs.running_matrix.settle.Given as goal
 
--- the turns before this one are settled, and the others are as they were
+-- the turns before this turn are settled, and the others are as they were
 abbrev pub invariant-loop-turn : goal.invariant-loop-turn
 invariant-loop-turn l = record {
   settled : AreTurns l.settled;

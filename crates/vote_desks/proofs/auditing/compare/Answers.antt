@@ -1,4 +1,4 @@
--- On each way out all tests before it passed: what is returned is the first fault, or there is none and the box is audited.
+-- At each return all earlier tests passed: the result is the first fault, or no fault was found and the box is audited.
 use Rattle.std.proofs.Common.{◌≡◌, ◌+◌, List, [], ◌∷◌, ◌++◌, Ok, Err, length, map, vec_items, sym, ap, ◌∙◌, subst, arith}
 use Rattle.std.specs.List.{All}
 use Rattle.vote_desks.specs.declared.fault.AuditFault.TheVariants.{CountDiffers, StepDiffers, SlipDiffers, ClosedEarly}

@@ -1,4 +1,4 @@
--- Each desk goes to one worker with the pass at its place, and the handles promise them in the order of the desks.
+-- Each desk goes to one worker, with the pass at the same index, and the handles promise the desks in order.
 use Rattle.std.proofs.Common.{◌≡◌, ℕ, Bool, true, List, [], ◌∷◌, ◌++◌, length, map, sym, ap, ◌∙◌, subst, append_assoc, arith}
 use Rattle.std.specs.Prelude.{◌==◌, vec_len}
 use Rattle.std.specs.List.{AllByRecursion}
@@ -10,7 +10,7 @@ use Rattle.vote_desks.specs.Work.{IsFresh, IsUnused}
 use Rattle.vote_desks_box.proofs.Fronts.{first_of}
 use Rattle.vote_desks.proofs.work.start_all.Goals as goal
 
--- the first of those that are left goes to the end of those that are done
+-- the first element that is left moves to the end of those that are done
 moved : {H Z : Type 0} (f : H → Z) (done more : List H) (handle : H) (left rest all : List Z) (first : Z) → left ≡ first ∷ rest → more ≡ done ++ handle ∷ [] → f handle ≡ first
     → map f done ++ left ≡ all → map f more ++ rest ≡ all
 moved f done more handle left rest all first is pushed same so_far =
@@ -57,7 +57,7 @@ loop-desks-preserved g c =
           c.args.passes.items c.remove-pass.result pass c.in_ok-push.ensures.items c.in_ok-start.ensures.pass kept.passes;
     }
 
--- once none is left, all are done
+-- when no element is left, all are done
 finished : {H Z : Type 0} (f : H → Z) (done : List H) (left all : List Z) (n : ℕ) (none : Bool) → none ≡ (n == 0) → none ≡ true → n ≡ length left
     → map f done ++ left ≡ all → map f done ≡ all
 finished f done [] all n none is found len so_far = sym (append-nil (map f done)) ∙ so_far

@@ -6,7 +6,7 @@ use Rattle.vote_desks_box.specs.Desks.{DeskState, FitsBox, HasRoom, HeldState}
 use Rattle.vote_desks_box.proofs.entry.enter.Given.{Over}
 use Rattle.vote_desks_box.proofs.entry.enter.Goals as goal
 
--- apart from the facts of the function, among which `cc` would look in vain
+-- on its own: among the facts of the function `cc` would not find it
 no_range : ◌≡◌ {A = Result Slip EnterFault} (Err SheetFull) (Err StampRange) → ⊥
 no_range e = cc
 

@@ -1,4 +1,4 @@
--- If all desks are there, their shares are the books, and the sealed box has the sheet of each; otherwise one is missing.
+-- If all desks are there, their shares are the books, and the sealed box has the sheet of each desk; otherwise a desk is missing.
 use Rattle.std.proofs.Common.{◌≡◌, ℕ, List, Result, Ok, Err, map, length, refl, sym, ap, ◌∙◌, subst, arith, rules}
 use Rattle.std.proofs.lemmas.Bool.{false≢true}
 use Rattle.std.proofs.lemmas.Grind.{common_steps, elements, moves, pieces}
@@ -15,7 +15,7 @@ use Rattle.vote_desks_box.proofs.SheetSums.{all_slips}
 use Rattle.vote_desks_box.proofs.Numbered.{numbers_of_sorted}
 use Rattle.vote_desks_box.proofs.sealed.gather.Goals as goal
 
--- apart from the facts of the function, among which `cc` would look in vain
+-- on its own: among the facts of the function `cc` would not find it
 not_sealed : (s : SealedState) → ◌≡◌ {A = Result SealedState DeskFault} (Ok s) (Err MissingDesk) → ⊥
 not_sealed s e = cc
 

@@ -5,7 +5,7 @@ use Rattle.vote_desks_box.specs.Desks.{DeskState, HeldState}
 use Rattle.vote_desks_box.proofs.Fronts.{first_of}
 use Rattle.vote_desks_box.proofs.sealed.meet.Goals as goal
 
--- what the desks have is what the first of them has, with what the others have
+-- the sum over all desks is the first desk's amount plus the sum over the others
 in_all : (f : DeskState → ℕ) (all others : List DeskState) (first : DeskState) (mine whole counted : ℕ)
     → all ≡ first ∷ others → mine ≡ f first → whole ≡ mine + sum_by f others → whole ≡ counted → sum_by f all ≡ counted
 in_all f all others first mine whole counted is same sum counts =

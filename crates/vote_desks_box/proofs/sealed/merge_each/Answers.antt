@@ -1,4 +1,4 @@
--- What was merged and what is left together stay what all desks had: their shares, and their slips in order.
+-- Loop invariant: the merged desks and those that are left together have the shares of all desks, and their slips in order.
 use Rattle.std.proofs.Common.{◌≡◌, ℕ, ◌+◌, ◌++◌, List, [], ◌∷◌, map, sum_by, vec_items, sym, ap, ◌∙◌, append_assoc, arith}
 use Rattle.std.proofs.lemmas.Bool.{eqb-true}
 use Rattle.std.proofs.lemmas.List.{nil_from_length, append-nil, map-append}
@@ -28,18 +28,18 @@ returns-clause-sheets g c =
     let sheets = map vec_items c.loop-desks.sheets.items in
     sym (append-nil sheets) ∙ ap (λ (ds : List DeskState). sheets ++ map (λ (d : DeskState). d.slips) ds) (sym none) ∙ c.loop-desks.invariant.sheets
 
--- what the first desk has goes over to what was merged
+-- the first desk's share moves to the merged amount
 merged : (f : DeskState → ℕ) (left rest : List DeskState) (desk : DeskState) (old new mine total : ℕ)
     → left ≡ desk ∷ rest → new ≡ old + mine → mine ≡ f desk → old + sum_by f left ≡ total → new + sum_by f rest ≡ total
 merged f left rest desk old new mine total is more same so_far = omega (arith, ap (sum_by f) is, sum_by-cons f desk rest)
 
--- so do its slips
+-- the merged amount still counts the slips that were taken
 counted : {X : Type 0} (count : List Slip → ℕ) (items : X → List Slip) (old new : List X) (x : X) (amount more mine : ℕ)
     → new ≡ old ++ x ∷ [] → more ≡ amount + mine → mine ≡ count (items x) → amount ≡ sum_by count (map items old) → more ≡ sum_by count (map items new)
 counted count items old new x amount more mine pushed sum same so_far =
     omega (arith, ap (λ xs. sum_by count (map items xs)) pushed, ap (sum_by count) (map-append items old (x ∷ [])), sum_by-append count (map items old) (items x ∷ []), sum_by-cons count (items x) [])
 
--- and its slips go after those that were taken
+-- the first desk's slips are appended to those that were taken
 taken : {X : Type 0} (items : X → List Slip) (done more : List X) (x : X) (left rest all : List (List Slip)) (first : List Slip)
     → left ≡ first ∷ rest → more ≡ done ++ x ∷ [] → items x ≡ first → map items done ++ left ≡ all → map items more ++ rest ≡ all
 taken items done more x left rest all first is pushed same so_far =

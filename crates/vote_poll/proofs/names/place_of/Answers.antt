@@ -6,7 +6,7 @@ use Rattle.vote_poll.proofs.names.place_of.Goals as goal
 abbrev is_name : List ℕ → String Global → Bool
 is_name name option = bytes_eq name (string_bytes option)
 
--- the test of an option is that of its bytes
+-- the test of an option is the test of its bytes
 same_test : (name bytes : List ℕ) (option there : String Global) (equal b : Bool) → option ≡ there → bytes ≡ string_bytes option → equal ≡ bytes_eq name bytes → equal ≡ b → is_name name there ≡ b
 same_test name bytes option there equal b at read told is = ap (is_name name) (sym at) ∙ ap (bytes_eq name) (sym read) ∙ sym told ∙ is
 

@@ -5,7 +5,7 @@ use Rattle.std.specs.Str.{bytes_eq}
 use Rattle.std.proofs.lemmas.List.{take-append-drop}
 use Rattle.vote_poll.proofs.reading.behind_name.Goals as goal
 
--- what is behind the space, where one is behind the name
+-- the text after the space, if a space follows the name
 behind_space : (line name rest : List ℕ) (Other : Type 0) (o : Option (Bor (List ℕ))) → line ≡ name ++ rest
     → MatchOption o Other (λ text. (bytes_eq (take 1 rest) (32 ∷ []) ≡ true) × (text.now ≡ drop 1 rest) × (length text.now + 1 ≡ length rest)) → IfSome o (λ text. line ≡ name ++ 32 ∷ text.now)
 behind_space line name rest Other None whole h = tt

@@ -3,7 +3,7 @@ use Rattle.vote_poll.proofs.RankRow.{first-rank}
 use Rattle.vote_poll.specs.SortKeys.{rank_of_key}
 use Rattle.vote_poll.proofs.reading.behind_rank.Goals as goal
 
--- the comma stands at one of two places
+-- the comma is at one of two indexes
 two_at_most : (comma : Bool) → cond comma 1 2 ≤ 2
 two_at_most true = omega arith
 two_at_most false = omega arith

@@ -5,7 +5,7 @@ use Rattle.vote_poll.proofs.RankRow.{first-rank}
 use Rattle.vote_poll.specs.SortKeys.{rank_of_key}
 use Rattle.vote_poll.proofs.reading.first_key.Goals as goal
 
--- the comma stands at one of two places
+-- the comma is at one of two indexes
 place_is : (comma : Bool) → 1 + bool_byte (not comma) ≡ cond comma 1 2
 place_is true = refl
 place_is false = refl

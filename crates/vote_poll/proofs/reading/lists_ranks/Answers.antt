@@ -6,7 +6,7 @@ use Rattle.vote_poll.specs.Readings.{rank_in, ranks_in}
 use Rattle.vote_poll.proofs.RankRow.{one-rank, more-ranks}
 use Rattle.vote_poll.proofs.reading.lists_ranks.Goals as goal
 
--- behind the ranks of the other options there is that of the last
+-- the rank of the last option comes after the ranks of the others
 with_last : (text left others : List ℕ) (count last : ℕ) → ranks_in text ≡ option_map (λ ranks. map rank_of_key (take count others) ++ ranks) (ranks_in left) → length others ≤ count
     → rank_in left ≡ Some (rank_of_key last) → ranks_in text ≡ Some (map rank_of_key (others ++ last ∷ []))
 with_last text left others count last so_far past is =

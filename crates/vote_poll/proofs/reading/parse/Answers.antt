@@ -14,7 +14,7 @@ by_ranks : (voter before : List ℕ) (kept : List (Option ℕ)) (count : ℕ) (o
 by_ranks voter before kept count None same listed = cc
 by_ranks voter before kept count (Some ranks) same listed = ap₂ (λ (v : List ℕ) (p : List (Option ℕ) × ℕ). Some (v, p.0, p.1)) same (same_Some (kept, count) (kept_and_count ranks) listed)
 
--- the parts round the first space are those of the line
+-- the parts before and after the first space are those of the line
 parts_read : (line voter text : List ℕ) (kept : List (Option ℕ)) (count : ℕ) → length line ≤ MAX_LINE → voter ≡ before_first is_space line → text ≡ after_first is_space line
     → Some (kept, count) ≡ option_map kept_and_count (ranks_in text) → Some (voter, kept, count) ≡ option_map voter_kept_and_count (parts_in line)
 parts_read line voter text kept count short before after listed =

@@ -2,7 +2,7 @@ use Rattle.std.proofs.Common.{◌≡◌, ◌+◌, length}
 use Rattle.vote_poll_text.specs.Lines.{feed_count}
 use Rattle.vote_poll_text.proofs.lines.count_feeds.Given as goal
 
--- the feeds so far and those of the rest are those of the text
+-- the line feeds counted so far and those of the rest are all line feeds of the text
 abbrev pub invariant-loop-rest : goal.invariant-loop-rest
 invariant-loop-rest l = l.feeds + feed_count l.rest ≡ feed_count l.fn.text
 

@@ -15,4 +15,4 @@ returns-in-Ok-clause-worded g c some =
 
 pub returns-in-Ok-clause-sheet : goal.returns-in-Ok-clause-sheet
 returns-in-Ok-clause-sheet g c some =
-    of_words _ (HasRead g.S.Sources.readings c.args.files.now c.answer_words.new.files) _ _ _ _ (returns-in-Ok-clause-worded g c some)
+    of_words _ (HasRead g.S.Sources.file_readings c.args.files.now c.answer_words.new.files) _ _ _ _ (returns-in-Ok-clause-worded g c some)

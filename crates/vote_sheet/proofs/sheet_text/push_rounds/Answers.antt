@@ -3,7 +3,7 @@ use Rattle.vote_count.specs.declared.rounds.Round.{Round}
 use Rattle.vote_sheet.specs.Sheet.{Text, round_text, rounds_from}
 use Rattle.vote_sheet.proofs.sheet_text.push_rounds.Goals as goal
 
--- the text of a round stands before those of the rounds after it
+-- the text of a round comes before the texts of the later rounds
 one_round_more : (before now : Text) (options index : ℕ) (rounds : List Round) (round : Round) → index < length rounds → round ≡ get_or rounds index round
     → now ≡ before ++ round_text options (index + 1) round
     → now ++ rounds_from options (index + 1 + 1) (drop (index + 1) rounds) ≡ before ++ rounds_from options (index + 1) (drop index rounds)

@@ -1,4 +1,4 @@
--- Each pass of the loop casts the next line; so at the end the box holds all lines, in their order, and is closed.
+-- Each pass of the loop casts the next line. So at the end the box holds all lines, in their order, and is closed.
 use Rattle.std.proofs.Common.{◌≡◌, ℕ, ◌+◌, ◌∷◌, ◌++◌, [], List, Some, length, refl, sym, ap, ◌∙◌, arith}
 use Rattle.std.proofs.lemmas.Bool.{true≢false}
 use Rattle.vote_poll.specs.PollContent.{last_in_time}

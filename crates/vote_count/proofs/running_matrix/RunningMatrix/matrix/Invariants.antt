@@ -3,7 +3,7 @@ use Rattle.vote_poll.specs.declared.TheConstants.{MAX_OPTIONS}
 use Rattle.vote_count.specs.Changes.{sum_at}
 use Rattle.vote_count.proofs.running_matrix.RunningMatrix.matrix.Given as goal
 
--- the rows before this option's are filled
+-- the rows before the row of this option are filled
 abbrev pub invariant-loop-row : goal.invariant-loop-row
 invariant-loop-row l = record {
   long : length l.counts ≡ MAX_OPTIONS;

@@ -14,7 +14,7 @@ use Rattle.vote_desks_box.proofs.shared.SharedBox.cast.Goals as goal
 later : (g : Over) (c : goal.After-drop-lock g) → IsLater c.args.self.now.opened c.deref_mut.result.now.ballot_box
 later g c = c.enter.ensures.opened ∙ ap (λ (s : SharedState). record s.opened { steps = c.deref_mut.result.now.ballot_box.steps }) c.self.view_is
 
--- the slip of a legal box that was opened so
+-- a cast in a legal box, opened as `opened`, gives a slip that `CanNote` allows
 noted : (opened b : BoxState) (stamp : ℕ) (reading : Reading) (result : Result Slip EnterFault) → IsLater opened b → OnOk result (IsLegal b) → IfOk result (λ slip. slip ≡ next_slip b stamp reading)
     → IfOk result (CanNote opened stamp reading)
 noted opened b stamp reading (Ok slip) later legal is = record {

@@ -12,7 +12,7 @@ use Rattle.vote_steps.proofs.ballot_box.BallotBox.new.Goals as goal
 none_some : {x : Received} → None ≡ Some x → ⊥
 none_some is = cc
 
--- what is a clone of None is None, so all entries are
+-- a clone of None is None, so all entries are None
 only_none : (is_clone : Option Received → Type 0) → ((x : Received) → ¬ is_clone (Some x)) → (y : Option Received) → is_clone y → y ≡ None
 only_none is_clone never None is = refl
 only_none is_clone never (Some x) is = absurd (never x is)

@@ -1,4 +1,4 @@
--- Whether the voter has no ballot, a newer or an older one: roll, totals and matrix are then those of the ballots that stand.
+-- The voter has no ballot, or a newer or an older one. In each case the roll, the totals and the matrix are then those of the ballots that stand.
 use Rattle.std.proofs.Common.{◌≡◌, ℕ, ◌+◌, ◌<◌, ◌≤◌, Bool, false, cond, List, [], Option, Some, None, length, get_or, set, refl, sym, ap, ◌∙◌, subst, ⊎_elim, arith, Vec, vec_len, Global}
 use Rattle.std.specs.Prelude.{is_some, IsTrue}
 use Rattle.std.specs.List.{count_by}
@@ -14,7 +14,7 @@ use Rattle.vote_steps.specs.History.{reply_beside, is_for}
 use Rattle.vote_steps.specs.Receiving.{after_ballot}
 use Rattle.vote_steps.proofs.roll.Roll.receive.Goals as goal
 
--- what stands for the voter, at the place that was read
+-- the voter's ballot that stood, at the index that was read
 stood : (ballots : Vec (Option Received) Global) (voter : ℕ) (read : Option Received) → read ≡ get_or ballots.items voter read → voter < vec_len ballots → read ≡ get_or ballots.items voter None
 stood ballots voter read is within = get_or_read_under ballots.items voter (vec_len ballots) read None is within ballots.ok.0
 
@@ -31,7 +31,7 @@ stays stands old ballot is below =
 gives_way : (stands : Received) (old : Option Received) (ballot : Received) → Some stands ≡ old → stands.stamp ≤ ballot.stamp → Some ballot ≡ Some (after_ballot old ballot)
 gives_way stands old ballot is above = sym (ap (λ (b : Bool). Some (cond b stands ballot)) (le-ltb ballot.stamp stands.stamp above)) ∙ ap (λ o. Some (after_ballot o ballot)) is
 
--- a count of the roll's entries once a voter without a ballot has one
+-- a count of the roll's entries after a voter without a ballot got one
 with_one_more : (ballots : Vec (Option Received) Global) (voter : ℕ) (ballot : Received) (p : Option Received → Bool) → p None ≡ false
     → None ≡ get_or ballots.items voter None → voter < vec_len ballots
     → count_by p (set ballots.items voter (Some ballot)) ≡ count_by p ballots.items + cond (p (Some ballot)) 1 0
@@ -106,7 +106,7 @@ overflow_add-self c =
     let few : vec_len ballots ≤ MAX_ELECTORS = c.args.self.now.few in
     record { fits = omega (arith, few, c.args.self.now.counted, ballots.ok.0, count_by-le-length is_some ballots.items) }
 
--- a count of the roll's entries once the ballot of a voter has given way to another
+-- a count of the roll's entries after a voter's ballot was replaced by another
 with_another : (ballots : Vec (Option Received) Global) (voter : ℕ) (ballot stands : Received) (p : Option Received → Bool) → Some stands ≡ get_or ballots.items voter None → voter < vec_len ballots
     → count_by p (set ballots.items voter (Some ballot)) + cond (p (Some stands)) 1 0 ≡ count_by p ballots.items + cond (p (Some ballot)) 1 0
 with_another ballots voter ballot stands p is within =
@@ -127,7 +127,7 @@ exchange-requires-clause-counted c a b of_a of_b preferred =
     let some = part_of c.args.self.now.ballots c.args.voter c.in-Some-2.standing (is_for a b) refl is c.requires.voter preferred in
     omega (arith, some, c.args.self.now.recounted a b of_a of_b)
 
--- there are fewer voters than a vote of the matrix can count
+-- a vote of the matrix can count more voters than there are
 pub add-requires-clause-room : goal.add-requires-clause-room
 add-requires-clause-room c a b of_a of_b _ =
     let ballots = c.args.self.now.ballots in

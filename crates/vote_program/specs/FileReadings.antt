@@ -1,7 +1,7 @@
 -- Which files a run reads, in which order, and why it stops at one.
 use Rattle.std.specs.Prelude.{◌≡◌, ℕ, List, [], ◌∷◌, ◌++◌, None, Some, Option, map, option_map, option_to_list}
 use Rattle.vote_files.specs.Device.{IsTooLong}
-use Rattle.vote_files.specs.Sources.{Reading}
+use Rattle.vote_files.specs.Sources.{FileReading}
 use Rattle.vote_files.specs.declared.ReadFault.{ReadFault}
 use Rattle.vote_files.specs.declared.ReadFault.TheVariants as read
 use Rattle.vote_request.specs.Requests.{ballot_file, poll_file, sheet_file}
@@ -25,11 +25,11 @@ limit_of file.Ballots = BALLOTS_LIMIT
 limit_of file.Sheet = SHEET_LIMIT
 
 -- the reading of a file that is read
-abbrev pub read_whole : List ℕ → Reading
+abbrev pub read_whole : List ℕ → FileReading
 read_whole name = record { name = name; fault = None }
 
 -- the readings of such files
-abbrev pub all_read : List (InputFile × List ℕ) → List Reading
+abbrev pub all_read : List (InputFile × List ℕ) → List FileReading
 all_read files = map (λ named. read_whole named.1) files
 
 -- reading this input ends with a fault, and the run with the same one; it is too long only if it has more bytes than the limit
@@ -37,7 +37,7 @@ abbrev pub IsUnread : InputFile → Option (List ℕ) → ℕ → (ReadFault →
 IsUnread file known limit Reads told = (fault : ReadFault) × Reads fault × (fault ≡ read.TooLong → IsTooLong known limit) × (told ≡ unread file fault)
 
 -- one of the files that the request names is not read, for this fault: those before it were, and none after it is
-abbrev pub IsOneUnread : (List ℕ → Option (List ℕ)) → (List Reading → Type 0) → NamedRequest → RunFault → Type 0
+abbrev pub IsOneUnread : (List ℕ → Option (List ℕ)) → (List FileReading → Type 0) → NamedRequest → RunFault → Type 0
 IsOneUnread file_bytes Reads request told =
     (before after : List (InputFile × List ℕ)) × (file : InputFile) × (name : List ℕ) × (named_files request ≡ before ++ (file, name) ∷ after)
     × IsUnread file (file_bytes name) (limit_of file) (λ fault. Reads (all_read before ++ record { name = name; fault = Some fault } ∷ [])) told
