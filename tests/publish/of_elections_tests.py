@@ -406,30 +406,6 @@ class OfOpenVotes(OfElections):
         self.say("close")
         self.expect("a tie again", self.say("publish", status=1).splitlines()[0], "Tie: 1 2")
 
-    def test_a_result_that_was_sent_stays_in_its_folder(self):
-        """With other ballots it is published beside that; with the same ones, and as long as no letter names it, in its place."""
-        self.say("call", "--to", "vote@club.example", "--at", "https://club.example/vote")
-        self.add("ada-lovelace 1,2,3\n")
-        self.say("close")
-        self.say("publish")
-        self.reopened_with("cleo 1,3,2\n")
-        self.say("publish")
-        self.say("letters", "result")
-        (self.folder / "about").write_text(TEXT)
-        self.say("publish", "--about", "about")
-        self.say("letters", "result")
-        before = self.files()
-        self.reopened_with("dan 1,3,2\n")
-        said = "result: it has the result of 20", ", which letters to the electors name, and the ballots are others now; nothing was published"
-        self.stops("publish", said=(*said, "debvote-election publish result-2\n"))
-        self.stops("publish", "result", said=said)
-        self.expect("the result that was sent", self.files(), before)
-        self.say("publish", "result-2")
-        self.whole("result-2")
-        self.expect("both stay", self.files(), before)
-        shutil.rmtree(self.folder / "result")
-        self.say("publish")
-
     def test_bad_texts(self):
         self.say("call")
         self.add("ada-lovelace 1,2,3\n")

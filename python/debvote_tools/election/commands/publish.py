@@ -6,23 +6,20 @@ from collections.abc import Iterator
 
 from debvote_tools import times
 from debvote_tools.arguments import flag, option, positional
-from debvote_tools.book import sent
 from debvote_tools.book.book import Overtaken
 from debvote_tools.console import is_terminal, is_yes, tell, tell_aside
 from debvote_tools.debvote import casting_words
 from debvote_tools.election import acting
 from debvote_tools.election.commands import count
-from debvote_tools.election.election import RESULT, Election, History
+from debvote_tools.election.election import RESULT, Election
 from debvote_tools.election.publication import Words, detail_of, last_publication, publication_of
 from debvote_tools.election.reporting import act_time
 from debvote_tools.faults import Fault, Status
-from debvote_tools.files import locked, sha256_of
+from debvote_tools.files import locked
 from debvote_tools.language import LANGUAGES
-from debvote_tools.letters_out.compose import Kind
 from debvote_tools.publish import result_folder
 from debvote_tools.publish.counting import Counted
 from debvote_tools.publish.inputs import Publication, casting_vote_of, text_in
-from debvote_tools.publish.names import BALLOTS
 
 
 class Arguments(acting.Arguments):
@@ -74,7 +71,6 @@ def publish(election: Election, arguments: Arguments, target_folder: pathlib.Pat
     if not arguments.yes:
         demand_agreed(publication, is_again=again is not None)
     with result_folder.made(publication, target_folder, election.program_folder) as made:
-        demand_not_sent(election, history, target_folder, made.checksums[BALLOTS])
         detail = detail_of(words, made.checksums, made.doubts, decides=made.counted.sheet.is_by_casting)
         is_new = before is None or before.detail != detail
         with alone(election):
@@ -85,20 +81,6 @@ def publish(election: Election, arguments: Arguments, target_folder: pathlib.Pat
                 raise Overtaken
             made.take_place(target_folder)
         return made.counted, is_new
-
-
-def demand_not_sent(election: Election, history: History, folder: pathlib.Path, ballots: str) -> None:
-    """Stops if the folder has a result that letters to the electors name, and other ballots count now. Who compares the checksums of that
-    letter finds them only there.
-    """
-    file = folder / BALLOTS
-    there = sha256_of(file.read_bytes()) if file.is_file() else ballots
-    sent_for = {letter.for_act for letter in sent.sent_letters(election.book, Kind.RESULT)}
-    published = [act for act in history.named("publish") if act.detail["checksums"][BALLOTS] == there != ballots]
-    if act := next((act for act in published if act.number in sent_for), None):
-        words = f"it has the result of {act_time(act.time)}, which letters to the electors name, and the ballots are others now"
-        cure = f"leave it on the web site, and publish into another folder: {election.command('publish', f'{folder}-2')}"
-        raise Fault(folder, words, cure, done="nothing was published")
 
 
 @contextlib.contextmanager
