@@ -39,12 +39,10 @@ pub(crate) fn remark_on_names(
     ballots: &[u32],
 ) -> Result<(), AllocError> {
     for name in near {
-        if let Some(voter) = poll.voter_of(name) {
-            if let Some(line) = ballots.get(voter) {
-                if *line > 0 {
-                    push_ballot(text, name, *line)?;
-                }
-            }
+        let voter = poll.voter_of(name);
+        let line = voter.and_then(|voter| ballots.get(voter)).copied();
+        if let Some(line @ 1..) = line {
+            push_ballot(text, name, line)?;
         }
     }
     if text.is_empty() {

@@ -5,7 +5,7 @@ use crate::MOST_SHOWN;
 use crate::cells::{count_of_ranks, remark_on_ranks};
 use crate::characters::{begins_with_dash, begins_with_wide_digit, push_first};
 use crate::plain_line::{
-    has_letter, is_ballot, is_digit, is_name_byte, is_told, plain_line, split_at_name, trimmed,
+    has_letter, is_ballot, is_name_byte, is_told, plain_line, split_at_name, trimmed,
 };
 use std::alloc::{AllocError, Global};
 use vote_poll::{MAX_LINE, Poll, is_voter_byte, push_shown};
@@ -34,13 +34,9 @@ const TWO_FILES: &str =
 
 /// A text parted at the first of these bytes, without it.
 fn split_at_byte(text: &[u8], separator: u8) -> (&[u8], &[u8]) {
-    match text.iter().position(|byte| *byte == separator) {
-        Some(place) => (
-            text.get(..place).unwrap_or(b""),
-            text.get(place + 1..).unwrap_or(b""),
-        ),
-        None => (text, b""),
-    }
+    let first = text.split(|byte| *byte == separator).next().unwrap_or(text);
+    let rest = text.get(first.len().saturating_add(1)..);
+    (first, rest.unwrap_or(b""))
 }
 
 /// Whether the ranks of a line have begun in the text before a column: a space stands in it, and not last.
@@ -56,10 +52,8 @@ fn begins_with_elector(poll: &Poll, text: &[u8]) -> bool {
 /// A text from its first byte on that a voter's name may have, within the first bytes.
 fn from_first_name(text: &[u8]) -> &[u8] {
     let text = text.get(..LOOK_AHEAD).unwrap_or(text);
-    match text.iter().position(|byte| is_voter_byte(*byte)) {
-        Some(place) => text.get(place..).unwrap_or(b""),
-        None => b"",
-    }
+    let place = text.iter().position(|byte| is_voter_byte(*byte));
+    text.get(place.unwrap_or(text.len())..).unwrap_or(b"")
 }
 
 /// What is remarked where a second ballot may go on in a line; nothing elsewhere.
@@ -107,7 +101,9 @@ fn remark_on_whole_line(poll: &Poll, line: &[u8]) -> &'static str {
 /// The rule that a line breaks in a column, where one ballot alone can be meant.
 fn broken_rule(before: &[u8], rest: &[u8]) -> &'static str {
     let is_in_name = !before.contains(&b' ');
-    let has_rank = rest.iter().any(|byte| is_digit(*byte) || *byte == b'-');
+    let has_rank = rest
+        .iter()
+        .any(|byte| byte.is_ascii_digit() || *byte == b'-');
     match rest {
         [b'A'..=b'Z', ..] => "; names on the roll have small letters",
         _ if begins_with_dash(rest) => "; a plain hyphen belongs there",
@@ -167,10 +163,8 @@ fn push_two_names(text: &mut String, name: &[u8], other: &[u8]) -> Result<(), Al
 
 /// The last word of a text, and what stands before it.
 fn last_word(text: &[u8]) -> (&[u8], &[u8]) {
-    let begin = match text.iter().rposition(|byte| parts_words(*byte)) {
-        Some(place) => place.saturating_add(1),
-        None => 0,
-    };
+    let place = text.iter().rposition(|byte| parts_words(*byte));
+    let begin = place.map_or(0, |place| place.saturating_add(1));
     text.split_at_checked(begin).unwrap_or((text, b""))
 }
 
@@ -180,14 +174,9 @@ fn has_name_last(alloc: Global, poll: &Poll, line: &[u8]) -> Result<bool, AllocE
     if !is_elector(poll, name) {
         return Ok(false);
     }
-    let mut turned = Vec::new(alloc);
-    for byte in name {
-        turned.push(*byte)?;
-    }
+    let mut turned = Vec::from_slice(alloc, name)?;
     turned.push(b' ')?;
-    for byte in trimmed(ranks) {
-        turned.push(*byte)?;
-    }
+    turned.extend_from_slice(trimmed(ranks))?;
     let plain = plain_line(alloc, &turned)?;
     Ok(is_told(poll, &plain, false))
 }
@@ -201,8 +190,25 @@ fn has_ranks_alone(poll: &Poll, plain: &[u8]) -> bool {
         && count_of_ranks(poll, ranks) == ranks.split(|byte| *byte == b',').count()
 }
 
+/// Whether several words stand before the ranks.
+fn has_words(poll: &Poll, line: &[u8]) -> bool {
+    let (name, other) = (word(line, 0), word(line, 1));
+    let is_word = matches!(other, [b'a'..=b'z' | b'A'..=b'Z', _, ..]);
+    let has_rank = matches!(word(line, 2), [b'0'..=b'9' | b'-', ..]);
+    has_letter(name)
+        && is_word
+        && poll.option_of(other).is_none()
+        && (has_rank || poll.voter_of(name).is_none())
+}
+
 /// What is remarked on a line that may mean several things.
-fn remark_on_doubt(poll: &Poll, line: &[u8], rest: &[u8], plain: &[u8]) -> &'static str {
+fn remark_on_doubt(
+    poll: &Poll,
+    line: &[u8],
+    before: &[u8],
+    rest: &[u8],
+    plain: &[u8],
+) -> &'static str {
     let text = trimmed(line);
     let is_word = has_letter(text) && text.iter().all(|byte| is_name_byte(*byte));
     match rest {
@@ -217,65 +223,18 @@ fn remark_on_doubt(poll: &Poll, line: &[u8], rest: &[u8], plain: &[u8]) -> &'sta
             "; one word: a ballot has a name, a space and the ranks; does it go on in the next line?",
         _ if text.contains(&b';') && text.contains(&b',') =>
             "; commas and semicolons: which of them part the ranks? ask the elector",
-        _ => "",
-    }
-}
-
-/// Whether several words stand before the ranks.
-fn has_words(poll: &Poll, line: &[u8]) -> bool {
-    let (name, other) = (word(line, 0), word(line, 1));
-    let is_word = matches!(other, [b'a'..=b'z' | b'A'..=b'Z', _, ..]);
-    let has_rank = matches!(word(line, 2), [b'0'..=b'9' | b'-', ..]);
-    has_letter(name)
-        && is_word
-        && poll.option_of(other).is_none()
-        && (has_rank || poll.voter_of(name).is_none())
-}
-
-/// What is remarked on the name of a line, where it ends before this column or goes on there.
-fn remark_on_name(poll: &Poll, line: &[u8], before: &[u8], rest: &[u8]) -> &'static str {
-    match rest {
         _ if letter_place(rest).is_some() && !before.contains(&b' ') =>
             "; a voter's name has a to z, 0 to 9, . and -",
         _ if has_words(poll, line) =>
             "; several words before the ranks: a name on the roll is one word, and each elector has a line; ask who is meant",
-        _ => "",
+        _ if plain.starts_with(b" ") => FORM,
+        _ => match remark_on_ranks(poll, split_at_byte(plain, b' ').1) {
+            "" if before.ends_with(b",") && rest.is_empty() =>
+                "; the last rank is missing: is the option not ranked, which a hyphen says, or does the line go on in the next one? ask the elector",
+            "" => FORM,
+            words => words,
+        },
     }
-}
-
-/// What is remarked on what stands after the name of a line.
-fn remark_on_rest(poll: &Poll, before: &[u8], rest: &[u8], plain: &[u8]) -> &'static str {
-    if plain.starts_with(b" ") {
-        return FORM;
-    }
-    match remark_on_ranks(poll, split_at_byte(plain, b' ').1) {
-        "" if before.ends_with(b",") && rest.is_empty() =>
-            "; the last rank is missing: is the option not ranked, which a hyphen says, or does the line go on in the next one? ask the elector",
-        "" => FORM,
-        words => words,
-    }
-}
-
-/// Adds what is remarked on a line that may mean several things.
-fn push_doubt(
-    text: &mut String,
-    poll: &Poll,
-    line: &[u8],
-    before: &[u8],
-    rest: &[u8],
-    plain: &[u8],
-) -> Result<(), AllocError> {
-    let (name, other) = (word(line, 0), word(line, 1));
-    if is_elector(poll, name) && is_elector(poll, other) && name != other {
-        return push_two_names(text, name, other);
-    }
-    let doubt = remark_on_doubt(poll, line, rest, plain);
-    let of_name = remark_on_name(poll, line, before, rest);
-    text.push_str(match (doubt, of_name) {
-        ("", "") => remark_on_rest(poll, before, rest, plain),
-        ("", of_name) => of_name,
-        (doubt, _) => doubt,
-    })
 }
 
 /// Adds what is remarked on a line after what stands in the column in which it leaves the grammar.
@@ -290,19 +249,17 @@ fn push_close_look(
 ) -> Result<(), AllocError> {
     let plain = plain_line(alloc, line)?;
     let is_told = is_told(poll, &plain, before.contains(&b' '));
-    let (two, whole) = (
-        remark_on_two(poll, before, rest),
-        remark_on_whole_line(poll, line),
-    );
+    let two = remark_on_two(poll, before, rest);
+    let whole = remark_on_whole_line(poll, line);
+    let (name, other, length) = (word(line, 0), word(line, 1), line.len());
     if is_told && !line.contains(&b',') {
         text.push_str(told_rule(before, rest, look))
     } else if !two.is_empty() {
         text.push_str(two)
-    } else if line.len() > MAX_LINE {
+    } else if length > MAX_LINE {
         write!(
             text,
-            "; the line has {} bytes, and a ballot has 200 at most",
-            line.len()
+            "; the line has {length} bytes, and a ballot has 200 at most"
         )
     } else if !whole.is_empty() {
         text.push_str(whole)
@@ -312,8 +269,10 @@ fn push_close_look(
         text.push_str(told_rule(before, rest, look))
     } else if has_name_last(alloc, poll, line)? {
         text.push_str("; the name stands after the ranks, and belongs before them")
+    } else if is_elector(poll, name) && is_elector(poll, other) && name != other {
+        push_two_names(text, name, other)
     } else {
-        push_doubt(text, poll, line, before, rest, &plain)
+        text.push_str(remark_on_doubt(poll, line, before, rest, &plain))
     }
 }
 

@@ -1,7 +1,6 @@
 //! Characters outside ASCII that stand in a line in place of plain ones, as word processors and web pages put them there.
 
 use std::alloc::AllocError;
-use vote_poll::hex_digit;
 use vote_poll_text::{is_printable, letter_place, push_letter};
 
 /// The name of the character with which a text begins, if it has one here.
@@ -51,42 +50,22 @@ pub(crate) fn begins_with_wide_digit(text: &[u8]) -> bool {
     matches!(text, [0xEF, 0xBC, 0x90..=0x99, ..])
 }
 
-/// Adds a byte by its number, as `byte 0x0B`.
-fn push_number(text: &mut String, byte: u8) -> Result<(), AllocError> {
-    text.push_str("byte 0x")?;
-    text.push(hex_digit(byte / 16) as char)?;
-    text.push(hex_digit(byte % 16) as char)
-}
-
-/// Adds the name of a byte.
-fn push_byte(text: &mut String, byte: u8) -> Result<(), AllocError> {
-    match byte {
-        b'\r' => text.push_str("carriage return"),
-        b'\t' => text.push_str("tab"),
-        b' ' => text.push_str("space"),
-        b',' => text.push_str("comma"),
-        b'A'..=b'Z' => text.push_str("capital letter"),
-        _ if is_printable(byte) => {
-            text.push('"')?;
-            text.push(byte as char)?;
-            text.push('"')
-        }
-        _ => push_number(text, byte),
-    }
-}
-
 /// Adds the name of what the rest of a line begins with.
 pub(crate) fn push_first(text: &mut String, rest: &[u8]) -> Result<(), AllocError> {
-    if let [0x80..=0xFF, ..] = rest {
-        if let Some(name) = character_name(rest) {
-            return text.push_str(name);
-        }
-        if let Some(place) = letter_place(rest) {
-            return push_letter(text, place);
-        }
+    if let Some(name) = character_name(rest) {
+        return text.push_str(name);
+    }
+    if let Some(place) = letter_place(rest) {
+        return push_letter(text, place);
     }
     match rest {
-        [byte, ..] => push_byte(text, *byte),
         [] => text.push_str("end of line"),
+        [b'\r', ..] => text.push_str("carriage return"),
+        [b'\t', ..] => text.push_str("tab"),
+        [b' ', ..] => text.push_str("space"),
+        [b',', ..] => text.push_str("comma"),
+        [b'A'..=b'Z', ..] => text.push_str("capital letter"),
+        [byte, ..] if is_printable(*byte) => write!(text, "\"{}\"", *byte as char),
+        [byte, ..] => write!(text, "byte 0x{byte:02X}"),
     }
 }

@@ -6,21 +6,12 @@ use vote_poll::{Poll, Reading, read_line};
 
 /// Whether a poll reads a ballot in a text.
 pub(crate) fn is_ballot(poll: &Poll, text: &[u8]) -> bool {
-    match read_line(poll, text) {
-        Reading::Ballot { .. } => true,
-        Reading::Bad(_) => false,
-    }
-}
-
-/// Whether a byte is a digit.
-pub(crate) fn is_digit(byte: u8) -> bool {
-    matches!(byte, b'0'..=b'9')
+    matches!(read_line(poll, text), Reading::Ballot { .. })
 }
 
 /// Whether a text has a letter.
 pub(crate) fn has_letter(text: &[u8]) -> bool {
-    text.iter()
-        .any(|byte| matches!(*byte, b'a'..=b'z' | b'A'..=b'Z'))
+    text.iter().any(|byte| byte.is_ascii_alphabetic())
 }
 
 /// Whether a byte says nothing at either end of a line, of a name or of a rank.
@@ -59,16 +50,14 @@ fn in_plain_characters(alloc: Global, line: &[u8]) -> Result<Vec<u8>, AllocError
 
 /// Whether a byte can be of a name, in small letters or capitals.
 pub(crate) fn is_name_byte(byte: u8) -> bool {
-    matches!(byte, b'a'..=b'z' | b'A'..=b'Z' | b'0'..=b'9' | b'.' | b'-')
+    byte.is_ascii_alphanumeric() || matches!(byte, b'.' | b'-')
 }
 
 /// A text at its first byte that can't be of a name.
 pub(crate) fn split_at_name(text: &[u8]) -> (&[u8], &[u8]) {
-    let end = text
-        .iter()
-        .position(|byte| !is_name_byte(*byte))
-        .unwrap_or(text.len());
-    text.split_at_checked(end).unwrap_or((text, b""))
+    let end = text.iter().position(|byte| !is_name_byte(*byte));
+    text.split_at_checked(end.unwrap_or(text.len()))
+        .unwrap_or((text, b""))
 }
 
 /// What stands after a name, without a sign that parts it from the name.
@@ -107,7 +96,7 @@ fn plain_rank(rank: &[u8]) -> &[u8] {
     let rank = trimmed(rank);
     let rank = rank.strip_suffix(b".").unwrap_or(rank);
     match rank {
-        [b'0', more @ b'1'..=b'9', ..] if is_digit(*more) => rank
+        [b'0', more @ b'1'..=b'9', ..] if more.is_ascii_digit() => rank
             .strip_prefix(b"0")
             .unwrap_or(rank),
         _ => rank,
@@ -126,9 +115,7 @@ fn push_ranks(plain: &mut Vec<u8>, ranks: &[u8], separator: u8) -> Result<(), Al
             plain.push(b',')?;
         }
         is_first = false;
-        for byte in rank {
-            plain.push(*byte)?;
-        }
+        plain.extend_from_slice(rank)?;
     }
     Ok(())
 }
@@ -140,17 +127,12 @@ pub(crate) fn plain_line(alloc: Global, line: &[u8]) -> Result<Vec<u8>, AllocErr
     let ranks = without_sign(rest);
     let ranks = ranks.strip_suffix(b",").unwrap_or(ranks);
     let mut plain = Vec::new(alloc);
-    for byte in name {
-        plain.push(byte.to_ascii_lowercase())?;
-    }
+    plain.extend_from_slice(name)?;
+    plain.make_ascii_lowercase();
     plain.push(b' ')?;
     match separator_of(ranks) {
         Some(separator) => push_ranks(&mut plain, ranks, separator)?,
-        None => {
-            for byte in ranks {
-                plain.push(*byte)?;
-            }
-        }
+        None => plain.extend_from_slice(ranks)?,
     }
     Ok(plain)
 }

@@ -14,58 +14,40 @@ const BYTE_ORDER_MARK: &[u8] = b"\xEF\xBB\xBF";
 /// The most bytes of a file's name in a command.
 const MOST_NAME: usize = 200;
 
-/// What the lines of bad shape tell of the file.
-#[derive(Clone, Copy)]
-struct Signs {
-    /// One of them ends with a carriage return.
-    has_return: bool,
-    /// One of them lacks a carriage return, where a file from Windows has it.
-    lacks_return: bool,
-    /// One of them that does not lack it has a carriage return that is not its last byte.
-    has_return_within: bool,
-}
-
 /// Whether a step refuses its line for its shape.
-fn is_of_bad_shape(step: Option<&Step>) -> bool {
-    match step {
-        Some(Step::Cast { reply, .. }) => matches!(reply, Reply::BadLine(LineFault::Shape)),
-        _ => false,
-    }
+fn is_of_bad_shape(step: &Step) -> bool {
+    matches!(
+        step,
+        Step::Cast {
+            reply: Reply::BadLine(LineFault::Shape),
+            ..
+        }
+    )
 }
 
 /// Whether one of these steps refuses its line for its shape.
 pub fn has_bad_shape(steps: &[Step]) -> bool {
-    steps.iter().any(|step| is_of_bad_shape(Some(step)))
+    steps.iter().any(is_of_bad_shape)
 }
 
-/// Whether a line has a carriage return that is not its last byte.
-fn has_return_within(line: &[u8]) -> bool {
-    match line.split_last() {
-        Some((_, front)) => front.contains(&b'\r'),
-        None => false,
-    }
-}
-
-/// The signs of all lines of bad shape. The last line need not end as the others do, nor the first one if it has a mark.
-fn signs_of(lines: &Lines<'_>, steps: &[Step], ended: bool) -> Signs {
-    let mut signs = Signs {
-        has_return: false,
-        lacks_return: false,
-        has_return_within: false,
-    };
+/// Whether carriage returns end all lines of bad shape, as in a file from Windows, and whether one stands within such a line. The last
+/// line need not end as the others do, nor the first one if it has a mark.
+fn returns_in(lines: &Lines<'_>, steps: &[Step], ended: bool) -> (bool, bool) {
+    let (mut has_return, mut lacks_return, mut has_return_within) = (false, false, false);
     for place in 0..lines.len() {
-        if !is_of_bad_shape(steps.get(place)) {
+        if !steps.get(place).is_some_and(is_of_bad_shape) {
             continue;
         }
         let line = lines.line(place);
         let is_last = place.saturating_add(1) == lines.len();
         let is_marked = place == 0 && line.starts_with(BYTE_ORDER_MARK);
-        let lacks = !line.ends_with(b"\r") && !is_marked && (ended || !is_last);
-        signs.has_return |= line.ends_with(b"\r");
-        signs.lacks_return |= lacks;
-        signs.has_return_within |= !lacks && has_return_within(line);
+        let front = line.strip_suffix(b"\r");
+        let lacks = front.is_none() && !is_marked && (ended || !is_last);
+        has_return |= front.is_some();
+        lacks_return |= lacks;
+        has_return_within |= !lacks && front.unwrap_or(line).contains(&b'\r');
     }
-    signs
+    (has_return && !lacks_return, has_return_within)
 }
 
 /// The first line, or an empty text where there is none.
@@ -76,25 +58,20 @@ fn first_line<'l>(lines: &Lines<'l>) -> &'l [u8] {
     lines.line(0)
 }
 
-/// Whether one of the lines begins as a poll file does.
-fn look_like_poll(lines: &Lines<'_>) -> bool {
-    (0..lines.len()).any(|place| lines.line(place).starts_with(b"title ="))
-}
-
-/// What a file is that is no text, or no text of lines, by its first line.
-fn file_kind(first: &[u8]) -> Option<&'static str> {
-    match first {
-        [0xFF, 0xFE, ..] | [0xFE, 0xFF, ..] => Some("is saved as UTF-16: save it as UTF-8"),
-        [b'P', b'K', 3, 4, ..] => Some(
+/// What a file is if it is not ballots: a poll, by one of its lines, or another kind of file, by its first line.
+fn file_kind(lines: &Lines<'_>) -> &'static str {
+    if (0..lines.len()).any(|place| lines.line(place).starts_with(b"title =")) {
+        return "looks like a poll: are the files exchanged?";
+    }
+    match first_line(lines) {
+        [0xFF, 0xFE, ..] | [0xFE, 0xFF, ..] => "is saved as UTF-16: save it as UTF-8",
+        [b'P', b'K', 3, 4, ..] =>
             "is a ZIP file, as word processors and spreadsheets save: save it as plain text",
-        ),
-        [0xD0, 0xCF, 0x11, 0xE0, ..] => {
-            Some("is an old Word or Excel file: save it as plain text")
-        }
-        [b'{', b'\\', b'r', b't', b'f', ..] => Some("is an RTF file: save it as plain text"),
-        [b'%', b'P', b'D', b'F', ..] => Some("is a PDF file: save it as plain text"),
-        [b'{' | b'[', ..] => Some("is JSON: write a line for each ballot"),
-        _ => None,
+        [0xD0, 0xCF, 0x11, 0xE0, ..] => "is an old Word or Excel file: save it as plain text",
+        [b'{', b'\\', b'r', b't', b'f', ..] => "is an RTF file: save it as plain text",
+        [b'%', b'P', b'D', b'F', ..] => "is a PDF file: save it as plain text",
+        [b'{' | b'[', ..] => "is JSON: write a line for each ballot",
+        _ => "",
     }
 }
 
@@ -114,9 +91,8 @@ fn first_cell(line: &[u8]) -> Option<&[u8]> {
 /// How closely the lines of bad shape are looked at: not at all if the file is something else than ballots, and with care if the first
 /// line looks like heads of the columns of a table: its first cell is a word, and no elector.
 pub(crate) fn look_at(poll: &Poll, lines: &Lines<'_>) -> Look {
-    let first = first_line(lines);
-    match first_cell(first) {
-        _ if file_kind(first).is_some() || look_like_poll(lines) => Look::AtColumn,
+    match first_cell(first_line(lines)) {
+        _ if !file_kind(lines).is_empty() => Look::AtColumn,
         Some(cell) if has_letter(cell) && poll.voter_of(cell).is_none() => Look::AtRow,
         _ => Look::AtLine,
     }
@@ -124,40 +100,32 @@ pub(crate) fn look_at(poll: &Poll, lines: &Lines<'_>) -> Look {
 
 /// Whether no line feed stands in the file, and a space after a carriage return: so old Macs end lines.
 fn is_of_old_mac(lines: &Lines<'_>, ended: bool) -> bool {
-    if lines.len() != 1 || ended {
-        return false;
-    }
-    let line = first_line(lines);
-    match line.iter().position(|byte| *byte == b'\r') {
-        Some(place) => line.get(place..).unwrap_or(b"").contains(&b' '),
-        None => false,
-    }
+    let parts = first_line(lines).split(|byte| *byte == b'\r');
+    lines.len() == 1 && !ended && parts.skip(1).any(|part| part.contains(&b' '))
 }
 
-/// How a file is mended: what is said, the command, and the same behind another one.
-type Cure = (&'static str, &'static str, &'static str);
-
-const OLD_MAC: Cure = (
+/// What is said of the ends of lines, and the command that mends them, with a pipe before it.
+const OLD_MAC: (&str, &str) = (
     "comes from an old Mac: carriage returns end its lines; make line feeds of them",
-    "tr '\\r' '\\n'",
     " | tr '\\r' '\\n'",
 );
 
-const WINDOWS: Cure = (
+const WINDOWS: (&str, &str) = (
     "comes from Windows: carriage returns end its lines of bad shape; take them out",
-    "tr -d '\\r'",
     " | tr -d '\\r'",
 );
 
-const MARK: Cure = ("begins with a byte-order mark; take it out", "", "");
+const MARK: (&str, &str) = ("begins with a byte-order mark; take it out", "");
 
 /// What carriage returns within lines are.
 const WITHIN: &str =
     "has carriage returns within lines: look at each, since no command can tell whether a line ends there";
 
-/// Adds a remark.
+/// Adds a remark, if there are words.
 fn say(alloc: Global, remarks: &mut Vec<String>, words: &str) -> Result<(), AllocError> {
-    remarks.push(String::from_str(alloc, words)?)?;
+    if !words.is_empty() {
+        remarks.push(String::from_str(alloc, words)?)?;
+    }
     Ok(())
 }
 
@@ -175,25 +143,21 @@ fn remark_on_table(alloc: Global, poll: &Poll, cell: &[u8]) -> Result<String, Al
     Ok(remark)
 }
 
-/// Adds how the ends of the lines are mended, and a byte-order mark with them.
-fn say_cure(
+/// How the ends of the lines are mended, and a byte-order mark with them; nothing if there is nothing to mend.
+fn remark_on_ends(
     alloc: Global,
-    remarks: &mut Vec<String>,
-    cure: Cure,
+    cure: (&str, &str),
     is_marked: bool,
     file: Option<&str>,
-) -> Result<(), AllocError> {
-    let (words, command, behind) = cure;
+) -> Result<String, AllocError> {
+    let (words, command) = cure;
     let mut remark = String::new(alloc);
     if is_marked {
-        push_mending(&mut remark, words, "tail -c +4", behind, file)?;
-    } else if !command.is_empty() {
-        push_mending(&mut remark, words, command, "", file)?;
-    } else {
-        return Ok(());
+        push_mending(&mut remark, words, "tail -c +4", command, file)?;
+    } else if let Some(alone) = command.strip_prefix(" | ") {
+        push_mending(&mut remark, words, alone, "", file)?;
     }
-    remarks.push(remark)?;
-    Ok(())
+    Ok(remark)
 }
 
 /// What is remarked on a file, of which a line feed ends all lines or all but the last, and whose lines these steps cast.
@@ -208,34 +172,28 @@ pub(crate) fn remarks_on_file(
     let file = file.filter(|name| name.len() <= MOST_NAME);
     let mut remarks = Vec::new(alloc);
     let first = first_line(lines);
-    let is_bad = is_of_bad_shape(steps.first());
-    if look_like_poll(lines) {
-        say(
-            alloc,
-            &mut remarks,
-            "looks like a poll: are the files exchanged?",
-        )?;
-    }
-    if let Some(kind) = file_kind(first) {
-        say(alloc, &mut remarks, kind)?;
-    }
+    let is_bad = steps.first().is_some_and(is_of_bad_shape);
+    say(alloc, &mut remarks, file_kind(lines))?;
     if let Some(cell) = first_cell(first) {
         if is_bad && (has_letter(cell) || poll.voter_of(cell).is_some()) {
             remarks.push(remark_on_table(alloc, poll, cell)?)?;
         }
     }
-    let signs = signs_of(lines, steps, ended);
+    let (is_of_windows, has_return_within) = returns_in(lines, steps, ended);
     let cure = if is_of_old_mac(lines, ended) {
         OLD_MAC
-    } else if signs.has_return_within {
+    } else if has_return_within {
         say(alloc, &mut remarks, WITHIN)?;
         MARK
-    } else if signs.has_return && !signs.lacks_return {
+    } else if is_of_windows {
         WINDOWS
     } else {
         MARK
     };
     let is_marked = is_bad && first.starts_with(BYTE_ORDER_MARK);
-    say_cure(alloc, &mut remarks, cure, is_marked, file)?;
+    let ends = remark_on_ends(alloc, cure, is_marked, file)?;
+    if !ends.is_empty() {
+        remarks.push(ends)?;
+    }
     Ok(remarks)
 }
