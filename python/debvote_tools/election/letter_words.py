@@ -13,7 +13,7 @@ from debvote_tools.terminal_text import shown_line, shown_text
 def who_and_when(letter: JudgedLetter) -> str:
     parsed = letter.parsed
     number = f"letter {letter.number}" if letter.number else shown_text(parsed.where)
-    time = "at a time that is not known" if parsed.arrived is None else act_time(parsed.arrived)
+    time = "at an unknown time" if parsed.arrived is None else act_time(parsed.arrived)
     return f"{number}, from {shown_text(parsed.shown_sender) or 'nobody'}, {time}"
 
 
@@ -27,7 +27,7 @@ def going_in(letter: JudgedLetter, vote: Vote, *, is_late: bool) -> Iterator[str
     if letter.other_words:
         yield f"  other words: {letter.other_words}"
     if letter.shared_with:
-        yield f"  the address is that of {', '.join(letter.shared_with)}, too"
+        yield f"  same address: {', '.join(letter.shared_with)}"
     yield from code_words(letter)
 
 
