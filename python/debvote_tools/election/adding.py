@@ -36,8 +36,7 @@ MEMBERS_HEADS = {"who", "mail"}
 class Arguments(in_time.Arguments):
     files: list[str] = positional(
         "FILE",
-        "Letters (a mailbox, a Maildir, a folder of .eml), or files with one ballot on each line, or tables with --csv; "
-        "- or no FILE reads standard input",
+        "Letters (a mailbox, a Maildir, a folder of .eml), or ballots, one on each line, or tables (--csv); - or no FILE: standard input",
         nargs="*",
     )
     csv: bool = flag("The files are tables from a web form, with one ballot in each row")
@@ -57,7 +56,7 @@ class Arguments(in_time.Arguments):
     )
     force: bool = flag(
         "Add them although most lines are not ballots, one is very long, an older ballot would replace a later one, the call does "
-        "not say what empty cells mean, or (with --because) letters must be signed"
+        "not say what empty cells mean, or (then with a reason) letters must be signed"
     )
 
 

@@ -65,7 +65,7 @@ class Reason(enum.Enum):
     # another vote
     OTHER_MARK = "it has the mark of another vote: [{mark}]"
     # the ballots of the elector that are in
-    LATER_BALLOT = "a later ballot of {elector} was entered already, of {time}"
+    LATER_BALLOT = "a later ballot of {elector}, of {time}, was entered already"
     SAME_TIME = "another ballot of {elector} has the same time, {time}"
     CAME_BEFORE = "came before; {elector} has voted since"
     # its signature

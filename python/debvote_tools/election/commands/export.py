@@ -41,6 +41,4 @@ def run(election: Election, arguments: Arguments) -> None:
         (folder / "came").mkdir(mode=0o700)
         for name, data in files.items():
             write_whole(folder / name, data, 0o600)
-    tell(
-        f"Made the folder {target_folder}: poll.toml, ballots.txt, late.txt, and in came/ all that came. Only you can read it."
-    )
+    tell(f"Made the folder {target_folder}: poll.toml, ballots.txt, late.txt, and in came/ all that came. Only you can read it.")

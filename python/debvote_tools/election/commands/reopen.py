@@ -54,9 +54,7 @@ def run(election: Election, arguments: Arguments) -> None:
         detail["force"] = True
     again = [queries.NewEnvelope(late.line, late.place, late.source, late.letter, late.time) for late in offered]
     with entered(book, vote, "reopen", detail, lambda _: again, decided_at=history.last.number, is_late=False) as now:
-        tell(
-            f"The vote is open again; the close at {act_time(history.closes[-1].time)} stays in the log and on the result page."
-        )
+        tell(f"The vote is open again; the close at {act_time(history.closes[-1].time)} stays in the log and on the result page.")
         for number, envelope in zip(now.numbers, offered):
             line = without_code(envelope.line, has_codes=vote.has_codes)
             tell(f"Envelope {number}, entered anew from late envelope {envelope.number}: {line}")

@@ -76,7 +76,7 @@ def run(election: Election, arguments: Arguments) -> None:
     if shows() and state.electors:
         tell(f"  {bar_of(state.voters, state.electors)}")
     if state.without_ballot:
-        tell(f"Electors without a valid ballot ({len(state.without_ballot)}):", wrapped(state.without_ballot))
+        tell(f"Electors without a ballot ({len(state.without_ballot)}):", wrapped(state.without_ballot))
     tell_refused(refused, state.without_ballot)
     if state.waiting:
         wait = count_of(state.waiting, "letter waits", "letters wait")
