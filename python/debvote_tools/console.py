@@ -21,7 +21,8 @@ class OutputFailed(Fault):
     """Standard output takes nothing more. What was printed before is done."""
 
     def __init__(self, *, is_closed_pipe: bool = False) -> None:
-        super().__init__(None, "the output failed", "ask debvote-election status", Status.BAD_OUTPUT, "what was told is done")
+        done = "what the command has reported is done"
+        super().__init__(None, "the output failed", "see debvote-election status", Status.BAD_OUTPUT, done)
         # somebody who reads the first lines alone, as `head` does, has what was asked for
         self.is_closed_pipe = is_closed_pipe
 

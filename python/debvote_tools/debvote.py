@@ -59,13 +59,13 @@ class Debvote:
     def run(self, *words: str | os.PathLike[str], given: bytes | None = None) -> Answer:
         """Runs debvote, with these bytes as its standard input."""
         if given is not None and not os.path.isdir(OWN_FILES):
-            reason = "it is not there, and debvote is given its input by it"
-            cure = "have /proc mounted, then run the command again"
+            reason = "it is missing, and debvote gets its input through it"
+            cure = "mount /proc, then run the command again"
             raise Fault(OWN_FILES, reason, cure, Status.BAD_OUTPUT, "nothing was counted")
         try:
             ended = subprocess.run([self.path, *words], cwd=self.folder, capture_output=True, input=given or b"")
         except OSError as error:
-            done = "nothing was counted, and no file was changed by it"
+            done = "nothing was counted, and no file was changed"
             reason = f"it can't be started ({error.strerror})"
             raise Fault(self.path, reason, "run the command again", Status.BAD_OUTPUT, done) from None
         status = ended.returncode if ended.returncode >= 0 else 128 - ended.returncode
@@ -97,8 +97,8 @@ class Debvote:
 def refusal(answer: Answer) -> Fault:
     said = answer.faults.strip().removeprefix("debvote: ") or f"it ended with status {answer.status}"
     cures: dict[int, str] = {
-        Status.BAD_POLL: f"a poll has at most {POLL_LIMIT} bytes; what is wrong with it says debvote-election check",
-        Status.BAD_BALLOTS: f"there can be at most {LINES_LIMIT} lines and {BALLOTS_LIMIT} bytes of ballots: add less",
+        Status.BAD_POLL: f"a poll has at most {POLL_LIMIT} bytes; debvote-election check says what is wrong with it",
+        Status.BAD_BALLOTS: f"debvote takes at most {LINES_LIMIT} lines and {BALLOTS_LIMIT} bytes of ballots: add fewer",
     }
     return Fault("debvote", said, cures.get(answer.status, "run the command again"), answer.status)
 
@@ -120,7 +120,7 @@ def findings_in(text: str) -> Findings:
     lines = text.splitlines()
     totals = TOTALS.fullmatch(lines[-1]) if lines else None
     if totals is None:
-        raise other_format("what this debvote explains")
+        raise other_format("the list of findings of this debvote")
     refused = [Finding(int(parts[1]), parts[2], parts[3]) for parts in map(FINDING.fullmatch, lines) if parts]
     return Findings(refused, Totals(*map(int, totals.groups())))
 

@@ -70,4 +70,4 @@ class Told(Fault):
 def other_format(what: str) -> Fault:
     """The fault of an output of debvote that does not have its format."""
     cure = "install debvote and these programs from one package"
-    return Fault(None, f"{what} has another format", cure, Status.BAD_SHEET, None)
+    return Fault(None, f"{what} has an unknown format", cure, Status.BAD_SHEET, None)

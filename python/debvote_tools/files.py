@@ -155,12 +155,12 @@ def locked(place: pathlib.Path, *, is_directory: bool = False) -> Iterator[None]
 def in_memory(data: bytes) -> Iterator[str]:
     """A file in memory, which other programs can read by this path while it lasts; a kill leaves nothing of it."""
     if not os.path.isdir(OWN_FILES):
-        words = "it is not there, and programs are given their input by it"
-        raise Fault(OWN_FILES, words, "have /proc mounted, then run the command again", Status.BAD_OUTPUT)
+        words = "it is missing, and programs get their input through it"
+        raise Fault(OWN_FILES, words, "mount /proc, then run the command again", Status.BAD_OUTPUT)
     try:
         handle = os.memfd_create("debvote")
     except OSError as error:
-        words = f"there is none for a copy of the input ({error.strerror})"
+        words = f"there is not enough for a copy of the input ({error.strerror})"
         raise Fault("memory", words, "run the command again", Status.BAD_OUTPUT) from None
     with open(handle, "wb") as target:
         target.write(data)

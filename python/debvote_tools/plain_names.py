@@ -163,7 +163,7 @@ def bad_options(names: Sequence[str], plain_names: Sequence[str]) -> list[BadNam
         like = {alike(first_plain): "the plain name of ", alike(first_name): ""}.get(alike(second_name))
         if like is not None and alike(second_name) and first_plain != second_plain:
             reason = f"it looks like {like}option {first}, `{shown_text(first_name)}`"
-            found.append(BadName(second, second_name, f"{reason}, but for case, accents, blanks or unseen characters"))
+            found.append(BadName(second, second_name, f"{reason}, except for case, accents, blanks or invisible characters"))
     return found
 
 
@@ -171,9 +171,9 @@ def bad_characters(name: str) -> list[str]:
     reasons = []
     odd = odd_sign(name, refused=REFUSED_IN_NAMES)
     if odd is not None:
-        reasons.append(f"it has the character {number_of(odd)}, which steers a terminal or turns the direction of a text")
+        reasons.append(f"it has the character {number_of(odd)}, which controls a terminal or turns text around")
     if len(name) > SHOWN_LIMIT:
-        reasons.append(f"it has {len(name)} characters, {SHOWN_LIMIT} are the most")
+        reasons.append(f"it has {len(name)} characters; at most {SHOWN_LIMIT} are allowed")
     if name and not alike(name):
-        reasons.append("it has no character that one sees")
+        reasons.append("it has no visible character")
     return reasons

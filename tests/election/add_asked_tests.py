@@ -43,7 +43,7 @@ class AfterReopen(CalledTest):
         terminal = self.asked()
         terminal.type("\x04")
         output, status = terminal.end()
-        self.assertIn("nobody said whether it came before the close; nothing was added: ", output)
+        self.assertIn("you did not say whether it came before the close; nothing was added: ", output)
         self.assertEqual((status, self.last_act()), (9, before))
 
     def test_an_act_that_changes_nothing_of_it(self) -> None:
@@ -73,7 +73,7 @@ class AfterReopen(CalledTest):
 
     def test_what_came_at_the_terminal_itself(self) -> None:
         terminal = Terminal(self, "add")
-        terminal.until("Type the ballots, a line each; Ctrl-D on an empty line ends them.\n")
+        terminal.until("Type the ballots, one on each line; to end, type Ctrl-D on an empty line.\n")
         terminal.type(f"ada {RANKS}\n\x04")
         terminal.until(ASKED)
         self.assertIn("1 counted  ada: ", self.answer(terminal, "y\n"))
@@ -90,7 +90,7 @@ class AtOnce(CalledTest):
         self.assertEqual([run.returncode for run in runs], [0] * 4, outputs)
         self.assertEqual(len(self.lines()), 361)
         self.assertEqual(sum("Added 361 lines" in output for output, _ in outputs), 1)
-        self.assertEqual(sum("Nothing is new." in output for output, _ in outputs), 3)
+        self.assertEqual(sum("There is nothing new" in output for output, _ in outputs), 3)
 
     def test_each_gets_the_replies_to_its_own_lines(self) -> None:
         words = [sys.executable, support.ELECTION, "add"]
@@ -132,7 +132,7 @@ class FromAPipe(CalledTest):
             pipe.write(f"ada {RANKS}\n")
         output, faults = run.communicate(timeout=support.SECONDS)
         self.assertEqual((output, run.returncode, self.last_act()), ("", 9, before))
-        self.assertIn("the vote was called anew meanwhile; nothing was added: run the command again", faults)
+        self.assertIn("the call for votes was made anew meanwhile; nothing was added: run the command again", faults)
 
     def test_lines_from_a_process_substitution(self) -> None:
         read_end, write_end = os.pipe()

@@ -24,7 +24,7 @@ class AsItCame(Before):
     def test_the_same_file(self) -> None:
         before = self.last_act()
         output = self.assert_ignored(2, 0, name="monday")
-        self.assertIn("Nothing is new. Nothing was added.\n", output)
+        self.assertIn("There is nothing new, and nothing was added.\n", output)
         self.assertNotIn("--again", output)
         # then it is no act, and the file is not kept a second time
         self.assertEqual((self.last_act(), len(self.sources())), (before, 1))
@@ -104,9 +104,9 @@ class AsItCame(Before):
         self.write("more", "n,a,b,c,d\ncleo,1,2,4,3\ncleo,2,1,4,3\ndan,1,2,4,3\n")
         before = self.last_act()
         for words in ((), ("--force",)):
-            said = "more: it has two ballots of cleo that differ (row 2 and row 3)"
+            said = "more: it has two different ballots of cleo (row 2 and row 3)"
             self.assert_stops(self.election("add", *TABLE, *words, "more"), before, 9, said, "--oldest-first or --newest-first")
-        older = "more: row 3 has an older ballot of cleo than row 2, which came before, and would replace it"
+        older = "more: the ballot of cleo in row 3 is older than that in row 2, which came before, and would replace it"
         self.assert_stops(self.election("add", *TABLE, "--newest-first", "more"), before, 9, older)
         self.assert_ignored(1, 2, *TABLE, "--oldest-first")
         self.assertEqual(self.lines()[3:], [f"cleo {OTHER_RANKS}", f"dan {RANKS}"])
@@ -202,4 +202,4 @@ class Since(Before):
         self.told("desk", given="cleo -,-,-,1\n")
         output = self.assert_ignored(30, 0)
         self.assertEqual(output.count("cleo has voted since"), 20)
-        self.assertIn("\n  and 10 more that --again enters again\n", output)
+        self.assertIn("\n  and 10 more; --again enters them again\n", output)

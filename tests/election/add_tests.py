@@ -11,10 +11,10 @@ import support
 from called import HALL, LAKE, OTHER_RANKS, RANKS, CalledTest
 
 RIGHT = (
-    "A right line in this poll: ada 1,2,3,4 (an elector of the roll, a space, and 4 ranks with commas between, "
+    "A valid line in this poll: ada 1,2,3,4 (an elector of the roll, a space, and 4 ranks with commas between, "
     "a rank or a hyphen for each option)"
 )
-NEXT = "Next: debvote-election status; add what comes with debvote-election add FILE, and when the vote is over: debvote-election close"
+NEXT = "Next: debvote-election status; add more ballots with debvote-election add FILE, and when the vote is over: debvote-election close"
 
 
 class Good(CalledTest):
@@ -111,7 +111,7 @@ class BeforeTheCall(CalledTest):
 
     def test_it_is_refused(self) -> None:
         self.assert_stops(
-            self.election("add", given="ada 1,2,4,3\n"), self.last_act(), 9, "the election is not called yet; nothing was changed: "
+            self.election("add", given="ada 1,2,4,3\n"), self.last_act(), 9, "there is no call for votes yet; nothing was changed: "
         )
 
 
@@ -124,7 +124,7 @@ class AfterTheEnd(CalledTest):
         self.act("extend", {"until": "2020-12-04T18:00:00+01:00"})
         output = self.told("add", given="ben 1,2,4,3\n")
         self.assertIn(
-            "Note: one could vote until Friday, 4 December 2020, 18:00 (UTC+01:00), and that is over; what is added counts ", output
+            "Note: the announced end of the vote, Friday, 4 December 2020, 18:00 (UTC+01:00), has passed; what is added still counts ", output
         )
         self.assertIn("2 counted  ben: ", output)
         self.assertEqual(self.lines(), ["ada 1,2,4,3", "ben 1,2,4,3"])
@@ -165,29 +165,29 @@ class NoBallots(CalledTest):
         """It stops; `--force` adds each line."""
         self.write("wrong", data)
         ended = self.election("add", *words, "wrong")
-        said = "none of the 2 lines as a ballot; nothing was added: "
-        self.assert_stops(ended, self.last_act(), 9, said, *parts, ", or add it all the same with --force")
+        said = "none of the 2 lines as ballots; nothing was added: "
+        self.assert_stops(ended, self.last_act(), 9, said, *parts, ", or add it anyway with --force")
         self.assertIn("Added 2 lines (2 bad ", self.told("add", *words, "--force", "wrong"))
         self.assertEqual(len(self.lines()), 2)
         self.told("undo")
 
     def test_by_what_it_looks_like(self) -> None:
         self.assert_stops_without_force(
-            '\ufeff"Name";who;mail\r\nada;Ada;ada@club.example\r\n', "it looks like the list of members, so name "
+            '\ufeff"Name";who;mail\r\nada;Ada;ada@club.example\r\n', "it looks like the list of members: name "
         )
         for sign in ",;\t":
             with self.subTest(sign=sign):
                 table = f"When{sign}Your name{sign}a\nMonday{sign}ada{sign}1\n"
                 self.assert_stops_without_force(
-                    table, "it looks like a table, which is added with --csv --name COLUMN --ranks COLUMN,COLUMN,.."
+                    table, "it looks like a table: add it with --csv --name COLUMN --ranks COLUMN,COLUMN,.."
                 )
         self.assert_stops_without_force(
-            "Dear all,\nwe meet on Monday\n", "look at the file, whose first line is `Dear all,` (bad shape: "
+            "Dear all,\nwe meet on Monday\n", "look at the file (its first line is `Dear all,`, bad shape: "
         )
-        words = "look at the file, whose first line is `ada 1,2` (bad rank count: 2 ranks, the poll has 4 options; 2 are missing: ask the elector)"
+        words = "look at the file (its first line is `ada 1,2`, bad rank count: 2 ranks, the poll has 4 options; 2 are missing: ask the elector)"
         self.assert_stops_without_force("ada 1,2\nben 2,1\n", words)
         table, columns = "n,a,b,c,d,e\nada,1,2,3,4,x\nben,1,2,3,4,x\n", ("--csv", "--name=n", "--ranks=e,a,b,c")
-        self.assert_stops_without_force(table, "look whether --name and --ranks name the right ", words=columns)
+        self.assert_stops_without_force(table, "check that --name and --ranks name the right ", words=columns)
 
     def test_all_that_stands_against_it_is_said_at_once(self) -> None:
         self.write("good", "ada 1,2,4,3\n")
@@ -198,7 +198,7 @@ class NoBallots(CalledTest):
         faults = ended.faults.splitlines()
         self.assertEqual((ended.status, len(faults), self.last_act()), (9, 2, before), ended)
         self.assertIn("letter:2: the line has 501 bytes, and a ballot has a few dozen; nothing was added: ", faults[0])
-        self.assertIn("wrong: debvote takes none of the 2 lines as a ballot; nothing was added: ", faults[1])
+        self.assertIn("wrong: debvote takes none of the 2 lines as ballots; nothing was added: ", faults[1])
         self.told("add", "--force", "good", "wrong", "letter")
         self.assertEqual(len(self.lines()), 5)
 
@@ -211,10 +211,10 @@ class NoBallots(CalledTest):
         self.write("monday", "Dear all,\nada 1,2,4,3\nGreetings\n")
         before = self.last_act()
         ended = self.election("add", "monday")
-        said = "monday: debvote takes 1 alone of the 3 lines as a ballot; nothing was added: look at the file, whose first line is `Dear "
+        said = "monday: debvote takes only 1 of the 3 lines as ballots; nothing was added: look at the file (its first line is `Dear "
         self.assert_stops(ended, before, 9, said, "--force")
-        self.assertIn("monday:1: no ballot: Dear all,: ", ended.output)
-        self.assertIn("monday:3: no ballot: Greetings: ", ended.output)
+        self.assertIn("monday:1: not a ballot: Dear all,: ", ended.output)
+        self.assertIn("monday:3: not a ballot: Greetings: ", ended.output)
         self.assertNotIn("monday:2: ", ended.output)
         self.told("add", "--force", "monday")
         self.assertEqual(self.lines(), ["Dear all,", "ada 1,2,4,3", "Greetings"])
@@ -227,7 +227,7 @@ class NoBallots(CalledTest):
         self.write("good", "ada 1,2,4,3\nben 1,2,4,3\ncleo 1,2,4,3\n")
         self.write("bad", "dan 1,2,4,3\nx\ny\n")
         before = self.last_act()
-        self.assert_stops(self.election("add", "good", "bad"), before, 9, "bad: debvote takes 1 alone of the 3 lines ")
+        self.assert_stops(self.election("add", "good", "bad"), before, 9, "bad: debvote takes only 1 of the 3 lines ")
         for name in ("one", "two"):
             self.write(name, f"{name}\n")
         self.assert_stops(self.election("add", "one", "two"), before, 9, "one: debvote takes none of the 2 lines ")
@@ -241,8 +241,8 @@ class Changed(CalledTest):
             [line for line in output.splitlines() if line.startswith("standard")],
             [
                 "standard input:3: it is empty, and was left out",
-                "standard input: it begins with a mark that Windows writes (byte-order mark); it was taken off",
-                "standard input: 3 lines end as Windows ends them (carriage return); that was taken off",
+                "standard input: it begins with a mark that Windows writes (byte-order mark); it was removed",
+                "standard input: 3 lines end as Windows ends them (carriage return); that was removed",
                 "standard input:2: ` Ben\\t 2, 1 ,4,3 ` was changed to `ben 2,1,4,3` (tabs, spaces, capital letters)",
                 "standard input:5: `dan  1,2,4,3` was changed to `dan 1,2,4,3` (spaces)",
             ],
@@ -257,9 +257,9 @@ class Changed(CalledTest):
         self.assertEqual(
             output.splitlines()[:4],
             [
-                "monday: 3 lines end as Windows ends them (carriage return); that was taken off",
-                "tuesday: it begins with a mark that Windows writes (byte-order mark); it was taken off",
-                "tuesday: 1 line ends as Windows ends it (carriage return); that was taken off",
+                "monday: 3 lines end as Windows ends them (carriage return); that was removed",
+                "tuesday: it begins with a mark that Windows writes (byte-order mark); it was removed",
+                "tuesday: 1 line ends as Windows ends it (carriage return); that was removed",
                 f"1 counted  ada: {LAKE}",
             ],
         )
@@ -293,7 +293,7 @@ class Changed(CalledTest):
             "6 bad shape  1,2,3,4: column 2: comma; the name is missing before the ranks: ask who sent it\n",
         ):
             self.assertIn(told, output)
-        self.assertEqual(output.count("A right line in this poll"), 1)
+        self.assertEqual(output.count("A valid line in this poll"), 1)
         self.assertEqual(self.lines(), came.replace("\u00a0", " ").replace("–", "-").splitlines())
 
     def test_bytes_that_are_no_text(self) -> None:
@@ -324,19 +324,19 @@ class RefusedWhole(CalledTest):
             "rich.rtf": (b"{\\rtf1 ada 1,2,4,3}", 4, "it is a document with formats (RTF); "),
             "print.pdf": (b"%PDF-1.7\n", 4, "it is a PDF; "),
             "wide.txt": ("ada 1,2,4,3\n".encode("utf-16"), 4, "it is a text in UTF-16; nothing was added: save it as plain text"),
-            "empty.txt": (b"", 9, "empty.txt: it is empty; nothing was added: write a ballot a line into it"),
-            "blank.txt": (b"\n \r\n\t\n", 9, "it has empty lines alone; nothing was added: "),
-            "other.toml": (support.POLL.encode(), 9, "other.toml: it reads as a poll, and not as ballots; nothing was added: "),
-            "broken.toml": (b'title = "x\noptions = [', 9, "it reads as a poll, and not as ballots; "),
+            "empty.txt": (b"", 9, "empty.txt: it is empty; nothing was added: write one ballot on each line"),
+            "blank.txt": (b"\n \r\n\t\n", 9, "it has only empty lines; nothing was added: "),
+            "other.toml": (support.POLL.encode(), 9, "other.toml: it looks like a poll, not like ballots; nothing was added: "),
+            "broken.toml": (b'title = "x\noptions = [', 9, "it looks like a poll, not like ballots; "),
             "letter.eml": (
                 b"From: ada@club.example\nSubject: my vote\n\nada 1,2,4,3\n",
                 2,
-                "letter.eml: it has letters, and other files have none; nothing was added: ",
+                "letter.eml: it has letters, and the other files have none; nothing was added: ",
             ),
             "inbox": (
                 b"From ada Mon Nov 2 10:00:00 2026\nFrom: a@b\nDate: x\n\nada 1,2,4,3\n",
                 2,
-                "inbox: it has letters, and other files have none; nothing was added: ",
+                "inbox: it has letters, and the other files have none; nothing was added: ",
             ),
         }
         self.write("good", "ada 1,2,4,3\n")
@@ -370,10 +370,10 @@ class RefusedWhole(CalledTest):
         room = 100_000 - len(self.lines())
         self.told("add", given=f"ben {RANKS}\n" * room)
         before = self.last_act()
-        said = "with it there would be 100001 lines and "
+        said = "with the new lines there would be 100001 lines and "
         ended = self.election("add", given=f"cleo {RANKS}\n")
         self.assert_stops(
-            ended, before, 4, said, "; nothing was added: debvote takes 100000 lines and 33554432 bytes at most: add less of it"
+            ended, before, 4, said, "; nothing was added: debvote takes at most 100000 lines and 33554432 bytes: add fewer"
         )
         # what is struck takes no room, and what is late neither
         self.told("strike", 1, "--because", "a test")
@@ -389,10 +389,10 @@ class RefusedWhole(CalledTest):
 
     def test_words_that_do_not_go_together(self) -> None:
         before = self.last_act()
-        self.assert_stops(self.election("add", "--csv", given="x"), before, 2, "--csv: it takes --name COLUMN and --ranks ")
+        self.assert_stops(self.election("add", "--csv", given="x"), before, 2, "--csv: it needs --name COLUMN and --ranks ")
         for words in (["--name", "x"], ["--ranks", "x"], ["--blank-is-unranked"], ["--oldest-first"], ["--newest-first"]):
             ended = self.election("add", *words, given="x")
-            self.assert_stops(ended, before, 2, f"{words[0]}: it is about a table; nothing was added: write --csv with it")
+            self.assert_stops(ended, before, 2, f"{words[0]}: only for tables; nothing was added: give --csv too, or leave this out")
 
 
 class Signed(CalledTest):
@@ -403,7 +403,7 @@ class Signed(CalledTest):
     def test_a_line_needs_force_and_a_reason(self) -> None:
         self.write("more", f"ada {RANKS}\n")
         before = self.last_act()
-        said = "more: letters have to be signed in this vote, and nothing says who has sent a line of a file; nothing was added: "
+        said = "more: in this vote letters must be signed, and nothing shows who sent a line of a file; nothing was added: "
         for words in ([], ["--force"], ["--because", "they brought it"], ["--force", "--because", " "]):
             self.assert_stops(self.election("add", *words, "more"), before, 9, said, "--force --because TEXT")
         self.assertIn("1 counted  ada: ", self.told("add", "--force", "--because", "they brought it", "more"))
@@ -415,7 +415,7 @@ class Signed(CalledTest):
         ended = self.election("add", "--csv", "--name=n", "--ranks=a,b,c,d", "form")
         faults = ended.faults.splitlines()
         self.assertEqual((ended.status, len(faults)), (9, 2), ended)
-        self.assertIn("letters have to be signed", faults[0])
+        self.assertIn("letters must be signed", faults[0])
         self.assertIn("debvote takes none of the 2 lines", faults[1])
 
 
@@ -431,7 +431,7 @@ class CodesOnRoll(CalledTest):
     def test_near_codes_and_right_lines(self) -> None:
         near = "0a" * 15 + "0b"
         output = self.told("add", given=f"{near} 1,2,3,4\n")
-        self.assertIn(f"{near} is not on the roll\nA right line in this poll: CODE 1,2,3,4 (a code of the roll, ", output)
+        self.assertIn(f"{near} is not on the roll\nA valid line in this poll: CODE 1,2,3,4 (a code of the roll, ", output)
         for code in self.names:
             self.assertNotIn(code, output)
 
@@ -462,7 +462,7 @@ class Tables(CalledTest):
 
     def test_two_rows_of_one_elector_that_differ(self) -> None:
         before = self.last_act()
-        said = "form: it has two ballots of ada that differ (row 2 and row 4), and the last one that is entered counts; nothing was added: "
+        said = "form: it has two different ballots of ada (row 2 and row 4), and the one that is entered last counts; nothing was added: "
         for words in ([], ["--force"]):
             self.assert_stops(
                 self.election("add", *self.WORDS, *words, "form"), before, 9, said, "--oldest-first or --newest-first"
@@ -482,7 +482,7 @@ class Tables(CalledTest):
         self.told("add", *self.WORDS, "--newest-first", "form")
         self.write("form", "n,a,b,c,d\nada,2,1,4,3\nben,1,2,4,3\nada,1,2,4,3\n")
         # the row that is new may be the older one
-        said = "form: it has two ballots of ada that differ (row 2 and row 4), and the last one that is entered counts; nothing was added: "
+        said = "form: it has two different ballots of ada (row 2 and row 4), and the one that is entered last counts; nothing was added: "
         self.assert_stops(self.election("add", *self.WORDS, "form"), self.last_act(), 9, said, "--oldest-first or --newest-first")
         output = self.told("add", *self.WORDS, "--newest-first", "form")
         self.assertIn("form: 2 lines are ignored, since they came before; 1 is new\n3 replaced  ada: ", output)
@@ -492,7 +492,7 @@ class Tables(CalledTest):
     def test_an_empty_cell_is_a_hyphen_if_the_call_says_so(self) -> None:
         self.write("form", "n,a,b,c,d\nada,1,,,2\nben,1,2,3,4\n")
         before = self.last_act()
-        said = "--blank-is-unranked: the call does not say that an empty cell is a hyphen, so an elector may have meant otherwise; nothing was "
+        said = "--blank-is-unranked: the call does not say that an empty cell counts as a hyphen, so electors may have meant something else; nothing was "
         self.assert_stops(self.election("add", *self.WORDS, "--blank-is-unranked", "form"), before, 9, said, "--force")
         self.act("extend", {"form": True})
         self.assertIn("(empty cells)\n1 counted  ada: ", self.told("add", *self.WORDS, "--blank-is-unranked", "form"))
@@ -502,7 +502,7 @@ class Tables(CalledTest):
         self.write("form", "ada,1,2,4,3\nben,1,2,4,3\n")
         ended = self.election("add", "--csv", "--name=Ada", "--ranks=1,2,4,3", "form")
         self.assert_stops(
-            ended, self.last_act(), 2, "--name: `Ada` is an elector, so the table seems to have no head line; nothing was added"
+            ended, self.last_act(), 2, "--name: `Ada` is an elector, so the table seems to have no header line; nothing was added"
         )
 
     def test_heads_that_the_shell_has_cut(self) -> None:
@@ -532,7 +532,7 @@ class Failing(CalledTest):
             ended = subprocess.run([sys.executable, support.ELECTION, "add", "more"], text=True, **how)
         self.assertEqual((ended.returncode, ended.stderr.count("\n")), (7, 1))
         self.assertIn(
-            "the output failed; all the same the lines were entered (envelopes 1-2): ask debvote-election status", ended.stderr
+            "the output failed; the lines were entered nevertheless (envelopes 1-2): see debvote-election status", ended.stderr
         )
         self.assertEqual(len(self.lines()), 2)
 
@@ -557,5 +557,5 @@ class Failing(CalledTest):
             ended = self.election("add", given=f"ada {number},2,3,4\n", env=env)
             if "counted" in ended.output:
                 self.skipTest("debvote lies beside the program, and that one is asked first")
-            self.assert_fault(ended, status, f"all the same the lines were entered (envelope {number})")
+            self.assert_fault(ended, status, f"the lines were entered nevertheless (envelope {number})")
             self.assertEqual(len(self.lines()), number)

@@ -124,7 +124,7 @@ class Copies(BookTest):
         before = self.contents()
         (self.state / "debvote" / "lock").unlink()
         (self.state / "debvote" / "lock").mkdir()
-        self.assert_fault(self.election("add", "--yes", "more"), 7, "this machine has to note there")
+        self.assert_fault(self.election("add", "--yes", "more"), 7, "this computer must note there")
         self.assertEqual(self.contents(), before)
 
     def test_left_by_a_sync_tool(self) -> None:
@@ -159,9 +159,9 @@ class Rewritten(BookTest):
 
     def assert_broken(self, act: int) -> None:
         ended = self.election("log", "--check")
-        self.assert_fault(ended, 9, "election.db", f"act {act} is not as its digest says")
+        self.assert_fault(ended, 9, "election.db", f"act {act} does not match its digest")
         for words in (("close",), ("export", "out")):
-            self.assertIn("is not as its digest says", self.election(*words).faults)
+            self.assertIn("does not match its digest", self.election(*words).faults)
 
     def test_whole(self) -> None:
         self.assertIn("The chain is whole: 4 acts", self.done("log", "--check").output)
@@ -269,7 +269,7 @@ class Places(BookTest):
         self.assertIn(self.without_rights("log", "--check").status, (0,))
         self.write_outside = self.scratch / "more"
         self.write_outside.write_text("ben 1,2,3,4\n")
-        self.assert_fault(self.without_rights("add", "--yes", self.write_outside), 7, "can't be written")
+        self.assert_fault(self.without_rights("add", "--yes", self.write_outside), 7, "is not writable")
 
     def test_no_locks(self) -> None:
         compiler = shutil.which("cc")

@@ -62,7 +62,7 @@ class Open(CallTest):
         keys = rows.replace("\n", ",\n").replace("mail,", "mail,key").replace("ben@club.example,", f"ben@club.example,{'A' * 40}")
         for changed in (rows + "Jan,jan@club.example\n", rows.replace("ben@club", "ben@new"), keys):
             self.write("members.csv", changed)
-            self.assert_fault(self.election("call"), 9, "members.csv: it is not the list that was read last", "debvote-election roll")
+            self.assert_fault(self.election("call"), 9, "members.csv: it has changed since roll read it", "debvote-election roll")
 
     def test_no_line_reads_as_a_ballot(self) -> None:
         self.done("call", *UNTIL, "--to", "vote@club.example")
@@ -74,7 +74,7 @@ class Open(CallTest):
     def test_bad_words(self) -> None:
         before = self.contents()
         for words, part in {
-            ("--until", "2026-11-01 18:00"): "over",
+            ("--until", "2026-11-01 18:00"): "is past",
             ("--until", "tomorrow"): "--until",
             ("--to", "nobody"): "--to",
             ("--at", "file:///etc"): "--at",
@@ -137,7 +137,7 @@ class Again(CallTest):
         self.write("poll.toml", support.POLL.replace("spring", "autumn"))
         self.done("call", "--to", "other@club.example")
         self.assertIn(b"autumn", self.read("call/poll.toml"))
-        self.assert_fault(self.election("call", *UNTIL[:1], "2026-11-01 10:00"), 2, "over")
+        self.assert_fault(self.election("call", *UNTIL[:1], "2026-11-01 10:00"), 2, "is past")
 
     def test_not_taken_back_once_something_came(self) -> None:
         self.write("lines", "ada 1,2,3,4\n")
@@ -239,7 +239,7 @@ class Secret(CallTest):
         self.assert_fault(self.election("codes"), 9, "the vote is not secret", "secret = true")
         self.write("poll.toml", self.poll)
         self.done("codes")
-        self.assert_fault(self.election("codes", "--on-roll"), 9, "--on-roll", "beside their names already")
+        self.assert_fault(self.election("codes", "--on-roll"), 9, "--on-roll", "electors have names with codes already")
         self.assert_fault(self.election("call", "--names"), 2, "--names", "secret")
 
     def test_after_the_call_of_a_vote_that_is_not_secret(self) -> None:

@@ -348,7 +348,7 @@ class Addresses(unittest.TestCase):
             "https://example.org/ x", 'https://example.org/"', "https://example.org/<b>", "https://b\u00fccher.example/", "https://example.org:0/", "https://example.org:x/",
             "https://example.org:99999/", "https://[::1", "https://a\\b/", "https://example.org/" + "x" * 500, "https://?x", "https://-/", " " + PAGE,
         ):  # fmt: skip
-            with self.subTest(bad=bad), self.assertRaisesRegex(Fault, "^.*--at: it has to be the address of a page, as https://") as caught:
+            with self.subTest(bad=bad), self.assertRaisesRegex(Fault, "^.*--at: it must be the address of a page, as https://") as caught:
                 demand_web_address(bad)
             self.assertEqual(caught.exception.status, Status.BAD_WORDS)
 
@@ -356,7 +356,7 @@ class Addresses(unittest.TestCase):
         for good in (ADDRESS, "a@b", "_x@example.org"):
             demand_mail_address(good)
         for bad in ("", "a", "a@b@c", "Ada <a@b.org>", "a@b.org\n", "a b@c.org", "a@b..c", "a,b@c.org", "\u00e4@b.org", "a@" + "b" * 253):
-            with self.subTest(bad=bad), self.assertRaisesRegex(Fault, "--to: it has to be one mail address"):
+            with self.subTest(bad=bad), self.assertRaisesRegex(Fault, "--to: it must be one mail address"):
                 demand_mail_address(bad)
 
 

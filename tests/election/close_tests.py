@@ -70,10 +70,10 @@ class Close(CloseTest):
     def test_after_the_end_a_line_still_counts(self) -> None:
         self.set_clock("2026-11-27T09:00:00+00:00")
         self.done("call", *UNTIL)
-        said = "\nUntil when: Friday, 4 December 2026, 18:00 (UTC+01:00)"
+        said = "\nEnd of the vote: Friday, 4 December 2026, 18:00 (UTC+01:00)"
         self.assertIn(f"{said}\n", self.done("status").output)
         self.set_clock("2026-12-04T19:00:00+01:00")
-        self.assertIn(f"{said}; that is over\n", self.done("status").output)
+        self.assertIn(f"{said}; that time has passed\n", self.done("status").output)
         self.assertIn("1 counted", self.add("ada 1,2,3,4").output)
         self.done("close")
 
@@ -86,7 +86,7 @@ class Close(CloseTest):
             ended = self.election("close", *words)
             self.assert_fault(ended, 9, "Friday, 4 December 2026, 18:00 (UTC+01:00)", "--early", "nothing was changed")
         self.assertEqual(self.contents(), before)
-        self.assertIn("could still vote", self.done("close", "--early").output)
+        self.assertIn("the announced end of the vote has not come yet", self.done("close", "--early").output)
 
     def test_nothing_is_taken_back_after_it(self) -> None:
         self.add("ada 1,2,3,4")
@@ -129,7 +129,7 @@ class Reopen(CloseTest):
 
     def test_what_had_come_in_time(self) -> None:
         ended = self.done("reopen", "--because", "a letter was forgotten", "--in-time", "3")
-        self.assertIn("4 entered, which was late as 3: cleo 2,1,3,4", ended.output)
+        self.assertIn("Envelope 4, entered anew from late envelope 3: cleo 2,1,3,4", ended.output)
         self.assertEqual(self.exported(), (b"ada 1,2,3,4\ncleo 2,1,3,4\n", b"ben 1,2,3,4\ncleo 2,1,3,4\n"))
         self.write("more", "dan 1,2,3,4\n")
         self.assertEqual(self.election("add", "--yes", "more").status, 9)
@@ -174,9 +174,9 @@ class Told(CloseTest):
             "Title: Where we meet in spring\n",
             "Lines: 4 (2 valid, 2 refused)\n",
             "Electors with a valid ballot: 1 of 9\n",
-            "Electors without one (8):\n  ben cleo dan eve fay gus hal ida\n",
+            "Electors without a ballot (8):\n  ben cleo dan eve fay gus hal ida\n",
             "Refused lines of electors without a ballot (1):\n  envelope 2: ben 1,2\n",
-            "Refused lines of which no elector is known (1):\n  envelope 3: zoe 1,2,3,4\n",
+            "Refused lines with no known elector (1):\n  envelope 3: zoe 1,2,3,4\n",
             "Next: add the ballots as they come",
         ):
             self.assertIn(part, ended.output)
@@ -184,7 +184,7 @@ class Told(CloseTest):
     def test_a_refused_line_of_who_has_a_ballot_is_not_told(self) -> None:
         self.add("ada 1,2", "ada 1,2,3,4", "ben 1,2,3,4", "zoe 1,2,3,4")
         output = self.done("status").output
-        self.assertIn("Refused lines of which no elector is known (1):\n  envelope 4: zoe 1,2,3,4\n", output)
+        self.assertIn("Refused lines with no known elector (1):\n  envelope 4: zoe 1,2,3,4\n", output)
         self.assertNotIn("ada 1,2", output)
 
     def test_envelopes_keep_their_numbers(self) -> None:

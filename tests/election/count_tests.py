@@ -36,7 +36,7 @@ class Count(CountTest):
     def test_an_option_that_has_won(self) -> None:
         self.add(WON)
         before = self.contents()
-        self.assert_counted((), 0, "this is no result yet: when the vote is over debvote-election close, then debvote-election publish")
+        self.assert_counted((), 0, "this is not the result yet: when the vote is over, run debvote-election close, then debvote-election publish")
         self.assertEqual(self.contents(), before)
         self.done("close")
         self.assert_counted((), 0, "Next: debvote-election publish")
@@ -44,7 +44,7 @@ class Count(CountTest):
     def test_a_tie_and_the_casting_vote(self) -> None:
         self.add(TIE)
         self.done("close")
-        said = "it is a tie between 'At the lake', 'In the town hall'; who has the casting vote chooses one of them: "
+        said = "it is a tie between 'At the lake', 'In the town hall'; the holder of the casting vote chooses one of them: "
         self.assert_counted((), 1, said, "publish --casting 'In the town hall' --cast-by WHO --cast-on DATE")
         self.assert_counted(("--casting", "In the town hall"), 0, "publish --casting 'In the town hall'")
         self.assert_counted(("--casting", "Further discussion"), 8, "'Further discussion' is not among them")

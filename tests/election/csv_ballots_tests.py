@@ -63,12 +63,12 @@ class Lines(CsvBallotsTest):
 class Refused(CsvBallotsTest):
     def test_a_table_without_a_head_line(self) -> None:
         for name in ("ada", " Ben ", "1"):
-            parts = (f"--name: `{name.strip()}` is an elector", "no head line", "write a head line above the rows")
+            parts = (f"--name: `{name.strip()}` is an elector", "no header line", "write a header line above the rows")
             self.assert_refused("ada,1,2,3\nben,2,1,3\n", Status.BAD_WORDS, *parts, name=name, ranks="x,y,z")
 
     def test_columns(self) -> None:
         table = "n,a,b,c,A\nada,1,2,3,4\n"
-        heads = "its heads are `n`, `a`, `b`, `c`, `A`"
+        heads = "the headers are `n`, `a`, `b`, `c`, `A`"
         self.assert_refused(table, Status.BAD_WORDS, "form.csv: there is no column `who`", heads, name="who", ranks="n,b,c")
         self.assert_refused(table, Status.BAD_WORDS, "there is more than one column `a`", heads)
         self.assert_refused(table, Status.BAD_WORDS, "the column `b` is named twice", ranks="b,c,B")
@@ -78,8 +78,8 @@ class Refused(CsvBallotsTest):
         self.assertEqual(columns_of("n", '"a, b",c,d', OPTIONS, ROLL).heads, ["n", "a, b", "c", "d"])
 
     def test_tables(self) -> None:
-        self.assert_refused("x,n,a,b,c\nI, too,ada,1,2,3\n", Status.BAD_BALLOTS, "form.csv: row 2: it has 6 cells, and the head line has 5")
+        self.assert_refused("x,n,a,b,c\nI, too,ada,1,2,3\n", Status.BAD_BALLOTS, "form.csv: row 2: it has 6 cells, and the header line has 5")
         self.assert_refused('n,a,b,c\nada,1,2,3\n"ben,1,2,3\n', Status.BAD_BALLOTS, "form.csv:3: ", "close each quotation mark")
         self.assert_refused(b"n,a,b,c\nad\xe4,1,2,3\n", Status.BAD_BALLOTS, "form.csv:2: it is not in UTF-8", "Latin-1: ad\u00e4,1,2,3")
         self.assert_refused("", Status.BAD_BALLOTS, "form.csv: it is empty")
-        self.assert_refused(b"PK\x03\x04", Status.BAD_BALLOTS, "no CSV")
+        self.assert_refused(b"PK\x03\x04", Status.BAD_BALLOTS, "not CSV")

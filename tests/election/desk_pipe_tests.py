@@ -54,15 +54,15 @@ class PipeTest(CalledTest):
     def test_nothing_comes(self) -> None:
         before = self.last_act()
         for given in ("", "\n\n"):
-            self.assertIn("This desk has cast 0 lines.\n", self.told("desk", given=given))
+            self.assertIn("This desk has entered 0 lines.\n", self.told("desk", given=given))
         self.assertEqual(self.last_act(), before)
 
     def test_a_long_letter_is_told_and_not_cast(self) -> None:
         letter = b"Dear secretary, " * 13_000
         output = self.told("desk", given=b"ada 1,2,3,4\n" + letter + b"\nben 1,2,3,4\n")
-        said = f"desk:2: the line has {len(letter)} bytes, and a ballot has a few dozen; it was not cast.\n"
+        said = f"desk:2: the line has {len(letter)} bytes, and a ballot has a few dozen; it was not entered.\n"
         self.assertIn(f"{said}  To add it from a file: debvote-election add --force FILE\n", output)
-        self.assertIn("This desk has cast 2 lines (2 counted).", output)
+        self.assertIn("This desk has entered 2 lines (2 counted).", output)
         self.assertEqual(self.lines(), ["ada 1,2,3,4", "ben 1,2,3,4"])
 
     def test_eight_desks_at_once(self) -> None:
@@ -79,7 +79,7 @@ class PipeTest(CalledTest):
         for name, desk in desks.items():
             output, faults = desk.communicate(timeout=support.SECONDS)
             self.assertEqual((desk.returncode, faults), (0, ""))
-            self.assertIn(f"This desk has cast {BALLOTS} lines (1 counted, {BALLOTS - 1} replaced).\n", output)
+            self.assertIn(f"This desk has entered {BALLOTS} lines (1 counted, {BALLOTS - 1} replaced).\n", output)
         self.assertEqual([envelope.number for envelope in self.envelopes()], list(range(1, DESKS * BALLOTS + 1)))
         for name in desks:
             lines = [envelope.line.decode() for envelope in self.envelopes() if envelope.elector == self.elector(name)]

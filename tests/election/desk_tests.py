@@ -10,8 +10,8 @@ import support
 from called import HALL, LAKE, OTHER_RANKS, RANKS, CalledTest
 from terminal import Terminal
 
-CAST = "Cast it? [y/n] "
-CAST_REFUSED = "It would not count. Cast it anyway? [y/n] "
+CAST = "Enter it? [y/n] "
+CAST_REFUSED = "It would not count. Enter it anyway? [y/n] "
 
 
 class AtATerminal(CalledTest):
@@ -47,7 +47,7 @@ class AtATerminal(CalledTest):
         desk.type("YES\n")
         self.assertIn(f"\n2 replaced  ada: {HALL}\n", desk.until("Ballot: "))
         desk.type("q\n")
-        self.assertIn("This desk has cast 2 lines (1 counted, 1 replaced).\nNext: debvote-election status\n", self.end(desk))
+        self.assertIn("This desk has entered 2 lines (1 counted, 1 replaced).\nNext: debvote-election status\n", self.end(desk))
         self.assertEqual(self.acts(), [("desk", {"lines": 1})] * 2)
         times = [act.time for act in self.book.acts()[self.first_act - 1 :]]
         for envelope, time_of_act in zip(self.envelopes(), times, strict=True):
@@ -57,12 +57,12 @@ class AtATerminal(CalledTest):
     def test_a_no_forgets_and_another_answer_is_asked_again(self) -> None:
         desk, before = self.desk(), self.last_act()
         desk.type(f"ada {RANKS}\nperhaps\nn\n")
-        self.assertIn("Type y to cast it, or n to forget it.\n", desk.until("forgotten."))
+        self.assertIn("Type y to enter it, or n to drop it.\n", desk.until("It was not entered."))
         desk.until("Ballot: ")
         desk.type("\n")
         self.assertIn("Type a ballot, or q to end.\n", desk.until("Ballot: "))
         desk.type("\x04")
-        self.assertIn("This desk has cast 0 lines.\n", self.end(desk))
+        self.assertIn("This desk has entered 0 lines.\n", self.end(desk))
         self.assertEqual(self.last_act(), before)
 
     def test_a_refused_line_is_told_once_and_may_be_cast(self) -> None:
@@ -75,7 +75,7 @@ class AtATerminal(CalledTest):
         }.items():
             desk.type(f"{line}\nperhaps\nn\n")
             shown = desk.until(CAST_REFUSED)
-            self.assertRegex(shown, rf"\nn\nIt would be refused: {re.escape(words)}\nA right line [^\n]*\nIt would")
+            self.assertRegex(shown, rf"\nn\nIt would be refused: {re.escape(words)}\nA valid line [^\n]*\nIt would")
             # the question is asked in the same words again
             desk.until(CAST_REFUSED)
             desk.until("Ballot: ")
@@ -92,7 +92,7 @@ class AtATerminal(CalledTest):
             desk.until(CAST)
             desk.type(key)
             shown = self.end(desk)
-            self.assertIn("This desk has cast 0 lines.\n", shown)
+            self.assertIn("This desk has entered 0 lines.\n", shown)
             self.assertNotIn("Traceback", shown)
             self.assertEqual(self.last_act(), before)
 
@@ -106,7 +106,7 @@ class AtATerminal(CalledTest):
         # what was agreed to is another thing now, so it is asked anew
         first.type("y\n")
         shown = first.until(CAST)
-        self.assertIn("It was not cast: another act came between, and now it is so.\n", shown)
+        self.assertIn("It was not entered: another command changed the election meanwhile. Now it looks like this:\n", shown)
         self.assertIn(f"ada has a ballot: {LAKE}. It will be replaced.\n", shown)
         self.assertEqual(self.lines(), [f"ada {RANKS}"])
         first.type("y\n")
@@ -155,14 +155,14 @@ class AtATerminal(CalledTest):
         self.told("call", "--to", "vote@club.example")
         desk.type(f"ada {RANKS}\nn\nq\n")
         output, status = desk.end()
-        self.assertIn("the vote was called anew meanwhile; nothing was cast: start the desk again", output)
+        self.assertIn("the call for votes was made anew meanwhile; nothing was entered: start the desk again", output)
         self.assertEqual((status, self.lines()), (9, []))
 
     def test_after_the_close(self) -> None:
         self.told("add", given=f"ada {RANKS}\n")
         self.act("close", {"lines": 1, "checksum": "", "early": False})
         desk = Terminal(self)
-        self.assertIn("Note: the vote was closed at ", desk.until("; what is cast now is late."))
+        self.assertIn("Note: the vote was closed at ", desk.until("; what is entered now is late."))
         desk.until("Ballot: ")
         desk.type(f"ada {OTHER_RANKS}\n")
         shown = desk.until(CAST)
@@ -204,7 +204,7 @@ class AtATerminal(CalledTest):
     def test_after_the_end_it_is_told(self) -> None:
         self.act("extend", {"until": "2020-12-04T18:00:00+01:00"})
         desk = Terminal(self)
-        note = "Note: one could vote until Friday, 4 December 2020, 18:00 (UTC+01:00), and that is over; what is cast counts as long as "
+        note = "Note: the announced end of the vote, Friday, 4 December 2020, 18:00 (UTC+01:00), has passed; what is entered still counts until "
         self.assertIn(note, desk.until("Ballot: "))
         desk.type(f"ada {RANKS}\ny\nq\n")
         self.assertIn("1 counted  ada: ", self.end(desk))
@@ -212,7 +212,7 @@ class AtATerminal(CalledTest):
     def test_where_letters_are_signed_it_says_what_a_desk_is_for(self) -> None:
         self.act("call", {"signed": True}, {"keyring": b"keys"})
         self.assertIn(
-            "Note: letters have to be signed in this vote, and a desk asks for no signature: ", Terminal(self).until("Ballot: ")
+            "Note: in this vote letters must be signed, and a desk checks no signature: ", Terminal(self).until("Ballot: ")
         )
 
 
@@ -230,7 +230,7 @@ class NamesAreCompleted(CalledTest):
             desk.until("Ballot: ")
         # several, and one that is whole
         desk.type("anna 1,2,4,3\n")
-        self.assertIn("These names begin so: anna-meier, anna-schmidt\nIt would be refused: ", desk.until(CAST_REFUSED))
+        self.assertIn("Several names begin with `anna`: anna-meier, anna-schmidt\nIt would be refused: ", desk.until(CAST_REFUSED))
         desk.type("n\nben 1,2,4,3\n")
         shown = desk.until(CAST)
         self.assertRegex(shown, "(?m)^(Ballot: )?ben: At the lake, ")
@@ -272,7 +272,7 @@ class BeforeTheCall(CalledTest):
     call_words = None
 
     def test_it_is_refused(self) -> None:
-        self.assert_stops(self.election("desk", given=f"ada {RANKS}\n"), self.last_act(), 9, "the election is not called yet; ")
+        self.assert_stops(self.election("desk", given=f"ada {RANKS}\n"), self.last_act(), 9, "there is no call for votes yet; ")
 
 
 class FromAPipe(CalledTest):
@@ -297,7 +297,7 @@ class FromAPipe(CalledTest):
             self.assertEqual(run.stdout.readline().decode(), f"{number} counted  {name}: {LAKE}\n")
             self.assertEqual(len(self.lines()), number)
         output, faults = run.communicate()
-        self.assertIn(b"This desk has cast 3 lines (3 counted).\n", output)
+        self.assertIn(b"This desk has entered 3 lines (3 counted).\n", output)
         self.assertEqual((run.returncode, faults), (0, b""))
 
     def test_line_ends_that_come_in_parts(self) -> None:
@@ -317,13 +317,13 @@ class FromAPipe(CalledTest):
 
     def test_lines_are_taken_as_add_takes_them(self) -> None:
         output = self.told("desk", given=b"Ada 1,2,4,3\r\n\nq\ny\ngsu 1,2,4,3\n")
-        ends = "desk: 1 line ends as Windows ends it (carriage return); that was taken off\n"
+        ends = "desk: 1 line ends as Windows ends it (carriage return); that was removed\n"
         changed = "desk:1: `Ada 1,2,4,3` was changed to `ada 1,2,4,3` (capital letters)\n"
         self.assertIn(f"{ends}{changed}1 counted  ada: ", output)
         self.assertIn("desk:2: it is empty, and was left out\n", output)
         words = "one word: a ballot has a name, a space and the ranks; does it go on in the next line?"
         self.assertIn(f"2 bad shape  q: column 2: end of line; {words}\n", output)
-        self.assertIn("gsu is not on the roll\nA right line in this poll: ", output)
+        self.assertIn("gsu is not on the roll\nA valid line in this poll: ", output)
         self.assertEqual(self.lines(), ["ada 1,2,4,3", "q", "y", "gsu 1,2,4,3"])
 
     def test_a_line_that_came_before_is_cast_again(self) -> None:
@@ -349,7 +349,7 @@ class FromAPipe(CalledTest):
         self.act("reopen", {"because": "a bag was forgotten"})
         before = self.last_act()
         said = (
-            "and only what came before counts; nothing was cast: say whether this came before that close: --came-before-close yes"
+            "and only what came before counts; nothing was entered: say whether this came before that close: --came-before-close yes"
         )
         self.assert_stops(self.election("desk", given=f"ada {RANKS}\n"), before, 9, "--came-before-close: ", said)
         self.assertIn("1 counted  ada: ", self.told("desk", "--came-before-close", "yes", given=f"ada {RANKS}\n"))
@@ -371,7 +371,7 @@ class FromAPipe(CalledTest):
         self.assertTrue(run.stdout.readline().startswith(b"1 counted  ada: "))
         run.send_signal(signal.SIGINT)
         output, faults = run.communicate()
-        self.assertIn(b"This desk has cast 1 line (1 counted).\n", output)
+        self.assertIn(b"This desk has entered 1 line (1 counted).\n", output)
         self.assertEqual((run.returncode, faults, self.lines()), (0, b"", [f"ada {RANKS}"]))
 
     def test_an_output_that_is_gone(self) -> None:
@@ -382,6 +382,6 @@ class FromAPipe(CalledTest):
         self.send(run, b"ben 1,2,4,3\n")
         faults = run.stderr.read().decode()
         self.assertEqual(run.wait(), 7)
-        self.assertIn("the output failed; all the same what was to be told is cast (envelope 2)", faults)
+        self.assertIn("the output failed; the ballots to be reported were entered nevertheless (envelope 2)", faults)
         self.assertEqual(len(faults.splitlines()), 1)
         self.assertEqual(self.lines(), ["ada 1,2,4,3", "ben 1,2,4,3"])

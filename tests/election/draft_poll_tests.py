@@ -165,7 +165,7 @@ class Faults(DraftTest):
         for key, value in {"quorum": "2026-01-01", "title": "{a = 1}", "ratios": "[nan]", "quorum ": "9223372036854775808"}.items():
             lines = [line for line in GERMAN.splitlines() if not line.startswith(f"{key.strip()} = ")]
             draft = self.draft("\n".join([*lines, f"{key} = {value}"]))
-            self.assert_faults(draft.faults, (f"`{key.strip()}` has a value that no poll has",))
+            self.assert_faults(draft.faults, (f"`{key.strip()}` has a value of a wrong kind",))
             self.assertIn(f"poll: key {key.strip()}: it is missing", self.explained(draft))
         for value in ("1", '"true"', "[]"):
             draft = self.draft(GERMAN + f"secret = {value}\n")
@@ -202,8 +202,8 @@ class Texts(DraftTest):
     def test_all_that_is_no_text(self) -> None:
         texts = {"0.txt": "x", "01.txt": "x", "1.md": "x", "1.txt": "\n \n", "2.txt": b"a\n\xff", "3.txt": "a\n\nb\u202e", "4.txt": "the default"}
         wanted = [
-            *(("/0.txt: it is no text of an option", "1.txt to 3.txt"), ("/01.txt: it is no text",), ("/1.md: it is no text",)),
-            *(("/1.txt: it is empty",), ("/2.txt:2: it is not in UTF-8",), ("/3.txt:3: ", "U+202E"), ("/4.txt: it is no text",)),
+            *(("/0.txt: it is not the text of an option", "1.txt to 3.txt"), ("/01.txt: it is not the text",), ("/1.md: it is not the text",)),
+            *(("/1.txt: it is empty",), ("/2.txt:2: it is not in UTF-8",), ("/3.txt:3: ", "U+202E"), ("/4.txt: it is not the text",)),
         ]
         self.assert_faults(self.draft(texts=texts).faults, *wanted)
 
@@ -235,7 +235,7 @@ class Confusing(DraftTest):
         poll = GERMAN.replace('"李"', '"ueber der BRUCKE", "UBER DER BRÜCKE"').replace("treffen", "\\u202e").replace("Weiter", "x" * 200)
         wanted = [
             ("poll.toml: the title, ", "U+202E", "then run debvote-election check"),
-            ("option 5, ", "characters, 200 are the most"),
+            ("option 5, ", "characters; at most 200 are allowed"),
             ("option 4, `UBER DER BRÜCKE`: it looks like option 2, `Über der Brücke`",),
         ]
         self.assert_faults(self.faults(poll), *wanted)
@@ -246,7 +246,7 @@ class Confusing(DraftTest):
             "Zoe-Mueller 1,2,3,4,5", "áda\u00a01,2,3,–", "(ada 1,2,3,4)", "ada\t99,1,1,1", "x 1,2,3,4 ben 1,2,3,4",
         ):  # fmt: skip
             with self.subTest(text=text):
-                self.assert_faults(self.faults(_2=text), ("texts/2.txt: `", "would read as a ballot"))
+                self.assert_faults(self.faults(_2=text), ("texts/2.txt: `", "would be read as a ballot"))
 
     def test_real_names_count_too(self) -> None:
         names = [*ROLL, "Ada Maria Lovelace", "", "李"]
@@ -258,7 +258,7 @@ class Confusing(DraftTest):
 
     def test_a_title_or_an_option_that_reads_as_one(self) -> None:
         poll = GERMAN.replace("Am See", "ben 1,2,3,4")
-        self.assert_faults(self.faults(poll), ("poll.toml: `ben 1,2,3,4` in it would read as a ballot",))
+        self.assert_faults(self.faults(poll), ("poll.toml: `ben 1,2,3,4` in it would be read as a ballot",))
         self.assertEqual(self.faults(GERMAN.replace("Am See", "zu ben").replace("Über der Brücke", "1,2,3,4")), [])
 
     def test_many_names_and_much_text(self) -> None:

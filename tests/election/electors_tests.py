@@ -139,11 +139,11 @@ class Known(RollTest):
 
     def test_too_many(self) -> None:
         rows = [f"Elector {number}" for number in range(10_001)]
-        self.assert_faults(self.roll(*rows), ("it has 10001 members, 10000 are the most",))
+        self.assert_faults(self.roll(*rows), ("it has 10001 members; at most 10000 are allowed",))
         self.assertEqual(self.roll(*rows[1:]).faults, ())
 
     def test_the_faults_of_the_list_are_among_them(self) -> None:
-        self.assert_faults(self.roll("Ann;no", "Ann"), (":2: `no` is no mail address",), (":2: lines 2 and 3",))
+        self.assert_faults(self.roll("Ann;no", "Ann"), (":2: `no` is not a mail address",), (":2: lines 2 and 3",))
         self.assert_faults(self.roll(), ("there is nobody on it",))
 
 
@@ -165,7 +165,7 @@ class AfterTheCall(RollTest):
         self.assertEqual(changes_of(roll), [("ben", ["address", "key"]), ("zoe", ["address"])])
 
     def test_the_people_stay(self) -> None:
-        self.assert_faults(self.called(SAME[1]), ("ada (Ada L) and zoe (Zoë) is missing", "addresses and keys alone may change"))
+        self.assert_faults(self.called(SAME[1]), ("ada (Ada L) and zoe (Zoë) is missing", "only addresses and keys may change"))
         self.assert_faults(self.called(*SAME, "Dan"), ("dan (Dan) on line 5 is new",))
         self.assert_faults(self.called("Ada L;a@x;ada.l", *SAME[1:]), ("ada.l (Ada L) on line 2 was ada",))
         self.assert_faults(self.called("Eve;a@x;ada", *SAME[1:]), ("ada (Eve) on line 2 was Ada L",))

@@ -115,18 +115,18 @@ class Unread(MembersTest):
     def test_what_is_no_csv(self) -> None:
         self.assert_faults(b"", ("members.csv: it is empty",))
         self.assert_faults(b"\xef\xbb\xbf\r\n ,,\r\n", ("it is empty",))
-        self.assert_faults(b"PK\x03\x04\x14\0", ("a ZIP", "no CSV", "save it anew as CSV in UTF-8"))
-        self.assert_faults(b"\xd0\xcf\x11\xe0\xa1\xb1", ("spreadsheet, and no CSV",))
+        self.assert_faults(b"PK\x03\x04\x14\0", ("a ZIP", "not CSV", "save it again as CSV in UTF-8"))
+        self.assert_faults(b"\xd0\xcf\x11\xe0\xa1\xb1", ("spreadsheet, not CSV",))
         self.assert_faults(b"%PDF-1.7", ("a PDF",))
 
     def test_another_encoding(self) -> None:
         self.assert_faults("who,mail\nZoë,z@x\n".encode("latin-1"), ("members.csv:2: ", "Latin-1", "Zoë,z@x", "UTF-8"))
-        self.assert_faults("who,mail\nZoë,z@x\n".encode("utf-16-le"), ("mark is missing",))
+        self.assert_faults("who,mail\nZoë,z@x\n".encode("utf-16-le"), ("nor in UTF-16 with a byte-order mark",))
         self.assert_faults(codecs.BOM_UTF16_LE + "who,mail\n".encode("utf-16-le") + b"x", ("UTF-16",))
 
     def test_a_head_line_without_a_column(self) -> None:
         self.assert_faults("name,who,e-mail\nada,Ada,a@x\n", ("members.csv:1: ", "no column `mail`", "`name`, `who`, `e-mail`"))
-        self.assert_faults("ada,Ada,a@x\n", ("no column `who` and no column `mail`, it has `ada`, `Ada`, `a@x`", "real names"))
+        self.assert_faults("ada,Ada,a@x\n", ("no column `who` and no column `mail`; it has `ada`, `Ada`, `a@x`", "real names"))
 
     def test_a_column_twice(self) -> None:
         self.assert_faults("\nwho,mail,Who,name,NAME\n,,,,\n", (":2: ", "column `who` twice"), (":2: ", "column `name` twice"))
@@ -146,7 +146,7 @@ class Unread(MembersTest):
     def test_a_folder_and_no_file(self) -> None:
         folder = pathlib.Path(tempfile.mkdtemp())
         self.addCleanup(folder.rmdir)
-        for file, part in ((folder, "it is no file"), (folder / "no", "No such file"), (pathlib.Path("/dev/null"), "it is no file")):
+        for file, part in ((folder, "it is not a file"), (folder / "no", "No such file"), (pathlib.Path("/dev/null"), "it is not a file")):
             with self.assertRaises(Fault) as caught:
                 members.members_in(file)
             self.assertEqual(caught.exception.status, Status.BAD_WORDS)
@@ -166,24 +166,24 @@ class Rows(MembersTest):
             '"E\nve";e@x;eve;;too far\n;;;x\nFay;f@@x <g@x;;\nGus;g\u202e@x\n'
         )
         wanted = [
-            ("members.csv:2: `Ada` can't be a name on the roll", "1 to 32 of a to z"),
-            (":2: `ada.x` is no mail address",),
+            ("members.csv:2: `Ada` cannot be a name on the roll", "1 to 32 of a to z"),
+            (":2: `ada.x` is not a mail address",),
             (":3: it has no `who`",),
             (":4: ", "character U+202E"),
-            (":4: ", "is no fingerprint", "all 40 digits"),
+            (":4: ", "is not the fingerprint", "all 40 digits"),
             (":7: `too far` is after the last column", "quotation marks"),
             (":9: it has no `who`",),
-            (":9: `X` is no fingerprint",),
-            (":10: `f@@x` is no mail address",),
-            (":10: `<g@x` is no mail address",),
-            (":11: `g\\u202E@x` is no mail address",),
+            (":9: `X` is not the fingerprint",),
+            (":10: `f@@x` is not a mail address",),
+            (":10: `<g@x` is not a mail address",),
+            (":11: `g\\u202E@x` is not a mail address",),
         ]
         self.assert_faults(text, *wanted)
         self.assertEqual([row.line for row in self.read(text).rows], [2, 3, 4, 6, 7, 9, 10, 11])
 
     def test_a_name_has_32_characters_at_most(self) -> None:
         self.assert_rows(f"who,mail,name\nAda,,{'a' * 32}\n", (2, "a" * 32, "Ada", ""))
-        self.assert_faults(f"who,mail,name\nAda,,{'a' * 33}\n", (":2: ", "can't be a name"))
+        self.assert_faults(f"who,mail,name\nAda,,{'a' * 33}\n", (":2: ", "cannot be a name"))
 
     def test_a_cell_that_is_cut_by_its_comma(self) -> None:
-        self.assert_faults("who,mail,,\nLovelace, Ada,a@x,\n", (":2: `a@x` is after",), (":2: `Ada` is no mail address",))
+        self.assert_faults("who,mail,,\nLovelace, Ada,a@x,\n", (":2: `a@x` is after",), (":2: `Ada` is not a mail address",))

@@ -43,7 +43,7 @@ class New(support.ElectionTest):
         (self.folder / "file").write_text("kept")
         (self.folder / "link").symlink_to("nowhere")
         before = self.contents()
-        for name, words in {"spring": "an election already", "full": "not empty", "file": "no folder", "link": "no folder"}.items():
+        for name, words in {"spring": "an election already", "full": "not empty", "file": "not a folder", "link": "not a folder"}.items():
             with self.subTest(name):
                 self.assert_fault(self.election("new", name), 2, words, "nothing was changed")
         self.assert_fault(self.election("new", "nowhere/else"), 2, "nowhere/else")
@@ -69,7 +69,7 @@ class New(support.ElectionTest):
             with self.subTest(words):
                 ended = self.election(*words, cwd=folder)
                 self.assertEqual(ended.status, 9, ended)
-                self.assertIn("not called yet", ended.faults)
+                self.assertIn("no call for votes yet", ended.faults)
         self.assertIn("Call for votes: not made yet", self.done("status", cwd=folder).output)
 
 

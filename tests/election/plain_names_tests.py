@@ -133,7 +133,7 @@ class Refused(unittest.TestCase):
         for odd in ("\u202e", "\u2066", "\x1b", "\n", "\u2028", "\x7f", "\ue000", "\ufff9"):
             self.assert_bad(["x", f"a{odd}b"], (2, f"the character U+{ord(odd):04X}"))
             self.assertEqual(len(bad_title(f"a{odd}b")), 1)
-        self.assert_bad(["ä" * 200, "b" * 201], (2, "it has 201 characters, 200 are the most"))
-        self.assert_bad(["\u200b\u3164", "\u200c", "x"], (1, "no character that one sees"), (2, "no character that one sees"))
+        self.assert_bad(["ä" * 200, "b" * 201], (2, "it has 201 characters; at most 200 are allowed"))
+        self.assert_bad(["\u200b\u3164", "\u200c", "x"], (1, "no visible character"), (2, "no character that one sees"))
         self.assertEqual([bad.number for bad in bad_title("c" * 201)], [0])
         self.assertEqual(bad_title("c" * 200), [])

@@ -27,13 +27,13 @@ class Roll(RollTest):
         self.assertEqual(self.on_roll(), ["cleo", "anna-meier", "odegard"])
         self.assertIn("  cleo: Cléo cleo@club.example\n", ended.output)
         self.assertIn("2 names were proposed", ended.output)
-        self.assertIn("Without an address, so letters in their name wait, and what goes out is printed: anna-meier", ended.output)
+        self.assertIn("Without an address (letters in their names wait, letters to them are printed): anna-meier", ended.output)
         self.assertEqual(self.read("members.csv").decode(), "who,mail\nCléo,cleo@club.example\nAnna Meier,\nØdegård,o@club.example\n")
 
     def test_an_address_that_not_every_mail_server_takes_is_told(self) -> None:
         ended = self.roll("Cléo,cléo@club.example", "Ben,bén@club.example b@club.example")
-        self.assertIn("With no address that every mail server takes, so what goes out to them is printed: cleo\n", ended.output)
-        self.assertNotIn("Without an address", ended.output)
+        self.assertIn("Without an address that every mail server takes (letters to them are printed): cleo\n", ended.output)
+        self.assertNotIn("Without an address (", ended.output)
 
     def test_a_name_stays_with_its_person(self) -> None:
         self.roll("Anna Meier,a@club.example", "Ben,b@club.example")
@@ -80,7 +80,7 @@ class AfterTheCall(RollTest):
         self.assert_fault(ended, 9, "ada@club.example becomes new@club.example", "--yes")
         ended = self.done("roll", "--yes")
         self.assertIn("ada: address ada@club.example becomes new@club.example", ended.output)
-        self.assertIn("1 elector changed; the page of the result tells how many", ended.output)
+        self.assertIn("1 elector changed; the result page says how many", ended.output)
         self.assertEqual(self.on_roll(), support.NAMES)
 
     def test_a_key_changes_once(self) -> None:
@@ -105,7 +105,7 @@ class AfterTheCall(RollTest):
             output, status = terminal.end()
             self.assertIn("ben (Ben): address ben@club.example becomes ben@new.example. Is that right? [y/n] ", output)
             self.assertEqual(status, 9 if is_overtaken else 0, output)
-            self.assertIn("another command changed" if is_overtaken else "1 elector changed; the page of the result tells", output)
+            self.assertIn("another command changed" if is_overtaken else "1 elector changed; the result page says", output)
             shown = "ada@club.example" if is_overtaken else "ada@new.example"
             self.assertIn(shown, self.done("show", "ada").output)
             self.assertIn("ben@club.example", self.done("show", "ben").output)
@@ -116,7 +116,7 @@ class AfterTheCall(RollTest):
         for changed in (rows[1:], [*rows, "Jan,jan@club.example"], ["Adele,ada@club.example", *rows[1:]]):
             ended = self.roll(*changed)
             self.assertEqual(ended.status, 9, ended)
-            self.assertIn("after the call addresses and keys alone may change", ended.faults)
+            self.assertIn("after the call only addresses and keys may change", ended.faults)
         self.assertEqual(self.done("log").output, before)
 
 
@@ -145,8 +145,8 @@ class Check(RollTest):
                 "Quorum: 2 votes (1Q): at least 2 electors must prefer an option to the default option",
                 "Electors: 9",
                 "  ada ben cleo dan eve fay gus hal ida",
-                "Next: debvote-election call --until 'YYYY-MM-DD HH:MM' --to ADDRESS (until when one can vote, and where ballots "
-                "are sent; both can be left out)",
+                "Next: debvote-election call --until 'YYYY-MM-DD HH:MM' --to ADDRESS (the end of the vote, and the address for ballots; "
+                "both are optional)",
             ],
         )
 

@@ -85,4 +85,4 @@ class BeforeTheCall(CalledTest):
 
     def test_it_is_refused(self) -> None:
         for words in (("strike", 1, *WHY), ("undo",), ("show", "ada")):
-            self.assert_fault(self.election(*words), 9, "the election is not called yet; ")
+            self.assert_fault(self.election(*words), 9, "there is no call for votes yet; ")

@@ -24,7 +24,7 @@ class Undo(CalledTest):
         self.told("undo")
         self.assertEqual(self.lines(), [])
         self.assert_stops(
-            self.election("undo"), self.last_act(), 9, "undo: nothing was entered that could be taken back; nothing was changed: "
+            self.election("undo"), self.last_act(), 9, "undo: there is nothing to take back; nothing was changed: "
         )
         self.assertEqual(self.acts()[3:], [("undo", {"act": number}) for number in (first + 2, first + 1, first)])
         # nothing is gone
@@ -81,7 +81,7 @@ class Undo(CalledTest):
                 act.insert("letter_state", letter=letter, state="entered")
                 line = f"{name} {RANKS}".encode()
                 queries.add_envelopes(act, [queries.NewEnvelope(line, "", source, letter)], [self.elector(name)], is_late=False)
-        self.assertIn("2 letters then wait as taken back: 1, 2\n", self.told("undo"))
+        self.assertIn("2 letters then wait again, as taken back: 1, 2\n", self.told("undo"))
         states = "SELECT letter, state FROM letter_state WHERE act = ? ORDER BY letter"
         self.assertEqual(self.book.rows(states, self.last_act()), [(1, "taken back"), (2, "taken back")])
 

@@ -61,7 +61,7 @@ class Until(unittest.TestCase):
 
     def test_other_words(self) -> None:
         for text in ("tomorrow", "Friday, 4 December 2026", "2026-12-04", "18:00", "4.12.2026 18:00", "2026-12-04 6pm", "", "2026-12-04 18:00 sharp", "\u0662026-12-04 18:00"):
-            self.assert_refused(text, None, f"^.*--until: it has to be a time; nothing was changed: {EXAMPLE}")
+            self.assert_refused(text, None, f"^.*--until: it is not a time; nothing was changed: {EXAMPLE}")
         for text in ("2026-02-30 18:00", "2026-12-04 24:00", "2026-12-04 18:60", "2026-12-04 18:00 +99:00", "0000-01-01 10:00", "9999-12-31 23:59"):
             self.assert_refused(text, "America/New_York" if text.startswith("9") else None, "there is no such day or time of day")
         for name in ("Europe/Nowhere", "../../etc/passwd", "", "a\u202eb", "/etc/passwd"):
@@ -71,7 +71,7 @@ class Until(unittest.TestCase):
     def test_clocks_that_are_put_forward_or_back(self) -> None:
         for zone, here, where in (("Europe/Berlin", "UTC", "in Europe/Berlin"), (None, "Europe/Berlin", "where this computer is")):
             self.in_zone(here)
-            self.assert_refused("2027-03-28 02:30", zone, f"{where} there is no such time: on that day clocks are put forward over it")
+            self.assert_refused("2027-03-28 02:30", zone, f"{where} there is no such time: the clocks that are put forward on that day skip it")
             both = r'write "2027-10-31 02:30 \+02:00" or "2027-10-31 02:30 \+01:00"'
             self.assert_refused("2027-10-31 02:30", zone, f"{where} this time comes twice.*{both}")
         self.assert_refused("2027-10-31 01:30", "Europe/London", r'write "2027-10-31 01:30 \+01:00" or "2027-10-31 01:30 UTC"')
@@ -81,7 +81,7 @@ class Until(unittest.TestCase):
     def test_a_time_that_is_over(self) -> None:
         clock = datetime.datetime(2026, 11, 26, 10, 0, 30, tzinfo=datetime.UTC)
         for text in ("2026-11-26 11:00:30 +01:00", "2026-11-26 11:00 +01:00"):
-            said = r"\(UTC\+01:00\) is over: by the clock of this computer it is Thursday, 26 November 2026, 11:00 \(UTC\+01:00\); nothing was"
+            said = r"\(UTC\+01:00\) is past: by the clock of this computer it is Thursday, 26 November 2026, 11:00 \(UTC\+01:00\); nothing was"
             with self.assertRaisesRegex(Fault, said):
                 demand_future(parse_until(text, None)[0], clock)
         demand_future(parse_until("2026-11-26 11:00:31 +01:00", None)[0], clock)

@@ -10,11 +10,11 @@ class Folder(support.LanguageTest):
 
     def test_the_book_keeps_it_and_all_commands_follow_it(self) -> None:
         said = self.run_program("debvote-election", "new", "--language", "es", "other")
-        self.assertIn("What electors read will be in Spanish.\n", said)
+        self.assertIn("Pages and letters for electors will be in Spanish.\n", said)
         place = self.begun("german", "de")
         said = self.election("german", "call", "--until", "2031-12-01 18:00", "--zone", "Europe/Berlin")
         # the electors read German, and the secretary English
-        self.assertIn("Until when: Monday, 1 December 2031, 18:00 (UTC+01:00)\n", said)
+        self.assertIn("End of the vote: Monday, 1 December 2031, 18:00 (UTC+01:00)\n", said)
         self.assertIn("Montag, 1. Dezember 2031, 18:00 (UTC+01:00)", (place / "call" / "call.txt").read_text())
         self.election("german", "add", "--yes", given=support.BALLOTS)
         self.election("german", "close", "--early")

@@ -111,7 +111,7 @@ class Adding(LettersTest):
         desk.until("Enter 2 ballots?")
         self.done("desk", given=f"ada {OTHER}\n")
         desk.type("y\n")
-        self.assertIn("a later ballot of ada is in already", desk.until("Enter 1 ballot?"))
+        self.assertIn("a later ballot of ada, of ", desk.until("Enter 1 ballot?"))
         desk.type("y\n")
         desk.end()
         self.assertEqual(self.exported()[0], f"ada {OTHER}\nben {RANKS}\n")
@@ -123,7 +123,7 @@ class Adding(LettersTest):
 
     def test_older_letter_after_a_ballot_at_the_desk(self) -> None:
         self.done("desk", given=f"ada {OTHER}\n")
-        self.assertIn("a later ballot of ada is in already", self.add(letter("ada", f"ada {RANKS}")).output)
+        self.assertIn("a later ballot of ada, of ", self.add(letter("ada", f"ada {RANKS}")).output)
 
     def test_a_line_that_was_refused_is_no_later_ballot(self) -> None:
         self.done("desk", given="ada 1,2\n")
@@ -135,7 +135,7 @@ class Adding(LettersTest):
         self.done("desk", given=f"ada {OTHER}\n")
         self.done("reopen", "--because", "a mailbox was forgotten")
         ended = self.add(letter("ada", f"ada {RANKS}"), letter("ben", f"ben {RANKS}"))
-        self.assertIn("a later ballot of ada is in already, of 2026-11-25 09:00", ended.output)
+        self.assertIn("a later ballot of ada, of 2026-11-25 09:00", ended.output)
         self.assertEqual(self.exported(), (f"ben {RANKS}\n", f"ada {OTHER}\n"))
         self.assert_fault(self.election("held", 1, "--enter", 1), 9, "its elector has voted since")
         self.done("held", 1, "--enter", 1, "--force")
@@ -151,7 +151,7 @@ class Adding(LettersTest):
         self.assert_fault(self.election("publish"), 9, "the ballot of letter 1 is late", f"to count it {how}")
         self.assert_fault(self.election("held", 1, "--enter", 1), 9, "it was entered, and is late", f"if it came in time, {how}")
         ended = self.done("reopen", "--because", "a letter was forgotten")
-        self.assertIn("Note: still late: 2; if one had come before the first close, close again and run", ended.output)
+        self.assertIn("Note: still late: 2; if one of them came before the first close, close again and run", ended.output)
         self.assert_fault(self.election("held", 1, "--enter", 1), 9, f"if it came in time, close again and {how}")
 
     def assert_published(self) -> None:
@@ -163,7 +163,7 @@ class Adding(LettersTest):
     def test_a_letter_in_time_that_was_added_after_the_close(self) -> None:
         self.add_after_the_close()
         self.done("close")
-        self.assertIn("3 entered, which was late as 2", self.done("reopen", "--in-time", "2", "--because", "it came in time").output)
+        self.assertIn("Envelope 3, entered anew from late envelope 2", self.done("reopen", "--in-time", "2", "--because", "it came in time").output)
         self.assert_published()
 
     def test_a_letter_in_time_whose_ballot_is_entered_at_a_desk(self) -> None:
@@ -173,7 +173,7 @@ class Adding(LettersTest):
 
     def test_a_stranger_and_a_member_without_address(self) -> None:
         ended = self.add(letter("ada", f"ada {RANKS}", sender="stranger@elsewhere.example"))
-        self.assertIn("it came from stranger@elsewhere.example, and the list has ada@club.example for ada", ended.output)
+        self.assertIn("it came from stranger@elsewhere.example, but the list of members has ada@club.example for ada", ended.output)
         self.assertEqual(self.exported()[0], "")
 
     def test_letters_and_lines_are_added_apart(self) -> None:
@@ -195,8 +195,8 @@ class Adding(LettersTest):
             (("inbox.mbox", "none.mbox"), 4, "none.mbox: No such file or directory; nothing was added"),
             (("lines", "none.mbox"), 4, "none.mbox: No such file or directory; nothing was added"),
             (("inbox.mbox", "box", "scan.pdf"), 4, "scan.pdf: it is a PDF; nothing was added"),
-            (("lines", "inbox.mbox"), 2, "inbox.mbox: it has letters, and other files have none; nothing was added"),
-            (("lines", "box"), 2, "box: it has letters, and other files have none; nothing was added"),
+            (("lines", "inbox.mbox"), 2, "inbox.mbox: it has letters, and the other files have none; nothing was added"),
+            (("lines", "box"), 2, "box: it has letters, and the other files have none; nothing was added"),
         ]:
             with self.subTest(words):
                 self.assert_fault(self.election("add", "--yes", *words), status, part)
@@ -223,9 +223,9 @@ class Held(LettersTest):
         self.assertIn("2 letters wait.", listed)
         self.assertIn(f"   5  ada {RANKS}\n", self.done("held", "1").output)
         for number in ("3", "\u00b2", "x", "-1", ""):
-            self.assert_fault(self.election("held", "1", f"--enter={number}"), 9, f"line {number} of letter 1 is no ballot", "5")
+            self.assert_fault(self.election("held", "1", f"--enter={number}"), 9, f"line {number} of letter 1 is not a ballot", "5")
         for numbers in ("5,", "5" * 5_000):
-            self.assert_fault(self.election("held", "1", f"--enter={numbers}"), 9, "of letter 1 is no ballot", "5")
+            self.assert_fault(self.election("held", "1", f"--enter={numbers}"), 9, "of letter 1 is not a ballot", "5")
         self.assertIn(f"1 counted  ada: {LAKE}", self.done("held", "1", "--enter", "5").output)
         self.assertEqual(self.exported()[0], f"ada {RANKS}\n")
         self.assertEqual(self.numbers()["waiting"], 1)
@@ -240,7 +240,7 @@ class Held(LettersTest):
 
     def test_a_line_is_entered_once(self) -> None:
         for lines in ("5,5", "5, 5"):
-            self.assert_fault(self.election("held", "1", "--enter", lines), 9, "2 of these lines are of ada")
+            self.assert_fault(self.election("held", "1", "--enter", lines), 9, "2 of these lines are ballots of ada")
         self.done("held", "1", "--enter", "5")
         self.add("X-Status: R\n" + letter("ada", f"Dear Anna,\n\nI thought about it for 3 days:\n\nada {RANKS}\n"))
         self.assert_fault(self.election("held", "3", "--enter", "5"), 9, "letter 3: it is a copy of another letter", "--wait")
@@ -271,7 +271,7 @@ class Held(LettersTest):
         self.assertEqual(self.exported()[0], f"ada {OTHER}\nada {RANKS}\n")
 
     def test_close_names_them(self) -> None:
-        self.assert_fault(self.election("close"), 9, "letters wait that arrived in time: 1, 2", "--force --because")
+        self.assert_fault(self.election("close"), 9, "these letters arrived in time, and wait: 1, 2", "--force --because")
         self.done("close", "--force", "--because", "neither is a ballot")
         self.done("held", "1", "--enter", "5")
         self.assertEqual(self.exported(), ("", f"ada {RANKS}\n"))

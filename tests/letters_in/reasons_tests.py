@@ -50,7 +50,7 @@ class Sentences(unittest.TestCase):
             for_secretary(Reason.AFTER_THE_END(end=at(9))), "it arrived after the end of the vote, 2026-11-23 09:00:00 UTC"
         )
         said = for_secretary(Reason.OTHER_SENDER(sender="a\x1b[2J\u202e@x", listed="b@x", elector="ada"))
-        self.assertEqual(said, "it came from a\\u001B[2J\\u202E@x, and the list has b@x for ada")
+        self.assertEqual(said, "it came from a\\u001B[2J\\u202E@x, but the list of members has b@x for ada")
 
     def test_each_becomes_of_some_letter(self) -> None:
         tables = [*(row.becomes for row in table_tests.TABLE), *signatures_tests.BECOMES.values()]

@@ -119,10 +119,10 @@ class Call(OutTest):
     def test_after_the_end_nobody_is_invited(self) -> None:
         self.set_clock("2026-12-04T18:00:01+00:00")
         for kind in ("call", "reminders"):
-            self.assert_fault(self.election("letters", kind), 9, "the time to vote is over")
+            self.assert_fault(self.election("letters", kind), 9, "the vote is over")
         self.done("close")
         for kind in ("call", "reminders"):
-            self.assert_fault(self.election("letters", kind), 9, "the time to vote is over")
+            self.assert_fault(self.election("letters", kind), 9, "the vote is over")
         self.assertEqual((self.rows("call"), self.rows("reminders")), ([], []))
 
 
@@ -359,7 +359,7 @@ class Receipts(OutTest):
         self.assertEqual(sorted(self.texts("receipts")), ["ada", "ben", "cleo"])
         self.add_lines(f"ben {OTHER_RANKS}", f"dan {RANKS}")
         self.assertNotIn("receipt", self.done("undo", "--yes").output)
-        self.assertIn("\nThese have receipts that no longer hold: ben, cleo\n", self.done("undo", "--yes").output)
+        self.assertIn("\nThese electors have receipts that are no longer true: ben, cleo\n", self.done("undo", "--yes").output)
 
     def test_letters(self) -> None:
         self.add_letters(
@@ -642,7 +642,7 @@ class Closed(OutTest):
         self.done("close", "--early")
         first = self.texts("closed")
         self.done("reopen", "--because", "a bag was forgotten")
-        for kind, said in (("closed", "the vote is not closed"), ("call", "nobody is invited"), ("reminders", "nobody is invited")):
+        for kind, said in (("closed", "the vote is not closed"), ("call", "nobody is asked to vote"), ("reminders", "nobody is asked to vote")):
             self.assert_fault(self.election("letters", kind), 9, said)
         self.write("lines", f"ben {RANKS}\n")
         self.done("add", "--came-before-close", "yes", "lines")
@@ -722,8 +722,8 @@ class ResultAt(OutTest):
         self.add_lines(f"ada {RANKS}")
         self.done("close")
         self.done("publish")
-        self.assert_fault(self.election("letters", "result"), 2, "--at: the letter has to say where the result is published")
-        self.assert_fault(self.election("letters", "result", "--at", "ftp://x"), 2, "it has to be the address of a page")
+        self.assert_fault(self.election("letters", "result"), 2, "--at: the letter must say where the result is published")
+        self.assert_fault(self.election("letters", "result", "--at", "ftp://x"), 2, "it must be the address of a page")
         self.assertIn("https://x.example/r/#ada", self.texts("result", "--at", "https://x.example/r/")["ada"])
         acts = [(act.name, act.detail) for act in self.book().acts()]
         self.assertEqual(acts.count(("announce", {"at": "https://x.example/r/"})), 1)

@@ -73,7 +73,7 @@ class Sending(SendTest):
         ended = self.send("call")
         self.assertEqual(ended.status, 0, ended)
         self.assertEqual(self.server.addresses(), [*ALL[4:], ALL[1], ALL[3]])
-        nothing = "There is no letter to send: the server has taken all that are due but those that it has refused: ada, cleo.\n"
+        nothing = "There is no letter to send: the server has taken all that are due, except those that it has refused: ada, cleo.\n"
         self.assertIn(nothing, self.send("call").output)
         # what is written as files now are the letters that no server has taken
         self.assertEqual(list(self.written("call")), ["ada", "cleo"])
@@ -187,7 +187,7 @@ class Sending(SendTest):
     def test_a_connection_that_is_lost_in_a_letter(self) -> None:
         self.server.at = lambda step, number: (step, number) == ("data", 3)
         ended = self.send("call")
-        self.assert_fault(ended, 7, "lost while it got the letter to dan@club.example", "3 of 9 letters taken in this run")
+        self.assert_fault(ended, 7, "lost during the letter to dan@club.example", "3 of 9 letters taken in this run")
         self.server.at = lambda step, number: False
         ended = self.send("call")
         self.assertEqual(ended.status, 9, ended)
@@ -216,7 +216,7 @@ class Sending(SendTest):
     def test_a_server_that_is_not_there_or_lets_nobody_in(self) -> None:
         self.server.stop()
         ended = self.send("call")
-        self.assert_fault(ended, 7, f"127.0.0.1:{self.server.port}", "there is no connection")
+        self.assert_fault(ended, 7, f"127.0.0.1:{self.server.port}", "no connection")
         self.server = self.mail_server(authenticator=lambda *words: self.server.authenticated(*words), auth_require_tls=False)
         self.write("password", "wrong\n")
         ended = self.send("call", "--user", "vote", "--password-file", "password")
@@ -230,16 +230,16 @@ class Sending(SendTest):
     def test_words_that_do_not_go_together(self) -> None:
         for words, part in (
             (["call", "--send"], "no server is named"),
-            (["call", "--server", "x.example"], "it goes with --send"),
-            (["call", "--user", "x"], "it goes with --send"),
-            (["call", "--again", "ada"], "it goes with --send"),
-            (["call", "--send", "--server", "x.example", "--password-file", "p"], "it goes with --user"),
-            (["call", "--send", "--server", "x y"], "it has to be a server"),
-            (["call", "--send", "--server", "x.example:99999"], "it has to be a server"),
+            (["call", "--server", "x.example"], "only with --send"),
+            (["call", "--user", "x"], "only with --send"),
+            (["call", "--again", "ada"], "only with --send"),
+            (["call", "--send", "--server", "x.example", "--password-file", "p"], "only with --user"),
+            (["call", "--send", "--server", "x y"], "it is not the name of a server"),
+            (["call", "--send", "--server", "x.example:99999"], "it is not the name of a server"),
             (["call", "--send", "--server", self.server.name, "--user", "u"], "the password can't be asked here"),
             (["call", "--send", "--server", self.server.name, "--user", "u", "--password-file", "none"], "No such file"),
-            (["call", "--from", "two@x.example, b@x.example"], "it has to be one mail address"),
-            (["call", "--at", "https://x.example"], "it goes with result"),
+            (["call", "--from", "two@x.example, b@x.example"], "it must be one mail address"),
+            (["call", "--at", "https://x.example"], "only with result"),
         ):
             with self.subTest(words=words):
                 self.assert_fault(self.election("letters", *words), 2, part)
@@ -267,7 +267,7 @@ class Sending(SendTest):
         self.assertEqual(self.send("receipts").status, 9)
         del self.server.rcpt_answers["ben@club.example"]
         self.assertEqual(self.send("receipts").status, 0)
-        # to the same address it is no letter to send
+        # to the same address it does not look like a letter to send
         self.assertIn("There is no letter to send", self.send("receipts").output)
         self.write("members.csv", support.members_of(support.NAMES).replace("ada@club", "ada@new"))
         self.done("roll", "--yes")

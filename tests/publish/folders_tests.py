@@ -23,7 +23,7 @@ def try_folder(expect, name, poll, ballots, more, folder):
     files = ["--poll", poll, "--ballots", ballots]
     sheet, _, wanted = support.run([support.PROGRAM, "count", *files, *more])
     output, faults, status = support.publish_files(poll, ballots, folder, "--desks", "3", *more)
-    doubts = [line for line in faults.splitlines() if not line.endswith("; the page tells it") and support.HAS_PICTURES]
+    doubts = [line for line in faults.splitlines() if not line.endswith("; the result page says so") and support.HAS_PICTURES]
     expect(f"{name}: its status", (status, doubts), (wanted, []))
     if not folder.exists():
         return False

@@ -212,11 +212,11 @@ class OfOpenVotes(OfElections):
         (self.folder / "result").mkdir()
         self.say("publish")
         (self.folder / "result" / "notes").write_text("mine")
-        self.stops("publish", "--language", "en", said=["result: it is there already, and is no published folder"], status=2)
+        self.stops("publish", "--language", "en", said=["result: it exists already, and is not a published folder"], status=2)
         (self.folder / "mine").mkdir()
         (self.folder / "mine" / "a").write_text("b")
-        self.stops("publish", "mine", said=["mine: it is there already"], status=2, folder="mine")
-        self.stops("publish", "members.csv", said=["members.csv: it is there already"], status=2)
+        self.stops("publish", "mine", said=["mine: it exists already"], status=2, folder="mine")
+        self.stops("publish", "members.csv", said=["members.csv: it exists already"], status=2)
 
     def test_doubts_are_told_at_once(self):
         self.say("call")
@@ -324,7 +324,7 @@ class OfOpenVotes(OfElections):
         with self.changed_book() as connection:
             last = connection.execute("SELECT max(act) FROM act").fetchone()[0]
             connection.execute("UPDATE act SET detail = '{}' WHERE act = ?", (last - 2,))
-        self.stops("publish", said=["is not as its digest says"])
+        self.stops("publish", said=["does not match its digest"])
 
     @contextlib.contextmanager
     def changed_book(self):
@@ -420,7 +420,7 @@ class OfOpenVotes(OfElections):
             (self.folder / "about").write_bytes(data)
             self.stops("publish", "--about", "about", said=[said], status=2)
         self.stops("publish", "--about", "none", said=["none: No such file or directory"], status=2)
-        for text, said in [("a\u202eb", "the text has the character U+202E"), ("x" * 2001, "the text has 2001 characters, 2000 are the most")]:
+        for text, said in [("a\u202eb", "the text has the character U+202E"), ("x" * 2001, "the text has 2001 characters; at most 2000 are allowed")]:
             self.stops("publish", "--force", "--because", text, said=[f"--because: {said}"], status=2)
         (self.folder / "about").write_bytes(b"\xef\xbb\xbfOne\r\n\r\n\xd7\x93 <i>two</i>\r\n")
         self.say("publish", "--about", "about", "--language", "en")
@@ -435,8 +435,8 @@ class OfOpenVotes(OfElections):
         cast = ("--cast-by", "Anna <b>", "--cast-on", "2026-11-20")
         for words, said, status in [
             (("--casting", "72 Euro"), "it was given; nothing was published: say it with --cast-by", 2),
-            (("--casting", "72 Euro", "--cast-by", "A", "--cast-on", "2999-01-01"), "2999-01-01 is to come", 2),
-            (("--casting", "72 Euro", "--cast-by", "A", "--cast-on", "1.1.2026"), "`1.1.2026` is no day", 2),
+            (("--casting", "72 Euro", "--cast-by", "A", "--cast-on", "2999-01-01"), "2999-01-01 is in the future", 2),
+            (("--casting", "72 Euro", "--cast-by", "A", "--cast-on", "1.1.2026"), "`1.1.2026` is not a day", 2),
             (("--casting", "72 Euro", "--cast-by", 'A "b', "--cast-on", "2026-01-01"), "without quotation marks", 2),
             (cast, "give --casting too", 2),
             (("--casting", "Größe", *cast), "no option has this name", 8),
@@ -541,8 +541,8 @@ class OfOpenVotes(OfElections):
         self.expect("a sheet alone", (sheet.startswith("Poll: Wo wir uns treffen: Groesse\n"), sheet.endswith("Tie: 1 2\n"), status), (True, True, 1))
         cast = "--cast-by WHO --cast-on DATE"
         first = f"debvote-election publish --casting '72 Euro' {cast} or debvote-election publish --casting Groesse {cast}"
-        over = "this is no result yet: when the vote is over debvote-election close, then"
-        choose = f"it is a tie between '72 Euro', Groesse; who has the casting vote chooses one of them: {first}"
+        over = "this is not the result yet: when the vote is over, run debvote-election close; now"
+        choose = f"it is a tie between '72 Euro', Groesse; the holder of the casting vote chooses one of them: {first}"
         self.expect("what comes next", said, f"Next: {over} {choose}\n")
         self.say("close")
         output, said, status = self.run_words("count", "--casting", "Groesse")
@@ -567,7 +567,7 @@ class OfSecretVotes(OfElections):
     def test_nothing_before_the_close(self):
         self.called()
         for words in (("count",), ("publish",), ("publish", "--force", "--because", "x", "--yes")):
-            self.stops(*words, said=["the vote is secret, and it is counted after the close alone"])
+            self.stops(*words, said=["the vote is secret, and can be counted only after the close"])
 
     def test_the_files(self):
         self.called()
@@ -644,7 +644,7 @@ class OfSecretVotes(OfElections):
         # answers for the private files that are not theirs
         for task, change, said in [
             ("standing", "s/2,1,3/1,2,3/", "the ballots have the checksum"),
-            ("count", "s/Voters: 2/Voters: 3/", "the sheet under aliases is not that of the votes as they came"),
+            ("count", "s/Voters: 2/Voters: 3/", "the sheet under aliases differs from the sheet of the votes as they came"),
         ]:
             other = f'case "$*" in "{task} "*/dev/stdin*) {support.PROGRAM} "$@" | sed "{change}" ;; *) exec {support.PROGRAM} "$@" ;; esac'
             (program / "debvote").write_text(f"#!/bin/sh\n{other}\n")

@@ -41,7 +41,7 @@ def try_refusals(expect, scratch):
         where = {**os.environ, "PATH": support.PATH}
         ended = subprocess.run(words, stdout=full, stderr=subprocess.PIPE, text=True, timeout=support.SECONDS, env=where)
     said = ended.stderr.splitlines()[-1:]
-    words = f"debvote-publish: the output failed; the folder {room / 'result'} is made all the same: look at its page index.html"
+    words = f"debvote-publish: the output failed; the folder {room / 'result'} was made nevertheless: look at its page index.html"
     expect("a full disk for what is said", (ended.returncode, said), (7, [words]))
     shutil.rmtree(room / "result")
     nowhere = support.publish_files(poll, ballots, room / "result", path="/nowhere")

@@ -9,7 +9,7 @@ import reading
 import support
 
 NOBODY = "No elector has a ballot that counts: nobody's vote has decided this."
-NOBODY_TOLD = "no elector has a ballot that counts; look whether these are the ballots of this poll"
+NOBODY_TOLD = "no elector has a ballot that counts; check that these are the ballots of this poll"
 MOSTLY_REFUSED = "More than half of the lines of the ballot file are refused: {} of {}."
 MOSTLY_REFUSED_TOLD = "more than half of the lines are refused, {} of {}; debvote explain says why"
 
@@ -36,7 +36,7 @@ def try_slip(expect, name, scratch):
     ballots, told, shown = SLIPS[name]
     room = support.plain_room(scratch / "slips" / name.replace(" ", "-"), ballots=ballots)
     output, faults, status = support.publish(room, *support.FILES, "result")
-    expect(f"{name}: what is told", faults, "".join(f"Note: {line}; the page tells it\n" for line in told))
+    expect(f"{name}: what is told", faults, "".join(f"Note: {line}; the result page says so\n" for line in told))
     sheet, _, wanted = support.run([support.PROGRAM, "count", *support.FILES], cwd=room)
     expect(f"{name}: how it ended", (output, status), (sheet.splitlines()[-1] + "\nverified\n", wanted))
     text = (room / "result" / "index.html").read_text(encoding="utf-8")
@@ -74,7 +74,7 @@ def try_secret(expect, scratch):
     poll = support.PLAIN_POLL.replace('["ada", "ben", "cleo", "dan"]', str(roll).replace("'", '"')) + "secret = true\n"
     twice = support.plain_room(scratch / "twice", poll=poll, ballots=f"{roll[0]} 1,2,3\n{roll[1]} 2,1,3\n{roll[0]} 2,1,3\n")
     output, faults, status = support.publish(twice, *support.FILES, "result")
-    expect(f"an alias twice: {faults}", ("not each line of this secret vote counts, once" in faults, status), (True, 9))
+    expect(f"an alias twice: {faults}", ("a line of this secret vote does not count, or counts more than once" in faults, status), (True, 9))
     room = support.plain_room(scratch / "aliases", poll=poll, ballots=f"{roll[0]} 1,2,3\n{roll[1]} 2,1,3\n{roll[2]} 1,2,3\n")
     expect("a secret vote with aliases", support.publish(room, *support.FILES, "result")[1:], ("", 0))
     sections = page.sections_of((room / "result" / "index.html").read_text())

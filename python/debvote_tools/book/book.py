@@ -192,9 +192,9 @@ class Book:
             return "this computer has never seen this election in this folder"
         digest = self.digest_at(noted.act)
         if digest is None:
-            return f"it ends with act {self.last_number()}, and this computer saw act {noted.act} already: it is an older copy"
+            return f"it ends with act {self.last_number()}, and this computer has seen act {noted.act}: it is an older copy"
         if digest != noted.digest:
-            how = "somebody went on from a copy, or wrote the book anew"
+            how = "somebody went on from a copy, or made the book anew"
             return f"its act {noted.act} is not the one that this computer saw: {how}"
         return None
 
@@ -202,14 +202,16 @@ class Book:
         why = self.strangeness()
         if why is not None:
             right = "if it is the right book, as after a move to this computer or folder"
-            cure = f"find out how that came; {right}, give the command --moved --because TEXT, and the page tells it"
+            cure = (
+                f"find out how that came about; {right}, repeat the command with --moved --because TEXT (the result page says so)"
+            )
             raise Fault(self.path, why, cure)
 
     def accept(self, because: str) -> None:
         """The act `moved`: from now on this machine takes this book for the right one."""
         noted, last, why = self.note().read(), self.last_act(), self.strangeness()
         if why is None:
-            raise Fault("--moved", "this is the book that this computer knows", "leave it out", Status.BAD_WORDS)
+            raise Fault("--moved", "this computer knows this book already", "leave it out", Status.BAD_WORDS)
         there = {"act": last.number, "digest": last.digest}
         with self.act(MOVED, {"why": why, "noted": noted and noted._asdict(), "there": there, "because": because}):
             pass
@@ -219,7 +221,7 @@ class Book:
         """Stops if a second process gets the lock that this one holds."""
         with self.transaction("BEGIN IMMEDIATE"):
             if not is_locked_for_others(self.path):
-                words = "locks do not work in this file system, as on some network shares"
+                words = "locks do not work on this file system, as on some network shares"
                 raise Fault(self.path, words, "move the folder to a disk of this computer")
 
     def demand_alone(self) -> None:
@@ -228,8 +230,8 @@ class Book:
             # a file that is gone by now was the journal of another command
             with contextlib.suppress(OSError):
                 if file.is_file() and not file.samefile(self.path) and has_our_id(file) and not self.begins_with(file):
-                    words = "it is another book of this election, with acts that election.db lacks, as a sync tool leaves it"
-                    cure = "find out which one is right, and move the other out of the folder"
+                    words = "it is another book of this election, with acts that election.db lacks; a sync tool may have left it"
+                    cure = "find out which book is right, and move the other out of the folder"
                     raise Fault(file, words, cure)
 
     def begins_with(self, file: pathlib.Path) -> bool:
@@ -295,7 +297,7 @@ def open_book(path: pathlib.Path) -> Book:
             [(found, version)] = connection.execute(words)
         except sqlite3.Error as error:
             if is_read_only and "unable to open" in str(error) or "readonly" in str(error):
-                words = "a command was cut off in its act, and in a folder that can't be written the act can't be taken back"
+                words = "a command was cut off in its act, and the act can be taken back only in a folder that is writable"
                 cure = f"copy {NAME} and {NAME}-journal together into a folder of your own, and work there"
                 raise Fault(path, words, cure, Status.DOUBT, None) from None
             raise
@@ -334,14 +336,17 @@ def sqlite_faults(path: pathlib.Path) -> Iterator[None]:
             words, cure = "other commands have worked on it for two minutes", "wait until they are done, then run the command again"
         elif kind.startswith(("FULL", "IOERR")):
             words = f"it can't be written ({error})"
-            cure = "make room on the disk, or look whether it is in order, then run the command again"
+            cure = "make room on the disk, or check that the disk is in order, then run the command again"
         elif kind.startswith(("READONLY", "CANTOPEN", "PERM", "AUTH")):
-            words, cure = f"it can't be written ({error})", "make file and folder writable for you, then run the command again"
+            words, cure = (
+                f"it can't be written ({error})",
+                "make the file and its folder writable for you, then run the command again",
+            )
         raise Fault(path, words, cure, Status.BAD_OUTPUT) from None
 
 
 def damaged(path: pathlib.Path, how: str = "it has no first act") -> Fault:
-    cure = "put back the last copy that debvote-election backup made, and tell the maintainers"
+    cure = "restore the last copy made by debvote-election backup, and tell the maintainers"
     return Fault(path, f"the book is damaged ({how})", cure)
 
 

@@ -39,8 +39,8 @@ class MachineNote:
         except FileNotFoundError:
             return None
         except (OSError, ValueError, LookupError, TypeError) as error:
-            cure = "remove it, then give the command --moved --because TEXT"
-            words = f"this machine's note of the election can't be read ({error})"
+            cure = "remove it, then repeat the command with --moved --because TEXT"
+            words = f"this computer's note of the election can't be read ({error})"
             raise Fault(self.file, words, cure, Status.DOUBT, None) from None
 
     def write(self, note: Note, *, is_moved: bool = False) -> None:
@@ -60,6 +60,6 @@ class MachineNote:
             with locked(self.folder / "lock"):
                 yield
         except OSError as error:
-            words = f"this machine has to note there what it did last, and can't ({error.strerror})"
+            words = f"this computer must note there what it did last, but can't ({error.strerror})"
             cure = "make the folder writable for you, or set XDG_STATE_HOME"
             raise Fault(self.folder, words, cure, Status.BAD_OUTPUT, None) from None

@@ -110,8 +110,8 @@ def paragraphs_of(text: str) -> list[str]:
 
 def demand_mail_address(text: str, option: str = "--to") -> None:
     if not is_mail_address(text):
-        reason = "it has to be one mail address, as secretary@example.org"
-        raise Fault(option, reason, "write it anew", Status.BAD_WORDS)
+        reason = "it must be one mail address, as secretary@example.org"
+        raise Fault(option, reason, "write it again", Status.BAD_WORDS)
 
 
 def is_mail_address(text: str) -> bool:
@@ -121,8 +121,8 @@ def is_mail_address(text: str) -> bool:
 
 def demand_web_address(text: str) -> None:
     if not is_web_address(text):
-        reason = "it has to be the address of a page, as https://example.org/vote/, without a part after #"
-        raise Fault("--at", reason, "write it as the browser shows it", Status.BAD_WORDS)
+        reason = "it must be the address of a page, as https://example.org/vote/, without a part after #"
+        raise Fault("--at", reason, "write it as a browser shows it", Status.BAD_WORDS)
 
 
 def is_web_address(text: str) -> bool:

@@ -23,7 +23,7 @@ def book_for_act(election: Election, arguments: Arguments) -> Book:
     book = election.book
     if book.is_read_only:
         cure = "make it writable for you, or copy the folder to where you can write"
-        raise Fault(election.folder, "the folder can't be written", cure, Status.BAD_OUTPUT)
+        raise Fault(election.folder, "the folder is not writable", cure, Status.BAD_OUTPUT)
     book.demand_alone()
     book.demand_locks()
     if arguments.moved:
@@ -37,8 +37,8 @@ def demand_whole(book: Book) -> None:
     """Stops if the book is not as its acts wrote it."""
     broken = book.broken_act()
     if broken is not None:
-        words = f"act {broken} is not as its digest says: somebody has changed the book with another program"
-        cure = "put back a copy from before, as debvote-election backup makes them, and find out who did it"
+        words = f"act {broken} does not match its digest: somebody has changed the book with another program"
+        cure = "restore an earlier copy made by debvote-election backup, and find out who did it"
         raise Fault(book.path, words, cure)
 
 
@@ -66,6 +66,6 @@ def demand_reason(because: str | None, option: str, *, has_paragraphs: bool = Fa
         words = f"the text has the character {number_of(odd)}, which no plain text has"
         raise Fault("--because", words, "take it out", Status.BAD_WORDS)
     if len(text) > LONGEST_REASON:
-        words = f"the text has {len(text)} characters, {LONGEST_REASON} are the most"
+        words = f"the text has {len(text)} characters; at most {LONGEST_REASON} are allowed"
         raise Fault("--because", words, "shorten it", Status.BAD_WORDS)
     return text

@@ -24,7 +24,7 @@ from debvote_tools.faults import Fault, Status, stop_at
 from debvote_tools.lines import MARK, lines_in
 from debvote_tools.terminal_text import shown_line
 
-FORCE = "add it all the same with --force"
+FORCE = "add it anyway with --force"
 
 # how many lines are shown that are no ballots, and how many that came before and no longer count
 MAX_REFUSED, MAX_REPEATED = 10, 20
@@ -36,23 +36,28 @@ MEMBERS_HEADS = {"who", "mail"}
 class Arguments(in_time.Arguments):
     files: list[str] = positional(
         "FILE",
-        "Letters (a mailbox, a Maildir, a folder of .eml), or ballots, a line each, or with --csv tables; - or none is standard input",
+        "Letters (a mailbox, a Maildir, a folder of .eml), or ballots, one on each line, or tables (--csv); - or no FILE: standard input",
         nargs="*",
     )
-    csv: bool = flag("The files are tables of a web form, a row a ballot")
-    name: str | None = option("COLUMN", "With --csv: the head of the column with the elector's name")
-    ranks: str | None = option("COLUMN,..", "With --csv: the heads of the columns with the ranks, in the order of the options")
+    csv: bool = flag("The files are tables from a web form, with one ballot in each row")
+    name: str | None = option("COLUMN", "With --csv: the header of the column with the elector's name")
+    ranks: str | None = option("COLUMN,..", "With --csv: the headers of the columns with the ranks, in the order of the options")
     blank_is_unranked: bool = flag(
-        "With --csv: an empty cell is an option that is not ranked, as a hyphen; tell electors so by call --form"
+        "With --csv: count an empty cell as a hyphen (option not ranked); call --form says so to electors"
     )
-    oldest_first: bool = flag("With --csv: the rows are sorted by time, and the first is the oldest", group="order")
-    newest_first: bool = flag("With --csv: the first row is the newest, so they are entered from the last one on", group="order")
-    look: bool = flag("Tell what would become of them, and change nothing")
+    oldest_first: bool = flag("With --csv: the rows are sorted by time, the oldest first", group="order")
+    newest_first: bool = flag(
+        "With --csv: the rows are sorted by time, the newest first; the last row is entered first", group="order"
+    )
+    look: bool = flag("Say what would be entered, and change nothing")
     yes: bool = flag("Answer yes to every question")
     again: bool = flag(
-        "Enter lines again that came before and no longer count, as they were struck or their electors have voted since"
+        "Enter lines again that came before and do not count now: struck, late before a reopen, or replaced by a later ballot"
     )
-    force: bool = flag("Add them although few lines are ballots, one is very long, or an older ballot would replace a later one")
+    force: bool = flag(
+        "Add them although most lines are not ballots, one is very long, an older ballot would replace a later one, the call does "
+        "not say what empty cells mean, or (then with a reason) letters must be signed"
+    )
 
 
 @dataclasses.dataclass(frozen=True)
@@ -80,9 +85,9 @@ def doubt(where: object, words: str, cure: str) -> Fault:
 
 def read_lines(vote: Vote, files: Sequence[CameFile], columns: Columns | None, arguments: Arguments) -> list[FileLines]:
     lists = [lines_in(file.data, file.name) if columns is None else lines_of_table(file.data, file.name, columns) for file in files]
-    what = "it has empty lines alone" if columns is None else "it has no row of a ballot"
+    what = "it has only empty lines" if columns is None else "it has no row with a ballot"
     empty = [file for file, lines in zip(files, lists) if all(line.is_empty for line in lines)]
-    stop_at([doubt(file.name, what, "write a ballot a line into it") for file in empty])
+    stop_at([doubt(file.name, what, "write one ballot on each line") for file in empty])
     if arguments.newest_first:
         lists = [lines[::-1] for lines in lists]
     read = iter(vote.read([line for lines in lists for line in lines if not line.is_empty]))
@@ -99,7 +104,7 @@ def plan_of(book: Book, vote: Vote, files: Sequence[FileLines], arguments: Argum
     history = History(book.acts())
     openness = history.openness()
     if openness.call != vote.call:
-        raise doubt(None, "the vote was called anew meanwhile", "run the command again")
+        raise doubt(None, "the call for votes was made anew meanwhile", "run the command again")
     found = sorted_out(book, files, takes_again=arguments.again, is_reopened=openness.is_reopened)
     return Plan(history.last.number, openness, found)
 
@@ -114,26 +119,28 @@ def doubts(vote: Vote, plan: Plan, arguments: Arguments) -> Iterator[Fault]:
     for file in plan.files:
         if is_unsorted and (pair := of_unknown_order(file)):
             rows = " and ".join(map(place_in, pair))
-            words = f"it has two ballots of {pair[0].voter} that differ ({rows}), and the last one that is entered counts"
+            words = f"it has two different ballots of {pair[0].voter} ({rows}), and the one that is entered last counts"
             yield doubt(file.came.name, words, "say how its rows are sorted: --oldest-first or --newest-first")
     if plan.new_lines and vote.is_signed and not (arguments.force and acting.has_reason(arguments.because)):
-        words = "letters have to be signed in this vote, and nothing says who has sent a line of a file"
-        cure = "add the letters themselves; or, if you know by other means who has sent each line, give --force --because TEXT"
+        words = "in this vote letters must be signed, and nothing shows who sent a line of a file"
+        cure = "add the letters themselves; or, if you know by other means who sent each line, give --force --because TEXT"
         yield doubt(plan.files[0].came.name, words, cure)
     if arguments.force:
         return
     for file in plan.files:
         long_lines = ((line.line.where, why) for line in file.new if (why := too_long(line.line)))
         for where, why in itertools.islice(long_lines, 1):
-            yield doubt(where, why, f"take out what is no ballot, or {FORCE}")
+            yield doubt(where, why, f"take the line out if it is not a ballot, or {FORCE}")
     yield from few_ballots(vote, [file for file in plan.files if file.new], arguments)
     for file in plan.files:
         if not is_unsorted and (pair := new_one_above(file)):
-            words = f"{place_in(pair[0])} has an older ballot of {pair[0].voter} than {place_in(pair[1])}, which came before"
-            yield doubt(file.came.name, f"{words}, and would replace it", f"take the older one out, or {FORCE}")
+            words = (
+                f"the ballot of {pair[0].voter} in {place_in(pair[0])} is older than that in {place_in(pair[1])}, which came before"
+            )
+            yield doubt(file.came.name, f"{words}, and would replace it", f"take the older ballot out, or {FORCE}")
     if plan.new_lines and arguments.blank_is_unranked and not vote.has_form:
-        words = "the call does not say that an empty cell is a hyphen, so an elector may have meant otherwise"
-        cure = f"ask the electors whose rows have empty cells; if they were told otherwise, {FORCE}"
+        words = "the call does not say that an empty cell counts as a hyphen, so electors may have meant something else"
+        cure = f"ask the electors whose rows have empty cells; if they knew it from elsewhere, {FORCE}"
         yield doubt("--blank-is-unranked", words, cure)
 
 
@@ -181,10 +188,10 @@ def few_ballots(vote: Vote, files: Sequence[FileLines], arguments: Arguments) ->
         refused = [line for line in file.lines if not line.is_ballot]
         count = len(file.lines) - len(refused)
         if count:
-            tell(*(f"{line.line.where}: no ballot: {vote.in_words(line)}" for line in refused[:MAX_REFUSED]))
+            tell(*(f"{line.line.where}: not a ballot: {vote.in_words(line)}" for line in refused[:MAX_REFUSED]))
         if count and len(refused) > MAX_REFUSED:
-            tell(f"and {len(refused) - MAX_REFUSED} more lines that are no ballots")
-        reason = f"debvote takes {f'{count} alone' if count else 'none'} of the {len(file.lines)} lines as a ballot"
+            tell(f"and {len(refused) - MAX_REFUSED} more lines that are not ballots")
+        reason = f"debvote takes {f'only {count}' if count else 'none'} of the {len(file.lines)} lines as ballots"
         yield doubt(file.came.name, reason, f"{cure_of(file, refused[0], arguments)}, or {FORCE}")
 
 
@@ -195,18 +202,18 @@ def has_few_ballots(lines: Sequence[JudgedLine]) -> bool:
 
 def cure_of(file: FileLines, refused: JudgedLine, arguments: Arguments) -> str:
     if arguments.csv:
-        return "look whether --name and --ranks name the right columns, the ranks in the order of the options"
+        return "check that --name and --ranks name the right columns, and the ranks in the order of the options"
     head = file.came.data.removeprefix(MARK).lstrip().split(b"\n", 1)[0].decode("utf-8", "replace")
     if MEMBERS_HEADS <= {cell.strip(' \t\r"').casefold() for cell in re.split("[,;\t]", head)}:
-        return "it looks like the list of members, so name the file of the ballots"
+        return "it looks like the list of members: name the file of ballots"
     shapeless = sum(line.finding is not None and line.finding.word == "bad shape" for line in file.lines)
     counts = ({line.line.unframed.count(delimiter) for line in file.lines} for delimiter in (b",", b";", b"\t"))
     # most have no shape of a ballot, and all the same number of delimiters
     if shapeless * 2 > len(file.lines) and any(len(count) == 1 and count != {0} for count in counts):
-        return "it looks like a table, which is added with --csv --name COLUMN --ranks COLUMN,COLUMN,.."
-    why = "" if refused.finding is None else f" ({refused.finding.word}: {refused.finding.hint})"
-    which = "whose first line is" if refused is file.lines[0] else "which has the line"
-    return f"look at the file, {which} `{shown_line(refused.as_entered)}`{why}"
+        return "it looks like a table: add it with --csv --name COLUMN --ranks COLUMN,COLUMN,.."
+    why = "" if refused.finding is None else f", {refused.finding.word}: {refused.finding.hint}"
+    which = "its first line is" if refused is file.lines[0] else "one of its lines is"
+    return f"look at the file ({which} `{shown_line(refused.as_entered)}`{why})"
 
 
 # ---------------------------------------------------------------- adding
@@ -216,7 +223,7 @@ def add(election: Election, book: Book, vote: Vote, files: Sequence[FileLines], 
         plan = plan_of(book, vote, files, arguments)
         demand_nothing_against(vote, plan, arguments)
         if not plan.new_lines:
-            tell(*report(election, vote, plan, (), ()), "Nothing is new. Nothing was added.")
+            tell(*report(election, vote, plan, (), ()), "There is nothing new, and nothing was added.")
             return plan
         came_before_close = in_time.came_before_close(plan.openness, arguments.came_before_close, NOTHING_ADDED)
         detail, is_late = detail_of(vote, plan, arguments, came_before_close), plan.openness.is_late(came_before_close)
@@ -261,7 +268,7 @@ def look(election: Election, vote: Vote, files: Sequence[FileLines], arguments: 
     if numbers and not plan.openness.is_late(arguments.came_before_close != "no"):
         replies = vote.replies(lines, [line.as_entered for line in plan.new_lines])
     if plan.openness.is_reopened and arguments.came_before_close is None:
-        tell("Note: add will ask whether they came before the close; here they are taken to.")
+        tell("Note: add will ask whether these lines came before the close; this preview assumes that they did.")
     tell_many(report(election, vote, plan, numbers, replies, is_entered=False))
     demand_nothing_against(vote, plan, arguments)
     tell(f"These would be {summary(replies)}. Nothing was changed.")
@@ -291,7 +298,7 @@ def repeated_words(file: FileLines) -> Iterator[str]:
     for line, change in changed[:MAX_REPEATED]:
         yield f"  {line.line.where}: `{shown_line(line.as_entered)}` came before, and {change}; --again enters it again"
     if len(changed) > MAX_REPEATED:
-        yield f"  and {len(changed) - MAX_REPEATED} more that --again enters again"
+        yield f"  and {len(changed) - MAX_REPEATED} more; --again enters them again"
 
 
 def duplicate_words(file: FileLines) -> Iterator[str]:

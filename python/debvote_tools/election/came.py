@@ -62,8 +62,8 @@ def are_all_letters(files: Mapping[str, CameFile | None]) -> bool:
     with_letters = [path for path, file in files.items() if is_letters(file)]
     if 0 < len(with_letters) < len(files):
         names = ", ".join(STANDARD_INPUT if path == HYPHEN else path for path in with_letters)
-        cure = "add the letters and the files of lines by commands of their own"
-        raise Fault(names, "it has letters, and other files have none", cure, Status.BAD_WORDS, NOTHING_ADDED)
+        cure = "add letters and other files with separate commands"
+        raise Fault(names, "it has letters, and the other files have none", cure, Status.BAD_WORDS, NOTHING_ADDED)
     return bool(with_letters)
 
 
@@ -89,11 +89,11 @@ def read_file(election: Election, path: str) -> CameFile:
         if sys.stdin is None:
             raise Fault(STANDARD_INPUT, "it is closed", "name a file", Status.BAD_BALLOTS, NOTHING_ADDED)
         if sys.stdin.isatty():
-            tell("Type the ballots, a line each; Ctrl-D on an empty line ends them.")
+            tell("Type the ballots, one on each line; to end, type Ctrl-D on an empty line.")
         return CameFile(STANDARD_INPUT, bytes_in(sys.stdin.buffer))
     # no other handle may be opened on the book: closing it would end the locks of this process
     if os.path.exists(path) and os.path.samefile(path, election.book.path):
-        raise Fault(path, "it is the book of this election", "name a file of ballots that came", Status.BAD_BALLOTS, NOTHING_ADDED)
+        raise Fault(path, "it is the book of this election", "name a file of ballots", Status.BAD_BALLOTS, NOTHING_ADDED)
     try:
         with open(path, "rb") as file:
             return CameFile(path, bytes_in(file))
@@ -109,9 +109,9 @@ def bytes_in(file: BinaryIO) -> bytes:
 
 def demand_lines(file: CameFile, *, is_table: bool) -> None:
     if not file.data:
-        raise Fault(file.name, "it is empty", "write a ballot a line into it", Status.DOUBT, NOTHING_ADDED)
+        raise Fault(file.name, "it is empty", "write one ballot on each line", Status.DOUBT, NOTHING_ADDED)
     if len(file.data) > BALLOTS_LIMIT:
-        words = f"it is longer than {BALLOTS_LIMIT} bytes, which debvote takes at most"
+        words = f"it is longer than {BALLOTS_LIMIT} bytes, the most that debvote takes"
         raise Fault(file.name, words, "add it in parts", Status.BAD_BALLOTS, NOTHING_ADDED)
     what = kind_of(file.data)
     if not is_table and file.data.startswith((codecs.BOM_UTF16_LE, codecs.BOM_UTF16_BE)):
@@ -120,7 +120,7 @@ def demand_lines(file: CameFile, *, is_table: bool) -> None:
         cure = "save it as CSV" if is_table else CURES.get(what, "save it as plain text in UTF-8")
         raise Fault(file.name, f"it is {what}", cure, Status.BAD_BALLOTS, NOTHING_ADDED)
     if len({key[1] for key in POLL_KEY.finditer(file.data)}) > 1:
-        words = "it reads as a poll, and not as ballots"
+        words = "it looks like a poll, not like ballots"
         raise Fault(file.name, words, "name the file of the ballots", Status.DOUBT, NOTHING_ADDED)
 
 

@@ -33,13 +33,13 @@ def parser(words: Sequence[str] = ()) -> argparse.ArgumentParser:
     # --folder may come before the command and after it
     folder = argparse.ArgumentParser(add_help=False)
     folder.add_argument(
-        "--folder", metavar="F", default=argparse.SUPPRESS, help="The folder of the election; the current one if it is not given"
+        "--folder", metavar="F", default=argparse.SUPPRESS, help="The folder of the election (default: the current folder)"
     )
     top = argparse.ArgumentParser(
         prog=PROGRAM,
         allow_abbrev=False,
         parents=[folder],
-        description="Holds an election in one folder, from the list of members to the published result, by debvote.",
+        description="Runs an election in one folder, from the list of members to the published result, with debvote.",
     )
     commands = top.add_subparsers(dest="command", metavar="COMMAND", required=True)
     for name in words[:1] if words and words[0] in COMMANDS else COMMANDS:
@@ -76,15 +76,15 @@ def main(program_folder: pathlib.Path, words: Sequence[str] | None = None) -> in
             console.failed(PROGRAM, one.words, one.status)
         return fault.status
     except Overtaken:
-        words = "another command changed the election meanwhile, and nothing was changed by this one; run it again"
+        words = "another command changed the election meanwhile, and this one changed nothing; run it again"
         return console.failed(PROGRAM, words, Status.DOUBT)
     except KeyboardInterrupt:
-        return console.failed(PROGRAM, "interrupted; what was told is done, and nothing else", 128 + signal.SIGINT)
+        return console.failed(PROGRAM, "interrupted; what the command has reported is done, and nothing else", 128 + signal.SIGINT)
     except OSError as error:
         # a file that can't be read or written is named, but for standard input
         if error.filename is None:
-            words = f"{error.strerror}; what was told is done: ask debvote-election status"
+            words = f"{error.strerror}; what the command has reported is done: see debvote-election status"
             return console.failed(PROGRAM, words, Status.BAD_OUTPUT)
-        state = "it is written, but perhaps not on the disk yet" if isinstance(error, Written) else "it is as it was"
+        state = "it was written, but may not be on the disk yet" if isinstance(error, Written) else "it was not changed"
         words = f"{error.filename}: {error.strerror}; {state}; put this right, then run the command again"
         return console.failed(PROGRAM, words, Status.BAD_OUTPUT)

@@ -25,19 +25,19 @@ def columns_of(name: str, ranks: str, options: Sequence[str], roll: Collection[s
     try:
         heads = [head.strip() for head in (name, *next(csv.reader([ranks], strict=True, skipinitialspace=True), []))]
     except csv.Error as error:
-        raise bad_columns("--ranks", str(error), "put a head that has a comma into quotation marks") from None
+        raise bad_columns("--ranks", str(error), "put quotation marks around a header with a comma") from None
     # then the first ballot would be lost as the head line
     if head_form(name) in roll:
-        reason = f"`{heads[0]}` is an elector, so the table seems to have no head line"
-        raise bad_columns("--name", reason, "write a head line above the rows, and name the column by its head")
+        reason = f"`{heads[0]}` is an elector, so the table seems to have no header line"
+        raise bad_columns("--name", reason, "write a header line above the rows, and name the column by its header")
     if len(heads) != 1 + len(options):
         listed = ", ".join(f"{number} {option}" for number, option in enumerate(options, start=1))
-        reason = f"it names {len(heads) - 1} columns, and the poll has {len(options)} options, the default among them: {listed}"
+        reason = f"it names {len(heads) - 1} columns, and the poll has {len(options)} options with the default: {listed}"
         raise bad_columns("--ranks", reason, "name a column for each, in this order")
     forms = [head_form(head) for head in heads]
     for head, form in zip(heads, forms):
         if forms.count(form) > 1:
-            raise bad_columns("--name, --ranks", f"the column `{head}` is named twice", "name each once")
+            raise bad_columns("--name, --ranks", f"the column `{head}` is named twice", "name each column once")
     return Columns(heads, is_blank_unranked)
 
 
@@ -57,13 +57,15 @@ def lines_of_table(data: bytes, file_name: str, columns: Columns) -> list[Line]:
     for column in columns.heads:
         if heads.count(head_form(column)) != 1:
             what = "there is more than one column" if head_form(column) in heads else "there is no column"
-            raise bad_columns(file_name, f"{what} `{column}`; its heads are {table.heads_in_words}", "name each by its head")
+            raise bad_columns(
+                file_name, f"{what} `{column}`; the headers are {table.heads_in_words}", "name each column by its header"
+            )
         indices.append(heads.index(head_form(column)))
     for row in table.rows:
         place = f": row {row.number}"
         if row.cells_after(width):
-            reason = f"it has {len(row.cells)} cells, and the head line has {width}"
-            cure = "put a cell that has the delimiter in it into quotation marks, and add the file again"
+            reason = f"it has {len(row.cells)} cells, and the header line has {width}"
+            cure = "put quotation marks around a cell that contains the delimiter, and add the file again"
             raise bad_table(f"{file_name}{place}", reason, cure)
         if row.is_blank:
             lines.append(Line(file_name, place, b"", b"", b""))

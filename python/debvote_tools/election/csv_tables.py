@@ -16,7 +16,7 @@ DELIMITERS = {",": "comma", ";": "semicolon", "\t": "tab"}
 # longer than a file that is read, so that a cell has no limit of its own
 CELL_LIMIT = 67_108_864
 
-SAVE_AS = "save it anew as CSV in UTF-8"
+SAVE_AS = "save it again as CSV in UTF-8"
 
 
 # the fault of a file that can't be read as a table, or of a line of it: the caller knows the status, and what is not done
@@ -90,11 +90,11 @@ def read_table(
             elif not row.is_blank:
                 head = row
     except csv.Error as error:
-        reason = f"the row that begins here is no row with a {DELIMITERS[delimiter]} between its cells ({error})"
+        reason = f"the row that begins here is not a row of cells with a {DELIMITERS[delimiter]} between them ({error})"
         cure = "close each quotation mark, and put nothing between it and the delimiter"
         raise bad_table(f"{file}:{line}", reason, cure) from None
     if head is None:
-        raise bad_table(file, "it is empty", "write the head line, and a line for each row")
+        raise bad_table(file, "it is empty", "write the header line, and a line for each row")
     return Table(head, rows)
 
 
@@ -102,15 +102,15 @@ def decoded(data: bytes, file: object, bad_table: BadTable) -> str:
     """The text of a file, by its mark; without one it is in UTF-8."""
     kind = kind_of(data)
     if kind is not None:
-        raise bad_table(file, f"it is {kind}, and no CSV", f"open it in the spreadsheet and {SAVE_AS}")
+        raise bad_table(file, f"it is {kind}, not CSV", f"open it in the spreadsheet and {SAVE_AS}")
     is_utf_16 = data.startswith((codecs.BOM_UTF16_LE, codecs.BOM_UTF16_BE))
     if b"\0" in data and not is_utf_16:
-        raise bad_table(file, "it is no text in UTF-8, and for one in UTF-16 its mark is missing", SAVE_AS)
+        raise bad_table(file, "it is not text in UTF-8, nor in UTF-16 with a byte-order mark", SAVE_AS)
     try:
         return data.decode("utf-16" if is_utf_16 else "utf-8-sig")
     except UnicodeDecodeError as error:
         if is_utf_16:
-            raise bad_table(file, "it begins as a text in UTF-16 and is none to its end", SAVE_AS) from None
+            raise bad_table(file, "it begins as text in UTF-16, but the rest is not", SAVE_AS) from None
         feeds = error.object.count(b"\n", 0, error.start)
         seen = shown_text(error.object.split(b"\n")[feeds].decode("cp1252", "replace"))
         raise bad_table(f"{file}:{feeds + 1}", f"it is not in UTF-8, but perhaps in Latin-1: {seen}", SAVE_AS) from None

@@ -37,10 +37,10 @@ THEN = ", then run debvote-election check"
 
 # how a key is set that is not the secretary's
 SET_ELSEWHERE = {
-    "roll": "the electors are written into members.csv, which roll reads",
+    "roll": "roll reads the electors from members.csv",
     "last_envelope": "close ends the vote",
-    "deadline": "call --until says until when one can vote",
-    "address": "call --to says where ballots are sent",
+    "deadline": "call --until sets the end of the vote",
+    "address": "call --to sets the address for ballots",
     "shown_title": "write `title` in any language",
     "shown_options": "write `options` and `default` in any language",
     "explanations": "write the text of option 1 into texts/1.txt, and so on",
@@ -101,7 +101,7 @@ def faults_of_keys(values: Mapping[str, Any], file: object) -> list[Fault]:
     faults = [bad_poll(file, *stranger(key, value)) for key, value in values.items() if key not in DRAFT_KEYS]
     for key in DRAFT_KEYS:
         if key in values and not has_plain_form(values[key]):
-            faults.append(bad_poll(file, f"`{key}` has a value that no poll has", "write a text, a whole number or a list of them"))
+            faults.append(bad_poll(file, f"`{key}` has a value of a wrong kind", "write a text, a whole number or a list of these"))
     if not isinstance(values.get("secret", False), bool):
         faults.append(bad_poll(file, "`secret` is neither true nor false", "write secret = true, or take the line out"))
     return faults
@@ -112,7 +112,7 @@ def stranger(key: str, value: object) -> tuple[str, str]:
     if key in SET_ELSEWHERE:
         return f"the key `{shown}` is not written here: {SET_ELSEWHERE[key]}", "take it out"
     if any(isinstance(entry, dict) for entry in (value if isinstance(value, list) else [value])):
-        return f"it has a table `{shown}`, and a poll has none", "take out the line that begins with [ or has braces"
+        return f"it has a table `{shown}`, which no poll has", "take out the line that begins with [ or has braces"
     near = difflib.get_close_matches(key, DRAFT_KEYS, 1)
     return f"a poll has no key `{shown}`" + (f" (did you mean `{near[0]}`?)" if near else ""), "put it right, or take it out"
 
@@ -142,14 +142,14 @@ def texts_in(folder: pathlib.Path, option_count: int) -> tuple[dict[int, str], l
             if number is None or int(number[1]) > option_count:
                 most = f"1.txt to {option_count}.txt" if option_count else "1.txt and so on"
                 cure = f"name it by the number of an option that is not the default, {most}, or move it out of there"
-                raise Fault(file, "it is no text of an option of this poll", cure, Status.BAD_WORDS, None)
-            data = read_whole(file, TEXTS_LIMIT, "put a file there that you may read", THEN)
+                raise Fault(file, "it is not the text of an option of this poll", cure, Status.BAD_WORDS, None)
+            data = read_whole(file, TEXTS_LIMIT, "put a readable file there", THEN)
             size += len(data)
-            texts[int(number[1])] = file_text(data, file, "write it, or take the file away", THEN, refused=LINE_ENDS)
+            texts[int(number[1])] = file_text(data, file, "write it, or remove the file", THEN, refused=LINE_ENDS)
         except Fault as fault:
             faults.append(fault)
     if size > TEXTS_LIMIT:
-        reason = f"the texts have {size} bytes together, {TEXTS_LIMIT} are the most"
+        reason = f"the texts have {size} bytes together; at most {TEXTS_LIMIT} are allowed"
         faults.append(Fault(folder, reason, f"shorten them{THEN}", Status.BAD_WORDS, None))
     return dict(sorted(texts.items())), faults
 
@@ -166,7 +166,7 @@ def faults_when_sealed(draft: DraftPoll, names: Collection[str], language: str) 
     plain = {as_repaired(name, folding) for folding in FOLDINGS for name in names} - {""}
     for source, text in texts.items():
         for ballot in ballots_in(text, plain, len(draft.names)):
-            reason = f"`{shown_text(ballot)}` in it would read as a ballot, if a letter quotes it"
+            reason = f"`{shown_text(ballot)}` in it would be read as a ballot if a letter quotes it"
             faults.append(bad_poll(source, reason, "write it in another way"))
     return faults
 
@@ -261,4 +261,4 @@ def tell_poll(poll: SealedPoll, sheet: Sheet) -> None:
         if text:
             tell(f"     text: {count_of(len(text.split()), 'word')} from texts/{number}.txt")
     if sheet.is_more_than:
-        tell("Majority: more than the ratio, where Debian has at least the ratio")
+        tell("Majority: more than the ratio (Debian's rule is at least the ratio)")

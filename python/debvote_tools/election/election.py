@@ -164,13 +164,13 @@ class Election:
         place = target.absolute().resolve()
         for name in (CALL, LETTERS, RESULT, PRIVATE):
             if place.is_relative_to(self.path(name).absolute().resolve()):
-                words = f"it would be in the folder {name}, which is made from the book and goes elsewhere"
-                raise Fault(target, words, "name a place outside of it", Status.BAD_WORDS, "nothing was written")
+                words = f"it would be in the folder {name}, whose files go to others"
+                raise Fault(target, words, "name a place outside that folder", Status.BAD_WORDS, "nothing was written")
 
     def called(self, history: History) -> DoneAct:
         """The act of the call. Stops before it."""
         if history.call is None:
-            raise Fault(None, "the election is not called yet", f"run {self.command('call')} first")
+            raise Fault(None, "there is no call for votes yet", f"run {self.command('call')} first")
         return history.call
 
     def command(self, *words: str) -> str:
@@ -185,9 +185,9 @@ def no_book(folder: pathlib.Path) -> Fault:
     elif (folder.absolute().parent / NAME).is_file() and folder.absolute().name in (CALL, LETTERS, RESULT, PRIVATE, TEXTS):
         words, cure = "the election is one folder up", "go there with cd .., then run the command again"
     elif any(os.path.lexists(folder / name) for name in OF_VERSION_1):
-        words = "it is an election of debvote-election 1.x, and is finished with 1.x"
+        words = "it is an election of debvote-election 1.x, which only 1.x can finish"
         cure = "install the version that began it, or begin anew in another folder"
     else:
-        words = f"there is no {NAME} in it, so it is no election"
+        words = f"there is no {NAME} in it, so it is not an election"
         cure = "go to the folder of the election, or name it with --folder; new makes one"
     return Fault(folder, words, cure, Status.BAD_WORDS, None)

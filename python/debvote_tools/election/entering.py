@@ -70,13 +70,13 @@ def entered(
             try:
                 return vote.replies(before, lines)
             except Fault as fault:
-                raise fault.with_done(f"all the same the lines were entered ({envelope_words(numbers)})") from None
+                raise fault.with_done(f"the lines were entered nevertheless ({envelope_words(numbers)})") from None
 
         try:
             yield Entered(numbers, replies)
         except OutputFailed as fault:
-            done = f"all the same {done} ({envelope_words(numbers)})"
-            raise Fault(None, "the output failed", "ask debvote-election status", fault.status, done) from None
+            done = f"{done} nevertheless ({envelope_words(numbers)})"
+            raise Fault(None, "the output failed", "see debvote-election status", fault.status, done) from None
 
 
 def electors_of(book: Book, vote: Vote, lines: Sequence[bytes]) -> list[int | None]:
@@ -94,8 +94,8 @@ def demand_room(book: Book, new: Sequence[queries.NewEnvelope]) -> None:
         return
     line_count, size = queries.size_in_time(book)
     if line_count + len(new) > LINES_LIMIT or size + added > BALLOTS_LIMIT:
-        words = f"with it there would be {count_of(line_count + len(new), 'line')} and {size + added} bytes of ballots"
-        cure = f"debvote takes {LINES_LIMIT} lines and {BALLOTS_LIMIT} bytes at most: add less of it"
+        words = f"with the new lines there would be {count_of(line_count + len(new), 'line')} and {size + added} bytes of ballots"
+        cure = f"debvote takes at most {LINES_LIMIT} lines and {BALLOTS_LIMIT} bytes: add fewer"
         raise Fault(book.path, words, cure, Status.BAD_BALLOTS, "nothing was added")
 
 

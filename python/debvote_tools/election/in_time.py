@@ -23,7 +23,7 @@ class Arguments(acting.Arguments):
     """The options of a command that enters lines."""
 
     came_before_close: str | None = option(
-        None, "After reopen: whether what is entered came before the first close; at a terminal it is asked", choices=("yes", "no")
+        None, "After reopen: whether the ballots came before the first close (default: ask at the terminal)", choices=("yes", "no")
     )
 
 
@@ -32,8 +32,8 @@ def notes(election: Election, history: History, what: str) -> list[str]:
     if history.is_closed:
         return [f"Note: the vote was closed at {act_time(history.closes[-1].time)}; {what} now is late."]
     if history.until is not None and now() >= history.until:
-        over = f"one could vote until {time_in_words(history.until)}, and that is over"
-        counts = f"{what} counts as long as the vote is not closed, and the page of the result tells how many lines"
+        over = f"the announced end of the vote, {time_in_words(history.until)}, has passed"
+        counts = f"{what} still counts until you close the vote, and the result page says how many lines"
         return [f"Note: {over}; {counts}: {election.command('close')}"]
     return []
 
@@ -48,11 +48,11 @@ def came_before_close(history: History, answer: str | None, not_done: str) -> bo
         return answer == "yes"
     closed = f"vote was closed at {act_time(history.closes[0].time)} and opened again"
     if not is_terminal():
-        cure = f"say whether this came before that close: {CAME_BEFORE_CLOSE} yes, or {CAME_BEFORE_CLOSE} no, and then it is late"
+        cure = f"say whether this came before that close: {CAME_BEFORE_CLOSE} yes, or {CAME_BEFORE_CLOSE} no, which makes it late"
         raise Fault(CAME_BEFORE_CLOSE, f"the {closed}, and only what came before counts", cure, Status.DOUBT, not_done)
     said = is_yes(f"The {closed}. Did this come before that close?")
     if said is None:
-        raise Fault(None, "nobody said whether it came before the close", "run the command again", Status.DOUBT, not_done)
+        raise Fault(None, "you did not say whether it came before the close", "run the command again", Status.DOUBT, not_done)
     return said
 
 
@@ -62,7 +62,7 @@ def parse_until(text: str, zone: str | None, earlier_zone: str | None = None) ->
     """
     parts = TIME.fullmatch(text.strip())
     if parts is None:
-        raise bad_until("it has to be a time", HOW)
+        raise bad_until("it is not a time", HOW)
     date, clock, offset = parts.groups()
     if offset is not None and zone is not None:
         raise Fault("--zone", "the time has an offset already", "leave out one of the two", Status.BAD_WORDS)
@@ -82,8 +82,8 @@ def parse_until(text: str, zone: str | None, earlier_zone: str | None = None) ->
 def demand_future(time: datetime.datetime, by: datetime.datetime) -> None:
     if time <= by:
         clock = minute_in_words(by, time.tzinfo)
-        reason = f"{time_in_words(time)} is over: by the clock of this computer it is {clock}"
-        raise bad_until(reason, "write a time that is to come")
+        reason = f"{time_in_words(time)} is past: by the clock of this computer it is {clock}"
+        raise bad_until(reason, "write a time in the future")
 
 
 def in_zone(plain: datetime.datetime, name: str | None) -> datetime.datetime:
@@ -101,11 +101,11 @@ def in_zone(plain: datetime.datetime, name: str | None) -> datetime.datetime:
     is_shown = any(time.astimezone(datetime.UTC).astimezone(zone).replace(tzinfo=None) == plain for time in (first, second))
     where = "where this computer is" if name is None else f"in {name}"
     if not is_shown:
-        raise bad_until(f"{where} there is no such time: on that day clocks are put forward over it", "write another time")
+        raise bad_until(f"{where} there is no such time: the clocks that are put forward on that day skip it", "write another time")
     if first.utcoffset() != second.utcoffset():
         offsets = [offset_in_words(time).removeprefix("UTC") or "UTC" for time in (first, second)]
         both = " or ".join(f'"{plain:%Y-%m-%d %H:%M} {offset}"' for offset in offsets)
-        raise bad_until(f"{where} this time comes twice, since on that day clocks are put back", f"write {both}")
+        raise bad_until(f"{where} this time comes twice, since clocks are put back on that day", f"write {both}")
     # a fixed offset in place of the zone: what is written down says the same on each computer
     return datetime.datetime.fromisoformat(first.isoformat(timespec="seconds"))
 

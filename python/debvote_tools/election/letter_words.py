@@ -13,7 +13,7 @@ from debvote_tools.terminal_text import shown_line, shown_text
 def who_and_when(letter: JudgedLetter) -> str:
     parsed = letter.parsed
     number = f"letter {letter.number}" if letter.number else shown_text(parsed.where)
-    time = "at a time that is not known" if parsed.arrived is None else act_time(parsed.arrived)
+    time = "at an unknown time" if parsed.arrived is None else act_time(parsed.arrived)
     return f"{number}, from {shown_text(parsed.shown_sender) or 'nobody'}, {time}"
 
 

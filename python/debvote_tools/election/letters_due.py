@@ -42,8 +42,8 @@ class LettersDue:
         self.history, self.time = election.history(), now()
         election.called(self.history)
         if self.history.has_codes_on_roll:
-            words = "codes are on the roll, and nobody knows whose each is, so no letter can be written to an elector"
-            cure = "send call/call.txt, letters/closed.txt and result/letter.txt to all with your mail program"
+            words = "codes are on the roll, and nobody knows whose they are, so no letters can be written to electors"
+            cure = "with your mail program send call/call.txt, letters/closed.txt and result/letter.txt to all"
             raise Fault("letters", words, cure, Status.DOUBT, "nothing was written")
         is_past = self.history.until is not None and self.time > self.history.until
         self.composer = Composer(current_data(election, self.history), is_over=is_past or bool(self.history.closes))
@@ -175,7 +175,7 @@ class LettersDue:
             cure = f"run {self.election.command('publish')} first"
             raise Fault(None, "nothing is published", cure, Status.DOUBT, "nothing was written")
         if self.composer.call.at is None:
-            reason = "the letter has to say where the result is published"
+            reason = "the letter must say where the result is published"
             raise Fault("--at", reason, "give its address with --at URL", Status.BAD_WORDS, "nothing was written")
         language, sealed, words = self.election.language, self.election.sealed(), Words(**act.detail["words"])
         poll, ballots = sealed.counted.as_bytes(), ballot_file(queries.lines_after(self.election.book, act.number))
@@ -199,7 +199,7 @@ class LettersDue:
     def demand_not_over(self) -> None:
         if self.composer.is_over:
             cure = f"see {self.election.command('status')}"
-            raise Fault(self.kind, "the time to vote is over, so nobody is invited", cure, Status.DOUBT, "nothing was written")
+            raise Fault(self.kind, "the vote is over, so nobody is asked to vote", cure, Status.DOUBT, "nothing was written")
 
     def letter_to(self, elector: Elector, for_act: int, address: str | None = None, about: Sequence[About] = ()) -> SentLetter:
         """A letter that is not written yet."""

@@ -40,8 +40,8 @@ SLOW = Reason.SLOW_SIGNATURE()
 def take_letters(election: Election, vote: Vote, files: Mapping[str, CameFile | None], arguments: Arguments) -> None:
     """Keeps the letters that are new, and enters the ballots that go in; or tells what would become of them."""
     if of_lines := given(arguments, "csv", "again", "force"):
-        words = "it is about lines and tables, and these are letters"
-        raise Fault(", ".join(of_lines), words, "leave it out", Status.BAD_WORDS, NOTHING_ADDED)
+        words = "only for lines and tables, and these are letters"
+        raise Fault(", ".join(of_lines), words, "leave this out", Status.BAD_WORDS, NOTHING_ADDED)
     raws, passed_over = read(files)
     if not arguments.look:
         acting.book_for_act(election, arguments)
@@ -49,7 +49,7 @@ def take_letters(election: Election, vote: Vote, files: Mapping[str, CameFile | 
     found = parsed(election, new)
     if not arguments.look:
         keep(election, new, found)
-    tell(*(f"{shown_text(one.where)}: {one.why.what}, and is passed over; {one.why.cure}" for one in passed_over))
+    tell(*(f"{shown_text(one.where)}: {one.why.what}, and was passed over; {one.why.cure}" for one in passed_over))
     if not arguments.look:
         tell(f"{count_of(len(new), 'new letter')}; {len(raws) - len(new)} came before.")
         enter_letters(election, vote, is_agreed=arguments.yes)
@@ -116,7 +116,7 @@ def enter_letters(election: Election, vote: Vote, *, is_agreed: bool) -> None:
         if plan != shown:
             tell_letters(vote, all_letters, is_late=is_late)
             if going_in and not is_agreed and not agreed(count_of(len(going_in), "ballot")):
-                tell("Nothing was entered; the letters are kept, and wait.")
+                tell("Nothing was entered. The letters are kept, and wait.")
                 break
             shown = plan
         if not going_in:

@@ -23,7 +23,7 @@ COLUMNS = (*REQUIRED, *OPTIONAL)
 NEW_MEMBERS = "who,mail\n"
 
 AGAIN = "then run debvote-election roll again"
-BELONGS = "the real names belong under `who`, the addresses under `mail`; a column `name` has the names on the roll, and one can leave it out"
+BELONGS = "put the real names under `who` and the addresses under `mail`; a column `name`, with names on the roll, is optional"
 
 # the fingerprint of a key of OpenPGP
 FINGERPRINT = re.compile(r"[0-9A-F]{40}")
@@ -87,7 +87,7 @@ def members_in(file: pathlib.Path) -> Members:
     cure = f"the list of members is a CSV file, as a spreadsheet saves it: put it there, {AGAIN}"
     try:
         if file.exists() and not file.is_file():
-            raise Fault(file, "it is no file", cure, Status.BAD_WORDS, None)
+            raise Fault(file, "it is not a file", cure, Status.BAD_WORDS, None)
         data = read_at_most(file, TABLE_LIMIT)
     except OSError as error:
         raise Fault(file, error.strerror, cure, Status.BAD_WORDS, None) from None
@@ -101,10 +101,10 @@ def members_of(data: bytes, file: object = "members.csv") -> Members:
     head_faults = []
     missing = [f"`{column}`" for column in REQUIRED if column not in table.heads]
     if missing:
-        reason = f"the head line has no column {' and no column '.join(missing)}, it has {table.heads_in_words}; {BELONGS}"
-        head_faults.append((reason, "name the columns so"))
+        reason = f"the header line has no column {' and no column '.join(missing)}; it has {table.heads_in_words}; {BELONGS}"
+        head_faults.append((reason, "correct the header line"))
     twice = [column for column in COLUMNS if table.heads.count(column) > 1]
-    head_faults += [(f"the head line has the column `{column}` twice", "name one of them otherwise") for column in twice]
+    head_faults += [(f"the header line has the column `{column}` twice", "rename one of them") for column in twice]
     stop_at([bad_list(file, *fault, table.head.line) for fault in head_faults])
     indices = {column: table.heads.index(column) for column in COLUMNS if column in table.heads}
     # up to the last column that has a head
@@ -115,7 +115,7 @@ def members_of(data: bytes, file: object = "members.csv") -> Members:
             members.append(member_of(row, indices))
             faults += [bad_list(file, *fault, row.line) for fault in faults_of_row(row, members[-1], width)]
     if not members:
-        faults.append(bad_list(file, "there is nobody on it", "write a line for each member below the head line"))
+        faults.append(bad_list(file, "there is nobody on it", "write a line for each member below the header line"))
     return Members(file, tuple(members), tuple(faults))
 
 
@@ -134,22 +134,24 @@ def member_of(row: Row, indices: dict[str, int]) -> Member:
 
 def faults_of_row(row: Row, member: Member, width: int) -> Iterator[tuple[str, str]]:
     if beyond := row.cells_after(width):
-        reason = f"`{shown_text(beyond[0])}` is after the last column of the head line"
-        yield reason, "put a cell that has the delimiter in it into quotation marks"
+        reason = f"`{shown_text(beyond[0])}` is after the last column of the header line"
+        yield reason, "put quotation marks around a cell that contains the delimiter"
     if not member.who and not member.name:
         yield "it has no `who`", "write who it is, or take the line out"
     if steering(member.who) is not None:
-        reason = f"`{shown_text(member.who)}` has the character {steering(member.who)}, which steers a terminal or turns the text"
+        reason = (
+            f"`{shown_text(member.who)}` has the character {steering(member.who)}, which controls a terminal or turns text around"
+        )
         yield reason, "take it out"
     if member.name and not is_elector_name(member.name):
         cure = f"write 1 to {ELECTOR_LIMIT} of a to z, 0 to 9, point and hyphen under `name`, or leave it empty"
-        yield f"`{shown_text(member.name)}` can't be a name on the roll", cure
+        yield f"`{shown_text(member.name)}` cannot be a name on the roll", cure
     for address in member.addresses:
         if not ADDRESS.fullmatch(address) or steering(address) is not None:
-            yield f"`{shown_text(address)}` is no mail address", "put it right, or take it out"
+            yield f"`{shown_text(address)}` is not a mail address", "put it right, or take it out"
     if member.key and not FINGERPRINT.fullmatch(member.key):
         cure = "write all 40 digits of it (0 to 9 and A to F; spaces may be between), as gpg --fingerprint shows them"
-        yield f"`{shown_text(member.key)}` is no fingerprint of a key", cure
+        yield f"`{shown_text(member.key)}` is not the fingerprint of a key", cure
 
 
 Entry = TypeVar("Entry")
@@ -263,11 +265,11 @@ def faults_of_people(rows: Sequence[Member], electors: Sequence[Member]) -> Iter
             yield elector.line, f"no name can be made from {shown_text(elector.who)} or an address", "write one under `name`"
     for group in several(electors, lambda elector: elector.name):
         reason = f"{lines_in_words(group)} have the same name: {shown_text(group[0].name)}"
-        yield group[1].line, reason, "give each another one, or take a line out"
+        yield group[1].line, reason, "give each a different name, or take a line out"
     for group in several(electors, lambda elector: elector.key):
-        yield group[1].line, f"{lines_in_words(group)} have the same key", "leave it to the member who has it"
+        yield group[1].line, f"{lines_in_words(group)} have the same key", "leave it only on the line of its owner"
     if len(electors) > ROLL_LIMIT:
-        yield None, f"it has {len(electors)} members, {ROLL_LIMIT} are the most", "take some out"
+        yield None, f"it has {len(electors)} members; at most {ROLL_LIMIT} are allowed", "take some out"
 
 
 def faults_after_call(electors: Sequence[Member], gone: Sequence[Elector]) -> Iterator[tuple[int | None, str, str]]:
@@ -279,7 +281,7 @@ def faults_after_call(electors: Sequence[Member], gone: Sequence[Elector]) -> It
         reasons += [(f"was {text}", [f"{elector.label} on line {elector.line}"]) for text in before]
     for words, people in reasons:
         if people:
-            cure = "put the list back as it was: after the call addresses and keys alone may change"
+            cure = "put the list back as it was: after the call only addresses and keys may change"
             yield None, f"{named_in_words(people)} {words}", cure
 
 

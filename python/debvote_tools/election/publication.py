@@ -132,7 +132,7 @@ def demand_as_closed(history: History, ballots: bytes) -> None:
     close = history.closes[-1].detail
     checksum = sealed_checksum(close["seal"], ballots) if "seal" in close else sha256_of(ballots)
     if checksum != close["checksum"]:
-        words = f"the ballots have the checksum {checksum}, and the close has fixed {close['checksum']}"
+        words = f"the ballots have the checksum {checksum}, and the close recorded {close['checksum']}"
         raise Fault(None, words, "keep the folder as it is, and tell the maintainers", done="nothing was published")
 
 

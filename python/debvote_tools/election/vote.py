@@ -16,7 +16,7 @@ from debvote_tools.language import ENGLISH
 from debvote_tools.lines import CODE_WITHIN, Line, ballot_file, differences
 from debvote_tools.terminal_text import shown_line
 
-IS_CODE = " (it has 32 digits, as codes and aliases have: a ballot has the elector's name alone, and a code is shown to nobody)"
+IS_CODE = " (32 digits, as in a code or an alias: a ballot has only the elector's name, and nobody may see a code)"
 
 # the reply to a line that came after the close
 LATE_REPLY = "late"
@@ -133,7 +133,7 @@ class Vote:
             return []
         replies = self.debvote.replies(self.poll_bytes, ballot_file([*before, *new]))
         if len(replies) != len(before) + len(new):
-            raise other_format("what this debvote replies")
+            raise other_format("the list of replies of this debvote")
         return replies[len(before) :]
 
     def standing(self, lines: Sequence[bytes]) -> dict[str, str]:
@@ -176,7 +176,7 @@ class Vote:
     def right_words(self) -> str:
         name = "a code of the roll" if self.has_codes else "an elector of the roll"
         ranks = f"{len(self.option_names)} ranks with commas between, a rank or a hyphen for each option"
-        return f"A right line in this poll: {self.right_line} ({name}, a space, and {ranks})"
+        return f"A valid line in this poll: {self.right_line} ({name}, a space, and {ranks})"
 
 
 def parts_of(lines: Sequence[bytes]) -> Iterator[list[bytes]]:
@@ -201,10 +201,10 @@ def frame_words(lines: Iterable[Line]) -> Iterator[str]:
     for name, repaired_lines in by_source.items():
         return_count = sum(line.had_return for line in repaired_lines)
         if any(line.had_mark for line in repaired_lines):
-            yield f"{name}: it begins with a mark that Windows writes (byte-order mark); it was taken off"
+            yield f"{name}: it begins with a mark that Windows writes (byte-order mark); it was removed"
         if return_count:
             verb, they = ("ends", "it") if return_count == 1 else ("end", "them")
-            yield f"{name}: {count_of(return_count, 'line')} {verb} as Windows ends {they} (carriage return); that was taken off"
+            yield f"{name}: {count_of(return_count, 'line')} {verb} as Windows ends {they} (carriage return); that was removed"
 
 
 def change_words(line: JudgedLine) -> Iterator[str]:

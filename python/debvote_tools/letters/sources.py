@@ -40,21 +40,21 @@ OUTLOOK_PARTS = tuple(name.encode("utf-16-le") for name in ("__nameid_version1.0
 class NotRead(enum.Enum):
     """Why a file or a letter is passed over, and what to do about it."""
 
-    FOLDER = ("it is a folder within the folder", "add it by its own name, if it has letters")
+    FOLDER = ("it is a folder within the folder", "if it has letters, add it by its own name")
     MAILBOX = ("it is a mailbox of several letters within the folder", "add it by its own name")
-    HIDDEN = ("it is a hidden file, whose name begins with a full stop", "give it another name, if it is a letter")
+    HIDDEN = ("it is a hidden file, whose name begins with a full stop", "if it is a letter, rename it")
     TOO_LONG = ("it has more than 10 MiB", "ask for the ballot again, alone and without attachments")
     OUTLOOK_LETTER = (
-        "it is a letter as Outlook saves it (.msg), which no other program reads",
-        "save it as .eml: in the new Outlook by Save as or Download, from an older one by way of Thunderbird",
+        "it is a letter in the format of Outlook (.msg), which this program does not read",
+        "save it as .eml: in the new Outlook with Save as or Download, from an older Outlook by way of Thunderbird",
     )
     OUTLOOK_MAILBOX = (
-        "it is a mailbox of Outlook (.pst), which no other program reads",
+        "it is a mailbox in the format of Outlook (.pst), which this program does not read",
         "fetch the mailbox with Thunderbird, and save the letters there as .eml",
     )
     ZIP = ("it is a ZIP", "unpack it, and add the folder")
     PDF = ("it is a PDF", "save the letter itself as .eml")
-    NO_LETTER = ("it is no letter", "if it is one, save it as .eml")
+    NO_LETTER = ("it does not look like a letter", "if it is a letter, save it as .eml")
 
     @property
     def what(self) -> str:

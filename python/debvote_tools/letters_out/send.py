@@ -39,7 +39,7 @@ class Server:
     password: str | None = None
 
     def stops(self, words: str, cure: str) -> Fault:
-        done = "what was taken before is noted, and the next run goes on"
+        done = "letters taken before are noted, and the next run goes on from there"
         return Fault(f"{self.host}:{self.port}", words, cure, Status.BAD_OUTPUT, done)
 
 
@@ -52,7 +52,7 @@ def server_of(text: str) -> Server:
     port = int(parts["port"]) if parts is not None and parts["port"] else None
     if parts is None or (port is not None and not 0 < port < 65536):
         cure = "write it as mail.example.org or mail.example.org:587"
-        raise Fault("--server", "it has to be a server", cure, Status.BAD_WORDS, None)
+        raise Fault("--server", "it is not the name of a server", cure, Status.BAD_WORDS, None)
     host = parts["bracketed"] or parts["host"]
     is_near = is_loopback(host)
     return Server(host, port or (LOOPBACK if is_near else SUBMISSION), is_encrypted=not is_near)
@@ -106,13 +106,13 @@ class Mailer:
             try:
                 self.smtp = connected(self.server)
             except smtplib.SMTPAuthenticationError as error:
-                raise self.server.stops(f"it refuses user or password: {reply_of(error)}", "write them anew") from None
+                raise self.server.stops(f"it refuses user or password: {reply_of(error)}", "correct them") from None
             except smtplib.SMTPNotSupportedError as error:
                 cure = "name a server that takes letters from mail programs, encrypted and with a password"
                 raise self.server.stops(str(error), cure) from None
             except LOST as error:
-                cure = "look whether name and port are right, and whether there is a connection"
-                raise self.server.stops(f"there is no connection: {reply_of(error)}", cure) from None
+                cure = "check the name, the port and your connection to the network"
+                raise self.server.stops(f"no connection: {reply_of(error)}", cure) from None
         return self.smtp
 
     def close(self) -> None:
@@ -150,7 +150,7 @@ class Mailer:
             code, reply = error.smtp_code, error.smtp_error
         except LOST as error:
             self.close()
-            words = f"the connection was lost while it got the letter to {letter.address}: {reply_of(error)}"
+            words = f"the connection was lost during the letter to {letter.address}: {reply_of(error)}"
             raise self.server.stops(words, "run the command again; it says what to do about this letter") from None
         if code < 400:
             return dataclasses.replace(letter, state=TAKEN, reply="")

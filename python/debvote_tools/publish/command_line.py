@@ -30,20 +30,20 @@ KEY = re.compile(rb"(?m)^\s*(?:%s)\s*=" % b"|".join(key.encode() for key in REQU
 
 class Arguments(Options):
     poll: str = option("FILE", "The poll file, in TOML", required=True)
-    ballots: str = option("FILE", "The ballot file, one ballot a line: name 1,2,3", required=True)
+    ballots: str = option("FILE", "The ballot file, with one ballot on each line: name 1,2,3", required=True)
     casting: str | None = option("NAME", "The exact name of the option that the casting vote chooses in a tie")
     desks: int = option("K", "How many desks enter the ballots, 1 to 8", type=int, choices=range(1, 9), default=1)
     language: str = option(
         "CODE",
-        "The language of page and letter: de, en, es or fr; English if it is not given",
+        "The language of page and letter: de, en, es or fr (default: en)",
         choices=sorted(LANGUAGES),
         default=ENGLISH.code,
     )
-    target: str = positional("FOLDER", "The folder to make; one that is there must be empty")
+    target: str = positional("FOLDER", "The folder to make; an existing folder must be empty")
 
 
 def parser() -> argparse.ArgumentParser:
-    description = "Makes the folder of an election for a web site, by debvote."
+    description = "Makes the folder of an election for a web site, with debvote."
     options = argparse.ArgumentParser(prog=PROGRAM, allow_abbrev=False, description=description)
     add_arguments(options, Arguments)
     return options
@@ -65,11 +65,11 @@ def main(program_folder: pathlib.Path, words: Sequence[str] | None = None) -> in
     except Fault as fault:
         return console.failed(PROGRAM, fault.words, fault.status)
     except OSError as error:
-        return console.failed(PROGRAM, f"the folder can't be made ({error}): name one that you may make", Status.BAD_OUTPUT)
+        return console.failed(PROGRAM, f"the folder can't be made ({error}): name a place where you can write", Status.BAD_OUTPUT)
     try:
         console.tell_as_it_is(f"{made.counted.sheet.last_line}\n{made.counted.verified}\n")
     except console.OutputFailed as fault:
-        words = f"the output failed; the folder {arguments.target} is made all the same: look at its page index.html"
+        words = f"the output failed; the folder {arguments.target} was made nevertheless: look at its page index.html"
         return console.failed(PROGRAM, words, fault.status)
     return made.counted.status
 
@@ -111,7 +111,7 @@ def demand_in_order(poll_bytes: bytes, ballots: bytes, arguments: Arguments, deb
     if answer.status == Status.DONE:
         raise other_format("the sheet of this debvote")
     said = answer.faults.strip().removeprefix("debvote: ")
-    cure = f"debvote explain --poll {arguments.poll} says what to put right"
+    cure = f"debvote explain --poll {arguments.poll} says what to correct"
     if 2 * len(BALLOT.findall(poll_bytes)) > poll_bytes.count(b"\n"):
         said += ", since it is a ballot file"
         swapped = f"the two files are swapped: give --poll {arguments.ballots} --ballots {arguments.poll}"
@@ -133,7 +133,7 @@ def sealed_of(poll_bytes: bytes, file: str) -> SealedPoll:
     strange = [key for key in values if not is_right(key, values[key], len(document["options"]))]
     cure = "give the poll.toml of a call, or take the key out"
     if strange:
-        words = f"no sealed poll has such a value of {', '.join(strange)}"
+        words = f"a sealed poll cannot have such a value of {', '.join(strange)}"
         raise Fault(file, words, cure, Status.BAD_POLL, "nothing was published")
     poll = poll_of(values)
     bad = bad_title(poll.name) if poll.name != poll.title else []

@@ -87,7 +87,7 @@ def demand_same(folder: pathlib.Path, casting_words: list[str], sheet_text: str,
         except program["Fault"] as fault:
             said = f"it says `{fault.args[0]}`"
         if said:
-            what = f"{RECOUNT}, the second count, does not find the same as debvote with its `{words[0]}`"
+            what = f"{RECOUNT}, the second count, differs from debvote in its `{words[0]}`"
             raise Fault(what, said, KEEP_FILES, Status.DOUBT, "nothing was published")
 
 

@@ -20,15 +20,15 @@ class Kind(enum.StrEnum):
 
 
 FOR_SECRETARY = {
-    Kind.NO_BALLOT: "no elector has a ballot that counts; look whether these are the ballots of this poll",
+    Kind.NO_BALLOT: "no elector has a ballot that counts; check that these are the ballots of this poll",
     Kind.MOSTLY_REFUSED: "more than half of the lines are refused, {refused} of {lines}; debvote explain says why",
     Kind.NOT_CLOSED: "the vote is not closed; close it first",
     Kind.LATE_LETTER: (
-        "the ballot of letter {letter} is late, and the letter arrived at {arrival}, before the end and the close; to count it run "
+        "the ballot of letter {letter} is late, but the letter arrived at {arrival}, before the end and the close; to count it run "
         "debvote-election reopen --in-time {envelopes} --because TEXT"
     ),
     Kind.OTHER_CASTING_VOTE: (
-        "an earlier publication has a casting vote for {option}; there is one casting vote, so find out which one was given"
+        "an earlier publication has a casting vote for {option}; only one can be right, so find out which was given"
     ),
 }
 FOR_READERS = {

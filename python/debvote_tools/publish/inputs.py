@@ -43,16 +43,16 @@ def casting_vote_of(option: str, by: str | None, on: str | None, today: datetime
     """The casting vote of the command line. Raises `Fault` unless it says whose it was, and a day that is not to come."""
     if by is None or on is None:
         cure = 'say it with --cast-by "NAME" --cast-on 2026-12-05'
-        raise bad_words("--casting", "the page has to say whose casting vote it was, and when it was given", cure)
+        raise bad_words("--casting", "the page must say whose casting vote it was, and when it was given", cure)
     if not by.strip() or odd_sign(by, refused=REFUSED_IN_NAME) is not None or len(by) > NAME_LIMIT:
-        reason = f"it has to be a name on one line, of at most {NAME_LIMIT} characters, and without quotation marks"
-        raise bad_words("--cast-by", reason, "write it anew")
+        reason = f"it must be a name on one line, of at most {NAME_LIMIT} characters, without quotation marks"
+        raise bad_words("--cast-by", reason, "write it again")
     try:
         day = datetime.date.fromisoformat(on)
     except ValueError:
-        raise bad_words("--cast-on", f"`{on}` is no day", "write it as 2026-12-05") from None
+        raise bad_words("--cast-on", f"`{on}` is not a day", "write it as 2026-12-05") from None
     if day > today:
-        raise bad_words("--cast-on", f"{day} is to come, and it was given already", "write the day on which it was given")
+        raise bad_words("--cast-on", f"{day} is in the future", "write the day on which it was given")
     return CastingVote(option, by.strip(), day)
 
 

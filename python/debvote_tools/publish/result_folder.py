@@ -70,9 +70,9 @@ def demand_free(target_folder: pathlib.Path, *, can_replace: bool) -> None:
     there = set(os.listdir(place)) if place.is_dir() else {""}
     is_published = names.CHECKSUMS in there and there <= names.ALL
     if there and not (can_replace and is_published):
-        kind = "published folder" if can_replace else "empty folder"
-        cure = "name another one"
-        raise Fault(target_folder, f"it is there already, and is no {kind}", cure, Status.BAD_WORDS, "nothing was published")
+        kind = "a published folder" if can_replace else "an empty folder"
+        cure = "name another folder"
+        raise Fault(target_folder, f"it exists already, and is not {kind}", cure, Status.BAD_WORDS, "nothing was published")
 
 
 @contextlib.contextmanager
@@ -124,20 +124,20 @@ def demand_publishable(publication: Publication, sheet: Sheet, sheet_text: str) 
         shown = " and ".join(f"{option} {name}" for name, option in left.items())
         are = "is" if len(left) == 1 else "are"
         words = f"no casting vote can choose {publication.casting.option}, which is not left; left {are} {shown}"
-        raise Fault("--casting", words, "name one that is left", Status.CASTING_OUTSIDE, "nothing was published")
+        raise Fault("--casting", words, "name an option that is left", Status.CASTING_OUTSIDE, "nothing was published")
     if publication.poll.secret and not (sheet.last_envelope is None and sheet.lines == sheet.valid == sheet.voters):
-        words = "not each line of this secret vote counts, once"
+        words = "a line of this secret vote does not count, or counts more than once"
         raise Fault(None, words, KEEP_FILES, Status.DOUBT, "nothing was published")
     if publication.secret is not None:
         if title_and_votes(publication.secret.sheet_text) != title_and_votes(sheet_text):
-            words = "the sheet under aliases is not that of the votes as they came"
+            words = "the sheet under aliases differs from the sheet of the votes as they came"
             raise Fault(None, words, KEEP_FILES, Status.DOUBT, "nothing was published")
         sheet = publication.secret.sheet
     doubts = [*doubts_about(sheet), *publication.doubts]
     if doubts and publication.chronicle is not None and not publication.is_forced:
-        cure = 'put it right, or publish it as it is with --force --because "TEXT", and the page tells it'
+        cure = 'put it right, or publish as it is with --force --because "TEXT" (the result page says so)'
         raise Fault(None, "; ".join(doubt.for_secretary() for doubt in doubts), cure, Status.DOUBT, "nothing was published")
-    tell_aside(*(f"Note: {doubt.for_secretary()}; the page tells it" for doubt in doubts))
+    tell_aside(*(f"Note: {doubt.for_secretary()}; the result page says so" for doubt in doubts))
     return doubts
 
 
@@ -161,7 +161,7 @@ def further_files(publication: Publication, counted: Counted) -> dict[str, bytes
     for name, (what, places) in BESIDE.items():
         file = next((place for place in places if place.is_file()), None)
         if file is None:
-            raise Fault(places[0], f"{what} is not there", "install the package debvote again", Status.NOT_FOUND, None)
+            raise Fault(places[0], f"{what} is missing", "install the package debvote again", Status.NOT_FOUND, None)
         files[name] = file.read_bytes()
     return {name: data for name, data in files.items() if data is not None}
 
@@ -171,4 +171,4 @@ def demand_no_code(name: str, data: bytes, publication: Publication) -> None:
     codes = publication.secret.codes if publication.secret else frozenset[str]()
     if codes and not codes.isdisjoint(code.decode() for code in CODE_WITHIN.findall(data)):
         words = f"{name} would have the code of an elector in it"
-        raise Fault(None, words, "look at the texts that you gave", Status.DOUBT, "nothing was published")
+        raise Fault(None, words, "check the texts that you gave", Status.DOUBT, "nothing was published")

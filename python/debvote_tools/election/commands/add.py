@@ -30,15 +30,15 @@ def run(election: Election, arguments: Arguments) -> None:
 def demand_words(arguments: Arguments) -> None:
     of_table = given(arguments, "name", "ranks", "blank_is_unranked", "oldest_first", "newest_first")
     if of_table and not arguments.csv:
-        raise Fault(", ".join(of_table), "it is about a table", "write --csv with it", Status.BAD_WORDS, NOTHING_ADDED)
+        raise Fault(", ".join(of_table), "only for tables", "give --csv too, or leave this out", Status.BAD_WORDS, NOTHING_ADDED)
     if arguments.csv and (arguments.name is None or arguments.ranks is None):
-        words = "it takes --name COLUMN and --ranks COLUMN,COLUMN,.. with it, one column a rank"
-        raise Fault("--csv", words, "write both", Status.BAD_WORDS, NOTHING_ADDED)
+        words = "it needs --name COLUMN and --ranks COLUMN,COLUMN,.., with one column for each rank"
+        raise Fault("--csv", words, "give both", Status.BAD_WORDS, NOTHING_ADDED)
     # the shell cuts heads without quotes at their spaces, and the rest looks like files
     gone = [name for name in arguments.files if name != HYPHEN and not os.path.lexists(name)]
     if arguments.ranks is not None and (gone or arguments.ranks.rstrip().endswith(",")):
-        reason = f"there is no file {came.safe(gone[0])}" if gone else f"the list ends with a comma: {arguments.ranks}"
-        cure = "type the name of the file, and the heads between single quotes where a space is in them, as --ranks 'First, Second'"
+        reason = f"there is no file {came.safe(gone[0])}" if gone else f"the list of columns ends with a comma: {arguments.ranks}"
+        cure = "name the file, and put single quotes around headers with spaces, as in --ranks 'First, Second'"
         raise Fault("--csv", reason, cure, Status.BAD_WORDS, NOTHING_ADDED)
 
 
@@ -56,5 +56,5 @@ def take_lines(election: Election, vote: Vote, came_files: Sequence[CameFile], a
     if plan.openness.is_closed:
         tell(f"Next: {election.command('count')}")
         return
-    more = f"add what comes with {election.command('add', 'FILE')}"
+    more = f"add more ballots with {election.command('add', 'FILE')}"
     tell(f"Next: {election.command('status')}; {more}, and when the vote is over: {election.command('close')}")

@@ -10,15 +10,15 @@ from debvote_tools.faults import Fault, Status
 
 
 class Arguments(Options):
-    file: str = positional("FILE", "The file to make; best on another disk")
+    file: str = positional("FILE", "The new file, best on another disk")
 
 
 def run(election: Election, arguments: Arguments) -> None:
     book, target = election.book, pathlib.Path(arguments.file)
     acting.tell_strangeness(book)
     if target.exists():
-        raise Fault(target, "it is there already", "name a new file", Status.BAD_WORDS, "nothing was written")
+        raise Fault(target, "it exists already", "name a new file", Status.BAD_WORDS, "nothing was written")
     election.demand_private(target)
     last = book.last_number()
     book.back_up(target)
-    tell(f"Copied the book up to act {last} into {target}. Nobody but you can read it; it has all that the election has.")
+    tell(f"Copied the book up to act {last} into {target}. Only you can read it; it holds everything that came or was done.")

@@ -1,4 +1,4 @@
-"""Make the call for votes, a page and a letter; the poll never changes again."""
+"""Make the call for votes, a page and a letter; from then on the poll cannot change."""
 
 import pathlib
 
@@ -34,18 +34,20 @@ KEYRING_LIMIT = 134_217_728
 
 
 class Arguments(acting.Arguments):
-    until: str | None = option("TIME", 'The end of the vote, as "2026-12-04 18:00"; a later time in a second call extends it')
+    until: str | None = option(
+        "TIME", 'The end of the vote, as "2026-12-04 18:00"; a second call with a later time extends the vote'
+    )
     zone: str | None = option(
-        "ZONE", "The time zone of --until, as Europe/Berlin; if it is not given that of the end before, or of this computer"
+        "ZONE", "The time zone of --until, as Europe/Berlin (default: that of the earlier end, or else of this computer)"
     )
     to: str | None = option("ADDRESS", "The mail address to which ballots are sent")
-    at: str | None = option("URL", "The web address of the page: of the call, and later of the result")
-    form: bool = flag("Say that in a web form an empty cell counts as a hyphen, as add --blank-is-unranked takes it")
-    names: bool = flag("Real names will be published with the result")
+    at: str | None = option("URL", "The web address of the page for the call, and later for the result")
+    form: bool = flag("Say in the call that an empty cell of a web form counts as a hyphen; add --blank-is-unranked reads it so")
+    names: bool = flag("Say in the call that real names will be published with the result")
     keyring: str | None = option(
-        "FILE", "Letters have to be signed, each by the key of its elector in members.csv; this file has the keys"
+        "FILE", "Say in the call that letters must be signed, each with its elector's key in members.csv; this file has the keys"
     )
-    take_back: bool = flag("Take the call back, as long as nothing has come")
+    take_back: bool = flag("Take the call back; possible until a ballot or a letter has come")
 
 
 def run(election: Election, arguments: Arguments) -> None:
@@ -105,8 +107,8 @@ def call_again(election: Election, arguments: Arguments) -> None:
         raise Fault(None, "the vote is closed", f"see {election.command('status')}")
     until = until_of(said)
     if until is not None and history.closes:
-        words = f"the vote was closed at {act_time(history.closes[0].time)}, and only what had come before that counts"
-        raise Fault("--until", words, f"leave it out; ballots that had come in time go in by {election.command('add')}")
+        words = f"the vote was closed at {act_time(history.closes[0].time)}, and only ballots that came before then count"
+        raise Fault("--until", words, f"leave it out; enter ballots that came in time with {election.command('add')}")
     if until is not None and history.until is not None and until <= history.until:
         words = f"electors rely on {times.time_in_words(history.until)}, and {times.time_in_words(until)} is not later"
         raise Fault("--until", words, "name a later time", Status.BAD_WORDS)
@@ -129,12 +131,12 @@ def take_back(election: Election, arguments: Arguments) -> None:
         raise Fault(None, words, "hold the vote anew in another folder")
     if queries.has_come(election.book, call_act.number):
         words = "ballots or letters have come, and electors rely on the call"
-        raise Fault(None, words, "hold the vote to its end, or anew in another folder")
+        raise Fault(None, words, "finish this vote, or hold it anew in another folder")
     with book.act("take back", {"call": call_act.number}, seen=history.last.number):
         pass
     write_made(election.path(CALL), {}, PUBLIC, FILES)
     (election.path(LETTERS) / EXTENSION).unlink(missing_ok=True)
-    tell("Took the call back: if anybody has seen it, tell them that it does not hold.")
+    tell("Took the call back. If anybody has seen it, tell them that it is void.")
     tell(f"Next: put right what was wrong, then run {election.command('call')}")
 
 
@@ -190,7 +192,7 @@ def keyring_in(election: Election, file: str | None) -> bytes | None:
         words = f"it lacks the keys that the list of members has for: {', '.join(missing)}"
         raise Fault(file, words, "export these keys, too")
     if without := [elector.name for elector in electors if not elector.key]:
-        tell(f"Note: no key is in the list of members for {', '.join(without)}; their letters wait.")
+        tell(f"Note: the list of members has no key for {', '.join(without)}; their letters wait.")
     return keyring.data
 
 
@@ -210,21 +212,25 @@ def report(election: Election, data: CallData) -> None:
     folder = election.path(CALL)
     tell(f"Made the folder {folder} with the page index.html and the letter call.txt.")
     if data.has_aliases:
-        tell("The vote is secret: the poll of the call has aliases, and no name of an elector is in the folder.")
+        tell("The vote is secret: the poll of the call has aliases, and the folder has no names of electors.")
     if data.has_codes_on_roll:
-        tell("Codes are on the roll: the call has the checksum of the poll, and no poll.toml.")
+        tell("Codes are on the roll: the call has the checksum of the poll, but no poll.toml.")
     if data.has_aliases or data.has_codes_on_roll:
         whose = "let each elector draw one" if data.has_codes_on_roll else "give each elector their own"
         tell(f"Print {election.path(PRIVATE) / SLIPS}, cut the slips out, and {whose}.")
     tell(f"Checksum of the poll: {data.poll.checksum}", f"Mark of the poll, at the end of each subject: [{data.poll.mark}]")
     if data.until is not None:
-        tell(f"Until when: {times.time_in_words(data.until)}")
+        tell(f"End of the vote: {times.time_in_words(data.until)}")
     if data.is_extended:
-        tell(f"Made {election.path(LETTERS) / EXTENSION}: tell it to all electors.")
-    missing = [words for words, value in (("until when (--until)", data.until), ("where to (--to)", data.to)) if value is None]
+        tell(f"Made {election.path(LETTERS) / EXTENSION}: send it to all electors.")
+    missing = [
+        words
+        for words, value in (("when the vote ends (--until)", data.until), ("where ballots go (--to)", data.to))
+        if value is None
+    ]
     if missing:
         tell(f"The call does not say {' nor '.join(missing)}.")
-    tell("The poll is sealed: poll.toml and texts/ of this folder are no longer read; members.csv only for addresses, by roll.")
+    tell("The poll is sealed: poll.toml and texts/ of this folder are no longer read; roll still reads addresses and keys.")
     write = f"send {folder / 'call.txt'} to all electors" if data.has_codes_on_roll else election.command("letters", "call")
     enter = f"{election.command('add', 'FILE')} or {election.command('desk')}"
     tell(f"Next: put {folder} on the web site, and write to the electors: {write}; enter the ballots that come: {enter}")

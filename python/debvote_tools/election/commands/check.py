@@ -1,4 +1,4 @@
-"""Say all that is wrong with the poll, or what is voted on."""
+"""Check the poll: list everything that is wrong with it, or show what is voted on."""
 
 from debvote_tools.arguments import Options, flag
 from debvote_tools.console import tell
@@ -18,7 +18,7 @@ class Arguments(Options):
 def run(election: Election, arguments: Arguments) -> None:
     history = election.history()
     if history.call is not None:
-        tell(f"The poll is sealed by the call, and this file is no longer read. Next: {election.command('status')}")
+        tell(f"The call has sealed the poll, and poll.toml is no longer read. Next: {election.command('status')}")
         return
     poll, sheet = checked_poll(election)
     roll = poll.roll
@@ -37,4 +37,4 @@ def what_next(election: Election, history: History, poll: SealedPoll) -> str:
     if lacks_codes(election, history, poll):
         return f"{election.command('codes')}, since the vote is secret and electors have no codes yet"
     call = election.command("call", "--until", "YYYY-MM-DD HH:MM", "--to", "ADDRESS")
-    return f"{call} (until when one can vote, and where ballots are sent; both can be left out)"
+    return f"{call} (the end of the vote, and the address for ballots; both are optional)"

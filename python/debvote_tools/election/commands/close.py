@@ -1,4 +1,4 @@
-"""End the vote: lines that are entered later are late."""
+"""Close the vote; lines that are entered later are late, and do not count."""
 
 import collections
 
@@ -38,10 +38,10 @@ def run(election: Election, arguments: Arguments) -> None:
     lines = count_of(detail["lines"], "line")
     if is_new:
         if detail["early"]:
-            tell("Note: one could still vote by the time that was announced; the page of the result tells it.")
-        tell(f"Closed: {lines} came in time. What is entered from now on is late, and does not count.")
+            tell("Note: the announced end of the vote has not come yet; the result page says so.")
+        tell(f"Closed: {lines} came in time. Lines that are entered from now on are late, and do not count.")
         if detail["waiting"]:
-            tell(f"{count_of(detail['waiting'], 'letter')} that arrived in time did not go in; the page of the result tells it.")
+            tell(f"{count_of(detail['waiting'], 'letter')} that arrived in time did not go in; the result page says so.")
         if detail.get("before_call"):
             tell(f"{count_of(detail['before_call'], 'letter')} that arrived before the call did not go in.")
     else:
@@ -65,13 +65,13 @@ def close(election: Election, sealed: Sealed, arguments: Arguments) -> None:
     is_early = until is not None and now < until
     if until is not None and is_early and not arguments.early:
         here = times.minute_in_words(now, until.tzinfo)
-        words = f"one can vote until {times.time_in_words(until)}, and by the clock of this computer it is {here}"
-        how = f"{election.command('close', '--early')}, which the page of the result tells"
-        faults.append(Fault(None, words, f"close when that time is over, or now with {how}"))
+        words = f"the vote ends {times.time_in_words(until)}, and by the clock of this computer it is {here}"
+        how = f"{election.command('close', '--early')} (the result page says so)"
+        faults.append(Fault(None, words, f"close after that time, or now with {how}"))
     if in_time and not (arguments.force and acting.has_reason(arguments.because)):
-        words = f"letters wait that arrived in time: {', '.join(map(str, in_time))}"
+        words = f"these letters arrived in time, and wait: {', '.join(map(str, in_time))}"
         look = f"look at them with {election.command('held')}"
-        force = "or close all the same with --force --because TEXT, which the page tells"
+        force = "or close anyway with --force --because TEXT (the result page says so)"
         faults.append(Fault(None, words, f"add the mailbox once more, then {look}; {force}"))
     stop_at(faults)
     detail = fixed(election, sealed)

@@ -1,4 +1,4 @@
-"""Make a secret code for each elector, for a secret vote; it comes before the call."""
+"""Make a secret code for each elector of a secret vote, before the call."""
 
 from debvote_tools.arguments import flag
 from debvote_tools.book import queries
@@ -24,7 +24,7 @@ NOT_SECRET = "the vote is not secret, so it needs no codes"
 
 
 class Arguments(acting.Arguments):
-    on_roll: bool = flag("Put the codes on the roll in place of the names, so that nobody knows who votes under which")
+    on_roll: bool = flag("Put codes on the roll in place of names, so that nobody knows who has which code")
 
 
 def run(election: Election, arguments: Arguments) -> None:
@@ -37,12 +37,12 @@ def run(election: Election, arguments: Arguments) -> None:
             raise Fault(None, NOT_SECRET, f"see {election.command('status')}")
     history, private = election.history(), election.path(PRIVATE)
     write_slips(election, history, poll)
-    when = "The call adds when the vote ends and where ballots go, so print them after it."
+    when = "Print them after the call, which adds the end of the vote and the address for ballots."
     tell(f"The slips: {private / SLIPS}. {when}")
     if history.has_codes_on_roll:
-        tell("Nobody may have a list of who gets which code. Destroy the slips that are left over, and the file.")
+        tell("Nobody may keep a list of who gets which code. Destroy the slips that are left over, and their file.")
     else:
-        tell(f"The table of the codes: {private / CODES}. Nobody but you may see it.")
+        tell(f"The table of codes: {private / CODES}. Let nobody else see it.")
         if without := [elector.name for elector in queries.electors(election.book) if not elector.code]:
             tell(f"Without a code: {', '.join(without)}")
     tell(f"Next: {what_next(election, history, poll)}")
@@ -65,7 +65,7 @@ def make_codes(election: Election, arguments: Arguments) -> tuple[SealedPoll, in
     electors = queries.electors(book)
     without = [elector for elector in electors if not elector.code]
     if arguments.on_roll and len(without) < len(electors):
-        raise Fault("--on-roll", "electors have codes beside their names already", "begin anew in another folder")
+        raise Fault("--on-roll", "electors have names with codes already", "begin anew in another folder")
     if not without:
         return poll, 0
     detail: Detail = {"codes": len(without), "on_roll": True} if arguments.on_roll else {"codes": len(without)}

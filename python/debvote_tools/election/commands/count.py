@@ -15,7 +15,7 @@ from debvote_tools.sheet import Sheet, sheet_in
 
 CASTING = (
     "NAME",
-    "The exact name of the option that the casting vote chooses in a tie; --casting=NAME where it begins with a hyphen",
+    "The exact name of the option that the casting vote chooses in a tie; write --casting=NAME if the name begins with a hyphen",
 )
 
 
@@ -38,27 +38,29 @@ def run(election: Election, arguments: Arguments) -> int:
 def demand_countable(election: Election, history: History, sealed: Sealed) -> None:
     """Stops at a secret vote that is not closed: a person who sees its numbers grow sees who voted what."""
     if sealed.counted.secret and not history.is_closed:
-        words, cure = "the vote is secret, and it is counted after the close alone", f"close it first: {election.command('close')}"
+        words, cure = "the vote is secret, and can be counted only after the close", f"close it first: {election.command('close')}"
         raise Fault(None, words, cure, done="nothing was counted")
 
 
 def demand_option(poll: SealedPoll, casting: str | None) -> None:
     if casting is not None and casting not in poll.plain_names:
         where = f"--casting={shlex.quote(casting)}"
-        cure = f"give one of these, exactly as it stands here: {in_shell(poll.plain_names)}"
+        cure = f"give one of these names, exactly as written here: {in_shell(poll.plain_names)}"
         raise Fault(where, "no option has this name", cure, Status.CASTING_OUTSIDE, "nothing was counted")
 
 
 def what_next(election: Election, history: History, sheet: Sheet, casting: str | None) -> str:
     """What the secretary does with this sheet. Before the close it is no result yet."""
-    over = "" if history.is_closed else f"this is no result yet: when the vote is over {election.command('close')}, then "
+    early = "" if history.is_closed else f"this is not the result yet: when the vote is over, run {election.command('close')}"
     cast = ("--cast-by", "WHO", "--cast-on", "DATE")
     if sheet.winner is not None:
-        return over + election.command("publish", *((*casting_words(casting), *cast) if sheet.is_by_casting else ()))
+        publish = election.command("publish", *((*casting_words(casting), *cast) if sheet.is_by_casting else ()))
+        return f"{early}, then {publish}" if early else publish
     names, outside = [sheet.names[option] for option in sheet.left], sheet.casting_outside
     why = f"; {in_shell([sheet.names[outside]])} is not among them" if outside is not None else ""
     commands = " or ".join(election.command("publish", *casting_words(name), *cast) for name in names)
-    return f"{over}it is a tie between {in_shell(names)}{why}; who has the casting vote chooses one of them: {commands}"
+    tie = f"it is a tie between {in_shell(names)}{why}; the holder of the casting vote chooses one of them: {commands}"
+    return f"{early}; now {tie}" if early else tie
 
 
 def in_shell(names: Iterable[str]) -> str:

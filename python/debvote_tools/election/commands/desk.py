@@ -20,7 +20,7 @@ from debvote_tools.files import BALLOTS_LIMIT
 from debvote_tools.lines import Line, lines_in, name_in
 
 QUIT = b"q"
-NOTHING_CAST = "nothing was cast"
+NOTHING_CAST = "nothing was entered"
 
 # in bytes; what one read of a pipe brings at most
 READ = 65_536
@@ -57,14 +57,14 @@ class Desk:
         history = History(self.book.acts())
         openness = history.openness()
         if openness.call != self.vote.call:
-            raise Fault(None, "the vote was called anew meanwhile", "start the desk again", Status.DOUBT, NOTHING_CAST)
+            raise Fault(None, "the call for votes was made anew meanwhile", "start the desk again", Status.DOUBT, NOTHING_CAST)
         return Shown(history.last.number, openness, queries.envelopes(self.book, "elector = ?", elector))
 
     def ask_if_reopened(self, elector: int | None = None) -> Shown:
         """Returns the same. If the vote was opened again, it asks once whether what is cast came before the first close."""
         shown = self.now(elector)
         if shown.openness.is_reopened and self.came_before_close is None:
-            done = "what was told is cast, and nothing else"
+            done = "the ballots reported so far were entered, and nothing else"
             self.came_before_close = in_time.came_before_close(shown.openness, self.answer, done)
         return shown
 
@@ -87,7 +87,7 @@ class Desk:
             decided_at=shown.decided_at,
             is_late=shown.openness.is_late(self.came_before_close),
             is_same=lambda: self.now(elector)[1:] == shown[1:],
-            done="what was to be told is cast",
+            done="the ballots to be reported were entered",
         ) as now:
             replies = now.replies()
             self.replies += replies
@@ -99,10 +99,10 @@ def run(election: Election, arguments: Arguments) -> None:
         raise Fault("standard input", "it is closed", "run it at a terminal", Status.BAD_BALLOTS, NOTHING_CAST)
     desk = Desk(election, acting.book_for_act(election, arguments), arguments.came_before_close)
     openness = desk.now().openness
-    tell(*in_time.notes(election, openness, "what is cast"))
+    tell(*in_time.notes(election, openness, "what is entered"))
     if desk.vote.is_signed:
-        words = "letters have to be signed in this vote, and a desk asks for no signature"
-        tell(f"Note: {words}: enter what comes on paper, or is spoken.")
+        words = "in this vote letters must be signed, and a desk checks no signature"
+        tell(f"Note: {words}: enter only ballots on paper or by word of mouth.")
     try:
         desk.came_before_close = in_time.came_before_close(openness, desk.answer, NOTHING_CAST)
         if sys.stdin.isatty():
@@ -111,7 +111,7 @@ def run(election: Election, arguments: Arguments) -> None:
             from_pipe(desk)
     except KeyboardInterrupt:
         tell("")
-    tell(f"This desk has cast {summary(desk.replies)}.", f"Next: {election.command('status')}")
+    tell(f"This desk has entered {summary(desk.replies)}.", f"Next: {election.command('status')}")
 
 
 # ---------------------------------------------------------------- from a pipe
@@ -124,7 +124,7 @@ def from_pipe(desk: Desk) -> None:
                 tell(f"{line.where}: it is empty, and was left out")
             elif why := too_long(line):
                 add = desk.election.command("add", "--force", "FILE")
-                tell(f"{line.where}: {why}; it was not cast.", f"  To add it from a file: {add}")
+                tell(f"{line.where}: {why}; it was not entered.", f"  To add it from a file: {add}")
             else:
                 lines.append(line)
         read = desk.vote.read(lines)
@@ -178,17 +178,17 @@ def ask_and_cast(desk: Desk, line: Line) -> bool:
         # first what is in the book: if an envelope comes after this, it is found when the ballot is cast
         shown = desk.ask_if_reopened(elector)
         question = show(desk, read, shown, elector)
-        answer = is_yes(question, "Type y to cast it, or n to forget it.")
+        answer = is_yes(question, "Type y to enter it, or n to drop it.")
         if answer is None:
             return False
         if not answer:
-            tell("It was not cast, and is forgotten.")
+            tell("It was not entered.")
             return True
         try:
             desk.cast([read], shown, elector)
             return True
         except Overtaken:
-            tell("It was not cast: another act came between, and now it is so.")
+            tell("It was not entered: another command changed the election meanwhile. Now it looks like this:")
 
 
 def completed(vote: Vote, line: Line) -> Line:
@@ -204,7 +204,7 @@ def completed(vote: Vote, line: Line) -> Line:
         return line
     names = [other for other in vote.roll if other.startswith(name)]
     if len(names) > 1:
-        tell(f"These names begin so: {listed(names, MAX_NAMES)}")
+        tell(f"Several names begin with `{name}`: {listed(names, MAX_NAMES)}")
     if len(names) != 1:
         return line
     tell(f"`{name}` was completed to `{names[0]}`")
@@ -217,7 +217,7 @@ def show(desk: Desk, line: JudgedLine, shown: Shown, elector: int | None) -> str
     tell(*change_words(line))
     if not line.is_ballot:
         tell(f"It would be refused: {would_words(line)}", desk.vote.right_words())
-        return "It would not count. Cast it anyway?"
+        return "It would not count. Enter it anyway?"
     tell(desk.vote.in_words(line))
     if shown.openness.is_late(desk.came_before_close):
         tell("It is late, and will not count.")
@@ -225,4 +225,4 @@ def show(desk: Desk, line: JudgedLine, shown: Shown, elector: int | None) -> str
         earlier = desk.vote.standing(queries.lines_of_electors(desk.book, {elector})).get(line.voter)
         if earlier is not None:
             tell(f"{line.voter} has a ballot: {desk.vote.ranks_in_words(earlier)}. It will be replaced.")
-    return "Cast it?"
+    return "Enter it?"

@@ -1,4 +1,4 @@
-"""Write the poll, the ballots and all that came into a new folder, which only you can read."""
+"""Write the poll, the ballots and everything that came into a new folder that only you can read."""
 
 import os
 import pathlib
@@ -27,7 +27,7 @@ def run(election: Election, arguments: Arguments) -> None:
     acting.tell_strangeness(book)
     acting.demand_whole(book)
     if os.path.lexists(target_folder):
-        raise Fault(target_folder, "it is there already", "name a new folder", Status.BAD_WORDS, "nothing was written")
+        raise Fault(target_folder, "it exists already", "name a new folder", Status.BAD_WORDS, "nothing was written")
     election.demand_private(target_folder)
     with book.snapshot():
         files = {"poll.toml": election.sealed().counted.as_bytes()}

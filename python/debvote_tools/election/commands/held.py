@@ -22,10 +22,10 @@ from debvote_tools.terminal_text import shown_text
 
 class Arguments(acting.Arguments):
     numbers: list[int] = positional("NUMBER", "The numbers of letters", type=int, nargs="*")
-    enter: str | None = option("LINE,..", "Enter these lines of the letter, by their numbers as held NUMBER shows them")
-    set_aside: bool = flag("The letters are dealt with, and wait no longer")
-    wait: bool = flag("The letters wait again")
-    force: bool = flag("Enter it although its elector has voted since")
+    enter: str | None = option("LINE,..", "Enter these lines of the letter, by the numbers that held NUMBER shows")
+    set_aside: bool = flag("Set the letters aside: they are dealt with, and wait no longer")
+    wait: bool = flag("Have the letters wait again")
+    force: bool = flag("Enter the ballot although its elector has voted since")
 
 
 def run(election: Election, arguments: Arguments) -> None:
@@ -51,9 +51,7 @@ def run(election: Election, arguments: Arguments) -> None:
         shown = [] if chosen else [number for number in arguments.numbers if number in numbers]
         command = election.command("held", str((shown or numbers)[0]))
         tell(f"{count_of(len(waiting), 'letter waits', 'letters wait')}.")
-        tell(
-            f"Next: {command} {'with' if shown else 'shows one;'} --enter LINE enters a line of it, --set-aside says that it is dealt with"
-        )
+        tell(f"Next: {command} {'with' if shown else 'shows one;'} --enter LINE enters a line of it, --set-aside sets it aside")
     else:
         tell("No letter waits.", f"Next: {election.command('status')}")
 
@@ -62,7 +60,9 @@ def demand_words(arguments: Arguments) -> list[str]:
     """The one option that was given, or none. Stops if the options do not go together."""
     chosen = given(arguments, "enter", "set_aside", "wait")
     if len(chosen) > 1:
-        raise Fault("held", "it does one thing at a time", "give one of --enter, --set-aside and --wait", Status.BAD_WORDS, None)
+        raise Fault(
+            "held", "it does one thing at a time", "give only one of --enter, --set-aside and --wait", Status.BAD_WORDS, None
+        )
     if arguments.enter is not None and len(arguments.numbers) != 1:
         raise Fault("--enter", "it takes one letter", "name one number", Status.BAD_WORDS)
     if chosen and not arguments.numbers:
@@ -77,7 +77,7 @@ def all_letters(election: Election) -> list[JudgedLetter]:
 def chosen_letters(found: Sequence[JudgedLetter], numbers: Sequence[int]) -> list[JudgedLetter]:
     by_number = {letter.number: letter for letter in found}
     if unknown := [str(number) for number in numbers if number not in by_number]:
-        raise Fault(f"letter {', '.join(unknown)}", "there is none", "held lists the letters", Status.BAD_WORDS)
+        raise Fault(f"letter {', '.join(unknown)}", "there is no such letter", "held lists the letters that wait", Status.BAD_WORDS)
     return [by_number[number] for number in dict.fromkeys(numbers)]
 
 
@@ -87,7 +87,7 @@ def decide(election: Election, arguments: Arguments) -> None:
     decided_at = book.last_number()
     chosen = chosen_letters(all_letters(election), arguments.numbers)
     if entered_before := [letter.number for letter in chosen if letter.outcome is Outcome.ENTERED]:
-        cure = "strike takes an envelope out, undo the last act"
+        cure = "strike takes out one envelope, undo takes back the last act"
         raise Fault(f"letter {entered_before[0]}", "its ballot was entered", cure)
     state: ActName = letters.SET_ASIDE if arguments.set_aside else letters.PUT_BACK
     with book.act(state, {"letters": arguments.numbers}, seen=decided_at) as act:
@@ -106,11 +106,11 @@ def enter(election: Election, vote: Vote, arguments: Arguments, lines: str) -> N
         numbers = [str(envelope.number) for envelope in late]
         reopen = election.command("reopen", "--in-time", *numbers, "--because", "TEXT")
         how = f"if it came in time, {'' if history.is_closed else 'close again and '}run {reopen}"
-        raise Fault(name, "it was entered" + (", and is late" if late else ""), how if late else "nothing is to be done")
+        raise Fault(name, "it was entered" + (", and is late" if late else ""), how if late else "there is nothing to do")
     if letter.has_voted_since and not arguments.force:
-        raise Fault(name, "its elector has voted since", "if this one has to count all the same, repeat it with --force")
+        raise Fault(name, "its elector has voted since", "if this ballot must count, repeat the command with --force")
     if letter.outcome is Outcome.COPY:
-        cure = "if its ballot has to be entered once more, have it wait with --wait first"
+        cure = "to enter its ballot once more, have the letter wait first with --wait"
         raise Fault(name, "it is a copy of another letter", cure)
     # a ballot of the letter that was struck was entered, too
     before = queries.envelopes(book, f"letter = ? AND envelope.{queries.NOT_UNDONE}", letter.number)
@@ -133,9 +133,9 @@ def chosen_ballots(letter: JudgedLetter, lines: str) -> list[BallotLine]:
     if wrong := [number for number in numbers if number not in by_number]:
         can = ", ".join(sorted(by_number, key=int))
         cure = f"these lines are: {can}" if can else "if you know which ballot is meant, type it at a desk"
-        raise Fault("--enter", f"line {shown_text(wrong[0])} of letter {letter.number} is no ballot of this poll", cure)
+        raise Fault("--enter", f"line {shown_text(wrong[0])} of letter {letter.number} is not a ballot of this poll", cure)
     found = [by_number[number] for number in numbers]
     twice, count = collections.Counter(line.elector for line in found).most_common(1)[0]
     if count > 1:
-        raise Fault("--enter", f"{count} of these lines are of {twice}", "name the one that counts")
+        raise Fault("--enter", f"{count} of these lines are ballots of {twice}", "name the one that counts")
     return found

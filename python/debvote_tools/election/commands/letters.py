@@ -32,17 +32,17 @@ BAR = 40
 
 class Arguments(acting.Arguments):
     kind: str = positional("KIND", "call, receipts, reminders, closed or result", choices=[*map(str, Kind)])
-    send: bool = flag("Send them to a mail server, and go on where a run was cut off")
+    send: bool = flag("Send the letters to a mail server; if a run was cut off, go on from there")
     server: str | None = option(
         "HOST[:PORT]", "With --send: the mail server; the connection is encrypted unless it is on this computer"
     )
-    user: str | None = option("USER", "With --send: the user on the server; the password is asked")
+    user: str | None = option("USER", "With --send: the user on the server; the command asks for the password")
     password_file: str | None = option("FILE", "With --user: the file that has the password")
     again: list[str] = option(
-        "NAME", "With --send: the elector whose letter was cut off, and is to be sent again", action="append", default=[]
+        "NAME", "With --send: send the letter to this elector again, where a run was cut off", action="append", default=[]
     )
-    sender: str | None = option("ADDRESS", "The address that sends the letters; that of the call if it is not given", name="--from")
-    at: str | None = option("URL", "With result: where it is published, if the call does not say it")
+    sender: str | None = option("ADDRESS", "The sender's address (default: the address for ballots in the call)", name="--from")
+    at: str | None = option("URL", "With result: the web address of the result, if the call does not name it")
 
 
 def run(election: Election, arguments: Arguments) -> int:
@@ -90,7 +90,7 @@ def report_sent(election: Election, due: LettersDue, tried: Sequence[SentLetter]
     """Says what the server took, what it did not, and in which letters a run was cut off."""
     if not tried and not cut_off:
         refused = ", ".join(due.elector(letter).name for letter in due.written if letter.state == REFUSED)
-        but = f" but those that it has refused: {refused}" if refused else ""
+        but = f", except those that it has refused: {refused}" if refused else ""
         tell(f"There is no letter to send: the server has taken all that are due{but}.")
         return Status.DONE
     by_state = {state: [letter for letter in tried if letter.state == state] for state in (TAKEN, REFUSED, POSTPONED)}
@@ -103,7 +103,7 @@ def report_sent(election: Election, due: LettersDue, tried: Sequence[SentLetter]
     for letter in cut_off:
         name = due.elector(letter).name
         tell(f"A run was cut off in the letter to {name}, {letter.address}: the server may have it.")
-        tell(f"Next: ask, or send it again: {election.command(*send_again, '--again', name)}")
+        tell(f"Next: ask whether it came, or send it again: {election.command(*send_again, '--again', name)}")
     return Status.DOUBT if cut_off or len(by_state[TAKEN]) < len(tried) else Status.DONE
 
 
@@ -114,11 +114,11 @@ def demand_words(arguments: Arguments) -> None:
     if arguments.send and arguments.server is None:
         raise Fault("--send", "no server is named", "give --server HOST[:PORT]", Status.BAD_WORDS, "nothing was sent")
     if given and not arguments.send:
-        raise Fault(given, "it goes with --send", "give that too, or leave it out", Status.BAD_WORDS, "nothing was sent")
+        raise Fault(given, "only with --send", "give --send too, or leave this out", Status.BAD_WORDS, "nothing was sent")
     if arguments.password_file is not None and arguments.user is None:
-        raise Fault("--password-file", "it goes with --user", "give that too", Status.BAD_WORDS, "nothing was sent")
+        raise Fault("--password-file", "only with --user", "give --user too", Status.BAD_WORDS, "nothing was sent")
     if arguments.at is not None and arguments.kind != Kind.RESULT:
-        raise Fault("--at", "it goes with result", "leave it out", Status.BAD_WORDS, "nothing was written")
+        raise Fault("--at", "only with result", "leave it out", Status.BAD_WORDS, "nothing was written")
 
 
 def with_password(server: Server, arguments: Arguments) -> Server:
@@ -128,7 +128,7 @@ def with_password(server: Server, arguments: Arguments) -> Server:
         try:
             password = pathlib.Path(arguments.password_file).read_text("utf-8").rstrip("\r\n")
         except (OSError, UnicodeDecodeError) as error:
-            words = error.strerror if isinstance(error, OSError) else "it is no text in UTF-8"
+            words = error.strerror if isinstance(error, OSError) else "it is not text in UTF-8"
             cure = "name the file that has the password"
             raise Fault(arguments.password_file, words, cure, Status.BAD_WORDS, "nothing was sent") from None
     elif console.is_terminal():
@@ -142,7 +142,7 @@ def with_password(server: Server, arguments: Arguments) -> Server:
 def sender_of(election: Election, arguments: Arguments) -> str:
     sender = arguments.sender or election.history().announced("to")
     if sender is None:
-        cure = "write the address that sends the letters"
+        cure = "give the sender's address with it"
         raise Fault("--from", "the call names no address", cure, Status.BAD_WORDS, "nothing was written")
     demand_mail_address(sender, "--from")
     return str(sender)
@@ -162,7 +162,7 @@ def chosen_again(due: LettersDue, names: Sequence[str]) -> list[SentLetter]:
     by_name = {due.elector(letter).name: letter for letter in due.cut_off}
     if unknown := [shown_text(name) for name in names if name not in by_name]:
         words = f"no run was cut off in the letter to {', '.join(unknown)}"
-        cure = f"it may be: {', '.join(by_name)}" if by_name else "leave it out"
+        cure = f"give one of {', '.join(by_name)}" if by_name else "leave it out"
         raise Fault("--again", words, cure, Status.BAD_WORDS, "nothing was sent")
     return [by_name[name] for name in dict.fromkeys(names)]
 

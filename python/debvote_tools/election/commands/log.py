@@ -1,4 +1,4 @@
-"""List the acts of the election; with --check compute their digests anew."""
+"""List the acts of the election; with --check compute their digests again."""
 
 import itertools
 import json
@@ -11,7 +11,7 @@ from debvote_tools.election.reporting import act_time, count_of
 
 
 class Arguments(Options):
-    check: bool = flag("Compute the chain of digests anew over all that is in the book")
+    check: bool = flag("Check the chain of digests against everything in the book")
 
 
 def run(election: Election, arguments: Arguments) -> None:
@@ -28,5 +28,5 @@ def run(election: Election, arguments: Arguments) -> None:
         detail = {key: value for key, value in act.detail.items() if key != "seal"}
         lines += [f"{act.number} {act_time(act.time)} {act.name} {json.dumps(detail, ensure_ascii=False)}", f"  {act.digest}"]
         if act.time < before.time:
-            lines.append("  the clock went back: the act before it has a later time")
+            lines.append("  the clock went back: the previous act has a later time")
     tell(*lines)

@@ -24,18 +24,18 @@ from debvote_tools.publish.inputs import Publication, casting_vote_of, text_in
 
 class Arguments(acting.Arguments):
     casting: str | None = option(*count.CASTING)
-    cast_by: str | None = option("NAME", "Whose the casting vote was; the page says it in your name")
-    cast_on: str | None = option("DATE", "When the casting vote was given, as 2026-12-05")
-    about: str | None = option("FILE", "A plain text in UTF-8 for the page: who certifies the result, and when")
+    cast_by: str | None = option("NAME", "Who had the casting vote; the page says so in your name")
+    cast_on: str | None = option("DATE", "The day of the casting vote, as 2026-12-05")
+    about: str | None = option("FILE", "A plain text file in UTF-8 for the page: who certifies the result, and when")
     language: str | None = option(
         "CODE",
-        "The language of page and letter: de, en, es or fr; that of the election if it is not given",
+        "The language of page and letter: de, en, es or fr (default: that of the election)",
         choices=sorted(LANGUAGES),
     )
-    force: bool = flag("With --because: publish although there are doubts; the page tells them, and the reason")
-    yes: bool = flag("In a secret vote: everybody may read the texts for the page; without it you are asked at the terminal")
+    force: bool = flag("With --because: publish although there are doubts; the page gives the doubts and the reason")
+    yes: bool = flag("In a secret vote: answer yes when asked whether the texts, or a comparison of two results, may be published")
     target: str | None = positional(
-        "FOLDER", "The folder to make, in place of an earlier one; the folder result of the election if it is not given", nargs="?"
+        "FOLDER", "The folder to make, in place of an earlier one (default: the folder result of the election)", nargs="?"
     )
 
 
@@ -48,7 +48,7 @@ def run(election: Election, arguments: Arguments) -> int:
         tell(f"Next: put the folder {folder} on the web site as it is, then {election.command('letters', 'result')}")
     else:
         chosen = election.command("publish", *casting_words("NAME"), "--cast-by", "WHO", "--cast-on", "DATE")
-        tell(f"Next: it is a tie: ask for the casting vote, and write its option, whose it was and its day: {chosen}")
+        tell(f"Next: it is a tie: ask for the casting vote, and then give its option, its holder and its day: {chosen}")
     return counted.status
 
 
@@ -90,7 +90,7 @@ def alone(election: Election) -> Iterator[None]:
         with locked(election.folder, is_directory=True):
             yield
     except BlockingIOError:
-        words = "another command publishes this election at the moment"
+        words = "another command is publishing this election now"
         raise Fault(None, words, "run the command again when it is done", done="nothing was published") from None
 
 
@@ -100,7 +100,7 @@ def words_of(arguments: Arguments) -> Words:
         today = times.now().astimezone().date()
         vote = casting_vote_of(arguments.casting, arguments.cast_by, arguments.cast_on, today)
     elif arguments.cast_by is not None or arguments.cast_on is not None:
-        words = "they say whose the casting vote of --casting was"
+        words = "they describe the casting vote of --casting"
         raise Fault("--cast-by, --cast-on", words, "give --casting too", Status.BAD_WORDS, "nothing was published")
     reason = arguments.because if arguments.force else None
     return Words(
@@ -122,7 +122,7 @@ def demand_agreed(publication: Publication, *, is_again: bool) -> None:
     for where, text in texts.items():
         tell_aside(f"{where}:", *(f"  {line}" for line in text.strip().split("\n")))
     if texts:
-        demand_yes("Is this what everybody may read?", "texts for the page may tell who voted what")
+        demand_yes("May everybody read this?", "texts for the page may tell who voted what")
     if publication.secret.compared:
         words = f"a comparison with the earlier result shows how these voted: {', '.join(publication.secret.compared)}"
         demand_yes(f"Publish it, although {words}?", words)
@@ -133,7 +133,7 @@ def texts_of(publication: Publication) -> dict[str, str]:
     texts = {"--about": publication.about, "--because": publication.because}
     texts["--cast-by"] = publication.casting.by if publication.casting else None
     acts = publication.chronicle.acts if publication.chronicle else ()
-    texts |= {f"the reason of what was done at {act_time(act.time)}": act.because for act in acts}
+    texts |= {f"the reason for the act of {act_time(act.time)}": act.because for act in acts}
     texts |= {f"texts/{number}.txt": text for number, text in enumerate(publication.poll.explanations, start=1)}
     return {where: text for where, text in texts.items() if text is not None and text.strip()}
 
@@ -141,7 +141,7 @@ def texts_of(publication: Publication) -> dict[str, str]:
 def demand_yes(question: str, why: str) -> None:
     """Asks at a terminal, and stops unless the answer is yes; elsewhere it stops."""
     if not is_terminal():
-        cure = "look whether that may be, then give the command --yes"
+        cure = "check that this is all right, then repeat the command with --yes"
         raise Fault(None, f"the vote is secret, and {why}", cure, done="nothing was published")
     if not is_yes(f"The vote is secret. {question}"):
-        raise Fault(None, "the answer was not yes", "put it right, then publish", done="nothing was published")
+        raise Fault(None, "you did not say yes", "put it right, then publish", done="nothing was published")

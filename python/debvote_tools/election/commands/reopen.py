@@ -1,4 +1,4 @@
-"""Open the vote again after a close, for ballots that had come in time; the page of the result tells it."""
+"""Open the vote again after a close, for ballots that came in time; the result page says so."""
 
 import operator
 from collections.abc import Sequence
@@ -27,11 +27,11 @@ ORDER = operator.attrgetter("time", "number")
 class Arguments(acting.Arguments):
     in_time: list[int] | None = option(
         "NUMBER",
-        "The envelopes of late lines that had come before the first close: they are entered anew, and count",
+        "Late envelopes whose ballots came before the first close: they are entered anew, and count",
         type=int,
         nargs="*",
     )
-    force: bool = flag("Enter them although their electors have later ballots in time")
+    force: bool = flag("Enter them although their electors have later ballots that count")
 
 
 def run(election: Election, arguments: Arguments) -> None:
@@ -42,7 +42,7 @@ def run(election: Election, arguments: Arguments) -> None:
     if not history.is_closed:
         raise Fault(None, "the vote is not closed", f"see {election.command('status')}")
     if history.announced("codes_on_roll") and history.named("publish"):
-        words = "the result has the codes of the roll, so now everybody could vote for everybody"
+        words = "the published result shows the codes, so anybody could now vote in the name of others"
         raise Fault(None, words, "hold the vote anew, with new codes")
     vote = Vote(election, history)
     offered = chosen(book, arguments.in_time, has_codes=vote.has_codes)
@@ -54,15 +54,15 @@ def run(election: Election, arguments: Arguments) -> None:
         detail["force"] = True
     again = [queries.NewEnvelope(late.line, late.place, late.source, late.letter, late.time) for late in offered]
     with entered(book, vote, "reopen", detail, lambda _: again, decided_at=history.last.number, is_late=False) as now:
-        tell(f"The vote is open again; the close at {act_time(history.closes[-1].time)} stays in the log, and the page tells it.")
+        tell(f"The vote is open again; the close at {act_time(history.closes[-1].time)} stays in the log and on the result page.")
         for number, envelope in zip(now.numbers, offered):
-            tell(f"{number} entered, which was late as {envelope.number}: {without_code(envelope.line, has_codes=vote.has_codes)}")
+            line = without_code(envelope.line, has_codes=vote.has_codes)
+            tell(f"Envelope {number}, entered anew from late envelope {envelope.number}: {line}")
     if left := late_lines_left(book):
         again_command = election.command("reopen", "--in-time", "NUMBER", "--because", "TEXT")
-        tell(
-            f"Note: still late: {', '.join(map(str, left))}; if one had come before the first close, close again and run {again_command}"
-        )
-    tell("Only what arrived before the first close goes in as in time: add and desk ask.")
+        cure = f"if one of them came before the first close, close again and run {again_command}"
+        tell(f"Note: still late: {', '.join(map(str, left))}; {cure}")
+    tell("Of new ballots only those that arrived before the first close count: add and desk ask.")
     tell(f"Next: {election.command('add', 'FILE')}, then {election.command('close')}")
 
 
@@ -75,7 +75,7 @@ def chosen(book: Book, in_time: list[int] | None, *, has_codes: bool) -> list[qu
     numbers = in_time or []
     if unknown := [str(number) for number in numbers if number not in late]:
         words = f"envelope {', '.join(unknown)} is not one of the late lines"
-        cure = "status tells how many are late, and show NAME which"
+        cure = "status says how many lines are late, and show NAME which"
         raise Fault("--in-time", words, cure, Status.BAD_WORDS)
     if again := [str(number) for number in numbers if number in entered_before]:
         words = f"envelope {', '.join(again)} was entered as in time by an earlier reopen"
@@ -95,10 +95,10 @@ def asked(late: Sequence[queries.Envelope], *, has_codes: bool) -> list[int]:
         return []
     lines = (f"  {envelope.number} {without_code(envelope.line, has_codes=has_codes)}" for envelope in late)
     tell(f"{count_of(len(late), 'line')} came late:", *lines)
-    answer = typed("Which of them had come before the first close? Their numbers, or Enter for none: ") or b""
+    answer = typed("Which of them came before the first close? Type their numbers, or Enter for none: ") or b""
     numbers = answer.replace(b",", b" ").split()
     if wrong := next((number for number in numbers if not number.isdigit() or len(number) > MAX_DIGITS), None):
-        cure = "run it again, and type numbers with spaces between"
+        cure = "run the command again, and type numbers with spaces between"
         raise Fault(None, f"{shown_line(wrong)} is not the number of an envelope", cure)
     return list(map(int, numbers))
 
@@ -110,7 +110,7 @@ def faults_of_older(book: Book, offered: Sequence[queries.Envelope]) -> list[Fau
     for elector, late in last.items():
         newest = max(queries.envelopes(book, f"elector = ? AND {queries.IN_TIME}", elector), key=ORDER, default=late)
         if ORDER(newest) > ORDER(late):
-            later = f"envelope {newest.number}, a later one of the same elector that is in time"
-            cure = "leave it out; or if it has to count all the same, repeat it with --force"
+            later = f"envelope {newest.number}, a later ballot of the same elector"
+            cure = "leave it out; or, if it must count, repeat the command with --force"
             faults.append(Fault("--in-time", f"envelope {late.number} would replace {later}", cure))
     return faults

@@ -1,4 +1,4 @@
-"""Read the list of members, and give each elector a name."""
+"""Read the list of members, and give each elector a name on the roll."""
 
 from collections.abc import Sequence
 
@@ -28,7 +28,9 @@ def run(election: Election, arguments: Arguments) -> None:
     book = acting.book_for_act(election, arguments)
     history = election.history()
     if history.has_codes_on_roll:
-        raise Fault(None, "codes are on the roll, and nobody knows whose they are", "for another roll begin anew in another folder")
+        raise Fault(
+            None, "codes are on the roll, and nobody knows whose they are", "for another roll, begin anew in another folder"
+        )
     roll = read_roll(election, history)
     if history.call is not None:
         is_changed = change_addresses(book, roll, history.last.number, is_agreed=arguments.yes)
@@ -53,7 +55,7 @@ def demand_read(election: Election, history: History) -> None:
     """
     if not history.has_codes_on_roll and not is_kept(election.book, read_roll(election, history)):
         cure = f"run {election.command('roll')} first"
-        raise Fault(election.path(MEMBERS_FILE), "it is not the list that was read last", cure)
+        raise Fault(election.path(MEMBERS_FILE), "it has changed since roll read it", cure)
 
 
 def is_kept(book: Book, roll: Roll) -> bool:
@@ -86,16 +88,16 @@ def report(roll: Roll, *, has_all: bool) -> None:
     if len(shown) < len(electors):
         tell(f"  and {len(electors) - len(shown)} more (--all prints them)")
     if proposed := sum(elector.is_proposed for elector in electors):
-        how = f"To change one, write it into a column `name` of {MEMBERS_FILE}, and run this again."
+        how = f"To change a name, write it into a column `name` of {MEMBERS_FILE}, and run this again."
         tell(f"{count_of(proposed, 'name was', 'names were')} proposed. {how}")
     for address, sharing in roll.shared_addresses.items():
         tell(f"Note: several electors have the address {address}: {names_of(sharing)}. Is that one person?")
     for group in roll.alike_people:
         tell(f"Note: these real names look alike: {names_of(group)}. Is that one person?")
     if without := [elector for elector in electors if not elector.addresses]:
-        tell(f"Without an address, so letters in their name wait, and what goes out is printed: {names_of(without)}")
+        tell(f"Without an address (letters in their names wait, letters to them are printed): {names_of(without)}")
     if unusual := [elector for elector in electors if elector.addresses and not any(map(is_mail_address, elector.addresses))]:
-        tell(f"With no address that every mail server takes, so what goes out to them is printed: {names_of(unusual)}")
+        tell(f"Without an address that every mail server takes (letters to them are printed): {names_of(unusual)}")
     tell(*(f"No longer on the list: {gone.name} ({shown_text(gone.who)})" for gone in roll.gone))
 
 
@@ -113,7 +115,7 @@ def change_addresses(book: Book, roll: Roll, seen: int, *, is_agreed: bool) -> b
         pairs = ((elector, elector.known) for elector in changed if elector.known)
         queries.put_electors(act, (known._replace(addresses=now.addresses, key=now.key) for now, known in pairs))
     tell(*(f"{elector.name}: {changes_in_words(elector)}" for elector in changed))
-    tell(f"{count_of(len(changed), 'elector')} changed; the page of the result tells how many.")
+    tell(f"{count_of(len(changed), 'elector')} changed; the result page says how many.")
     return True
 
 

@@ -52,7 +52,7 @@ def elector_named(election: Election, vote: Vote, name: str) -> queries.Elector:
         words = f"several electors have the real name {shown_text(name)}"
         raise Fault("show", words, f"name one of {', '.join(elector.name for elector in found)}", done=None)
     what = "code" if vote.has_codes else "elector"
-    cure = "type the code as it was handed out" if vote.has_codes else f"{election.command('status')} and roll tell the names"
+    cure = "type the code as it was handed out" if vote.has_codes else f"{election.command('status')} and roll show the names"
     raise Fault("show", f"no {what} on the roll is `{shown_text(name)}`", cure, done=None)
 
 

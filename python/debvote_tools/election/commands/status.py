@@ -1,4 +1,4 @@
-"""Say how far the election is: lines, ballots, who has none yet, what was refused."""
+"""Show how far the election is: lines, ballots, electors without a ballot, refused lines."""
 
 import json
 import re
@@ -76,11 +76,11 @@ def run(election: Election, arguments: Arguments) -> None:
     if shows() and state.electors:
         tell(f"  {bar_of(state.voters, state.electors)}")
     if state.without_ballot:
-        tell(f"Electors without one ({len(state.without_ballot)}):", wrapped(state.without_ballot))
+        tell(f"Electors without a ballot ({len(state.without_ballot)}):", wrapped(state.without_ballot))
     tell_refused(refused, state.without_ballot)
     if state.waiting:
         wait = count_of(state.waiting, "letter waits", "letters wait")
-        tell(f"{wait} until you have looked: {election.command('held')}")
+        tell(f"{wait} until you have looked at them: {election.command('held')}")
     tell(f"Last act: {state.act}, digest {state.digest}", f"Next: {what_next(election, state)}")
 
 
@@ -127,10 +127,10 @@ def tell_stage(election: Election, history: History) -> None:
     tell(f"Title: {poll.name}")
     if poll.secret:
         under = "codes" if history.has_codes_on_roll else "aliases"
-        tell(f"The vote is secret: ballots are published under {under}. What this command tells is for you alone.")
+        tell(f"The vote is secret: ballots are published under {under}. Keep the output of this command to yourself.")
     if history.until is not None:
-        over = "; that is over" if times.now() >= history.until else ""
-        tell(f"Until when: {times.time_in_words(history.until)}{over}")
+        over = "; that time has passed" if times.now() >= history.until else ""
+        tell(f"End of the vote: {times.time_in_words(history.until)}{over}")
     tell(f"Call for votes: made at {act_time(history.call.time)}")
     tell(f"Closed: at {act_time(history.closes[-1].time)}" if history.is_closed else "Closed: not yet")
     if history.is_reopened:
@@ -160,9 +160,9 @@ def tell_refused(refused: list[Refused], without_ballot: list[str] | None) -> No
             tell(f"Refused: envelopes {', '.join(str(line.envelope) for line in refused)}")
         return
     known = set(without_ballot)
-    for whose, is_known in (("electors without a ballot", True), ("which no elector is known", False)):
+    for whose, is_known in (("of electors without a ballot", True), ("with no known elector", False)):
         found = [line for line in refused if (line.name in known) == is_known]
         if found:
-            tell(f"Refused lines of {whose} ({len(found)}):")
+            tell(f"Refused lines {whose} ({len(found)}):")
         for envelope, line, finding in found:
             tell(f"  envelope {envelope}: {shown_line(line) or '(empty)'}", f"    {finding.word}: {finding.hint}")

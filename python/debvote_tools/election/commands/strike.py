@@ -1,4 +1,4 @@
-"""Take one envelope out of the ballots, before the close; the page of the result says how many, and why."""
+"""Strike one envelope before the close, so that its line does not count; the result page says how many, and why."""
 
 import re
 
@@ -52,7 +52,7 @@ def demand_envelope(election: Election, book: Book, number: int) -> queries.Enve
     if not found:
         last = queries.last_envelope(book)
         there = f"there are envelopes 1 to {last}" if last else "no ballot has come yet"
-        raise Fault(None, f"there is no envelope {number}; {there}", "see show NAME for the numbers of one elector")
+        raise Fault(None, f"there is no envelope {number}; {there}", "show NAME lists the envelopes of an elector")
     [envelope] = found
     if envelope.struck is not None:
         words = f"envelope {number} is struck already, by act {envelope.struck} at {act_time(history.act(envelope.struck).time)}"

@@ -1,4 +1,4 @@
-"""Take back the last act that entered lines; once more, and the one before."""
+"""Take back the last act that entered lines; a second undo takes back the one before."""
 
 import contextlib
 from collections.abc import Iterator
@@ -18,7 +18,7 @@ from debvote_tools.letters_out.compose import Kind
 
 
 class Arguments(acting.Arguments):
-    yes: bool = flag("Take it back without a question")
+    yes: bool = flag("Take it back without asking")
 
 
 class UndoPlan(NamedTuple):
@@ -52,7 +52,7 @@ def run(election: Election, arguments: Arguments) -> None:
     is_asked = is_terminal() and not arguments.yes
     undone = undo(election, book, vote, is_asked=is_asked)
     tell(f"Took back {undone.what}.", *consequences(vote, undone, None if is_asked else "no ballot is left"))
-    tell(f"Next: {election.command('status')}; once more {election.command('undo')} takes back the act before")
+    tell(f"Next: {election.command('status')}; another {election.command('undo')} takes back the act before")
 
 
 def undo(election: Election, book: Book, vote: Vote, *, is_asked: bool) -> UndoPlan:
@@ -80,7 +80,7 @@ def what_is_taken_back(election: Election, book: Book, vote: Vote) -> UndoPlan:
         demand_open(election, history)
         number = queries.last_entering_act(book)
         if number is None:
-            words = "nothing was entered that could be taken back"
+            words = "there is nothing to take back"
             raise Fault("undo", words, f"see {election.command('status')}")
         envelopes = tuple(queries.envelopes(book, f"envelope.act = ? AND {queries.NOT_STRUCK}", number))
         electors = {envelope.elector for envelope in envelopes if envelope.elector is not None}
@@ -106,6 +106,6 @@ def consequences(vote: Vote, found: UndoPlan, none: str | None) -> Iterator[str]
         yield from standing_words(vote, found.before, found.after, none)
     if found.letters:
         verb = "waits" if len(found.letters) == 1 else "wait"
-        yield f"{count_of(len(found.letters), 'letter')} then {verb} as taken back: {', '.join(map(str, found.letters))}"
+        yield f"{count_of(len(found.letters), 'letter')} then {verb} again, as taken back: {', '.join(map(str, found.letters))}"
     if found.receipts:
-        yield f"These have receipts that no longer hold: {', '.join(found.receipts)}"
+        yield f"These electors have receipts that are no longer true: {', '.join(found.receipts)}"
