@@ -1,7 +1,7 @@
 """Keys and signatures of OpenPGP, made by gpg for the tests of signed letters, once for all tests of a run."""
 
-import atexit
 import functools
+import multiprocessing.util
 import os
 import pathlib
 import re
@@ -22,7 +22,8 @@ class Keys:
 
     def __init__(self) -> None:
         self.home = pathlib.Path(tempfile.mkdtemp(prefix="pgp-"))
-        atexit.register(self.end)
+        # the process of a class ends without what atexit has
+        multiprocessing.util.Finalize(None, self.end, exitpriority=0)
         self.fingerprints: dict[str, str] = {}
         for name in ("ada", "ben", "cleo", "fay", "mallory"):
             self.make(name, "never")

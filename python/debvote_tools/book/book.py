@@ -72,9 +72,9 @@ class NewAct(NamedTuple):
     def insert_all(self, table: str, columns: Sequence[str], rows: Iterable[Sequence[object]]) -> None:
         """Adds many rows of this act, each with its values in these columns."""
         words = f"INSERT INTO {table} (act, {', '.join(columns)}) VALUES "
-        row_words, waiting = f"(?{', ?' * len(columns)})", iter(rows)
+        row_words, waiting = f"({self.number}{', ?' * len(columns)})", iter(rows)
         while part := list(itertools.islice(waiting, ROWS_AT_ONCE)):
-            values = [value for row in part for value in (self.number, *row)]
+            values = list(itertools.chain.from_iterable(part))
             self.connection.execute(words + ", ".join([row_words] * len(part)), values)
 
     def insert(self, table: str, **values: object) -> int:

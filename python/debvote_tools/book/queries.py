@@ -179,6 +179,10 @@ CAME_IN_FILES = (
 )
 
 
+# the lines of more electors are not looked for one by one
+MOST_LOOKED_FOR = 200
+
+
 def last_entering_act(book: Book) -> int | None:
     """The last act that entered lines and that no `undo` took back; None if there is none."""
     number = book.rows(f"SELECT max(act) FROM envelope WHERE {NOT_UNDONE}")[0][0]
@@ -192,7 +196,8 @@ def lines_after(book: Book, act: int, electors: Collection[int] | None = None, *
     condition = "late = 0 AND (struck.act IS NULL OR struck.act > ?1) AND envelope.act <= ?1 AND envelope.act <> ?2"
     if electors is None:
         return lines(book, condition, act, without)
-    condition += " AND elector IN (SELECT value FROM json_each(?3))"
+    # with the sign SQLite uses no index: to look for the lines of each of many takes longer than to look at all lines
+    condition += f" AND {'+' if len(electors) > MOST_LOOKED_FOR else ''}elector IN (SELECT value FROM json_each(?3))"
     return lines(book, condition, act, without, json.dumps(list(electors)))
 
 

@@ -302,11 +302,11 @@ def repeated_words(file: FileLines) -> Iterator[str]:
 
 
 def duplicate_words(file: FileLines) -> Iterator[str]:
-    by_name: dict[str, list[str]] = collections.defaultdict(list)
+    by_name: dict[bytes, list[str]] = collections.defaultdict(list)
     for line in file.new:
-        if line.is_ballot:
-            by_name[line.voter].append(line.line.place)
+        if line.finding is None:
+            by_name[line.as_entered.partition(b" ")[0]].append(line.line.place)
     for name, places in by_name.items():
         if len(places) > 1:
             listed = ", ".join(place.lstrip(": ") for place in places[:5]) + (", .." if places[5:] else "")
-            yield f"Note: {file.came.name} has {len(places)} ballots of {name} ({listed}); the last one counts."
+            yield f"Note: {file.came.name} has {len(places)} ballots of {name.decode()} ({listed}); the last one counts."

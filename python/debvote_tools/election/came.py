@@ -144,6 +144,8 @@ def sorted_out(book: Book, files: Sequence[FileLines], *, takes_again: bool, is_
     """
     counts = queries.lines_that_came(book)
     is_known = any(line.as_entered in counts for file in files for line in file.lines)
+    if not is_known and len(files) == 1:
+        return (files[0]._replace(new=files[0].lines),)
     by_line = queries.came_in_files(book) if is_known else {}
     with_envelopes = [envelopes_of(file.lines, by_line) for file in files]
     # a later row of the same file did not come since
