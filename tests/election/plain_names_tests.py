@@ -134,6 +134,6 @@ class Refused(unittest.TestCase):
             self.assert_bad(["x", f"a{odd}b"], (2, f"the character U+{ord(odd):04X}"))
             self.assertEqual(len(bad_title(f"a{odd}b")), 1)
         self.assert_bad(["ä" * 200, "b" * 201], (2, "it has 201 characters; at most 200 are allowed"))
-        self.assert_bad(["\u200b\u3164", "\u200c", "x"], (1, "no visible character"), (2, "no character that one sees"))
+        self.assert_bad(["\u200b\u3164", "\u200c", "x"], (1, "no visible character"), (2, "no visible character"))
         self.assertEqual([bad.number for bad in bad_title("c" * 201)], [0])
         self.assertEqual(bad_title("c" * 200), [])
