@@ -298,7 +298,7 @@ class Changed(CalledTest):
 
     def test_bytes_that_are_no_text(self) -> None:
         output = self.told("add", "--force", given=b"ad\xff 1,2\x1b[2J\n\x00\n")
-        self.assertIn("1 bad shape  ad\\xff 1,2\\u001B[2J: column 3: byte 0xFF; a word where a rank belongs: ", output)
+        self.assertIn("1 bad shape  ad\\xff 1,2\\u001B[2J: column 3: byte 0xFF; ranks are numbers from 1, ", output)
         self.assertNotIn("\x1b", output)
         self.assertEqual([envelope.line for envelope in self.envelopes()], [b"ad\xff 1,2\x1b[2J", b"\x00"])
 
