@@ -273,8 +273,8 @@ pub(crate) fn message<'e>(place: &Place<'_>, said: &'e str) -> &'e str {
         return said;
     }
     match token(place.right) {
-        token if token.iter().all(|byte| byte.is_ascii_digit()) => said,
         [b'0', b'0'..=b'9', ..] | [b'+' | b'-', b'0', b'0'..=b'9', ..] => "unexpected leading zero",
+        token if token.iter().all(|byte| byte.is_ascii_digit()) => said,
         [b'0'..=b'9', ..] => "invalid number, expected digits alone",
         [b'a'..=b'z' | b'A'..=b'Z', ..] => "string values must be quoted, expected literal string",
         _ => said,
