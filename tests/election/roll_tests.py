@@ -45,6 +45,14 @@ class Roll(RollTest):
         ended = self.roll("Cleo,c@club.example")
         self.assertIn("No longer on the list: chair (Anna Meier)\nNo longer on the list: ben (Ben)\n", ended.output)
 
+    def test_all_names_are_printed_if_asked(self) -> None:
+        self.roll(*(f"Elector {number},e{number}@club.example" for number in range(201)))
+        for command in ("roll", "check"):
+            self.assertIn("more (--all prints them)", self.done(command).output, command)
+            output = self.done(command, "--all").output
+            self.assertTrue(all(f"elector-{number}" in output for number in range(201)), command)
+            self.assertNotIn("--all", output, command)
+
     def test_two_of_one_name(self) -> None:
         ended = self.roll("Anna,a@club.example", "Anna,b@club.example")
         self.assertEqual(ended.status, 9, ended)

@@ -55,7 +55,7 @@ class Ended:
 def demand_program() -> None:
     """Ends the tests if there is no program."""
     if not PROGRAM.exists():
-        sys.exit(f"{PROGRAM} is not there: make build proves and builds it")
+        sys.exit(f"{PROGRAM} is not there: make build makes it; or name one of tests/unproved by DEBVOTE")
 
 
 def environment() -> dict[str, str]:

@@ -45,7 +45,7 @@ def at(hour: int, minute: int = 0, day: int = 23) -> datetime.datetime:
 def demand_program() -> None:
     """Ends the tests where there is no program to be asked."""
     if not PROGRAM.exists():
-        sys.exit(f"{PROGRAM} is not there: make build proves and builds it")
+        sys.exit(f"{PROGRAM} is not there: make build makes it; or name one of tests/unproved by DEBVOTE")
 
 
 class DebvoteReader:

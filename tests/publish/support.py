@@ -46,7 +46,7 @@ FILES = ["--poll", "poll.toml", "--ballots", "ballots"]
 def demand_program():
     """Ends the tests if there is no program."""
     if not PROGRAM.exists():
-        sys.exit(f"{PROGRAM} is not there: make build proves and builds it")
+        sys.exit(f"{PROGRAM} is not there: make build makes it; or name one of tests/unproved by DEBVOTE")
 
 
 def run(words, path=PATH, **how):
