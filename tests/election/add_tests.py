@@ -124,7 +124,8 @@ class AfterTheEnd(CalledTest):
         self.act("extend", {"until": "2020-12-04T18:00:00+01:00"})
         output = self.told("add", given="ben 1,2,4,3\n")
         self.assertIn(
-            "Note: the announced end of the vote, Friday, 4 December 2020, 18:00 (UTC+01:00), has passed; what is added still counts ", output
+            "Note: the announced end of the vote, Friday, 4 December 2020, 18:00 (UTC+01:00), has passed; what is added still counts ",
+            output,
         )
         self.assertIn("2 counted  ben: ", output)
         self.assertEqual(self.lines(), ["ada 1,2,4,3", "ben 1,2,4,3"])
@@ -211,7 +212,9 @@ class NoBallots(CalledTest):
         self.write("monday", "Dear all,\nada 1,2,4,3\nGreetings\n")
         before = self.last_act()
         ended = self.election("add", "monday")
-        said = "monday: debvote takes only 1 of the 3 lines as ballots; nothing was added: look at the file (its first line is `Dear "
+        said = (
+            "monday: debvote takes only 1 of the 3 lines as ballots; nothing was added: look at the file (its first line is `Dear "
+        )
         self.assert_stops(ended, before, 9, said, "--force")
         self.assertIn("monday:1: not a ballot: Dear all,: ", ended.output)
         self.assertIn("monday:3: not a ballot: Greetings: ", ended.output)
@@ -392,7 +395,9 @@ class RefusedWhole(CalledTest):
         self.assert_stops(self.election("add", "--csv", given="x"), before, 2, "--csv: it needs --name COLUMN and --ranks ")
         for words in (["--name", "x"], ["--ranks", "x"], ["--blank-is-unranked"], ["--oldest-first"], ["--newest-first"]):
             ended = self.election("add", *words, given="x")
-            self.assert_stops(ended, before, 2, f"{words[0]}: only for tables; nothing was added: give --csv too, or leave this out")
+            self.assert_stops(
+                ended, before, 2, f"{words[0]}: only for tables; nothing was added: give --csv too, or leave this out"
+            )
 
 
 class Signed(CalledTest):

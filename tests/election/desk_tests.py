@@ -238,7 +238,9 @@ class NamesAreCompleted(CalledTest):
         desk.type("n\nclara x\n")
         self.assertIn("completed to `clara-maria-lange`\nIt would be refused: clara-maria-lange x: ", desk.until(CAST_REFUSED))
         desk.type("n\nclara 1 2 4 3\n")
-        self.assertIn("completed to `clara-maria-lange`\nIt would be refused: clara-maria-lange 1 2 4 3: ", desk.until(CAST_REFUSED))
+        self.assertIn(
+            "completed to `clara-maria-lange`\nIt would be refused: clara-maria-lange 1 2 4 3: ", desk.until(CAST_REFUSED)
+        )
         # a real name is left whole: no line goes in that nobody typed
         for typed in ("Clara Lange", "Clara Müller-Lange"):
             desk.type(f"n\n{typed} 1,2,4,3\n")
@@ -348,9 +350,7 @@ class FromAPipe(CalledTest):
         self.act("close", {"lines": 0, "checksum": "", "early": False})
         self.act("reopen", {"because": "a bag was forgotten"})
         before = self.last_act()
-        said = (
-            "and only what came before counts; nothing was entered: say whether this came before that close: --came-before-close yes"
-        )
+        said = "and only what came before counts; nothing was entered: say whether this came before that close: --came-before-close yes"
         self.assert_stops(self.election("desk", given=f"ada {RANKS}\n"), before, 9, "--came-before-close: ", said)
         self.assertIn("1 counted  ada: ", self.told("desk", "--came-before-close", "yes", given=f"ada {RANKS}\n"))
         self.assertIn("2 late  ada: ", self.told("desk", "--came-before-close", "no", given=f"ada {RANKS}\n"))

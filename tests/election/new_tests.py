@@ -43,7 +43,12 @@ class New(support.ElectionTest):
         (self.folder / "file").write_text("kept")
         (self.folder / "link").symlink_to("nowhere")
         before = self.contents()
-        for name, words in {"spring": "an election already", "full": "not empty", "file": "not a folder", "link": "not a folder"}.items():
+        for name, words in {
+            "spring": "an election already",
+            "full": "not empty",
+            "file": "not a folder",
+            "link": "not a folder",
+        }.items():
             with self.subTest(name):
                 self.assert_fault(self.election("new", name), 2, words, "nothing was changed")
         self.assert_fault(self.election("new", "nowhere/else"), 2, "nowhere/else")

@@ -11,7 +11,6 @@ from collections.abc import Sequence
 from dataclasses import dataclass
 
 import forks
-from made_once import made_once
 
 from debvote_tools.book.book import open_book
 from debvote_tools.book.machine_note import Note
@@ -69,6 +68,10 @@ def clock_of(file: pathlib.Path) -> dict[str, str]:
     return {"PYTHONPATH": str(ROOT / "tests" / "clock"), "DEBVOTE_CLOCK": str(file)}
 
 
+# new elections, by what they begin with: each is made once in a process
+TEMPLATES: dict[object, pathlib.Path] = {}
+
+
 def note_book(folder: pathlib.Path, state: pathlib.Path) -> None:
     """Makes this machine know the book of a copied election."""
     book = open_book(folder / "election.db")
@@ -104,14 +107,16 @@ class ElectionTest(unittest.TestCase):
 
     def begin(self) -> None:
         """Makes the election, up to its call."""
-        making = type(self).made
-        key = (making.__module__, making.__qualname__, self.poll, *self.names, "", *self.new_words, "", self.call_words)
-        place = made_once(key, lambda place: shutil.move(self.made().parent, place))
-        shutil.copytree(place / "election", self.folder)
+        key = (self.poll, tuple(self.names), tuple(self.new_words), self.call_words)
+        if key not in TEMPLATES:
+            TEMPLATES[key] = self.made()
+            type(self).addClassCleanup(shutil.rmtree, TEMPLATES[key].parent, ignore_errors=True)
+            type(self).addClassCleanup(TEMPLATES.pop, key)
+        shutil.copytree(TEMPLATES[key], self.folder)
         note_book(self.folder, self.state)
 
     def made(self) -> pathlib.Path:
-        """A new election in a folder of its own, which the tests that begin with it copy."""
+        """A new election, which the tests of this process copy."""
         place = pathlib.Path(tempfile.mkdtemp(prefix="debvote-template-"))
         self.done("new", *self.new_words, str(place / "election"), cwd=place)
         (place / "election" / "poll.toml").write_text(self.poll)

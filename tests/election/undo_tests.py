@@ -23,9 +23,7 @@ class Undo(CalledTest):
         self.assertEqual(self.lines(), [f"ada {RANKS}", f"ben {RANKS}"])
         self.told("undo")
         self.assertEqual(self.lines(), [])
-        self.assert_stops(
-            self.election("undo"), self.last_act(), 9, "undo: there is nothing to take back; nothing was changed: "
-        )
+        self.assert_stops(self.election("undo"), self.last_act(), 9, "undo: there is nothing to take back; nothing was changed: ")
         self.assertEqual(self.acts()[3:], [("undo", {"act": number}) for number in (first + 2, first + 1, first)])
         # nothing is gone
         self.assertEqual([envelope.struck for envelope in self.envelopes()], [first + 5] * 2 + [first + 4] * 3 + [first + 3])

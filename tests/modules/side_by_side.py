@@ -20,7 +20,6 @@ from collections.abc import Callable, Iterator, Sequence
 from dataclasses import dataclass, field
 
 import forks
-import made_once
 
 # a class that has not ended after this many seconds hangs; on a quiet machine the longest takes half a minute
 LIMIT = 3_600
@@ -149,7 +148,6 @@ def demand_utf_8() -> None:
 def run_modules(modules: list[str], at_once: int | None = None) -> int:
     """Runs the tests of these modules, prints the results, and returns the exit status."""
     demand_utf_8()
-    made_once.room()
     classes = classes_of(modules)
     passed, facts, lost, skipped = 0, 0, [], {}
     seconds: dict[str, float] = {}
