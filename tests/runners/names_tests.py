@@ -30,7 +30,9 @@ TAKEN = "raise SystemExit(f'{__name__} of the system is imported')\n"
 
 def programs() -> list[pathlib.Path]:
     """The programs of the tests that are written in Python."""
-    found = [file for pattern in ("tests/*", "tests/*/run") for file in ROOT.glob(pattern) if file.is_file() and os.access(file, os.X_OK)]
+    found = [
+        file for pattern in ("tests/*", "tests/*/run") for file in ROOT.glob(pattern) if file.is_file() and os.access(file, os.X_OK)
+    ]
     return sorted(file for file in found if file.read_bytes().startswith(b"#!/usr/bin/python3\n"))
 
 
