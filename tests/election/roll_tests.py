@@ -72,6 +72,13 @@ class Roll(RollTest):
         self.assertEqual(ended.status, 0)
         self.assertIn("several electors have the address home@club.example: ada, ben", ended.output)
 
+    def test_several_people_in_one_cell_are_told(self) -> None:
+        rows = ("Eve & Dan,e@club.example", "Fay und Gus Meier,", "Hal/Ida,", "Jan+Kim,", "Marie et Luc,", "Andrea Undset,", '"Meier, Anna",', "A-B,")
+        ended = self.roll(*rows)
+        self.assertEqual(ended.status, 0, ended)
+        people = "eve-dan (Eve & Dan), fay-und-gus-meier (Fay und Gus Meier), hal-ida (Hal/Ida), jan-kim (Jan+Kim), marie-et-luc (Marie et Luc)"
+        self.assertIn(f"Note: these look like several people, who have one ballot together: {people}. Give each a line of their own.\n", ended.output)
+
     def test_again_is_no_act(self) -> None:
         before = self.done("log").output
         self.done("roll")
