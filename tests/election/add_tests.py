@@ -275,7 +275,7 @@ class OtherOrder(CalledTest):
 
     def test_lines_of_a_table(self) -> None:
         words = "wrong: the lines look like a table; its columns may stand in another order than the options; nothing was added: "
-        for sign in (";", "\t", "|", " ", " ; ", "\u00b7", ":"):
+        for sign in (";", "\t", "|", "; ", "\u00b7", ":"):
             with self.subTest(sign=sign):
                 rows = "".join(f"{name}{sign}1{sign}2{sign}-{sign}3\n" for name in ("ada", "Ben", "nobody"))
                 self.write("wrong", rows)
@@ -283,11 +283,11 @@ class OtherOrder(CalledTest):
                 self.assert_stops(
                     ended, self.last_act(), 9, words, "--csv --name COLUMN --ranks COLUMN,COLUMN,.., or add it anyway with --force"
                 )
-        self.write("wrong", '"Ada Lovelace";"1";"";"3";"2"\n')
+        self.write("wrong", '\ufeff"ada";"1";"";"3";"2"\r\n\r\n')
         self.assert_stops(self.election("add", "wrong"), self.last_act(), 9, words)
         self.told("add", "--force", "wrong")
-        # a comma, two signs, words: few of them are ballots
-        for rows in ("ada,1,2,3,4\nben,1,2,3,4\n", "ada;1;2;3;4\nben|1|2|3|4\n", "ada;1;2;3;4\nben;1;2;3;x\n"):
+        # a comma, a space, two signs, words: few of them are ballots
+        for rows in ("ada,1,2,3,4\nben,1,2,3,4\n", "ada 1 2 3 4\nben 1 2 3 4\n", "ada;1;2;3;4\nben|1|2|3|4\n", "ada;1;2;3;4\nben;1;2;3;x\n"):
             self.write("wrong", rows)
             self.assert_stops(
                 self.election("add", "wrong"), self.last_act(), 9, "wrong: debvote takes none of the 2 lines as ballots"
@@ -299,7 +299,7 @@ class OtherOrder(CalledTest):
 
 
 class ShortNames(CalledTest):
-    """Options whose names are letters and ranks: a ballot names none of them."""
+    """Options whose names are letters, or like ranks: a ballot names none of these."""
 
     poll = support.POLL.replace("At the lake", "B").replace("In the town hall", "2").replace("Sell the house and meet there", "1")
 

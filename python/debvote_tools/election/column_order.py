@@ -1,11 +1,11 @@
 """Whether ranks may stand in another order than the options: by the names of options that a line, a head or a cell has."""
 
+import itertools
 import re
 import unicodedata
 from collections.abc import Sequence
 
-from debvote_tools.ballots import NUMBERS, UNRANKED
-from debvote_tools.lines import BLANKS
+from debvote_tools.ballots import UNRANKED
 from debvote_tools.plain_names import without_accents
 from debvote_tools.sealed_poll import SealedPoll
 
@@ -25,6 +25,12 @@ CHOICE = (
 )
 COUNTS_CHOICES = re.compile(rf"\b(?:(?:{'|'.join(WHICH)}) ?(?:{CHOICE})|(?:{CHOICE}) ?(?:n[ro]?[.o°]? ?|# ?)?[0-9]{{1,2}})\b")
 
+RANKS = re.compile(r"[0-9-]+")
+
+# what may be between the cells of a table, and the cell of a name
+SIGN = re.compile(r"[^\w ,.-]")
+NAME = re.compile(r"[A-Za-z0-9.-]+")
+
 
 class OptionNames:
     """The names of options in a text: as people read them and as debvote does, in any case."""
@@ -34,13 +40,13 @@ class OptionNames:
         for number, names in enumerate(zip(poll.names, poll.plain_names), start=1):
             for name in names:
                 self.numbers.setdefault(folded(name), number)
-        # a name that is a rank is one of each ballot
-        longest_first = sorted(self.numbers.keys() - NUMBERS.keys(), key=len, reverse=True)
+        # ranks are no names
+        longest_first = sorted(itertools.filterfalse(RANKS.fullmatch, self.numbers), key=len, reverse=True)
         self.any_name = re.compile(rf"(?<!\w)(?:{'|'.join(map(re.escape, longest_first)) or '(?!)'})(?!\w)")
 
     def are_in_another_order(self, line: bytes) -> bool:
         """Whether a line has two or more of the names in another order than the poll."""
-        found = list(dict.fromkeys(map(self.numbers.__getitem__, self.any_name.findall(folded(line.decode("utf-8", "replace"))))))
+        found = [self.numbers[name] for name in self.any_name.findall(folded(line.decode("utf-8", "replace")))]
         return found != sorted(found)
 
     def option_of(self, text: str) -> int | None:
@@ -63,19 +69,21 @@ def counts_choices(head: str) -> bool:
 
 
 def are_table(lines: Sequence[bytes]) -> bool:
-    """Whether all lines have the same sign, no comma, between all ranks and between name and ranks too."""
-    signs = {sign for sign in text_of(lines[0]) if not sign.isalnum() and sign not in ",.-"} if lines else set()
-    return any(all(is_row(text_of(line), sign) for line in lines) for sign in sorted(signs))
+    """Whether all lines have the same sign, no comma and no space, between all ranks and between name and ranks too."""
+    signs = set(text_of(lines[0])) if lines else set()
+    return any(all(is_row(text_of(line), sign) for line in lines) for sign in sorted(filter(SIGN.fullmatch, signs)))
 
 
 def text_of(line: bytes) -> str:
-    return line.decode("utf-8", "replace").replace('"', "").strip(BLANKS.decode())
+    return line.decode("utf-8", "replace").replace('"', "").strip(" ")
 
 
 def is_row(line: str, sign: str) -> bool:
-    """Whether a line is a name and ranks, or nothing in the place of a rank, with this sign between them."""
+    """Whether a line is a name and two or more ranks, each a number, a hyphen or nothing, with this sign between all of them."""
     name, *cells = line.split(sign)
-    return len(cells) > 1 and "," not in name and all(cell.isdecimal() or cell in ("", UNRANKED) for cell in map(str.strip, cells))
+    if len(cells) < 2 or not NAME.fullmatch(name):
+        return False
+    return all(cell.isdecimal() or cell in ("", UNRANKED) for cell in (cell.strip(" ") for cell in cells))
 
 
 def in_other_place(options: OptionNames, heads: Sequence[str]) -> tuple[int, int] | None:
