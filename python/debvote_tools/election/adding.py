@@ -166,15 +166,13 @@ def is_table(file: FileLines) -> bool:
 
 def under_other_names(vote: Vote, files: Sequence[FileLines]) -> Iterator[Fault]:
     """A fault for each file with a line that names options in another order, so that the ranks may stand in it, too."""
-    refused = [(file, line) for file in files for line in file.lines if not line.is_ballot]
-    if not refused:
-        return
     options = OptionNames(read_plain(vote.poll_bytes))
-    found = {file.came: line for file, line in reversed(refused) if options.are_in_another_order(line.line.unframed)}
-    for came, line in found.items():
-        words = f"{place_in(line)} names options of the poll in another order than the poll has them"
-        cure = f"if they do, put them into the order of the poll, and take {place_in(line)} out; if they do not, {FORCE}"
-        yield doubt(came.name, f"{words}: the ranks below it may stand in that order", cure)
+    for file in files:
+        refused = (line for line in file.lines if not line.is_ballot)
+        for line in itertools.islice((line for line in refused if options.are_in_another_order(line.line.unframed)), 1):
+            words = f"{place_in(line)} names options of the poll in another order than the poll has them"
+            cure = f"if they do, put them into the order of the poll, and take {place_in(line)} out; if they do not, {FORCE}"
+            yield doubt(file.came.name, f"{words}: the ranks below it may stand in that order", cure)
 
 
 def of_unknown_order(file: FileLines) -> tuple[JudgedLine, JudgedLine] | None:
