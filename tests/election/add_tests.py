@@ -287,7 +287,12 @@ class OtherOrder(CalledTest):
         self.assert_stops(self.election("add", "wrong"), self.last_act(), 9, words)
         self.told("add", "--force", "wrong")
         # a comma, a space, two signs, words: few of them are ballots
-        for rows in ("ada,1,2,3,4\nben,1,2,3,4\n", "ada 1 2 3 4\nben 1 2 3 4\n", "ada;1;2;3;4\nben|1|2|3|4\n", "ada;1;2;3;4\nben;1;2;3;x\n"):
+        for rows in (
+            "ada,1,2,3,4\nben,1,2,3,4\n",
+            "ada 1 2 3 4\nben 1 2 3 4\n",
+            "ada;1;2;3;4\nben|1|2|3|4\n",
+            "ada;1;2;3;4\nben;1;2;3;x\n",
+        ):
             self.write("wrong", rows)
             self.assert_stops(
                 self.election("add", "wrong"), self.last_act(), 9, "wrong: debvote takes none of the 2 lines as ballots"
@@ -297,20 +302,23 @@ class OtherOrder(CalledTest):
         self.told("add", given="ada 1;2;4;3\nben 1; 2 ;4; 3\ncleo 1, 2, 4, 3\ndan 1;2,4;3\n")
         self.assertEqual(self.lines(), ["ada 1,2,4,3", "ben 1,2,4,3", "cleo 1,2,4,3", "dan 1;2,4;3"])
 
-
     def test_a_table_whose_times_contradict_the_order(self) -> None:
         self.write("form", "When,n,a,b,c,d\n2026-11-23 10:00,ada,1,2,4,3\n2026-11-22 10:00,ada,2,1,4,3\n")
         table = ("--csv", "--name=n", "--ranks=a,b,c,d")
         for words in (("--oldest-first",), ("--oldest-first", "--force"), ("--oldest-first", "--look")):
             ended = self.election("add", *table, *words, "form")
-            self.assert_stops(ended, self.last_act(), 2, "form: the times of the column `When` are ", ", against --oldest-first; nothing was ")
+            self.assert_stops(
+                ended, self.last_act(), 2, "form: the times of the column `When` are ", ", against --oldest-first; nothing was "
+            )
         self.told("add", *table, "--newest-first", "form")
         self.assertEqual(self.lines(), ["ada 2,1,4,3", "ada 1,2,4,3"])
 
     def test_a_table_whose_columns_are_in_another_order(self) -> None:
         self.write("form", "n,At the lake,In the town hall,Sell,Further discussion\nada,1,2,4,3\n")
         for words in ((), ("--force",), ("--look",)):
-            ended = self.election("add", "--csv", "--name=n", "--ranks=In the town hall,At the lake,Sell,Further discussion", *words, "form")
+            ended = self.election(
+                "add", "--csv", "--name=n", "--ranks=In the town hall,At the lake,Sell,Further discussion", *words, "form"
+            )
             self.assert_stops(ended, self.last_act(), 2, "--ranks: `In the town hall` stands in the place of option 1 At the lake")
         self.told("add", "--csv", "--name=n", "--ranks=At the lake,In the town hall,Sell,Further discussion", "form")
         self.assertEqual(self.lines(), ["ada 1,2,4,3"])
