@@ -5,7 +5,7 @@ use crate::same::assert_same;
 use std::alloc::{AllocError, Global};
 use std::test::Fail;
 use vote_poll::{PollFault, PollKey};
-use vote_poll_findings::explain_poll;
+use vote_explain_poll::explain_poll;
 
 /// A poll with faults, and with keys that are not read.
 const FAULTY: &str =

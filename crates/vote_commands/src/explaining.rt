@@ -13,7 +13,7 @@ use std::alloc::{AllocError, Global};
 use vote_ballot_findings::{Explained, explain_ballots};
 use vote_files::Sink;
 use vote_poll::{Lines, Poll};
-use vote_poll_findings::{ExplainedPoll, explain_poll};
+use vote_explain_poll::{ExplainedPoll, explain_poll};
 use vote_sheet::check_text;
 
 /// How a run ends with these findings and this number of refused lines.

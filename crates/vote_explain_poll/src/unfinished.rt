@@ -1,0 +1,60 @@
+//! What a file in TOML ends within: a text, a list or a table. It is asked where all before the end is in order.
+
+/// The marks around the text that begins here.
+fn marks_of(text: &[u8]) -> &'static [u8] {
+    match text {
+        [b'"', b'"', b'"', ..] => b"\"\"\"",
+        [b'\'', b'\'', b'\'', ..] => b"'''",
+        [b'"', ..] => b"\"",
+        _ => b"'",
+    }
+}
+
+/// How many bytes the text that begins here has, with its marks, if it ends.
+fn length_of_text(text: &[u8]) -> Option<usize> {
+    let marks = marks_of(text);
+    let mut is_escaped = false;
+    for (place, byte) in text.iter().enumerate().skip(marks.len()) {
+        let rest = text.get(place..).unwrap_or(b"").strip_prefix(marks);
+        match rest {
+            _ if is_escaped => is_escaped = false,
+            // of four marks or five the first ones belong to the text
+            Some(rest) if !rest.starts_with(&marks[..1]) => {
+                return Some(place.saturating_add(marks.len()));
+            }
+            _ => is_escaped = *byte == b'\\' && marks.starts_with(b"\""),
+        }
+    }
+    None
+}
+
+/// What a file ends within, if it does: the outermost list or table that has no end, or else a text, and how many bytes stand before it.
+pub(crate) fn unfinished(file: &[u8]) -> Option<(&'static str, usize)> {
+    let (mut next, mut depth) = (0, 0usize);
+    let mut outermost = ("list", 0);
+    for (place, byte) in file.iter().enumerate() {
+        if place < next {
+            continue;
+        }
+        let rest = file.get(place..).unwrap_or(b"");
+        match byte {
+            b'#' => {
+                let comment = rest.split(|byte| *byte == b'\n').next();
+                next = place.saturating_add(comment.unwrap_or(b"").len());
+            }
+            b'"' | b'\'' => match length_of_text(rest) {
+                Some(length) => next = place.saturating_add(length),
+                None => return Some(("text", place)),
+            },
+            b'[' | b'{' => {
+                if depth == 0 {
+                    outermost = (if *byte == b'[' { "list" } else { "table" }, place);
+                }
+                depth = depth.saturating_add(1);
+            }
+            b']' | b'}' => depth = depth.saturating_sub(1),
+            _ => {}
+        }
+    }
+    if depth == 0 { None } else { Some(outermost) }
+}
