@@ -13,6 +13,7 @@ use crate::MAX_SHOWN;
 use indexmap::IndexMap;
 use std::alloc::{AllocError, Global};
 use toml::{Table, Value};
+use vote_count::times_q;
 use vote_poll::{MAX_ELECTORS, MAX_OPTIONS, MAX_QUORUM_MULTIPLE, MAX_RATIO, parse_ratio};
 use vote_poll_keys::{FoundKeys, PollFault, PollKey, value_at};
 use vote_poll_text::{
@@ -74,10 +75,10 @@ fn push_quorum(words: &mut String, electors: usize) -> Result<(), AllocError> {
     if electors == 0 || electors > MAX_ELECTORS {
         return Ok(());
     }
-    let (one, most) = (1, 2);
+    let (least, greatest) = (times_q(1, electors), times_q(MAX_QUORUM_MULTIPLE, electors));
     write!(
         words,
-        "; with a roll of {electors}, the votes needed are {one} for 1 and {most} for {MAX_QUORUM_MULTIPLE}"
+        "; with a roll of {electors}, the votes needed are {least} for 1 and {greatest} for {MAX_QUORUM_MULTIPLE}"
     )
 }
 

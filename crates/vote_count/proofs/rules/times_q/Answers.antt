@@ -1,15 +1,18 @@
-use Rattle.std.proofs.Common.{◌*◌, inl, inr, arith, rules}
+use Rattle.std.proofs.Common.{◌*◌, ◌≤◌, inl, inr, arith, rules}
+use Rattle.std.proofs.Math.Nat.{mul-le-mul}
 use Rattle.std.proofs.lemmas.Bool.{cases_lt}
 use Rattle.vote_count.proofs.Squares.{double_square_le, le_double_square, square_is}
-use Rattle.vote_count.proofs.rules.quorum_votes.Goals as goal
+use Rattle.vote_count.proofs.rules.times_q.Goals as goal
 
 pub loop-votes-init : goal.loop-votes-init
-loop-votes-init c = record {
-  bound = search rules;
-  small = search rules;
-  below = λ n none. absurd (omega arith);
-  within = omega arith;
-}
+loop-votes-init c =
+    let few : c.from-times.result ≤ 10 = search rules in
+    record {
+      bound = search rules;
+      small = omega (arith, mul-le-mul (mul-le-mul few few) c.requires.electors);
+      below = λ n none. absurd (omega arith);
+      within = omega arith;
+    }
 
 pub loop-votes-smaller : goal.loop-votes-smaller
 loop-votes-smaller c = omega (arith, le_double_square c.loop-votes.votes)
