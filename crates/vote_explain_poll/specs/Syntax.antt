@@ -4,7 +4,7 @@ use Rattle.std.specs.List.{All}
 use Rattle.vote_poll_text.specs.Lines.{feed_count, line_feed, parts_of, text_of_lines}
 use Rattle.vote_poll_text.specs.Names.{is_within}
 use Rattle.vote_poll.specs.BallotLine.{IsBallotText}
-use Rattle.vote_explain_poll.specs.FileKinds.{kind_words}
+use Rattle.vote_explain_poll.specs.FileKinds.{file_kind, kind_words}
 use Rattle.vote_explain_poll.specs.Hints.{IsHint}
 use Rattle.vote_explain_poll.specs.declared.file_kinds.FileKind.{FileKind}
 
@@ -59,6 +59,6 @@ abbrev pub IsFindingOf : Option FileKind → List ℕ → List ℕ → Type 0
 IsFindingOf (Some kind) text finding = finding ≡ file_text kind
 IsFindingOf None text finding = IsPlaceFinding text finding
 
--- the kind of the file if it is no plain text, and else a place
+-- what the file is, if it is no plain text, and else a place
 abbrev pub IsSyntaxFinding : List ℕ → List ℕ → Type 0
-IsSyntaxFinding text finding = (kind : Option FileKind) × IsFindingOf kind text finding
+IsSyntaxFinding text finding = IsFindingOf (file_kind text) text finding

@@ -1,5 +1,5 @@
 //! A character of a file, by its name.
-ghost use Rattle.vote_explain_poll.specs.Hints.{IsPrintable, Tells};
+ghost use Rattle.vote_explain_poll.specs.Hints.{IsShown, Tells};
 
 use crate::MAX_SHOWN;
 use std::alloc::AllocError;
@@ -92,9 +92,16 @@ fn first_character(text: &[u8]) -> Option<char> {
     std::str::from_utf8(bytes).unwrap_or("").chars().next()
 }
 
+/// Appends a part of a name.
+fn push_part(text: &mut String, part: &[u8]) -> Result<(), AllocError>
+    ensures { Tells result text.old IsShown text.new }
+{
+    push_shown(text, part, MAX_SHOWN)
+}
+
 /// Appends the number of a character, as `U+00E9`.
 fn push_number(text: &mut String, number: u32) -> Result<(), AllocError>
-    ensures { Tells result text.old IsPrintable text.new }
+    ensures { Tells result text.old IsShown text.new }
 {
     let digits = [
         hex_digit((number / 0x10_0000 % 16) as u8),
@@ -109,25 +116,33 @@ fn push_number(text: &mut String, number: u32) -> Result<(), AllocError>
         0x1_0000..=0xF_FFFF => 1,
         _ => 0,
     };
-    push_shown(text, b"U+", 2)?;
-    push_shown(text, digits.get(unused..).unwrap_or(b""), 6)
+    push_part(text, b"U+")?;
+    push_part(text, digits.get(unused..).unwrap_or(b""))
 }
 
-/// Appends a character that is not in quotes: its name, if it has one, and its number beyond ASCII or if it has no name.
+/// Appends a byte that begins no character, as `byte 0xE9`.
+fn push_byte(text: &mut String, byte: u8) -> Result<(), AllocError>
+    ensures { Tells result text.old IsShown text.new }
+{
+    push_part(text, b"byte 0x")?;
+    push_part(text, &[hex_digit(byte / 16), hex_digit(byte % 16)])
+}
+
+/// Appends the name of a character, and its number if it has no name or is beyond ASCII.
 fn push_name(text: &mut String, character: char) -> Result<(), AllocError>
-    ensures { Tells result text.old IsPrintable text.new }
+    ensures { Tells result text.old IsShown text.new }
 {
     let name = character_name(character);
-    push_shown(text, name.as_bytes(), MAX_SHOWN)?;
     if name.is_empty() {
         return push_number(text, character as u32);
     }
+    push_part(text, name.as_bytes())?;
     if character.is_ascii() {
         return Ok(());
     }
-    push_shown(text, b" (", 2)?;
+    push_part(text, b" (")?;
     push_number(text, character as u32)?;
-    push_shown(text, b")", 1)
+    push_part(text, b")")
 }
 
 /// Appends the character with which a text begins: in quotes, as `";"`, or its name, as `space` or `left curly quote (U+201C)`, or its
@@ -137,15 +152,12 @@ fn push_name(text: &mut String, character: char) -> Result<(), AllocError>
 ///
 /// Memory ran out; a part may have been appended.
 pub fn push_character(text: &mut String, bytes: &[u8]) -> Result<(), AllocError>
-    ensures { Tells result text.old IsPrintable text.new }
+    ensures { Tells result text.old IsShown text.new }
 {
     match (first_character(bytes), bytes) {
-        (Some(character @ '!'..='~'), _) => push_shown(text, &[b'"', character as u8, b'"'], 3),
+        (Some(character @ '!'..='~'), _) => push_part(text, &[b'"', character as u8, b'"']),
         (Some(character), _) => push_name(text, character),
-        (None, [byte, ..]) => {
-            push_shown(text, b"byte 0x", 7)?;
-            push_shown(text, &[hex_digit(*byte / 16), hex_digit(*byte % 16)], 2)
-        }
-        (None, []) => push_shown(text, b"end of line", 11),
+        (None, [byte, ..]) => push_byte(text, *byte),
+        (None, []) => push_part(text, b"end of line"),
     }
 }

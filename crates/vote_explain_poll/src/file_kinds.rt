@@ -1,6 +1,6 @@
 //! What a file is that is no plain text in UTF-8, by its signs.
 ghost use Rattle.std.specs.Prelude.{◌≡◌};
-ghost use Rattle.vote_explain_poll.specs.FileKinds.{kind_words};
+ghost use Rattle.vote_explain_poll.specs.FileKinds.{file_kind, is_no_text, kind_words};
 
 /// A kind of files that are no plain text in UTF-8.
 #[derive(Clone, Copy, Debug, PartialEq, Eq)]
@@ -21,26 +21,40 @@ pub enum FileKind {
     NoText,
 }
 
-/// With what a file of a kind begins. UTF-32 comes before UTF-16, whose sign is the beginning of its own.
-const SIGNS: [(&[u8], FileKind); 8] = [
-    (b"\xFF\xFE\0\0", FileKind::Utf32),
-    (b"\0\0\xFE\xFF", FileKind::Utf32),
-    (b"\xFF\xFE", FileKind::Utf16),
-    (b"\xFE\xFF", FileKind::Utf16),
-    (b"PK\x03\x04", FileKind::Zip),
-    (b"%PDF", FileKind::Pdf),
-    (b"{\\rtf", FileKind::Rtf),
-    (b"\xD0\xCF\x11\xE0", FileKind::OldOffice),
-];
+/// Whether a file is no text: it is not in UTF-8, and a byte of it is zero.
+fn is_no_text(text: &[u8]) -> bool
+    ensures { result ≡ is_no_text text.now }
+{
+    match std::str::from_utf8(text) {
+        Ok(_) => false,
+        Err(_) => text.contains(&0),
+    }
+}
 
 /// The kind of a file with these bytes, unless it may be plain text in UTF-8.
-pub fn file_kind(text: &[u8]) -> Option<FileKind> {
-    for (sign, kind) in SIGNS {
-        if text.starts_with(sign) {
-            return Some(kind);
-        }
+pub fn file_kind(text: &[u8]) -> Option<FileKind>
+    ensures { result ≡ file_kind text.now }
+{
+    // before UTF-16, whose sign is the beginning of this one
+    if text.starts_with(b"\xFF\xFE\0\0") || text.starts_with(b"\0\0\xFE\xFF") {
+        return Some(FileKind::Utf32);
     }
-    if text.contains(&0) && std::str::from_utf8(text).is_err() {
+    if text.starts_with(b"\xFF\xFE") || text.starts_with(b"\xFE\xFF") {
+        return Some(FileKind::Utf16);
+    }
+    if text.starts_with(b"PK\x03\x04") {
+        return Some(FileKind::Zip);
+    }
+    if text.starts_with(b"%PDF") {
+        return Some(FileKind::Pdf);
+    }
+    if text.starts_with(b"{\\rtf") {
+        return Some(FileKind::Rtf);
+    }
+    if text.starts_with(b"\xD0\xCF\x11\xE0") {
+        return Some(FileKind::OldOffice);
+    }
+    if is_no_text(text) {
         return Some(FileKind::NoText);
     }
     None

@@ -183,7 +183,22 @@ fn push_syntax(
     push_excerpt(alloc, finding, &place)
 }
 
-/// What is said of a file of another kind.
+/// The finding on a text that is no TOML, by its place.
+fn place_finding(
+    alloc: Global,
+    text: &[u8],
+    error: &toml::de::Error,
+    file: Option<&str>,
+) -> Result<String, AllocError>
+    ensures { IfOk result (λ finding. IsPlaceFinding text.now (string_bytes finding)) }
+{
+    let mut finding = String::new(alloc);
+    let at = index_of(text, error);
+    push_syntax(alloc, &mut finding, text, at, error.message(), file)?;
+    Ok(finding)
+}
+
+/// The finding on a file of another kind.
 fn file_finding(alloc: Global, kind: FileKind) -> Result<String, AllocError>
     ensures { IfOk result (λ finding. string_bytes finding ≡ file_text kind) }
 {
@@ -193,7 +208,7 @@ fn file_finding(alloc: Global, kind: FileKind) -> Result<String, AllocError>
     Ok(finding)
 }
 
-/// The findings on a text that is no TOML. `file` is the name of its file for a command that mends it, where it has one.
+/// The finding on a text that is no TOML. `file` is the name of its file for a command that mends it, where it has one.
 pub(crate) fn syntax_finding(
     alloc: Global,
     text: &[u8],
@@ -202,11 +217,8 @@ pub(crate) fn syntax_finding(
 ) -> Result<String, AllocError>
     ensures { IfOk result (λ finding. IsSyntaxFinding text.now (string_bytes finding)) }
 {
-    if let Some(kind) = file_kind(text) {
-        return file_finding(alloc, kind);
+    match file_kind(text) {
+        Some(kind) => file_finding(alloc, kind),
+        None => place_finding(alloc, text, error, file),
     }
-    let mut finding = String::new(alloc);
-    let at = index_of(text, error);
-    push_syntax(alloc, &mut finding, text, at, error.message(), file)?;
-    Ok(finding)
 }

@@ -28,6 +28,15 @@ fn length_of_text(text: &[u8]) -> Option<usize> {
     None
 }
 
+/// What a bracket or brace begins after these bytes: the name of a table stands in brackets, too, where a line begins.
+fn name_of(byte: u8, before: &[u8]) -> &'static str {
+    let line = before.rsplit(|byte| *byte == b'\n').next();
+    match byte {
+        b'[' if !line.unwrap_or(b"").trim_ascii().is_empty() => "list",
+        _ => "table",
+    }
+}
+
 /// What a file ends within, if it does: the outermost list or table that has no end, or else a text, and how many bytes stand before it.
 pub(crate) fn unfinished(file: &[u8]) -> Option<(&'static str, usize)> {
     let (mut next, mut depth) = (0, 0usize);
@@ -48,7 +57,7 @@ pub(crate) fn unfinished(file: &[u8]) -> Option<(&'static str, usize)> {
             },
             b'[' | b'{' => {
                 if depth == 0 {
-                    outermost = (if *byte == b'[' { "list" } else { "table" }, place);
+                    outermost = (name_of(*byte, file.get(..place).unwrap_or(b"")), place);
                 }
                 depth = depth.saturating_add(1);
             }
