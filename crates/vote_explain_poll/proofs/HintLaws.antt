@@ -1,15 +1,14 @@
 -- What is shown of any words is a hint, and how a text ends with one.
-use Rattle.std.proofs.Common.{◌≡◌, ◌≢◌, ◌/◌, ◌%◌, ◌≤◌, ◌*◌, ◌∷◌, ◌++◌, [], ℕ, List, take, length, Ok, Err, Result, refl, sym, append_assoc, arith, length-append, nat_lt, OnOk, inl, inr}
+use Rattle.std.proofs.Common.{◌≡◌, ◌≢◌, ◌/◌, ◌%◌, ◌≤◌, ◌*◌, ◌∷◌, ◌++◌, [], ℕ, List, take, length, Ok, Err, Result, refl, arith, length-append, nat_lt, OnOk, inl, inr}
 use Rattle.std.specs.List.{flat_map}
 use Rattle.std.proofs.lemmas.Bool.{cases_Bool}
 use Rattle.std.proofs.lemmas.Bool.Decides.{nat_tests}
 use Rattle.std.proofs.lemmas.List.Elements.{All-nil, All-cons, All-append}
-use Rattle.std.proofs.lemmas.Grind.{flat_map-append}
 use Rattle.std.proofs.lemmas.List.{length-take}
 use Rattle.vote_poll_text.specs.Lines.{IsUnbroken}
 use Rattle.vote_poll_text.specs.Names.{is_printable}
 use Rattle.vote_poll_text.specs.Shown.{hex_digit, shown, shown_byte}
-use Rattle.vote_explain_poll.specs.Hints.{Adding, IsHint, IsShown}
+use Rattle.vote_explain_poll.specs.Hints.{Adding, IsHint}
 use Rattle.vote_explain_poll.specs.declared.TheConstants.{MAX_HINT}
 
 abbrev Stays : ℕ → Type 0
@@ -61,16 +60,3 @@ hint_of words = record {
 pub adds_hint : {X E : Type 0} (r : Result X E) (words before after : List ℕ) → OnOk r (after ≡ before ++ shown (MAX_HINT / 4) words) → OnOk r (Adding IsHint before after)
 adds_hint (Err x) words before after added = tt
 adds_hint (Ok x) words before after added = (shown (MAX_HINT / 4) words, hint_of words, added)
-
--- parts of hints, one after another
-pub adds_shown : {X E : Type 0} (r : Result X E) (n : ℕ) (bytes before after : List ℕ) → OnOk r (after ≡ before ++ shown n bytes) → OnOk r (Adding IsShown before after)
-adds_shown (Err x) n bytes before after added = tt
-adds_shown (Ok x) n bytes before after added = (shown n bytes, (take n bytes, refl), added)
-
-pub adds_more : {X E : Type 0} (r : Result X E) (before between after : List ℕ) → Adding IsShown before between → OnOk r (Adding IsShown between after) → OnOk r (Adding IsShown before after)
-adds_more (Err x) before between after first then = tt
-adds_more (Ok x) before between after (one, (xs, is_one), first) (more, (ys, is_more), then) = (
-  one ++ more,
-  (xs ++ ys, rw (is_one, is_more) (sym (flat_map-append shown_byte xs ys))),
-  rw (then, first) (append_assoc before one more),
-)

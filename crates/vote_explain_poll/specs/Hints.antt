@@ -1,9 +1,9 @@
 -- What a hint is, and what calls say that add to a text.
 use Rattle.std.specs.Prelude.{◌≡◌, ◌≤◌, ◌/◌, ℕ, List, ◌++◌, Result, String, OnOk, length, string_bytes}
-use Rattle.std.specs.List.{All, flat_map}
+use Rattle.std.specs.List.{All}
 use Rattle.std.specs.declared.alloc.Global.{Global}
 use Rattle.vote_poll_text.specs.Lines.{IsUnbroken, text_of_lines}
-use Rattle.vote_poll_text.specs.Shown.{shown, shown_byte}
+use Rattle.vote_poll_text.specs.Shown.{shown}
 use Rattle.vote_explain_poll.specs.declared.TheConstants.{MAX_HINT}
 
 -- a hint is what is shown of some words, so it is printable; it is one line, and not long
@@ -12,10 +12,6 @@ pub record IsHint (hint : List ℕ) : Type 0 where
   pub is_shown : hint ≡ shown (MAX_HINT / 4) words
   pub unbroken : IsUnbroken hint
   pub short : length hint ≤ MAX_HINT
-
--- a part of a hint is what is shown of some bytes
-abbrev pub IsShown : List ℕ → Type 0
-IsShown text = (bytes : List ℕ) × (text ≡ flat_map shown_byte bytes)
 
 -- lines that show a place
 abbrev pub IsExcerpt : List ℕ → Type 0

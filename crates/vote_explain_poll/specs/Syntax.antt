@@ -4,9 +4,8 @@ use Rattle.std.specs.List.{All}
 use Rattle.vote_poll_text.specs.Lines.{feed_count, line_feed, parts_of, text_of_lines}
 use Rattle.vote_poll_text.specs.Names.{is_within}
 use Rattle.vote_poll.specs.BallotLine.{IsBallotText}
-use Rattle.vote_explain_poll.specs.FileKinds.{file_kind, kind_words}
+use Rattle.vote_explain_poll.specs.FileKinds.{file_kind}
 use Rattle.vote_explain_poll.specs.Hints.{IsHint}
-use Rattle.vote_explain_poll.specs.declared.file_kinds.FileKind.{FileKind}
 
 -- ---- lines
 -- the first line of a text, and what stands after its last line feed
@@ -51,11 +50,11 @@ pub record IsPlaceFinding (text finding : List ℕ) : Type 0 where
   pub are_hints : All IsHint excerpt
   pub is_text : finding ≡ exchanged_text exchanged ++ place_words (take place text) ++ hint ++ line_feed ++ text_of_lines excerpt
 
--- what is said of a file of this kind
-abbrev pub file_text : FileKind → List ℕ
-file_text kind = codes "the poll file is " ++ kind_words kind ++ codes "; a poll is plain text in UTF-8\n"
+-- what is said of a file that is this
+abbrev pub file_text : List ℕ → List ℕ
+file_text kind = codes "the poll file is " ++ kind ++ codes "; a poll is plain text in UTF-8\n"
 
-abbrev pub IsFindingOf : Option FileKind → List ℕ → List ℕ → Type 0
+abbrev pub IsFindingOf : Option (List ℕ) → List ℕ → List ℕ → Type 0
 IsFindingOf (Some kind) text finding = finding ≡ file_text kind
 IsFindingOf None text finding = IsPlaceFinding text finding
 

@@ -45,7 +45,7 @@ mod unread_key;
 
 pub use characters::push_character;
 pub use explain::{ExplainedPoll, explain_poll};
-pub use file_kinds::{FileKind, file_kind};
+pub use file_kinds::file_kind;
 
 /// The most bytes of a name or text of a file that a finding shows.
 pub const MAX_SHOWN: usize = 60;

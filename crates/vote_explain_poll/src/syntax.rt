@@ -7,7 +7,7 @@ ghost use Rattle.vote_explain_poll.specs.Syntax.{IsPlaceFinding, IsSyntaxFinding
 
 use crate::MAX_SHOWN;
 use crate::characters::push_character;
-use crate::file_kinds::{FileKind, file_kind};
+use crate::file_kinds::file_kind;
 use crate::place::{Place, begins_character, column_number, first_line, place_at};
 use crate::text::push_hint;
 use crate::twice::{definition, first_definition};
@@ -199,11 +199,11 @@ fn place_finding(
 }
 
 /// The finding on a file of another kind.
-fn file_finding(alloc: Global, kind: FileKind) -> Result<String, AllocError>
-    ensures { IfOk result (λ finding. string_bytes finding ≡ file_text kind) }
+fn file_finding(alloc: Global, kind: &str) -> Result<String, AllocError>
+    ensures { IfOk result (λ finding. string_bytes finding ≡ file_text kind.now) }
 {
     let mut finding = String::from_str(alloc, "the poll file is ")?;
-    finding.push_str(kind.words())?;
+    finding.push_str(kind)?;
     finding.push_str("; a poll is plain text in UTF-8\n")?;
     Ok(finding)
 }
