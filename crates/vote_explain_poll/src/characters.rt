@@ -2,7 +2,7 @@
 ghost use Rattle.std.specs.Prelude.{◌<◌};
 ghost use Rattle.vote_explain_poll.specs.Hints.{IsHint, Tells};
 
-use crate::text::push_hint;
+use crate::push_hint;
 use std::alloc::AllocError;
 use vote_poll_text::hex_digit;
 
@@ -21,7 +21,8 @@ fn character_name(character: char) -> &'static str {
         '\u{AD}' => "soft hyphen",
         '\u{200B}' => "zero-width space",
         '\u{200C}' | '\u{200D}' | '\u{2060}' => "zero-width joiner",
-        '\u{200E}' | '\u{200F}' | '\u{202A}'..='\u{202E}' | '\u{2066}'..='\u{2069}' => "invisible direction mark",
+        '\u{200E}' | '\u{200F}' | '\u{202A}'..='\u{202E}' | '\u{2066}'..='\u{2069}' =>
+            "invisible direction mark",
         '\u{FE00}'..='\u{FE0F}' => "invisible variation selector",
         '\u{FEFF}' => "byte-order mark",
         '\u{FFFD}' => "replacement character",

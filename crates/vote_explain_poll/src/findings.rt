@@ -3,13 +3,13 @@ ghost use Rattle.toml.specs.View.{table_view};
 ghost use Rattle.vote_poll_text.specs.Adding.{Adds};
 ghost use Rattle.vote_explain_poll.specs.Findings.{AreLinesFor, SaysFault, SaysKey, fault_head, key_head};
 ghost use Rattle.vote_explain_poll.specs.Hints.{Tells};
-ghost use Rattle.vote_explain_poll.specs.Places.{path_of};
 
+use crate::MAX_SHOWN;
 use crate::hints::Hints;
-use crate::unread_key::UnreadKey;
+use crate::unread::UnreadKey;
 use std::alloc::{AllocError, Global};
-
 use vote_poll_keys::PollFault;
+use vote_poll_text::push_shown;
 
 /// Adds the words of a fault, which are those of its fault line.
 fn push_fault_head(text: &mut String, fault: PollFault) -> Result<(), AllocError>
@@ -48,11 +48,11 @@ pub(crate) fn push_fault_lines(
 }
 
 /// Adds that a key is not read.
-fn push_key_head(text: &mut String, key: &UnreadKey<'_>) -> Result<(), AllocError>
-    ensures { Adds result text.old (key_head (path_of key.now)) text.new }
+fn push_key_head(text: &mut String, path: &[u8]) -> Result<(), AllocError>
+    ensures { Adds result text.old (key_head path.now) text.new }
 {
     text.push_str("poll: key ")?;
-    key.push_path(text)?;
+    push_shown(text, path, MAX_SHOWN)?;
     text.push_str(" is not read")
 }
 
@@ -65,7 +65,7 @@ fn push_key_line(
 ) -> Result<(), AllocError>
     ensures { Tells result text.old (SaysKey (table_view hints.now.file.now) key.now) text.new }
 {
-    push_key_head(text, key)?;
+    push_key_head(text, &key.path(alloc)?)?;
     hints.push_remark(alloc, text, key)?;
     text.push_str("\n")
 }

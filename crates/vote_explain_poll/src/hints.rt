@@ -7,9 +7,8 @@ ghost use Rattle.vote_explain_poll.specs.Remarks.{IsKeyRemark, suggestion};
 
 use crate::characters::push_character;
 use crate::near::near_key;
-use crate::text::push_hint;
-use crate::unread_key::UnreadKey;
-use crate::MAX_SHOWN;
+use crate::unread::UnreadKey;
+use crate::{MAX_SHOWN, push_hint};
 use indexmap::IndexMap;
 use std::alloc::{AllocError, Global};
 use toml::{Table, Value};
@@ -40,24 +39,20 @@ fn bad_character(name: &str, is_voter: bool) -> Option<(usize, usize)> {
     None
 }
 
-/// Adds what is wrong with the shape of a name of at most so many bytes, and returns whether something is.
+/// Adds a name, and what is wrong with its shape; nothing of the latter if it is a name, of at most so many bytes.
 fn push_shape(
     words: &mut String,
     name: &str,
     most: usize,
     is_voter: bool,
 ) -> Result<bool, AllocError> {
-    if name.is_empty() {
-        words.push_str("it is empty")?;
-        return Ok(true);
-    }
     push_quoted(words, name)?;
     match bad_character(name, is_voter) {
+        _ if name.is_empty() => words.push_str(" is empty")?,
         _ if name.len() > most => write!(words, " has {} bytes", name.len())?,
         Some((number, place)) => {
-            words.push_str(" has ")?;
+            write!(words, " has as character {number}: ")?;
             push_character(words, name.as_bytes().get(place..).unwrap_or(b""))?;
-            write!(words, " as character {number}")?;
         }
         None if name.starts_with(' ') => words.push_str(" begins with a space")?,
         None if name.ends_with(' ') => words.push_str(" ends with a space")?,
@@ -70,7 +65,7 @@ fn push_shape(
 fn push_quorum(words: &mut String, electors: usize) -> Result<(), AllocError> {
     write!(
         words,
-        "a quorum is a whole number from 0 to {MAX_QUORUM_MULTIPLE}: how many times Q, half the square root of the number of electors, is needed"
+        "; a quorum is a whole number from 0 to {MAX_QUORUM_MULTIPLE}: how many times Q is needed, half the square root of the number of electors"
     )?;
     if electors == 0 || electors > MAX_ELECTORS {
         return Ok(());
@@ -82,30 +77,20 @@ fn push_quorum(words: &mut String, electors: usize) -> Result<(), AllocError> {
     )
 }
 
-/// Adds that there are so many options but the default, which is too few or too many.
-fn push_option_count(words: &mut String, others: usize) -> Result<(), AllocError> {
-    match others {
-        0 => words.push_str("the default option alone")?,
-        _ => write!(words, "{} with the default", others.saturating_add(1))?,
-    }
-    write!(words, "; a poll has 2 to {MAX_OPTIONS} options with the default")
-}
-
 /// Adds that there are not so many ratios as options but the default, or else which is the first that is no ratio.
 fn push_ratios(words: &mut String, ratios: &[i64], others: usize) -> Result<(), AllocError> {
     if ratios.len() != others {
+        let found = ratios.len();
         return write!(
             words,
-            "{} found; each option but the default has one, and the number of these options is {others}",
-            ratios.len()
+            "{found} found; one ratio is wanted for each option but the default, {others} in all"
         );
     }
     let bad = ratios
         .iter()
-        .position(|ratio| parse_ratio(*ratio).is_none())
-        .unwrap_or(0);
-    let ratio = ratios.get(bad).copied().unwrap_or(0);
-    let option = bad.saturating_add(1);
+        .position(|ratio| parse_ratio(*ratio).is_none());
+    let (place, option) = (bad.unwrap_or(0), bad.unwrap_or(0).saturating_add(1));
+    let ratio = ratios.get(place).copied().unwrap_or(0);
     write!(
         words,
         "{ratio} for option {option}; a ratio is a whole number from 1 to {MAX_RATIO}"
@@ -125,23 +110,36 @@ fn kind_words(value: &Value) -> &'static str {
     }
 }
 
-/// Adds the first entry of a list that is of the wrong kind, and its option or position.
+/// Adds the first entry of a list that is of the wrong kind: no whole number among ratios, or else no text.
 fn push_wrong_entry(words: &mut String, key: PollKey, entries: &[Value]) -> Result<(), AllocError> {
     for (place, entry) in entries.iter().enumerate() {
-        let kind = kind_words(entry);
-        match key {
-            PollKey::Roll if !entry.is_str() => {
-                return write!(words, " with {kind} at position {place}, counted from 0");
-            }
-            PollKey::Options if entry.is_str() => {}
-            PollKey::Ratios if entry.is_integer() => {}
-            PollKey::Options | PollKey::Ratios => {
-                return write!(words, " with {kind} at option {}", place.saturating_add(1));
-            }
-            _ => {}
+        let is_right = match key {
+            PollKey::Ratios => entry.is_integer(),
+            _ => entry.is_str(),
+        };
+        if !is_right {
+            let (kind, number) = (kind_words(entry), place.saturating_add(1));
+            return write!(words, " with {kind} as entry {number}");
         }
     }
     Ok(())
+}
+
+/// Adds what belongs at a key, whose value is of the wrong kind or missing. The roll has this size, if it is there.
+fn push_wanted(words: &mut String, key: PollKey, electors: usize) -> Result<(), AllocError> {
+    match key {
+        PollKey::Title | PollKey::DefaultOption => words.push_str("; a text is wanted"),
+        PollKey::Wording => words.push_str("; a text is wanted: at_least or more_than"),
+        PollKey::Options | PollKey::Roll => words.push_str("; a list of texts is wanted"),
+        PollKey::Ratios => write!(
+            words,
+            "; a list of whole numbers from 1 to {MAX_RATIO} is wanted, one for each option but the default"
+        ),
+        PollKey::Quorum => push_quorum(words, electors),
+        PollKey::LastEnvelope => {
+            write!(words, "; a whole number from 0 to {MAX_LINES} is wanted")
+        }
+    }
 }
 
 /// The names of a list, each with the place at which it stands first.
@@ -186,10 +184,6 @@ pub(crate) struct Hints<'f> {
 
 impl<'f> Hints<'f> {
     /// Of the table of a file, its keys that were found, and those that are not read.
-    ///
-    /// # Errors
-    ///
-    /// Memory ran out, as in the calls below, which may have added a part.
     pub(crate) fn of(
         alloc: Global,
         file: &'f Table,
@@ -242,7 +236,7 @@ impl<'f> Hints<'f> {
         }
     }
 
-    /// Adds what was found where the file has a fault, and what is wanted.
+    /// The same as `push_found`, in words that may be longer than a hint.
     fn push_fault(&self, words: &mut String, fault: PollFault) -> Result<(), AllocError> {
         let keys = self.keys;
         let others = entries(&keys.options).len();
@@ -253,18 +247,21 @@ impl<'f> Hints<'f> {
                 push_shape(words, keys.title.unwrap_or(""), MAX_TITLE, false)?;
                 write!(words, "; a title has 1 to {MAX_TITLE} characters of ASCII")
             }
-            PollFault::OptionCount => push_option_count(words, others),
+            PollFault::OptionCount => write!(
+                words,
+                "{} found; with the default option, a poll has 2 to {MAX_OPTIONS}",
+                others.saturating_add(1)
+            ),
             PollFault::OptionName(option) => self.push_option(words, option.saturating_sub(1)),
             PollFault::Ratio => push_ratios(words, entries(&keys.ratios), others),
             PollFault::Quorum => {
-                write!(words, "{} found; ", keys.quorum.unwrap_or(0))?;
+                write!(words, "{} found", keys.quorum.unwrap_or(0))?;
                 push_quorum(words, self.roll.len())
             }
-            PollFault::RollSize => write!(
-                words,
-                "{} found; a roll has 1 to {MAX_ELECTORS} names",
-                self.roll.len()
-            ),
+            PollFault::RollSize => {
+                let found = self.roll.len();
+                write!(words, "{found} found; a roll has 1 to {MAX_ELECTORS} names")
+            }
             PollFault::VoterName(place) => self.push_voter(words, place),
             PollFault::LastEnvelope => write!(
                 words,
@@ -283,15 +280,11 @@ impl<'f> Hints<'f> {
     fn push_option(&self, words: &mut String, place: usize) -> Result<(), AllocError> {
         let (name, first) = self.options.get(place).copied().unwrap_or(("", place));
         if !push_shape(words, name, MAX_OPTION_NAME, false)? {
-            let first = first.saturating_add(1);
-            return write!(
-                words,
-                " is option {first} too; no two options have the same name"
-            );
+            write!(words, " is option {} too", first.saturating_add(1))?;
         }
         write!(
             words,
-            "; an option's name has 1 to {MAX_OPTION_NAME} characters of ASCII, and no space at either end"
+            "; an option's name has 1 to {MAX_OPTION_NAME} characters of ASCII, no space at either end, and no other option has it"
         )
     }
 
@@ -299,40 +292,28 @@ impl<'f> Hints<'f> {
     fn push_voter(&self, words: &mut String, place: usize) -> Result<(), AllocError> {
         let (name, first) = self.roll.get(place).copied().unwrap_or(("", place));
         if !push_shape(words, name, MAX_VOTER_NAME, true)? {
-            return write!(
-                words,
-                " is at position {first} too, counted from 0; no two voters have the same name"
-            );
+            write!(words, " is at position {first} too")?;
         }
         write!(
             words,
-            "; a voter's name has 1 to {MAX_VOTER_NAME} of a to z, 0 to 9, . and -; positions count from 0"
+            "; a voter's name has 1 to {MAX_VOTER_NAME} of a to z, 0 to 9, . and -, and no other voter has it; positions count from 0"
         )
     }
 
     /// Adds what is wrong with a key: it is missing, or it is of the wrong kind.
     fn push_key(&self, words: &mut String, key: PollKey) -> Result<(), AllocError> {
-        match value_at(self.file, key) {
-            None => self.push_tables(words, key)?,
-            Some(value) => words.push_str(kind_words(value))?,
-        }
-        if let Some(Value::Array(entries)) = value_at(self.file, key) {
-            push_wrong_entry(words, key, entries)?;
-        }
-        words.push_str("; ")?;
-        match key {
-            PollKey::Title | PollKey::DefaultOption => words.push_str("a text is wanted"),
-            PollKey::Wording => words.push_str("the text at_least or more_than is wanted"),
-            PollKey::Options | PollKey::Roll => words.push_str("a list of texts is wanted"),
-            PollKey::Ratios => write!(
-                words,
-                "a list of whole numbers from 1 to {MAX_RATIO} is wanted, one for each option but the default"
-            ),
-            PollKey::Quorum => push_quorum(words, self.roll.len()),
-            PollKey::LastEnvelope => {
-                write!(words, "a whole number from 0 to {MAX_LINES} is wanted")
+        let Some(value) = value_at(self.file, key) else {
+            self.push_tables(words, key)?;
+            return push_wanted(words, key, self.roll.len());
+        };
+        words.push_str(kind_words(value))?;
+        match (value, key) {
+            (Value::Array(entries), PollKey::Options | PollKey::Ratios | PollKey::Roll) => {
+                push_wrong_entry(words, key, entries)?
             }
+            _ => {}
         }
+        push_wanted(words, key, self.roll.len())
     }
 
     /// Adds that a key is missing, and each table that has it.

@@ -1,20 +1,87 @@
 //! What is said of a poll file that is no TOML: what kind of file it is, or where it leaves TOML, and what stands there. The text and the
 //! place say the line and the column; at which place `toml` finds the error no contract says.
-ghost use Rattle.std.specs.Prelude.{◌≡◌, ◌≤◌, ◌++◌, IfOk, codes, decimal, length, string_bytes};
+ghost use Rattle.std.specs.Prelude.{◌≡◌, ◌≤◌, ◌++◌, IfOk, codes, decimal, length, string_bytes, take};
 ghost use Rattle.vote_poll_text.specs.Adding.{Adds};
 ghost use Rattle.vote_explain_poll.specs.Hints.{IsExcerpt, IsHint, Tells};
-ghost use Rattle.vote_explain_poll.specs.Syntax.{IsPlaceFinding, IsSyntaxFinding, exchanged_text, file_text};
+ghost use Rattle.vote_explain_poll.specs.Syntax.{IsPlaceFinding, IsSyntaxFinding, begins_character, column_number, exchanged_text, file_text, first_line, last_line, line_number};
 
-use crate::MAX_SHOWN;
 use crate::characters::push_character;
 use crate::file_kinds::file_kind;
-use crate::place::{Place, begins_character, column_number, first_line, place_at};
-use crate::text::push_hint;
-use crate::twice::{definition, first_definition};
-use crate::unfinished::unfinished;
+use crate::structure::{definition, first_definition, unfinished};
+use crate::{MAX_SHOWN, push_hint};
 use std::alloc::{AllocError, Global};
 use vote_poll::is_ballot_line;
-use vote_poll_text::{count_feeds, is_printable, push_mending, push_shown};
+use vote_poll_text::{count_feeds, is_printable, push_mending, push_shown, split_at_feed};
+
+/// A place in a text.
+#[derive(Clone, Copy, Drop)]
+struct Place<'t> {
+    text: &'t [u8],
+    /// All that stands before the place, and after it.
+    before: &'t [u8],
+    after: &'t [u8],
+    /// What stands before the place in its line, and after it.
+    left: &'t [u8],
+    right: &'t [u8],
+    /// The number of the line.
+    number: usize,
+}
+
+/// The first line of a text, without its line feed.
+fn first_line(text: &[u8]) -> &[u8]
+    ensures { result.now ≡ first_line text.now }
+{
+    match split_at_feed(text) {
+        Some((line, _)) => line,
+        None => text,
+    }
+}
+
+/// What stands in a text after its last line feed.
+fn last_line(text: &[u8]) -> &[u8]
+    ensures { result.now ≡ last_line text.now }
+{
+    let mut line = text;
+    while let Some((_, after)) = split_at_feed(line) {
+        line = after;
+    }
+    line
+}
+
+/// Whether a byte of UTF-8 is the first one of a character.
+fn begins_character(byte: u8) -> bool
+    ensures { result ≡ begins_character byte }
+{
+    !matches!(byte, 0x80..=0xBF)
+}
+
+/// The column after the beginning of a line. Columns count characters.
+fn column_number(before: &[u8]) -> usize
+    ensures { result ≡ column_number before.now }
+{
+    before
+        .iter()
+        .filter(|byte| begins_character(**byte))
+        .count()
+        + 1
+}
+
+/// The place in a text before which so many of its bytes stand.
+fn place_at(text: &[u8], at: usize) -> Place<'_>
+    requires { at ≤ length text.now }
+    ensures left { result.left.now ≡ last_line (take at text.now) }
+    ensures number { result.number ≡ line_number (take at text.now) }
+{
+    let (before, after) = text.split_at(at);
+    Place {
+        text,
+        before,
+        after,
+        left: last_line(before),
+        right: first_line(after),
+        number: count_feeds(before) + 1,
+    }
+}
 
 /// How many bytes of a text stand before an error.
 fn index_of(text: &[u8], error: &toml::de::Error) -> usize
@@ -78,16 +145,18 @@ fn push_unfinished(words: &mut String, place: &Place<'_>) -> Result<(), AllocErr
 
 /// Adds both places of a key that is there twice.
 fn push_both_places(words: &mut String, place: &Place<'_>) -> Result<(), AllocError> {
-    let Some(first) = first_definition(place) else {
+    let key = definition(place.right);
+    let Some(first) = first_definition(place.before, key) else {
         return Ok(());
     };
     words.push_str(": ")?;
-    push_shown(words, definition(place.right), MAX_SHOWN)?;
+    push_shown(words, key, MAX_SHOWN)?;
     write!(words, " is in line {first} and in line {}", place.number)
 }
 
 /// What carriage returns in place of line feeds are.
-const OLD_MAC: &str = ": carriage returns end the lines, as on old Macs, and not line feeds: this can be mended";
+const OLD_MAC: &str =
+    ": carriage returns end the lines, as on old Macs, and not line feeds: this can be mended";
 
 /// Adds what is said of a place after the words of `toml`.
 fn push_facts(

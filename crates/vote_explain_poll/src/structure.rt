@@ -1,4 +1,4 @@
-//! What a file in TOML ends within: a text, a list or a table. It is asked where all before the end is in order.
+//! What a file in TOML ends within, and what is there twice.
 
 /// The marks around the text that begins here.
 fn marks_of(text: &[u8]) -> &'static [u8] {
@@ -66,4 +66,25 @@ pub(crate) fn unfinished(file: &[u8]) -> Option<(&'static str, usize)> {
         }
     }
     if depth == 0 { None } else { Some(outermost) }
+}
+
+/// What a line defines: the key before its `=`, or the name of a table in its brackets.
+pub(crate) fn definition(line: &[u8]) -> &[u8] {
+    let end = if line.starts_with(b"[") { b'#' } else { b'=' };
+    let definition = line.split(|byte| *byte == end).next();
+    definition.unwrap_or(line).trim_ascii()
+}
+
+/// The number of the last line of these that defines a key in the same table, or a table, if one does.
+pub(crate) fn first_definition(before: &[u8], wanted: &[u8]) -> Option<usize> {
+    let (mut first, mut number) = (None, 0usize);
+    for line in before.split(|byte| *byte == b'\n') {
+        number = number.saturating_add(1);
+        if definition(line) == wanted {
+            first = first.or(Some(number));
+        } else if line.starts_with(b"[") && !wanted.starts_with(b"[") {
+            first = None;
+        }
+    }
+    first
 }

@@ -1,6 +1,6 @@
 use Rattle.std.proofs.Common.{◌≡◌, length}
 use Rattle.vote_explain_poll.specs.Syntax.{last_line}
-use Rattle.vote_explain_poll.proofs.place.last_line.Given as goal
+use Rattle.vote_explain_poll.proofs.syntax.last_line.Given as goal
 
 abbrev pub invariant-loop-after : goal.invariant-loop-after
 invariant-loop-after l = last_line l.line ≡ last_line l.fn.text

@@ -3,7 +3,7 @@ use Rattle.std.specs.Prelude.{◌==◌}
 use Rattle.std.proofs.lemmas.List.Splits.{length-slice_split}
 use Rattle.vote_poll_text.specs.Lines.{parts_of}
 use Rattle.vote_explain_poll.specs.Syntax.{last_line}
-use Rattle.vote_explain_poll.proofs.place.last_line.Goals as goal
+use Rattle.vote_explain_poll.proofs.syntax.last_line.Goals as goal
 
 abbrev last : List (List ℕ) → List ℕ
 last parts = get_or parts (length parts - 1) []
