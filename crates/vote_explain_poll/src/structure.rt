@@ -1,4 +1,13 @@
-//! What a file in TOML ends within, and what is there twice.
+//! What a file in TOML ends within, and where a key is in it. All before the end has to be in order.
+
+use crate::syntax::first_line;
+
+/// What a line defines: the key before its `=`, or the name of a table in its brackets.
+pub(crate) fn definition(line: &[u8]) -> &[u8] {
+    let end = if line.starts_with(b"[") { b'#' } else { b'=' };
+    let definition = line.split(|byte| *byte == end).next();
+    definition.unwrap_or(line).trim_ascii()
+}
 
 /// The marks around the text that begins here.
 fn marks_of(text: &[u8]) -> &'static [u8] {
@@ -28,63 +37,56 @@ fn length_of_text(text: &[u8]) -> Option<usize> {
     None
 }
 
-/// What a bracket or brace begins after these bytes: the name of a table stands in brackets, too, where a line begins.
-fn name_of(byte: u8, before: &[u8]) -> &'static str {
-    let line = before.rsplit(|byte| *byte == b'\n').next();
-    match byte {
-        b'[' if !line.unwrap_or(b"").trim_ascii().is_empty() => "list",
-        _ => "table",
+/// How many bytes a comment, a text or any other byte has that begins here; nothing for a text that does not end.
+fn length_of_token(rest: &[u8]) -> Option<usize> {
+    match rest {
+        [b'#', ..] => Some(first_line(rest).len()),
+        [b'"' | b'\'', ..] => length_of_text(rest),
+        _ => Some(1),
     }
 }
 
-/// What a file ends within, if it does: the outermost list or table that has no end, or else a text, and how many bytes stand before it.
-pub(crate) fn unfinished(file: &[u8]) -> Option<(&'static str, usize)> {
-    let (mut next, mut depth) = (0, 0usize);
-    let mut outermost = ("list", 0);
-    for (place, byte) in file.iter().enumerate() {
+/// The structure of a file, as far as it is asked for. A place is a number of bytes before it.
+#[derive(Clone, Copy, Drop)]
+pub(crate) struct Structure {
+    /// What the file ends within, and its place: a text, or else the outermost list or table.
+    pub(crate) open: Option<(&'static str, usize)>,
+    /// The place of the first line that defines a key in the last table, or that defines a table.
+    pub(crate) first: Option<usize>,
+}
+
+/// The structure of a file, and in it the first line that defines this key or table.
+pub(crate) fn structure_of(file: &[u8], wanted: &[u8]) -> Structure {
+    let (mut next, mut depth, mut begins_line) = (0, 0usize, true);
+    let (mut open, mut first) = (None, None);
+    for place in 0..file.len() {
         if place < next {
             continue;
         }
         let rest = file.get(place..).unwrap_or(b"");
-        match byte {
-            b'#' => {
-                let comment = rest.split(|byte| *byte == b'\n').next();
-                next = place.saturating_add(comment.unwrap_or(b"").len());
-            }
-            b'"' | b'\'' => match length_of_text(rest) {
-                Some(length) => next = place.saturating_add(length),
-                None => return Some(("text", place)),
-            },
-            b'[' | b'{' => {
-                if depth == 0 {
-                    outermost = (name_of(*byte, file.get(..place).unwrap_or(b"")), place);
-                }
-                depth = depth.saturating_add(1);
-            }
-            b']' | b'}' => depth = depth.saturating_sub(1),
-            _ => {}
-        }
-    }
-    if depth == 0 { None } else { Some(outermost) }
-}
-
-/// What a line defines: the key before its `=`, or the name of a table in its brackets.
-pub(crate) fn definition(line: &[u8]) -> &[u8] {
-    let end = if line.starts_with(b"[") { b'#' } else { b'=' };
-    let definition = line.split(|byte| *byte == end).next();
-    definition.unwrap_or(line).trim_ascii()
-}
-
-/// The number of the last line of these that defines a key in the same table, or a table, if one does.
-pub(crate) fn first_definition(before: &[u8], wanted: &[u8]) -> Option<usize> {
-    let (mut first, mut number) = (None, 0usize);
-    for line in before.split(|byte| *byte == b'\n') {
-        number = number.saturating_add(1);
-        if definition(line) == wanted {
-            first = first.or(Some(number));
-        } else if line.starts_with(b"[") && !wanted.starts_with(b"[") {
+        let is_top = begins_line && depth == 0;
+        if is_top && definition(first_line(rest)) == wanted {
+            first = first.or(Some(place));
+        } else if is_top && rest.starts_with(b"[") && !wanted.starts_with(b"[") {
             first = None;
         }
+        let Some(length) = length_of_token(rest) else {
+            let open = Some(("text", place));
+            return Structure { open, first };
+        };
+        next = place.saturating_add(length);
+        begins_line = rest.starts_with(b"\n");
+        match rest {
+            [b'[', ..] if depth == 0 && !is_top => open = Some(("list", place)),
+            [b'[' | b'{', ..] if depth == 0 => open = Some(("table", place)),
+            _ => {}
+        }
+        match rest {
+            [b'[' | b'{', ..] => depth = depth.saturating_add(1),
+            [b']' | b'}', ..] => depth = depth.saturating_sub(1),
+            _ => {}
+        }
+        open = open.filter(|_| depth > 0);
     }
-    first
+    Structure { open, first }
 }

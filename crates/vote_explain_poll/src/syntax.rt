@@ -7,7 +7,7 @@ ghost use Rattle.vote_explain_poll.specs.Syntax.{IsPlaceFinding, IsSyntaxFinding
 
 use crate::characters::push_character;
 use crate::file_kinds::file_kind;
-use crate::structure::{definition, first_definition, unfinished};
+use crate::structure::{definition, structure_of};
 use crate::{MAX_SHOWN, push_hint};
 use std::alloc::{AllocError, Global};
 use vote_poll::is_ballot_line;
@@ -28,7 +28,7 @@ struct Place<'t> {
 }
 
 /// The first line of a text, without its line feed.
-fn first_line(text: &[u8]) -> &[u8]
+pub(crate) fn first_line(text: &[u8]) -> &[u8]
     ensures { result.now ≡ first_line text.now }
 {
     match split_at_feed(text) {
@@ -128,15 +128,20 @@ fn push_sign(words: &mut String, place: &Place<'_>) -> Result<(), AllocError> {
     }
 }
 
+/// The number of the line at a place in a text. Nothing is promised of it, unlike of that in [`Place`].
+fn line_at(text: &[u8], place: usize) -> usize {
+    count_feeds(text.get(..place).unwrap_or(b"")).saturating_add(1)
+}
+
 /// Adds what the file ends within, if it ends at a place.
 fn push_unfinished(words: &mut String, place: &Place<'_>) -> Result<(), AllocError> {
     if !place.after.trim_ascii().is_empty() {
         return Ok(());
     }
-    let Some((what, begin)) = unfinished(place.text) else {
+    let Some((what, begin)) = structure_of(place.text, b"").open else {
         return Ok(());
     };
-    let line = count_feeds(place.text.get(..begin).unwrap_or(b"")).saturating_add(1);
+    let line = line_at(place.text, begin);
     write!(
         words,
         "; the file ends within the {what} that begins in line {line}: its end may be missing"
@@ -146,12 +151,14 @@ fn push_unfinished(words: &mut String, place: &Place<'_>) -> Result<(), AllocErr
 /// Adds both places of a key that is there twice.
 fn push_both_places(words: &mut String, place: &Place<'_>) -> Result<(), AllocError> {
     let key = definition(place.right);
-    let Some(first) = first_definition(place.before, key) else {
+    let first = structure_of(place.before, key).first;
+    let Some(first) = first.filter(|_| place.left.trim_ascii().is_empty()) else {
         return Ok(());
     };
+    let line = line_at(place.text, first);
     words.push_str(": ")?;
     push_shown(words, key, MAX_SHOWN)?;
-    write!(words, " is in line {first} and in line {}", place.number)
+    write!(words, " is in line {line} and in line {}", place.number)
 }
 
 /// What carriage returns in place of line feeds are.
@@ -162,13 +169,13 @@ const OLD_MAC: &str =
 fn push_facts(
     words: &mut String,
     place: &Place<'_>,
-    is_twice: bool,
+    said: &str,
     file: Option<&str>,
 ) -> Result<(), AllocError> {
     if !place.text.contains(&b'\n') && place.text.contains(&b'\r') {
         return push_mending(words, OLD_MAC, "tr '\\r' '\\n'", "", file);
     }
-    if is_twice {
+    if said == "duplicate key" {
         return push_both_places(words, place);
     }
     push_sign(words, place)?;
@@ -186,7 +193,7 @@ fn push_syntax_hint(
     ensures { Tells result text.old IsHint text.new }
 {
     let mut words = String::from_str(alloc, said)?;
-    push_facts(&mut words, place, said == "duplicate key", file)?;
+    push_facts(&mut words, place, said, file)?;
     push_hint(text, words.as_bytes())
 }
 
