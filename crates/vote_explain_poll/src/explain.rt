@@ -10,8 +10,7 @@ ghost use Rattle.vote_explain_poll.specs.Findings.{AreFindings, AreFindingsOf};
 ghost use Rattle.vote_explain_poll.specs.Syntax.{IsSyntaxFinding};
 ghost use Rattle.vote_poll_keys.specs.declared.fault.PollFault.TheVariants.{Memory, Syntax};
 
-use crate::findings::{push_fault_lines, push_key_lines};
-use crate::hints::Hints;
+use crate::findings::{Hints, push_fault_lines, push_key_lines};
 use crate::syntax::syntax_finding;
 use crate::unread::unread_keys;
 use std::alloc::{AllocError, Global};

@@ -29,7 +29,6 @@ mod characters;
 mod explain;
 mod file_kinds;
 mod findings;
-mod hints;
 mod near;
 mod structure;
 mod syntax;
