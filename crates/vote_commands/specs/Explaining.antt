@@ -7,7 +7,7 @@ use Rattle.vote_poll.specs.PollContent.{PollContent}
 use Rattle.vote_poll_keys.specs.Keys.{document}
 use Rattle.vote_poll.specs.PollFile.{poll_in}
 use Rattle.vote_poll.specs.declared.PollFault.{PollFault}
-use Rattle.vote_ballot_findings.specs.Explained.{IsExplained}
+use Rattle.vote_explain_ballots.specs.Explained.{IsExplained}
 use Rattle.vote_sheet.specs.LastBallots.{refused_count}
 use Rattle.vote_sheet.specs.Steps.{check_text}
 use Rattle.vote_sheet.specs.Texts.{Text}

@@ -1,0 +1,6 @@
+pub mod LinePrefixes
+pub mod Nearest
+pub mod FileLines
+pub mod Listing
+pub mod BoxReplies
+pub mod Counting
