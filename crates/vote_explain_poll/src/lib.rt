@@ -16,8 +16,8 @@
 //! - After the faults each key that is not read has a line, in the order of the tables (`specs/UnreadKeys.antt`), with its path, as far
 //!   as it is shown. A key that is suggested for it is missing, few edits lead to it, and no other missing one is nearer
 //!   (`specs/Remarks.antt`).
-//! - Of a text that is no TOML it says what kind of file it is (`specs/FileKinds.antt`), or else whether the files may be exchanged, and
-//!   the line and the column of the place that `toml` tells (`specs/Syntax.antt`).
+//! - Of a text that is no TOML it says what kind of file it is (`specs/FileKinds.antt`), or that the files may be exchanged, or else the
+//!   line and the column of the place that `toml` tells (`specs/Syntax.antt`).
 //! - What else a line says is a hint: one line of printable text of at most [`MAX_HINT`] bytes, whatever is in the file
 //!   (`specs/Hints.antt`). Its words are open.
 #![tactic(auto)]

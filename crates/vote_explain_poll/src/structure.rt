@@ -28,7 +28,7 @@ fn length_of_text(text: &[u8]) -> Option<usize> {
         match rest {
             _ if is_escaped => is_escaped = false,
             // of four marks or five the first ones belong to the text
-            Some(rest) if !rest.starts_with(&marks[..1]) => {
+            Some(rest) if rest.first().copied() != marks.first().copied() => {
                 return Some(place.saturating_add(marks.len()));
             }
             _ => is_escaped = *byte == b'\\' && marks.starts_with(b"\""),

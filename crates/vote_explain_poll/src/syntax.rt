@@ -3,7 +3,7 @@
 ghost use Rattle.std.specs.Prelude.{◌≡◌, ◌≤◌, ◌++◌, IfOk, codes, decimal, length, string_bytes, take};
 ghost use Rattle.vote_poll_text.specs.Adding.{Adds};
 ghost use Rattle.vote_explain_poll.specs.Hints.{IsExcerpt, IsHint, Tells};
-ghost use Rattle.vote_explain_poll.specs.Syntax.{IsPlaceFinding, IsSyntaxFinding, begins_character, column_number, exchanged_text, file_text, first_line, last_line, line_number};
+ghost use Rattle.vote_explain_poll.specs.Syntax.{IsPlaceFinding, IsPlainFinding, IsSyntaxFinding, begins_character, column_number, file_text, first_line, last_line, line_number};
 
 use crate::characters::push_character;
 use crate::file_kinds::file_kind;
@@ -91,17 +91,6 @@ fn index_of(text: &[u8], error: &toml::de::Error) -> usize
         Some(span) => span.start.min(text.len()),
         None => 0,
     }
-}
-
-/// Adds that the files may be exchanged, if they may.
-#[tactic(auto, unfolding(crate::specs::Syntax::exchanged_text))]
-fn push_exchanged(text: &mut String, is_exchanged: bool) -> Result<(), AllocError>
-    ensures { Adds result text.old (exchanged_text is_exchanged) text.new }
-{
-    if !is_exchanged {
-        return Ok(());
-    }
-    text.push_str("the poll file looks like ballots: are the files exchanged?\n")
 }
 
 /// Adds that a finding is at this line and column of the poll.
@@ -252,7 +241,6 @@ fn push_syntax(
     ensures { Tells result finding.old (IsPlaceFinding text.now) finding.new }
 {
     let place = place_at(text, at);
-    push_exchanged(finding, is_ballot_line(first_line(text)))?;
     push_place(finding, place.number, column_number(place.left))?;
     push_syntax_hint(alloc, finding, &place, said, file)?;
     finding.push_str("\n")?;
@@ -272,6 +260,22 @@ fn place_finding(
     let at = index_of(text, error);
     push_syntax(alloc, &mut finding, text, at, error.message(), file)?;
     Ok(finding)
+}
+
+/// The finding on plain text that is no TOML: the files may be exchanged, or it has a place.
+fn plain_finding(
+    alloc: Global,
+    text: &[u8],
+    error: &toml::de::Error,
+    file: Option<&str>,
+) -> Result<String, AllocError>
+    ensures { IfOk result (λ finding. IsPlainFinding text.now (string_bytes finding)) }
+{
+    if is_ballot_line(first_line(text)) {
+        let exchanged = "the poll file looks like ballots: are the files exchanged?\n";
+        return Ok(String::from_str(alloc, exchanged)?);
+    }
+    Ok(place_finding(alloc, text, error, file)?)
 }
 
 /// The finding on a file of another kind.
@@ -295,6 +299,6 @@ pub(crate) fn syntax_finding(
 {
     match file_kind(text) {
         Some(kind) => file_finding(alloc, kind),
-        None => place_finding(alloc, text, error, file),
+        None => plain_finding(alloc, text, error, file),
     }
 }
