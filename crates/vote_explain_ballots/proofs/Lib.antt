@@ -1,4 +1,4 @@
-pub mod LinePrefixes
+pub mod Scanning
 pub mod Nearest
 pub mod FileLines
 pub mod Listing

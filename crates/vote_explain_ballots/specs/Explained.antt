@@ -59,13 +59,17 @@ question (name ∷ others) =
 abbrev pub stranger_words : Text → List Text → Text
 stranger_words name near = shown MOST_SHOWN name ++ codes " is not on the roll" ++ question near
 
+-- a name that is not on the roll, the names on it that are suggested, and a remark on their ballots
+abbrev pub IsStrangerHint : PollContent → Text → Text → Type 0
+IsStrangerHint poll bytes hint =
+    (near : List Text) × All (IsNearest (before_first is_space bytes) poll.roll) near × IsRemarked (stranger_words (before_first is_space bytes) near) hint
+
 -- What is said after the words of the reply: where a line leaves the grammar; its number of ranks; its name, and those that are near;
 -- the last envelope. No other reply refuses a line.
 abbrev pub IsLineHint : Bool → PollContent → Text → Reply → Text → Type 0
 IsLineHint is_text poll bytes (BadLine Shape) hint = IsShapeHint is_text bytes hint
 IsLineHint is_text poll bytes (BadLine RankCount) hint = hint ≡ rank_count_words (rank_count bytes) (option_count poll)
-IsLineHint is_text poll bytes (BadLine Roll) hint =
-    (near : List Text) × All (IsNearest (before_first is_space bytes) poll.roll) near × IsRemarked (stranger_words (before_first is_space bytes) near) hint
+IsLineHint is_text poll bytes (BadLine Roll) hint = IsStrangerHint poll bytes hint
 IsLineHint is_text poll bytes Late hint = hint ≡ codes "the last envelope is " ++ decimal (last_in_time poll)
 IsLineHint is_text poll bytes other hint = hint ≡ []
 

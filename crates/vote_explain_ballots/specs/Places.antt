@@ -33,11 +33,11 @@ may_end place.LineEnd = true
 -- the same in words
 abbrev pub place_words : Place → List ℕ
 place_words place.Start = codes "the name there: a to z, 0 to 9, . or -"
-place_words place.Name = codes "a to z, 0 to 9, . or - of the name there, or the space after it"
-place_words place.NameEnd = codes "a space there: a name has at most 32 characters"
+place_words place.Name = codes "a space there, or more of the name: a to z, 0 to 9, . or -"
+place_words place.NameEnd = codes "a space there: a name has at most 32 bytes"
 place_words place.Rank = codes "a rank there: a number from 1 to 99, or a hyphen"
-place_words place.Digit = codes "a second digit, a comma or its end there"
-place_words place.LastDigit = codes "a second digit or its end there: a line has at most 200 bytes"
+place_words place.Digit = codes "a comma or its end there, or a second digit of the rank"
+place_words place.LastDigit = codes "its end there, or a second digit of the rank: a line has at most 200 bytes"
 place_words place.RankEnd = codes "a comma or its end there"
 place_words place.LineEnd = codes "its end there: a line has at most 200 bytes"
 

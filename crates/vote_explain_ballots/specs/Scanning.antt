@@ -1,5 +1,5 @@
 -- How a line is read from the left.
-use Rattle.std.specs.Prelude.{ℕ, ◌+◌, ◌==◌, if◌then◌else◌, nat_le, nat_lt}
+use Rattle.std.specs.Prelude.{ℕ, ◌-◌, ◌==◌, if◌then◌else◌, nat_lt}
 use Rattle.std.specs.Str.{byte}
 use Rattle.vote_poll.specs.declared.TheConstants.{MAX_LINE}
 use Rattle.vote_poll_text.specs.declared.TheConstants.{MAX_VOTER_NAME}
@@ -16,10 +16,10 @@ place_in part.Name count =
     else place.NameEnd
 place_in part.Rank count = place.Rank
 place_in part.Digit count =
-    if nat_le (count + 2) MAX_LINE then place.Digit
+    if nat_lt count (MAX_LINE - 1) then place.Digit
     else if nat_lt count MAX_LINE then place.LastDigit
     else place.LineEnd
-place_in part.RankEnd count = if nat_le (count + 2) MAX_LINE then place.RankEnd else place.LineEnd
+place_in part.RankEnd count = if nat_lt count (MAX_LINE - 1) then place.RankEnd else place.LineEnd
 
 -- the part after a byte of this part
 abbrev pub next_part : Part → ℕ → Part

@@ -29,16 +29,24 @@ fn begins_with(text: &[u8], name: &[u8]) -> bool {
     same && !next.is_some_and(|byte| byte.is_ascii_alphanumeric())
 }
 
-/// The bytes, in small letters, with which names of options begin.
+/// The bytes with which names of options begin, in any case.
 fn first_bytes(poll: &Poll) -> [bool; 256] {
     let mut begins = [false; 256];
     for before in 0..poll.options() {
         let name = poll.option_name(before + 1).as_bytes();
         if let Some(byte) = name.first() {
-            begins[byte.to_ascii_lowercase() as usize] |= !is_like_ranks(name);
+            let is_name = !is_like_ranks(name);
+            begins[byte.to_ascii_lowercase() as usize] |= is_name;
+            begins[byte.to_ascii_uppercase() as usize] |= is_name;
         }
     }
     begins
+}
+
+/// Whether a word goes on at a place of a line.
+fn is_in_word(line: &[u8], place: usize) -> bool {
+    let before = line.get(place.wrapping_sub(1));
+    before.is_some_and(|byte| byte.is_ascii_alphanumeric())
 }
 
 /// The number of the option with the longest name with which a text begins, and how long it is; zeros if there is none.
@@ -55,11 +63,9 @@ fn option_at(poll: &Poll, text: &[u8]) -> (u8, usize) {
 
 /// Whether a line names options in another order than the poll has them.
 fn has_other_order(poll: &Poll, begins: &[bool; 256], line: &[u8]) -> bool {
-    let (mut last, mut end, mut is_in_word) = (0, 0, false);
+    let (mut last, mut end) = (0, 0);
     for (place, byte) in line.iter().enumerate() {
-        let was_in_word = is_in_word;
-        is_in_word = byte.is_ascii_alphanumeric();
-        if was_in_word || place < end || !begins[byte.to_ascii_lowercase() as usize] {
+        if !begins[*byte as usize] || place < end || is_in_word(line, place) {
             continue;
         }
         let (option, length) = option_at(poll, &line[place..]);

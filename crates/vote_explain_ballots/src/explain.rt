@@ -174,11 +174,10 @@ fn text_of(
 {
     let mut findings = Findings::new(alloc);
     let is_text = push_file_lines(alloc, &mut findings.text, lines, file_text, steps, file)?;
-    findings.is_text = is_text;
     if is_text {
         push_warnings(&mut findings.text, poll, lines, steps, totals)?;
     }
-    findings.add_all(poll, lines, steps)?;
+    findings.add_all(poll, lines, steps, is_text)?;
     let is_wanted = is_text && steps.iter().any(is_of_bad_shape);
     push_example(alloc, &mut findings.text, poll, is_wanted)?;
     push_totals(&mut findings.text, poll, lines, totals)?;

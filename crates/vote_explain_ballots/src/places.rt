@@ -58,9 +58,9 @@ fn place_in(part: Part, count: usize) -> Place
         Part::Name if count < MAX_VOTER_NAME => Place::Name,
         Part::Name => Place::NameEnd,
         Part::Rank => Place::Rank,
-        Part::Digit if count + 2 <= MAX_LINE => Place::Digit,
+        Part::Digit if count < MAX_LINE - 1 => Place::Digit,
         Part::Digit if count < MAX_LINE => Place::LastDigit,
-        Part::RankEnd if count + 2 <= MAX_LINE => Place::RankEnd,
+        Part::RankEnd if count < MAX_LINE - 1 => Place::RankEnd,
         Part::Digit | Part::RankEnd => Place::LineEnd,
     }
 }
@@ -124,11 +124,11 @@ pub(crate) fn place_words(place: Place) -> &'static str
 {
     match place {
         Place::Start => "the name there: a to z, 0 to 9, . or -",
-        Place::Name => "a to z, 0 to 9, . or - of the name there, or the space after it",
-        Place::NameEnd => "a space there: a name has at most 32 characters",
+        Place::Name => "a space there, or more of the name: a to z, 0 to 9, . or -",
+        Place::NameEnd => "a space there: a name has at most 32 bytes",
         Place::Rank => "a rank there: a number from 1 to 99, or a hyphen",
-        Place::Digit => "a second digit, a comma or its end there",
-        Place::LastDigit => "a second digit or its end there: a line has at most 200 bytes",
+        Place::Digit => "a comma or its end there, or a second digit of the rank",
+        Place::LastDigit => "its end there, or a second digit of the rank: a line has at most 200 bytes",
         Place::RankEnd => "a comma or its end there",
         Place::LineEnd => "its end there: a line has at most 200 bytes",
     }
