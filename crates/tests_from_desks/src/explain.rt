@@ -5,7 +5,7 @@ use crate::inputs::{assert_same, lines_of, poll_of};
 use std::alloc::{AllocError, Global};
 use std::process::Abort;
 use std::test::Fail;
-use vote_ballot_findings::{Explained, explain_ballots};
+use vote_explain_ballots::{Explained, explain_ballots};
 use vote_poll::Poll;
 
 const POLL: &str =
@@ -33,13 +33,7 @@ fn explained_for(
     text: &str,
 ) -> Result<Explained, AllocError> {
     let lines = lines_of(rt, alloc, text)?;
-    let found = explain_ballots(
-        alloc,
-        poll,
-        &lines,
-        text.as_bytes().ends_with(b"\n"),
-        Some("my ballots"),
-    );
+    let found = explain_ballots(alloc, poll, &lines, text.as_bytes(), Some("my ballots"));
     drop(lines);
     found
 }

@@ -1,13 +1,13 @@
 -- What `explain` writes, and how it ends.
 use Rattle.std.specs.Prelude.{◌≡◌, ℕ, ◌==◌, ◌&&◌, if◌then◌else◌, List, ◌++◌, length, Option, Some, None, Result, Ok, Err}
 use Rattle.std.specs.Result.{result_err}
-use Rattle.vote_poll_findings.specs.Findings.{AreFindingsOf}
+use Rattle.vote_explain_poll.specs.Findings.{AreFindingsOf}
 use Rattle.vote_poll_text.specs.Lines.{lines_of}
 use Rattle.vote_poll.specs.PollContent.{PollContent}
 use Rattle.vote_poll_keys.specs.Keys.{document}
 use Rattle.vote_poll.specs.PollFile.{poll_in}
 use Rattle.vote_poll.specs.declared.PollFault.{PollFault}
-use Rattle.vote_ballot_findings.specs.Explained.{IsExplained}
+use Rattle.vote_explain_ballots.specs.Explained.{IsExplained}
 use Rattle.vote_sheet.specs.LastBallots.{refused_count}
 use Rattle.vote_sheet.specs.Steps.{check_text}
 use Rattle.vote_sheet.specs.Texts.{Text}

@@ -10,10 +10,10 @@ use crate::fault::{Ended, RunFault};
 use crate::output::{RunText, write_run};
 use crate::reading::lines_of_file;
 use std::alloc::{AllocError, Global};
-use vote_ballot_findings::{Explained, explain_ballots};
+use vote_explain_ballots::{Explained, explain_ballots};
 use vote_files::Sink;
 use vote_poll::{Lines, Poll};
-use vote_poll_findings::{ExplainedPoll, explain_poll};
+use vote_explain_poll::{ExplainedPoll, explain_poll};
 use vote_sheet::check_text;
 
 /// How a run ends with these findings and this number of refused lines.
@@ -49,13 +49,12 @@ fn with_sizes(alloc: Global, poll: &Poll, findings: String) -> Result<RunText, A
     Ok(RunText { text, ended })
 }
 
-/// The findings of a valid poll, and then all that is said about its lines and their file. If `all_ended`, each line ends with a
-/// line feed, otherwise each line but the last.
+/// The findings of a valid poll, and then all that is said about its lines and their file, which has these bytes.
 fn with_lines(
     alloc: Global,
     poll: &Poll,
     lines: &Lines<'_>,
-    all_ended: bool,
+    ballots: &[u8],
     file: Option<&str>,
     findings: String,
 ) -> Result<RunText, AllocError>
@@ -64,7 +63,7 @@ fn with_lines(
     let Explained {
         text: rest,
         refused,
-    } = explain_ballots(alloc, poll, lines, all_ended, file)?;
+    } = explain_ballots(alloc, poll, lines, ballots, file)?;
     let ended = ended_by_findings(&findings, refused);
     let text = appended(findings, rest)?;
     Ok(RunText { text, ended })
@@ -87,7 +86,7 @@ fn with_rest(
         return Ok(with_sizes(alloc, poll, found)?);
     };
     match lines_of_file(alloc, ballots) {
-        Ok(lines) => Ok(with_lines(alloc, poll, &lines, ballots.ends_with(b"\n"), file, found)?),
+        Ok(lines) => Ok(with_lines(alloc, poll, &lines, ballots, file, found)?),
         Err(fault) => Err(fault),
     }
 }

@@ -2,25 +2,35 @@
 ghost use Rattle.std.specs.Prelude.{◌≡◌, ℕ, ◌≤◌, ◌<◌, ◌↔◌, ◌⊎◌, IsTrue, IfSome};
 ghost use Rattle.vote_poll.specs.Options.{IsOption};
 ghost use Rattle.vote_poll.specs.PollContent.{option_count};
-ghost use Rattle.vote_count.specs.Rules.{MeetsQuorum, IsQuorum, MeetsMajority, IsKept, IsAhead, AreAhead, InSchwartzSet, IsWeaker, AreWeakest, votes_for};
+ghost use Rattle.vote_count.specs.Rules.{AreTimesQ, MeetsQuorum, IsQuorum, MeetsMajority, IsKept, IsAhead, AreAhead, InSchwartzSet, IsWeaker, AreWeakest, votes_for};
 ghost use Rattle.vote_count.specs.Weakest.{IsWeakerOf, IsOneWeakest, IsNoStronger, AreOptions, AreBetween};
 ghost use Rattle.vote_count.specs.Sets.{In, Pairs};
+ghost use Rattle.vote_poll.specs.declared.TheConstants.{MAX_ELECTORS};
 
 use crate::{Defeats, Matrix, OptionSet};
 use vote_poll::{MAX_OPTIONS, Poll, Wording};
 
-/// The fewest votes that meet the quorum (section 4.2): the poll's multiple of Q. Q is half of the
-/// square root of the number of electors, and is not rounded. With a multiple of 0 the result is 0.
-pub fn quorum_votes(poll: &Poll) -> u64
-    ensures { IsQuorum poll.now result }
+/// The fewest votes that are at least this multiple of Q (section 4.2). Q is half of the square root of
+/// the number of electors, and is not rounded. With a multiple of 0 the result is 0.
+pub fn times_q(multiple: u8, electors: usize) -> u64
+    requires multiple { multiple ≤ 10 }
+    requires electors { electors ≤ MAX_ELECTORS }
+    ensures { AreTimesQ multiple electors result }
 {
-    let multiple = u64::from(poll.quorum_multiple());
-    let bound = multiple * multiple * poll.electors() as u64;
+    let times = u64::from(multiple);
+    let bound = times * times * electors as u64;
     let mut votes: u64 = 0;
     while 2 * votes * (2 * votes) < bound {
         votes += 1;
     }
     votes
+}
+
+/// The fewest votes that meet the quorum of a poll (section 4.2): its multiple of Q.
+pub fn quorum_votes(poll: &Poll) -> u64
+    ensures { IsQuorum poll.now result }
+{
+    times_q(poll.quorum_multiple(), poll.electors())
 }
 
 /// Whether the votes of an option over the default option meet the quorum (section 4.2; Appendix A,

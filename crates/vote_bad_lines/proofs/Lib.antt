@@ -1,2 +1,0 @@
-pub mod LinePrefixes
-pub mod Nearest

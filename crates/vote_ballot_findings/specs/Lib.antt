@@ -1,3 +1,0 @@
-pub mod Refusals
-pub mod Replies
-pub mod Explained

@@ -1,5 +1,0 @@
-use Rattle.std.proofs.Common.{refl}
-use Rattle.vote_ballot_hints.proofs.limits_are_as_written.Goals as goal
-
-pub returns : goal.returns
-returns c = record { shown = refl; remark = refl }

@@ -1,0 +1,68 @@
+-- What the box replies to the lines that one desk casts in their order.
+use Rattle.std.proofs.Common.{◌≡◌, ◌+◌, ◌≤◌, ◌++◌, ◌∙◌, ℕ, zero, suc, List, [], ◌∷◌, drop, length, take, refl, ap, sym, Option, Some, None, false, arith, slice_get, take-append-drop, nat_lt, inl, inr}
+use Rattle.std.specs.Prelude.{option_and_then}
+use Rattle.std.proofs.lemmas.Bool.{cases_Bool}
+use Rattle.std.proofs.lemmas.List.{drop_more, take-append-le}
+use Rattle.std.proofs.lemmas.Option.{get_or_from_slice_get, slice_get_within}
+use Rattle.vote_poll.specs.Readings.{reading}
+use Rattle.vote_poll.specs.declared.Reading.{Reading}
+use Rattle.vote_poll.specs.declared.Reading.TheVariants.{Ballot, Bad}
+use Rattle.vote_steps.specs.History.{before_close, is_close, is_closed, is_late, reply_beside, reply_to, standing}
+use Rattle.vote_steps.specs.declared.Received.{Received}
+use Rattle.vote_steps.specs.declared.Step.{Step}
+use Rattle.vote_steps.specs.declared.Step.TheVariants.{Cast, Close}
+use Rattle.vote_steps.proofs.CastLemmas.{read_at}
+use Rattle.vote_explain_ballots.specs.Refusals.{refusing_reply}
+use Rattle.vote_explain_ballots.specs.Replies.{RefusedAsBySteps, if_refusing, reply_to_cast}
+
+-- ---- the reply of an open box refuses the line that is late or no ballot
+beside_refuses_none : (other : Option Received) (stamp : ℕ) → if_refusing (reply_beside other stamp) ≡ None
+beside_refuses_none None stamp = refl
+beside_refuses_none (Some ballot) stamp =
+    elim (cases_Bool (nat_lt stamp ballot.stamp)) [
+      | inl before ↦ rw before
+      | inr later ↦ rw later
+    ]
+
+refuses_as_read : (last : ℕ) (before : List Step) (stamp : ℕ) (read : Reading) → is_closed before ≡ false → if_refusing (reply_to last before stamp read) ≡ refusing_reply last stamp read
+refuses_as_read last before stamp (Bad fault) is_open =
+    elim (cases_Bool (is_late last stamp)) [
+      | inl late ↦ rw (is_open, late) refl
+      | inr in_time ↦ rw (is_open, in_time) refl
+    ]
+refuses_as_read last before stamp (Ballot voter ranks) is_open =
+    elim (cases_Bool (is_late last stamp)) [
+      | inl late ↦ rw (is_open, late) refl
+      | inr in_time ↦ rw (is_open, in_time) (beside_refuses_none (standing last before voter) stamp)
+    ]
+
+-- ---- the box is open before its close
+open_before : (steps : List Step) (place : ℕ) → is_closed (take place (before_close steps)) ≡ false
+open_before steps zero = refl
+open_before [] (suc place) = refl
+open_before (step ∷ steps) (suc place) =
+    elim (cases_Bool (is_close step)) [
+      | inl close ↦ rw close refl
+      | inr cast ↦ rw cast (rw (cast, open_before steps place))
+    ]
+
+is_open : (steps : List Step) (place : ℕ) → steps ≡ before_close steps ++ Close ∷ [] → place ≤ length (before_close steps) → is_closed (take place steps) ≡ false
+is_open steps place closed_last within =
+    ap (λ all. is_closed (take place all)) closed_last ∙ ap is_closed (take-append-le place (before_close steps) (Close ∷ []) within) ∙ open_before steps place
+
+split_at : (steps : List Step) (place : ℕ) (step : Step) → slice_get steps place ≡ Some step → steps ≡ take place steps ++ step ∷ drop (place + 1) steps
+split_at steps place step at =
+    sym (take-append-drop place steps) ∙ ap (λ rest. take place steps ++ rest) (drop_more steps place step (slice_get_within steps place step at))
+    ∙ ap (λ here. take place steps ++ here ∷ drop (place + 1) steps) (get_or_from_slice_get steps place step step at)
+
+pub replies_of_box : RefusedAsBySteps
+replies_of_box poll lines b holds order place bytes at =
+    let read = reading poll bytes in
+    let (reply, is_cast) = order place read (read_at poll lines place bytes at) in
+    let before = take place b.steps in
+    let legal = holds.legal before (drop (place + 1) b.steps) (Cast 1 (place + 1) read reply) (split_at b.steps place (Cast 1 (place + 1) read reply) is_cast) in
+    let still_open = is_open b.steps place holds.closed_last (omega (arith, holds.casts, slice_get_within lines place bytes at)) in (
+      reply,
+      ap (option_and_then reply_to_cast) is_cast,
+      ap if_refusing legal.answered ∙ refuses_as_read b.last_in_time before (place + 1) read still_open ∙ ap (λ last. refusing_reply last (place + 1) read) holds.sizes.3,
+    )

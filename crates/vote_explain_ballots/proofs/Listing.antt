@@ -1,0 +1,59 @@
+-- The findings of refused lines, one after another.
+use Rattle.std.proofs.Common.{◌≡◌, ◌+◌, ◌++◌, ◌∙◌, ℕ, List, [], ◌∷◌, take, refl, ap, sym, subst, Some, Bool, true, false, arith, append_assoc, append-nil, slice_get}
+use Rattle.std.specs.List.{enumerate_from, flat_map}
+use Rattle.std.proofs.lemmas.List.{flat_map_more, take_more}
+use Rattle.std.proofs.lemmas.List.FromFn.{get_or-enumerate_from, length-enumerate_from}
+use Rattle.std.proofs.lemmas.Option.{get_or_from_slice_get, slice_get_within}
+use Rattle.vote_poll.specs.PollContent.{PollContent, last_in_time}
+use Rattle.vote_poll.specs.Readings.{reading}
+use Rattle.vote_poll_text.specs.Lines.{line_feed}
+use Rattle.vote_steps.specs.History.{is_valid}
+use Rattle.vote_steps.specs.declared.Reply.{Reply}
+use Rattle.vote_sheet.specs.Texts.{Text}
+use Rattle.vote_explain_ballots.specs.Remarks.{Added, IsRemark}
+use Rattle.vote_explain_ballots.specs.Explained.{AreLineFindings, IsLineHint, IsRemarked, finding, finding_head}
+use Rattle.vote_explain_ballots.specs.Refusals.{Refusal, refusal_by, refusal_of, refusing_reply}
+use Rattle.vote_explain_ballots.specs.Replies.{if_refusing, refusal}
+
+-- ---- the finding of a line
+-- words were added, and then a remark
+pub remarked : (words t0 t1 t2 : Text) → t1 ≡ t0 ++ words → Added IsRemark t1 t2 → Added (IsRemarked words) t0 t2
+remarked words t0 t1 t2 e (remark, is, e2) = (words ++ remark, (remark, is, refl), e2 ∙ ap (λ t. t ++ remark) e ∙ append_assoc t0 words remark)
+
+-- a valid line has none
+pub no_finding : (is_text : Bool) (poll : PollContent) (number : ℕ) (bytes : Text) (reply : Reply) (text : Text) → is_valid reply ≡ true → Added (AreLineFindings is_text poll (refusal number bytes reply)) text text
+no_finding is_text poll number bytes reply text valid = rw valid ([], refl, sym (append-nil text))
+
+-- its words were added, then its hint, and a line feed
+pub one_finding : (is_text : Bool) (poll : PollContent) (number : ℕ) (bytes : Text) (reply : Reply) (t0 t1 t2 t3 : Text) → is_valid reply ≡ false
+    → t1 ≡ t0 ++ finding_head number reply → Added (IsLineHint is_text poll bytes reply) t1 t2 → t3 ≡ t2 ++ line_feed → Added (AreLineFindings is_text poll (refusal number bytes reply)) t0 t3
+one_finding is_text poll number bytes reply t0 t1 t2 t3 refused e1 (hint, is, e2) e3 =
+    let one : Refusal = record { number = number; bytes = bytes; reply = reply } in
+    rw refused (finding one hint, (hint, [], is, refl, sym (append-nil (finding one hint))), rw (e3, e2, e1) (simp append_assoc))
+
+-- ---- one after another
+findings_append : (is_text : Bool) (poll : PollContent) (some others : List Refusal) (text rest : Text) → AreLineFindings is_text poll some text → AreLineFindings is_text poll others rest → AreLineFindings is_text poll (some ++ others) (text ++ rest)
+findings_append is_text poll [] others text rest are more = subst (AreLineFindings is_text poll others) (sym (ap (λ t. t ++ rest) are)) more
+findings_append is_text poll (refusal ∷ some) others text rest (hint, later, is, are, same) more =
+    (hint, later ++ rest, is, findings_append is_text poll some others later rest are more, ap (λ t. t ++ rest) same ∙ append_assoc (finding refusal hint) later rest)
+
+pub findings_on : (is_text : Bool) (poll : PollContent) (some others : List Refusal) (t0 t1 t2 : Text) → Added (AreLineFindings is_text poll some) t0 t1 → Added (AreLineFindings is_text poll others) t1 t2 → Added (AreLineFindings is_text poll (some ++ others)) t0 t2
+findings_on is_text poll some others t0 t1 t2 (a, are, e1) (b, more, e2) =
+    (a ++ b, findings_append is_text poll some others a b are more, e2 ∙ ap (λ t. t ++ b) e1 ∙ append_assoc t0 a b)
+
+-- the refusals of the lines before a place
+abbrev pub refusals_before : PollContent → ℕ → List Text → List Refusal
+refusals_before poll place lines = flat_map (refusal_of poll) (take place (enumerate_from 1 lines))
+
+pub refusals_next : (poll : PollContent) (lines : List Text) (place : ℕ) (bytes : Text) (reply : Reply) → slice_get lines place ≡ Some bytes
+    → if_refusing reply ≡ refusing_reply (last_in_time poll) (place + 1) (reading poll bytes)
+    → refusals_before poll (place + 1) lines ≡ refusals_before poll place lines ++ refusal (place + 1) bytes reply
+refusals_next poll lines place bytes reply at same =
+    let numbered = enumerate_from 1 lines in
+    let within = slice_get_within lines place bytes at in
+    let here = get_or-enumerate_from 1 lines place (0, bytes) within ∙ ap (λ line. (1 + place, line)) (get_or_from_slice_get lines place bytes bytes at) in
+    let number : 1 + place ≡ place + 1 = omega arith in
+    ap (flat_map (refusal_of poll)) (take_more numbered place (0, bytes) (omega (arith, within, length-enumerate_from 1 lines)))
+    ∙ sym (flat_map_more (refusal_of poll) [] (take place numbered) _)
+    ∙ ap (λ line. refusals_before poll place lines ++ refusal_of poll line) (here ∙ ap (λ n. (n, bytes)) number)
+    ∙ ap (λ r. refusals_before poll place lines ++ refusal_by (place + 1) bytes r) (sym same)

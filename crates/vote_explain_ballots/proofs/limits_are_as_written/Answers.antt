@@ -1,0 +1,5 @@
+use Rattle.std.proofs.Common.{refl}
+use Rattle.vote_explain_ballots.proofs.limits_are_as_written.Goals as goal
+
+pub returns : goal.returns
+returns c = record { shown = refl; remark = refl }

@@ -1,0 +1,11 @@
+use Rattle.std.proofs.Common.{◌∙◌, ap, arith, sym}
+use Rattle.std.specs.List.{list_all}
+use Rattle.std.proofs.lemmas.Bool.Decides.{nat_tests}
+use Rattle.vote_poll_text.specs.Names.{is_printable}
+use Rattle.vote_explain_ballots.proofs.remark.is_remark.Goals as goal
+
+pub returns-then-text-le-MOST_REMARK : goal.returns-then-text-le-MOST_REMARK
+returns-then-text-le-MOST_REMARK c is = record {
+  printable = sym (c.are_printable.ensures ∙ ap (list_all is_printable) c.as_bytes.ensures.value) ∙ is;
+  short = grind (arith, nat_tests, c.if-text-le-MOST_REMARK.true);
+}

@@ -1,0 +1,171 @@
+//! Signs that the ranks of a ballot file may stand in another order than the options of the poll.
+
+ghost use Rattle.std.specs.Prelude.{◌≡◌, ◌≤◌, IfSome, length};
+ghost use Rattle.vote_poll_text.specs.Adding.{Adds};
+ghost use Rattle.vote_explain_ballots.specs.Explained.{order_text, table_text};
+ghost use Rattle.vote_explain_ballots.specs.Remarks.{AddsSome};
+ghost use Rattle.vote_explain_ballots.specs.Explained.{IsColumnsText};
+
+use crate::MARK;
+use std::alloc::AllocError;
+use vote_poll::{LineFault, Lines, Poll};
+use vote_steps::{Reply, Step};
+
+/// Whether a name has digits and hyphens alone, as ranks have.
+fn is_like_ranks(name: &[u8]) -> bool {
+    name.iter()
+        .all(|byte| byte.is_ascii_digit() || *byte == b'-')
+}
+
+/// Whether a text begins with a name, in any case, and with no longer word.
+fn begins_with(text: &[u8], name: &[u8]) -> bool {
+    let (Some(begin), next) = (text.get(..name.len()), text.get(name.len())) else {
+        return false;
+    };
+    let same = begin
+        .iter()
+        .zip(name)
+        .all(|(one, other)| one.eq_ignore_ascii_case(other));
+    same && !next.is_some_and(|byte| byte.is_ascii_alphanumeric())
+}
+
+/// The bytes with which names of options begin, in any case.
+fn first_bytes(poll: &Poll) -> [bool; 256] {
+    let mut begins = [false; 256];
+    for before in 0..poll.options() {
+        let name = poll.option_name(before + 1).as_bytes();
+        if let Some(byte) = name.first() {
+            let is_name = !is_like_ranks(name);
+            begins[byte.to_ascii_lowercase() as usize] |= is_name;
+            begins[byte.to_ascii_uppercase() as usize] |= is_name;
+        }
+    }
+    begins
+}
+
+/// Whether a word goes on at a place of a line.
+fn is_in_word(line: &[u8], place: usize) -> bool {
+    let before = line.get(place.wrapping_sub(1));
+    before.is_some_and(|byte| byte.is_ascii_alphanumeric())
+}
+
+/// The number of the option with the longest name with which a text begins, and how long it is; zeros if there is none.
+fn option_at(poll: &Poll, text: &[u8]) -> (u8, usize) {
+    let mut found = (0, 0);
+    for before in 0..poll.options() {
+        let name = poll.option_name(before + 1).as_bytes();
+        if name.len() > found.1 && !is_like_ranks(name) && begins_with(text, name) {
+            found = (before + 1, name.len());
+        }
+    }
+    found
+}
+
+/// Whether a line names options in another order than the poll has them.
+fn has_other_order(poll: &Poll, begins: &[bool; 256], line: &[u8]) -> bool {
+    let (mut last, mut end) = (0, 0);
+    for (place, byte) in line.iter().enumerate() {
+        if !begins[*byte as usize] || place < end || is_in_word(line, place) {
+            continue;
+        }
+        let (option, length) = option_at(poll, &line[place..]);
+        if option == 0 {
+            continue;
+        }
+        if option < last {
+            return true;
+        }
+        last = option;
+        end = place.saturating_add(length);
+    }
+    false
+}
+
+/// Whether a step refuses its line for its shape.
+pub(crate) fn is_of_bad_shape(step: &Step) -> bool {
+    matches!(
+        step,
+        Step::Cast {
+            reply: Reply::BadLine(LineFault::Shape),
+            ..
+        }
+    )
+}
+
+/// The number of the first line of bad shape that names options in another order than the poll has them.
+fn line_of_names(poll: &Poll, lines: &Lines<'_>, steps: &[Step]) -> Option<usize>
+    ensures { IfSome result (λ number. (1 ≤ number) × (number ≤ length lines.now)) }
+{
+    let begins = first_bytes(poll);
+    for place in 0..lines.len() {
+        if steps.get(place).is_some_and(is_of_bad_shape)
+            && has_other_order(poll, &begins, lines.line(place))
+        {
+            return Some(place + 1);
+        }
+    }
+    None
+}
+
+/// The sign, no comma and no space, that parts a name from ranks, and the ranks from each other, in a line that has nothing else.
+fn sign_of(line: &[u8]) -> Option<u8> {
+    let (mut sign, mut signs, mut has_name) = (None, 0usize, false);
+    for byte in line.strip_prefix(MARK).unwrap_or(line) {
+        match (sign, *byte) {
+            (_, b'"' | b'\r') => {}
+            (Some(other), byte) if byte == other => signs = signs.saturating_add(1),
+            (Some(_), b'0'..=b'9' | b'-' | b' ') => {}
+            (None, b'a'..=b'z' | b'A'..=b'Z' | b'0'..=b'9' | b'.' | b'-') => has_name = true,
+            (None, byte) if has_name && !matches!(byte, b',' | b' ') => sign = Some(byte),
+            _ => return None,
+        }
+    }
+    sign.filter(|_| signs > 0)
+}
+
+/// Whether all lines that are not empty have the same sign, no comma, between the name and the ranks too.
+fn look_like_table(lines: &Lines<'_>) -> bool {
+    let mut common = None;
+    for place in 0..lines.len() {
+        let line = lines.line(place);
+        if line.is_empty() {
+            continue;
+        }
+        let sign = sign_of(line);
+        if sign.is_none() || (common.is_some() && sign != common) {
+            return false;
+        }
+        common = sign;
+    }
+    common.is_some()
+}
+
+/// Adds that a line names options in another order.
+fn push_order(text: &mut String, number: usize) -> Result<(), AllocError>
+    ensures { Adds result text.old (order_text number) text.new }
+{
+    writeln!(
+        text,
+        "line {number} names options of the poll in another order than the poll has them: the ranks below it may stand in that order"
+    )
+}
+
+/// Adds whether the ranks may stand in another order than the options, once for the file.
+pub(crate) fn push_columns(
+    text: &mut String,
+    poll: &Poll,
+    lines: &Lines<'_>,
+    steps: &[Step],
+) -> Result<(), AllocError>
+    ensures { AddsSome (IsColumnsText lines.now) result text.old text.new }
+{
+    if let Some(number) = line_of_names(poll, lines, steps) {
+        return push_order(text, number);
+    }
+    if look_like_table(lines) {
+        return text.push_str(
+            "the lines look like a table; its columns may stand in another order than the options\n",
+        );
+    }
+    Ok(())
+}

@@ -1,0 +1,217 @@
+//! What is wrong with the lines of a ballot file, as a text.
+
+ghost use Rattle.std.specs.Prelude.{◌≡◌, IfOk, OnOk, drop, length};
+ghost use Rattle.vote_poll.specs.PollContent.{last_in_time};
+ghost use Rattle.vote_poll.specs.Readings.{is_ballot, reading};
+ghost use Rattle.vote_poll_text.specs.Adding.{Adds};
+ghost use Rattle.vote_steps.specs.HeldLines.{HoldsLines};
+ghost use Rattle.vote_sheet.specs.LastBallots.{refused_count};
+ghost use Rattle.vote_explain_ballots.specs.Remarks.{AddsSome};
+ghost use Rattle.vote_explain_ballots.specs.Explained.{AreTotals, AreWarnings, IsExample, SaysAll, counted_line, counted_text, example_line, numbers_text};
+ghost use Rattle.vote_explain_ballots.specs.Refusals.{EachRefusalIsListed};
+ghost use Rattle.vote_explain_ballots.specs.Replies.{AreReplies, RefusedAsBySteps};
+
+use crate::columns::{is_of_bad_shape, push_columns};
+use crate::findings::Findings;
+use crate::whole_file::push_file_lines;
+use std::alloc::{AllocError, Global};
+use vote_poll::{Lines, Poll, Reading, read_line};
+use vote_steps::laws::lines_are_counted;
+use vote_steps::{BallotBox, Step, Totals, cast_all};
+
+/// What is wrong with the lines of a ballot file.
+#[derive(Drop)]
+pub struct Explained {
+    /// What is remarked on the whole file, a line for each refused line, an example, and the numbers.
+    pub text: String,
+    /// How many lines are refused.
+    pub refused: u64,
+}
+
+/// How many lines are late.
+fn late_count(poll: &Poll, lines: &Lines<'_>) -> usize
+    ensures { result ≡ length (drop (last_in_time poll.now) lines.now) }
+{
+    lines.len().saturating_sub(poll.last_in_time() as usize)
+}
+
+/// What a box that holds the lines counts, in the words of the result sheet.
+fn totals_of(poll: &Poll, lines: &Lines<'_>, ballot_box: &BallotBox) -> Totals
+    requires { HoldsLines poll.now lines.now ballot_box.now }
+    ensures { AreTotals poll.now lines.now result }
+{
+    lines_are_counted();
+    ballot_box.totals()
+}
+
+/// A ballot line of the poll: its first elector ranks the options in their order.
+fn example(alloc: Global, poll: &Poll) -> Result<String, AllocError> {
+    let mut ballot = String::new(alloc);
+    for byte in poll.voter_name(0).unwrap_or(b"") {
+        ballot.push(*byte as char)?;
+    }
+    ballot.push_str(" 1")?;
+    for before in 1..poll.options() {
+        write!(ballot, ",{}", before + 1)?;
+    }
+    Ok(ballot)
+}
+
+/// Adds a line with an example.
+fn push_line(text: &mut String, example: &str) -> Result<(), AllocError>
+    ensures { Adds result text.old (example_line example.now) text.new }
+{
+    writeln!(text, "a ballot line of this poll: {example}")
+}
+
+/// Whether the poll reads a ballot in a line.
+fn is_ballot(poll: &Poll, line: &[u8]) -> bool
+    ensures { result ≡ is_ballot (reading poll.now line.now) }
+{
+    match read_line(poll, line) {
+        Reading::Ballot { .. } => true,
+        Reading::Bad(_) => false,
+    }
+}
+
+/// Adds an example if it is wanted, and if it is a ballot of the poll.
+fn push_example(
+    alloc: Global,
+    text: &mut String,
+    poll: &Poll,
+    is_wanted: bool,
+) -> Result<(), AllocError>
+    ensures { AddsSome (IsExample poll.now) result text.old text.new }
+{
+    if !is_wanted {
+        return Ok(());
+    }
+    let example = example(alloc, poll)?;
+    if !is_ballot(poll, example.as_bytes()) {
+        return Ok(());
+    }
+    push_line(text, example.as_str())?;
+    Ok(())
+}
+
+/// Adds how many lines are valid, refused and late, and how many electors have a ballot.
+fn push_totals(
+    text: &mut String,
+    poll: &Poll,
+    lines: &Lines<'_>,
+    totals: &Totals,
+) -> Result<(), AllocError>
+    requires { AreTotals poll.now lines.now totals.now }
+    ensures { Adds result text.old (numbers_text poll.now lines.now) text.new }
+{
+    let (count, late, electors) = (lines.len(), late_count(poll, lines), poll.electors());
+    let (valid, refused, voters) = (totals.valid, totals.refused, totals.voters);
+    writeln!(
+        text,
+        "{count} lines: {valid} valid, {refused} refused, {late} of them late; {voters} of {electors} electors have a ballot"
+    )
+}
+
+/// Adds that lines are counted.
+fn push_counted_line(text: &mut String, last: u32) -> Result<(), AllocError>
+    ensures { Adds result text.old (counted_line last) text.new }
+{
+    writeln!(
+        text,
+        "lines are counted: taking one out, or adding one above line {last}, changes which ballots are late"
+    )
+}
+
+/// Adds that lines are counted, if the poll has a last envelope, the file has a line with its number, and a line is refused that is not
+/// late.
+fn push_counted(
+    text: &mut String,
+    poll: &Poll,
+    lines: &Lines<'_>,
+    totals: &Totals,
+) -> Result<(), AllocError>
+    requires { AreTotals poll.now lines.now totals.now }
+    ensures { Adds result text.old (counted_text poll.now lines.now) text.new }
+{
+    let Some(last) = poll.last_envelope() else {
+        return Ok(());
+    };
+    if lines.len() < last as usize || totals.refused <= late_count(poll, lines) as u64 {
+        return Ok(());
+    }
+    push_counted_line(text, last)
+}
+
+/// Adds what is said of a file that can be ballots before its lines.
+fn push_warnings(
+    text: &mut String,
+    poll: &Poll,
+    lines: &Lines<'_>,
+    steps: &[Step],
+    totals: &Totals,
+) -> Result<(), AllocError>
+    requires { AreTotals poll.now lines.now totals.now }
+    ensures { AddsSome (AreWarnings poll.now lines.now) result text.old text.new }
+{
+    push_columns(text, poll, lines, steps)?;
+    push_counted(text, poll, lines, totals)?;
+    Ok(())
+}
+
+/// All that is said of the lines, which one desk cast in their order, and which this counts.
+fn text_of(
+    alloc: Global,
+    poll: &Poll,
+    lines: &Lines<'_>,
+    file_text: &[u8],
+    file: Option<&str>,
+    steps: &[Step],
+    totals: &Totals,
+) -> Result<String, AllocError>
+    requires replies { AreReplies poll.now lines.now steps.now }
+    requires totals { AreTotals poll.now lines.now totals.now }
+    ensures { IfOk result (SaysAll poll.now lines.now) }
+{
+    let mut findings = Findings::new(alloc);
+    let is_text = push_file_lines(alloc, &mut findings.text, lines, file_text, steps, file)?;
+    if is_text {
+        push_warnings(&mut findings.text, poll, lines, steps, totals)?;
+    }
+    findings.add_all(poll, lines, steps, is_text)?;
+    let is_wanted = is_text && steps.iter().any(is_of_bad_shape);
+    push_example(alloc, &mut findings.text, poll, is_wanted)?;
+    push_totals(&mut findings.text, poll, lines, totals)?;
+    Ok(findings.text)
+}
+
+/// What is wrong with the lines of a ballot file: what is remarked on the whole file; a line for each line that is refused, in their
+/// order, with the words that `steps` has for it and a hint; a ballot line as an example, if a line is of bad shape; and how many
+/// lines are valid and refused. `text` is the file of the lines, and `file` its name for a command that mends it, where it has one.
+pub fn explain_ballots(
+    alloc: Global,
+    poll: &Poll,
+    lines: &Lines<'_>,
+    text: &[u8],
+    file: Option<&str>,
+) -> Result<Explained, AllocError>
+    ensures text { IfOk result (λ said. SaysAll poll.now lines.now said.text) }
+    ensures refused { IfOk result (λ said. said.refused ≡ refused_count poll.now lines.now) }
+{
+    let ballot_box = cast_all(alloc, poll, lines)?;
+    let totals = totals_of(poll, lines, &ballot_box);
+    let text = text_of(alloc, poll, lines, text, file, ballot_box.steps(), &totals)?;
+    Ok(Explained {
+        text,
+        refused: totals.refused,
+    })
+}
+
+/// A law: as many lines are listed as the result sheet has refused lines.
+pub fn each_refusal_is_listed()
+    ensures { EachRefusalIsListed }
+{}
+
+/// A law: the box of `steps` refuses the lines that are listed, and no others, each with the reply that is told.
+pub fn refused_as_by_steps()
+    ensures { RefusedAsBySteps }
+{}

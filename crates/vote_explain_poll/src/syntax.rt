@@ -1,0 +1,304 @@
+//! What is said of a poll file that is no TOML: what kind of file it is, or where it leaves TOML, and what stands there. The text and the
+//! place say the line and the column; at which place `toml` finds the error no contract says.
+ghost use Rattle.std.specs.Prelude.{◌≡◌, ◌≤◌, ◌++◌, IfOk, codes, decimal, length, string_bytes, take};
+ghost use Rattle.vote_poll_text.specs.Adding.{Adds};
+ghost use Rattle.vote_explain_poll.specs.Hints.{IsExcerpt, IsHint, Tells};
+ghost use Rattle.vote_explain_poll.specs.Syntax.{IsPlaceFinding, IsPlainFinding, IsSyntaxFinding, begins_character, column_number, file_text, first_line, last_line, line_number};
+
+use crate::characters::push_character;
+use crate::file_kinds::file_kind;
+use crate::structure::{definition, structure_of};
+use crate::{MAX_SHOWN, push_hint};
+use std::alloc::{AllocError, Global};
+use vote_poll::is_ballot_line;
+use vote_poll_text::{count_feeds, is_printable, push_mending, push_shown, split_at_feed};
+
+/// A place in a text.
+#[derive(Clone, Copy, Drop)]
+struct Place<'t> {
+    text: &'t [u8],
+    /// All that stands before the place, and after it.
+    before: &'t [u8],
+    after: &'t [u8],
+    /// What stands before the place in its line, and after it.
+    left: &'t [u8],
+    right: &'t [u8],
+    /// The number of the line.
+    number: usize,
+}
+
+/// The first line of a text, without its line feed.
+pub(crate) fn first_line(text: &[u8]) -> &[u8]
+    ensures { result.now ≡ first_line text.now }
+{
+    match split_at_feed(text) {
+        Some((line, _)) => line,
+        None => text,
+    }
+}
+
+/// What stands in a text after its last line feed.
+fn last_line(text: &[u8]) -> &[u8]
+    ensures { result.now ≡ last_line text.now }
+{
+    let mut line = text;
+    while let Some((_, after)) = split_at_feed(line) {
+        line = after;
+    }
+    line
+}
+
+/// Whether a byte of UTF-8 is the first one of a character.
+fn begins_character(byte: u8) -> bool
+    ensures { result ≡ begins_character byte }
+{
+    !matches!(byte, 0x80..=0xBF)
+}
+
+/// The column after the beginning of a line. Columns count characters.
+fn column_number(before: &[u8]) -> usize
+    ensures { result ≡ column_number before.now }
+{
+    before
+        .iter()
+        .filter(|byte| begins_character(**byte))
+        .count()
+        + 1
+}
+
+/// The place in a text before which so many of its bytes stand.
+fn place_at(text: &[u8], at: usize) -> Place<'_>
+    requires { at ≤ length text.now }
+    ensures left { result.left.now ≡ last_line (take at text.now) }
+    ensures number { result.number ≡ line_number (take at text.now) }
+{
+    let (before, after) = text.split_at(at);
+    Place {
+        text,
+        before,
+        after,
+        left: last_line(before),
+        right: first_line(after),
+        number: count_feeds(before) + 1,
+    }
+}
+
+/// How many bytes of a text stand before an error.
+fn index_of(text: &[u8], error: &toml::de::Error) -> usize
+    ensures { result ≤ length text.now }
+{
+    match error.span() {
+        Some(span) => span.start.min(text.len()),
+        None => 0,
+    }
+}
+
+/// Adds that a finding is at this line and column of the poll.
+fn push_place(text: &mut String, line: usize, column: usize) -> Result<(), AllocError>
+    ensures { Adds result text.old (codes "poll:" ++ decimal line ++ codes ":" ++ decimal column ++ codes ": ") text.new }
+{
+    write!(text, "poll:{line}:{column}: ")
+}
+
+/// Adds the name of what stands at a place, or at the end of a line of the last before it, if it is no printable ASCII.
+fn push_sign(words: &mut String, place: &Place<'_>) -> Result<(), AllocError> {
+    let begin = place.left.iter().rposition(|byte| begins_character(*byte));
+    let last = place.left.get(begin.unwrap_or(0)..).unwrap_or(b"");
+    match (place.right, last) {
+        ([] | [13], [0x80..=0xFF, ..]) => {
+            words.push_str(": after ")?;
+            push_character(words, last)
+        }
+        ([] | [13] | [b' '..=b'~', ..], _) => Ok(()),
+        _ => {
+            words.push_str(": ")?;
+            push_character(words, place.right)
+        }
+    }
+}
+
+/// The number of the line at a place in a text. Nothing is promised of it, unlike of that in [`Place`].
+fn line_at(text: &[u8], place: usize) -> usize {
+    count_feeds(text.get(..place).unwrap_or(b"")).saturating_add(1)
+}
+
+/// Adds what the file ends within, if it ends at a place.
+fn push_unfinished(words: &mut String, place: &Place<'_>) -> Result<(), AllocError> {
+    if !place.after.trim_ascii().is_empty() {
+        return Ok(());
+    }
+    let Some((what, begin)) = structure_of(place.text, b"").open else {
+        return Ok(());
+    };
+    let line = line_at(place.text, begin);
+    write!(
+        words,
+        "; the file ends within the {what} that begins in line {line}: its end may be missing"
+    )
+}
+
+/// Adds both places of a key that is there twice.
+fn push_both_places(words: &mut String, place: &Place<'_>) -> Result<(), AllocError> {
+    let key = definition(place.right);
+    let first = structure_of(place.before, key).first;
+    let Some(first) = first.filter(|_| place.left.trim_ascii().is_empty()) else {
+        return Ok(());
+    };
+    let line = line_at(place.text, first);
+    words.push_str(": ")?;
+    push_shown(words, key, MAX_SHOWN)?;
+    write!(words, " is in line {line} and in line {}", place.number)
+}
+
+/// What carriage returns in place of line feeds are.
+const OLD_MAC: &str =
+    ": carriage returns end the lines, as on old Macs, and not line feeds: this can be mended";
+
+/// Adds what is said of a place after the words of `toml`.
+fn push_facts(
+    words: &mut String,
+    place: &Place<'_>,
+    said: &str,
+    file: Option<&str>,
+) -> Result<(), AllocError> {
+    if !place.text.contains(&b'\n') && place.text.contains(&b'\r') {
+        return push_mending(words, OLD_MAC, "tr '\\r' '\\n'", "", file);
+    }
+    if said == "duplicate key" {
+        return push_both_places(words, place);
+    }
+    push_sign(words, place)?;
+    push_unfinished(words, place)
+}
+
+/// Adds the words of `toml` on a place, and what stands there. `file` is the name of the file for a command that mends it, if it has one.
+fn push_syntax_hint(
+    alloc: Global,
+    text: &mut String,
+    place: &Place<'_>,
+    said: &str,
+    file: Option<&str>,
+) -> Result<(), AllocError>
+    ensures { Tells result text.old IsHint text.new }
+{
+    let mut words = String::from_str(alloc, said)?;
+    push_facts(&mut words, place, said, file)?;
+    push_hint(text, words.as_bytes())
+}
+
+/// A mark below the byte that follows these in what is shown of a line.
+fn mark_behind(alloc: Global, bytes: &[u8]) -> Result<String, AllocError> {
+    let mut mark = String::new(alloc);
+    for byte in bytes {
+        mark.push_str(if is_printable(*byte) { " " } else { "    " })?;
+    }
+    mark.push_str("^")?;
+    Ok(mark)
+}
+
+/// What is shown of the line of a place: its part around the place, and what of this stands before the place.
+fn part_around<'t>(place: &Place<'t>) -> (&'t [u8], &'t [u8]) {
+    let at = place.left.len();
+    let begin_of_line = place.before.len().saturating_sub(at);
+    let line = first_line(place.text.get(begin_of_line..).unwrap_or(b""));
+    let begin = at
+        .saturating_sub(MAX_SHOWN / 2)
+        .min(line.len().saturating_sub(MAX_SHOWN));
+    let part = line.get(begin..).unwrap_or(b"");
+    let before = part.get(..at.saturating_sub(begin)).unwrap_or(b"");
+    (part.get(..MAX_SHOWN).unwrap_or(part), before)
+}
+
+/// Adds a line of a file, and a line with a mark.
+fn push_two_lines(text: &mut String, line: &[u8], mark: &str) -> Result<(), AllocError>
+    ensures { Tells result text.old IsExcerpt text.new }
+{
+    push_hint(text, line)?;
+    text.push_str("\n")?;
+    push_hint(text, mark.as_bytes())?;
+    text.push_str("\n")
+}
+
+/// Adds the line of a place, or the part of it around the place, and a line with a mark below the place.
+fn push_excerpt(alloc: Global, text: &mut String, place: &Place<'_>) -> Result<(), AllocError>
+    ensures { Tells result text.old IsExcerpt text.new }
+{
+    let (line, before) = part_around(place);
+    let mark = mark_behind(alloc, before)?;
+    push_two_lines(text, line, &mark)
+}
+
+/// Adds that a text is no TOML after so many bytes, of which this is said.
+fn push_syntax(
+    alloc: Global,
+    finding: &mut String,
+    text: &[u8],
+    at: usize,
+    said: &str,
+    file: Option<&str>,
+) -> Result<(), AllocError>
+    requires { at ≤ length text.now }
+    ensures { Tells result finding.old (IsPlaceFinding text.now) finding.new }
+{
+    let place = place_at(text, at);
+    push_place(finding, place.number, column_number(place.left))?;
+    push_syntax_hint(alloc, finding, &place, said, file)?;
+    finding.push_str("\n")?;
+    push_excerpt(alloc, finding, &place)
+}
+
+/// The finding on a text that is no TOML, by its place.
+fn place_finding(
+    alloc: Global,
+    text: &[u8],
+    error: &toml::de::Error,
+    file: Option<&str>,
+) -> Result<String, AllocError>
+    ensures { IfOk result (λ finding. IsPlaceFinding text.now (string_bytes finding)) }
+{
+    let mut finding = String::new(alloc);
+    let at = index_of(text, error);
+    push_syntax(alloc, &mut finding, text, at, error.message(), file)?;
+    Ok(finding)
+}
+
+/// The finding on plain text that is no TOML: the files may be exchanged, or it has a place.
+fn plain_finding(
+    alloc: Global,
+    text: &[u8],
+    error: &toml::de::Error,
+    file: Option<&str>,
+) -> Result<String, AllocError>
+    ensures { IfOk result (λ finding. IsPlainFinding text.now (string_bytes finding)) }
+{
+    if is_ballot_line(first_line(text)) {
+        let exchanged = "the poll file looks like ballots: are the files exchanged?\n";
+        return Ok(String::from_str(alloc, exchanged)?);
+    }
+    Ok(place_finding(alloc, text, error, file)?)
+}
+
+/// The finding on a file of another kind.
+fn file_finding(alloc: Global, kind: &str) -> Result<String, AllocError>
+    ensures { IfOk result (λ finding. string_bytes finding ≡ file_text kind.now) }
+{
+    let mut finding = String::from_str(alloc, "the poll file is ")?;
+    finding.push_str(kind)?;
+    finding.push_str("; a poll is plain text in UTF-8\n")?;
+    Ok(finding)
+}
+
+/// The finding on a text that is no TOML. `file` is the name of its file for a command that mends it, where it has one.
+pub(crate) fn syntax_finding(
+    alloc: Global,
+    text: &[u8],
+    error: &toml::de::Error,
+    file: Option<&str>,
+) -> Result<String, AllocError>
+    ensures { IfOk result (λ finding. IsSyntaxFinding text.now (string_bytes finding)) }
+{
+    match file_kind(text) {
+        Some(kind) => file_finding(alloc, kind),
+        None => plain_finding(alloc, text, error, file),
+    }
+}

@@ -1,7 +1,0 @@
-use Rattle.vote_poll_hints.specs.Hints.{IsHint}
-use Rattle.vote_poll_findings.specs.Findings.{fault_head}
-use Rattle.vote_poll_findings.proofs.Lines.{is_line}
-use Rattle.vote_poll_findings.proofs.findings.push_fault_line.Goals as goal
-
-pub returns : goal.returns
-returns c = is_line c.push_str.result (fault_head c.args.fault) IsHint _ _ _ _ c.in_ok-push_fault_head.ensures c.in_ok-push_found.ensures c.push_str.ensures.bytes

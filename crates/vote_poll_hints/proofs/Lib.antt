@@ -1,2 +1,0 @@
-pub mod HintLaws
-pub mod PlaceLaws
