@@ -39,9 +39,9 @@ digit_places count =
     elim (cases_Bool (nat_lt count 199)) [
       | inl room ↦ inl (grind (arith, nat_tests), rw room refl)
       | inr full ↦ elim (cases_Bool (nat_lt count 200)) [
-          | inl last ↦ inr (inl (grind (arith, nat_tests), grind (arith, nat_tests), rw (full, last) refl))
-          | inr end ↦ inr (inr (grind (arith, nat_tests), rw (full, end) refl))
-        ]
+        | inl last ↦ inr (inl (grind (arith, nat_tests), grind (arith, nat_tests), rw (full, last) refl))
+        | inr end ↦ inr (inr (grind (arith, nat_tests), rw (full, end) refl))
+      ]
     ]
 
 end_places : (count : ℕ) → ((count + 2 ≤ 200) × (place_in part.RankEnd count ≡ place.RankEnd)) ⊎ ((200 < count + 2) × (place_in part.RankEnd count ≡ place.LineEnd))
@@ -158,7 +158,7 @@ accepts_rank (Some n) count rest is room goes =
           let size : length (decimal n) ≡ 2 = ap length spelled in
           subst (λ t. accepts part.Rank count (t ++ rest) ≡ true) (sym spelled)
           (two_digits count (48 + n / 10) (48 + n % 10) rest (within_from 49 57 (48 + n / 10) (omega (arith, from_ten)) (omega (arith, most))) (within_from 48 57 (48 + n % 10) (omega arith) (omega arith))
-            (omega (arith, room, size)) (subst (λ k. accepts part.RankEnd k rest ≡ true) (omega (arith, size)) goes.1))
+          (omega (arith, room, size)) (subst (λ k. accepts part.RankEnd k rest ≡ true) (omega (arith, size)) goes.1))
     ]
 
 rank_is_some : (rank : Option ℕ) → IsRank rank → 1 ≤ length (rank_text rank)
@@ -435,7 +435,7 @@ is_front front p count is = let (rest, ok) = some_rest p count is.room in (rest,
 pub has_no_byte : (front : List ℕ) (p : Part) (count b : ℕ) → IsAfter front p count → IsLinePrefix (front ++ b ∷ []) → has_byte (place_in p count) b ≡ true
 has_no_byte front p count b is (rest, line) =
     (and_parts (has_byte (place_in p count) b) (accepts (next_part p b) (count + 1) rest)
-      (sym (is.left (b ∷ rest)) ∙ ap (accepts part.Name 0) (sym (append_assoc front (b ∷ []) rest)) ∙ accepts_line ((front ++ b ∷ []) ++ rest) line)).0
+    (sym (is.left (b ∷ rest)) ∙ ap (accepts part.Name 0) (sym (append_assoc front (b ∷ []) rest)) ∙ accepts_line ((front ++ b ∷ []) ++ rest) line)).0
 
 pub place_after : (front : List ℕ) (p : Part) (count : ℕ) → IsAfter front p count → IsPlaceAfter front (place_in p count)
 place_after front p count is =
@@ -462,17 +462,17 @@ exit_before line count index p same below after none =
     let here : take (count + 1) line ≡ take count line ++ b ∷ [] = take_more line count 0 within in
     let lacks : has_byte (place_in p count) b ≡ false = ap (λ i. has_byte (place_in p count) (get_or line i 0)) same ∙ none in
     record {
-  column = record {
-    from_one = omega arith;
-    within = omega (arith, within);
-    is_prefix = subst (λ n. IsLinePrefix (take n line)) (omega arith) (is_front (take count line) p count is);
-    longest = λ n most prefix. elim (cases_Bool (nat_le (count + 1) n)) [
-      | inl long ↦ let wrong : true ≡ false = sym (has_no_byte (take count line) p count b is (subst IsLinePrefix here (shorter_prefix (count + 1) n line (grind (arith, nat_tests)) prefix))) ∙ lacks in cc
-      | inr short ↦ grind (arith, nat_tests)
-    ];
-  };
-  place = subst (λ n. IsPlaceAfter (take n line) (place_in p count)) (omega arith) (place_after (take count line) p count is);
-}
+      column = record {
+        from_one = omega arith;
+        within = omega (arith, within);
+        is_prefix = subst (λ n. IsLinePrefix (take n line)) (omega arith) (is_front (take count line) p count is);
+        longest = λ n most prefix. elim (cases_Bool (nat_le (count + 1) n)) [
+          | inl long ↦ let wrong : true ≡ false = sym (has_no_byte (take count line) p count b is (subst IsLinePrefix here (shorter_prefix (count + 1) n line (grind (arith, nat_tests)) prefix))) ∙ lacks in cc
+          | inr short ↦ grind (arith, nat_tests)
+        ];
+      };
+      place = subst (λ n. IsPlaceAfter (take n line) (place_in p count)) (omega arith) (place_after (take count line) p count is);
+    }
 
 -- or at its end
 pub exit_at_end : (line : List ℕ) (count index : ℕ) (p : Part) → count ≡ index → length line ≤ index → index ≤ length line → IsAfter (take index line) p count
@@ -481,14 +481,14 @@ exit_at_end line count index p same least most after =
     let is : IsAfter (take count line) p count = subst (λ i. IsAfter (take i line) p count) (sym same) after in
     let all : count ≡ length line = omega (arith, same, least, most) in
     record {
-  column = record {
-    from_one = omega arith;
-    within = omega (arith, all);
-    is_prefix = subst (λ n. IsLinePrefix (take n line)) (omega arith) (is_front (take count line) p count is);
-    longest = λ n most prefix. omega (arith, most, all);
-  };
-  place = subst (λ n. IsPlaceAfter (take n line) (place_in p count)) (omega arith) (place_after (take count line) p count is);
-}
+      column = record {
+        from_one = omega arith;
+        within = omega (arith, all);
+        is_prefix = subst (λ n. IsLinePrefix (take n line)) (omega arith) (is_front (take count line) p count is);
+        longest = λ n most prefix. omega (arith, most, all);
+      };
+      place = subst (λ n. IsPlaceAfter (take n line) (place_in p count)) (omega arith) (place_after (take count line) p count is);
+    }
 
 -- of two columns neither comes after the other
 pub columns_are_one : (line : List ℕ) (a b : ℕ) → IsColumn line a → IsColumn line b → a ≡ b

@@ -25,9 +25,11 @@ loop-byte-preserved c =
     let p = c.loop-byte.part in
     let b = get_or line c.loop-byte.byte-index 0 in
     let (after, same) = c.loop-byte.invariant in
-    let here : has_byte (place_in p count) b ≡ true = ap (λ q. has_byte q b) (sym c.place_in-place.ensures) ∙ sym c.has_byte.ensures ∙ c.if-not-has_byte.false in
-    (subst (λ t. IsAfter t c.next_part-part.result (count + 1)) (sym (take_more line c.loop-byte.byte-index 0 c.loop-byte-test.true))
-      (subst (λ q. IsAfter (take c.loop-byte.byte-index line ++ b ∷ []) q (count + 1)) (sym c.next_part-part.ensures) (after_byte (take c.loop-byte.byte-index line) p count b after here)), ap (λ n. n + 1) same)
+    let here : has_byte (place_in p count) b ≡ true = ap (λ q. has_byte q b) (sym c.place_in-place.ensures) ∙ sym c.has_byte.ensures ∙ c.if-not-has_byte.false in (
+      subst (λ t. IsAfter t c.next_part-part.result (count + 1)) (sym (take_more line c.loop-byte.byte-index 0 c.loop-byte-test.true))
+          (subst (λ q. IsAfter (take c.loop-byte.byte-index line ++ b ∷ []) q (count + 1)) (sym c.next_part-part.ensures) (after_byte (take c.loop-byte.byte-index line) p count b after here)),
+      ap (λ n. n + 1) same,
+    )
 
 pub returns : goal.returns
 returns c =
