@@ -91,6 +91,13 @@ def written(text: str) -> str:
     return quotes + start + "".join(map(spelled, text)) + quotes
 
 
+def written_in_one_line(text: str) -> str:
+    """The text as a TOML string without a line feed."""
+    if "'" not in text and '"' in text and text.isprintable():
+        return f"'{text}'"
+    return '"' + "".join(map(spelled, text)).replace("\n", "\\n") + '"'
+
+
 def spelled(sign: str) -> str:
     """A character as it is written in a quoted TOML string."""
     known = {"\\": "\\\\", '"': '\\"', "\r": "\\r", "\t": "\\t", "\n": "\n"}
@@ -120,7 +127,7 @@ def write_table(file: pathlib.Path, rows: dict[str, Row], comment: str = "") -> 
         lines += [] if row.about is None else [f"about = {written(row.about)}"]
         lines += [] if row.args is None else [f"args = [{', '.join(map(written, row.args))}]"]
         lines += [f"poll = {written(row.poll)}"] if row.poll not in (shared, None) else []
-        lines += [] if row.swap is None else [f"swap = [{', '.join(map(written, row.swap))}]"]
+        lines += [] if row.swap is None else [f"swap = [{', '.join(map(written_in_one_line, row.swap))}]"]
         lines += [] if row.called is None else [f"called = {written(row.called)}"]
         texts = {"ballots": row.ballots, "sheet": row.sheet}
         lines += [f"{part} = {written(text)}" for part, text in texts.items() if text is not None]
