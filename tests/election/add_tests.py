@@ -288,7 +288,7 @@ class Changed(CalledTest):
         came = "“ada” 1,2,4,3\nben\u00a01,2,4,3\ncleo 1,2,–,3\nA>B>C\ndan 1.\n1,2,3,4\n"
         output = self.told("add", "--force", given=came)
         for told in (
-            "1 bad shape  “ada” 1,2,4,3: column 1: left curly quote (U+201C); a ballot has the name there: a to z, 0 to 9, . or -\n",
+            "1 bad shape  “ada” 1,2,4,3: column 1: left curly quote; a ballot has the name there: a to z, 0 to 9, . or -\n",
             "standard input:2: `ben\\u00A01,2,4,3` was changed to `ben 1,2,4,3` (no-break spaces)\n2 counted  ben: ",
             "standard input:3: `cleo 1,2,–,3` was changed to `cleo 1,2,-,3` (dashes)\n3 counted  cleo: ",
             '5 bad shape  dan 1.: column 6: "."; a ballot has a second digit, a comma or its end there\n'

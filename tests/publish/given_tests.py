@@ -153,7 +153,7 @@ REFUSED_TEXTS = [
     f'line 10: {"x" * 100} (the first 100 of 381 characters): bad shape: column 33: "x"; '
     "a ballot has a space there: a name has at most 32 characters",
     "line 11: ada 1,2: bad rank count: 2 ranks, the poll has 3 options",
-    "line 12: café\\u202E 1,2,3: bad shape: column 4: Latin letter beyond a to z (U+00E9); "
+    "line 12: café\\u202E 1,2,3: bad shape: column 4: Latin letter beyond a to z; "
     "a ballot has a to z, 0 to 9, . or - of the name there, or the space after it",
     "line 13: cleo 1,\\u00092,3: bad shape: column 8: tab; a ballot has a rank there: a number from 1 to 99, or a hyphen",
     "line 15: cleo 1,\\u00092,3: bad shape: column 8: tab; a ballot has a rank there: a number from 1 to 99, or a hyphen",
