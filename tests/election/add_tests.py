@@ -291,9 +291,9 @@ class Changed(CalledTest):
             "1 bad shape  “ada” 1,2,4,3: column 1: left curly quote; a ballot has the name there: a to z, 0 to 9, . or -\n",
             "standard input:2: `ben\\u00A01,2,4,3` was changed to `ben 1,2,4,3` (no-break spaces)\n2 counted  ben: ",
             "standard input:3: `cleo 1,2,–,3` was changed to `cleo 1,2,-,3` (dashes)\n3 counted  cleo: ",
-            '5 bad shape  dan 1.: column 6: "."; a ballot has a second digit, a comma or its end there\n'
+            '5 bad shape  dan 1.: column 6: "."; a ballot has a comma or its end there, or a second digit of the rank\n'
             "  it went in as it came; written as `dan 1` it is refused too: bad rank count: 1 ranks, the poll has 4 options\n",
-            '6 bad shape  1,2,3,4: column 2: ","; a ballot has a to z, 0 to 9, . or - of the name there, or the space after it\n',
+            '6 bad shape  1,2,3,4: column 2: ","; a ballot has a space there, or more of the name: a to z, 0 to 9, . or -\n',
         ):
             self.assertIn(told, output)
         self.assertEqual(output.count("A valid line in this poll"), 1)

@@ -322,7 +322,7 @@ class FromAPipe(CalledTest):
         changed = "desk:1: `Ada 1,2,4,3` was changed to `ada 1,2,4,3` (capital letters)\n"
         self.assertIn(f"{ends}{changed}1 counted  ada: ", output)
         self.assertIn("desk:2: it is empty, and was left out\n", output)
-        words = "a ballot has a to z, 0 to 9, . or - of the name there, or the space after it"
+        words = "a ballot has a space there, or more of the name: a to z, 0 to 9, . or -"
         self.assertIn(f"2 bad shape  q: column 2: end of line; {words}\n", output)
         self.assertIn("gsu is not on the roll\nA valid line in this poll: ", output)
         self.assertEqual(self.lines(), ["ada 1,2,4,3", "q", "y", "gsu 1,2,4,3"])
