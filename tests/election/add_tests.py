@@ -136,7 +136,7 @@ class AfterTheEnd(CalledTest):
         output = self.told("add", given="ada 2,1,4,3\nben x\n")
         self.assertRegex(output, r"^Note: the vote was closed at \d{4}-\d\d-\d\d \d\d:\d\d:\d\d UTC; what is added now is late\.\n")
         self.assertIn(f"2 late  ada: {HALL}\n", output)
-        hint = "a cross is a choice, and ranks are an order: ask the elector for a rank of each option"
+        hint = "a ballot has a rank there: a number from 1 to 99, or a hyphen"
         self.assertIn(f'3 late  ben x: bad shape: column 5: "x"; {hint}\n', output)
         self.assertIn(
             "2 lines came after the close, and late lines do not count.\nAdded 2 lines (2 late).\nNext: debvote-election count\n",
@@ -185,7 +185,7 @@ class NoBallots(CalledTest):
         self.assert_stops_without_force(
             "Dear all,\nwe meet on Monday\n", "look at the file (its first line is `Dear all,`, bad shape: "
         )
-        words = "look at the file (its first line is `ada 1,2`, bad rank count: 2 ranks, the poll has 4 options; 2 are missing: ask the elector)"
+        words = "look at the file (its first line is `ada 1,2`, bad rank count: 2 ranks, the poll has 4 options)"
         self.assert_stops_without_force("ada 1,2\nben 2,1\n", words)
         table, columns = "n,a,b,c,d,e\nada,1,2,3,4,x\nben,1,2,3,4,x\n", ("--csv", "--name=n", "--ranks=e,a,b,c")
         self.assert_stops_without_force(table, "check that --name and --ranks name the right ", words=columns)
@@ -373,12 +373,12 @@ class Changed(CalledTest):
         came = b"\xef\xbb\xbf Cleo 1,2,3 \r\nDan  1,2,4,3\r\nGsu 1,2,4,3\n"
         output = self.told("add", "--force", given=came)
         self.assertIn(
-            "1 bad shape   Cleo 1,2,3 : column 1: space; a ballot has a name, one space, and ranks with commas between\n"
-            "  it went in as it came; written as `cleo 1,2,3` it is refused too: bad rank count: 3 ranks, the poll has 4 options; ",
+            "1 bad shape   Cleo 1,2,3 : column 1: space; a ballot has the name there: a to z, 0 to 9, . or -\n"
+            "  it went in as it came; written as `cleo 1,2,3` it is refused too: bad rank count: 3 ranks, the poll has 4 options\n",
             output,
         )
         self.assertIn(
-            "3 bad shape  Gsu 1,2,4,3: column 1: capital letter; a ballot has a name, one space, and ranks with commas between\n"
+            '3 bad shape  Gsu 1,2,4,3: column 1: "G"; a ballot has the name there: a to z, 0 to 9, . or -\n'
             "  it went in as it came; written as `gsu 1,2,4,3` it is refused too: bad not on roll: gsu is not on the roll\n",
             output,
         )
@@ -389,12 +389,12 @@ class Changed(CalledTest):
         came = "“ada” 1,2,4,3\nben\u00a01,2,4,3\ncleo 1,2,–,3\nA>B>C\ndan 1.\n1,2,3,4\n"
         output = self.told("add", "--force", given=came)
         for told in (
-            "1 bad shape  “ada” 1,2,4,3: column 1: curly quote; a line begins with the name\n",
+            "1 bad shape  “ada” 1,2,4,3: column 1: left curly quote; a ballot has the name there: a to z, 0 to 9, . or -\n",
             "standard input:2: `ben\\u00A01,2,4,3` was changed to `ben 1,2,4,3` (no-break spaces)\n2 counted  ben: ",
             "standard input:3: `cleo 1,2,–,3` was changed to `cleo 1,2,-,3` (dashes)\n3 counted  cleo: ",
-            '5 bad shape  dan 1.: column 6: "."; a ballot has a name, one space, and ranks with commas between\n'
-            "  it went in as it came; written as `dan 1` it is refused too: bad rank count: 1 ranks, ",
-            "6 bad shape  1,2,3,4: column 2: comma; the name is missing before the ranks: ask who sent it\n",
+            '5 bad shape  dan 1.: column 6: "."; a ballot has a comma or its end there, or a second digit of the rank\n'
+            "  it went in as it came; written as `dan 1` it is refused too: bad rank count: 1 ranks, the poll has 4 options\n",
+            '6 bad shape  1,2,3,4: column 2: ","; a ballot has a space there, or more of the name: a to z, 0 to 9, . or -\n',
         ):
             self.assertIn(told, output)
         self.assertEqual(output.count("A valid line in this poll"), 1)
@@ -402,7 +402,7 @@ class Changed(CalledTest):
 
     def test_bytes_that_are_no_text(self) -> None:
         output = self.told("add", "--force", given=b"ad\xff 1,2\x1b[2J\n\x00\n")
-        self.assertIn("1 bad shape  ad\\xff 1,2\\u001B[2J: column 3: byte 0xFF; ranks are numbers from 1, ", output)
+        self.assertIn("1 bad shape  ad\\xff 1,2\\u001B[2J: column 3: byte 0xFF\n", output)
         self.assertNotIn("\x1b", output)
         self.assertEqual([envelope.line for envelope in self.envelopes()], [b"ad\xff 1,2\x1b[2J", b"\x00"])
 

@@ -69,9 +69,8 @@ class AtATerminal(CalledTest):
         desk = self.desk()
         for line, words in {
             "Gsu 1,2,3,4": "Gsu 1,2,3,4: bad not on roll: gsu is not on the roll",
-            "Ada 1,,3,4": "Ada 1,,3,4: bad shape: column 7: comma; "
-            "a rank is missing: is the option not ranked, which a hyphen says? ask the elector",
-            "Ada 1,2": "Ada 1,2: bad rank count: 2 ranks, the poll has 4 options; 2 are missing: ask the elector",
+            "Ada 1,,3,4": 'Ada 1,,3,4: bad shape: column 7: ","; a ballot has a rank there: a number from 1 to 99, or a hyphen',
+            "Ada 1,2": "Ada 1,2: bad rank count: 2 ranks, the poll has 4 options",
         }.items():
             desk.type(f"{line}\nperhaps\nn\n")
             shown = desk.until(CAST_REFUSED)
@@ -323,7 +322,7 @@ class FromAPipe(CalledTest):
         changed = "desk:1: `Ada 1,2,4,3` was changed to `ada 1,2,4,3` (capital letters)\n"
         self.assertIn(f"{ends}{changed}1 counted  ada: ", output)
         self.assertIn("desk:2: it is empty, and was left out\n", output)
-        words = "one word: a ballot has a name, a space and the ranks; does it go on in the next line?"
+        words = "a ballot has a space there, or more of the name: a to z, 0 to 9, . or -"
         self.assertIn(f"2 bad shape  q: column 2: end of line; {words}\n", output)
         self.assertIn("gsu is not on the roll\nA valid line in this poll: ", output)
         self.assertEqual(self.lines(), ["ada 1,2,4,3", "q", "y", "gsu 1,2,4,3"])

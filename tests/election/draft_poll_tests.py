@@ -135,7 +135,7 @@ class Explained(DraftTest):
 
     def test_numbers_out_of_range(self) -> None:
         self.assert_explained(PLAIN.replace("quorum = 1", "quorum = 11"), "quorum: ")
-        self.assert_explained(PLAIN.replace("[1, 1, 3]", "[1, 3]"), "ratios: 2 ratios for 3 options")
+        self.assert_explained(PLAIN.replace("[1, 1, 3]", "[1, 3]"), "ratios: 2 found; ")
 
     def test_a_roll_that_is_empty(self) -> None:
         self.assertIn("poll: size of roll: ", self.explained(self.draft(), []))

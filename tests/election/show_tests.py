@@ -29,7 +29,7 @@ class Show(CalledTest):
             [
                 "ada: Ada ada@club.example",
                 f"  envelope 1, TIME: {LAKE}",
-                "  envelope 3, TIME: ada 1,2: bad rank count: 2 ranks, the poll has 4 options; 2 are missing: ask the elector",
+                "  envelope 3, TIME: ada 1,2: bad rank count: 2 ranks, the poll has 4 options",
                 f"  envelope 4, TIME: {HALL}",
                 "  envelope 5, TIME: Further discussion; not ranked, and so behind all others: At the lake, In the town hall and "
                 "Sell the house and meet there (struck by strike at TIME: it was pencil)",

@@ -139,25 +139,24 @@ def try_refused_texts(expect, scratch):
     part = pages.sections_of(page)["Refused-lines"]
     (told,) = re.findall(r"The texts from line (\d+) on are too many for this page: see ballots.txt.", part.text())
     last = [entry.text() for entry in part.all("li")][-1]
-    cause = 'bad shape: column 33: "z"'
+    cause = 'bad shape: column 33: "z"; a ballot has a space there: a name has at most 32 bytes'
     expect("many refused texts: the last ones", last, f"lines {told} to 8015: {cause}")
     expect("many refused texts: so many are shown", (int(told) > 5_000, len(page) < support.LARGEST_PAGE), (True, True))
 
 
 REFUSED_TEXTS = [
-    'line 4: ada;1,2,3: bad shape: column 4: ";"; one space stands between the name and the ranks',
-    'line 5: <b>ada</b> 1,2,3: bad shape: column 1: "<"; '
-    "an order with the sign >: ask the elector for a rank of each option, in the order of the poll",
-    "line 6: (an empty line): bad shape: column 1: end of line; the line is empty",
-    'line 7: ben 1.,2,3: bad shape: column 6: "."; between the ranks stand commas alone',
+    'line 4: ada;1,2,3: bad shape: column 4: ";"; a ballot has a space there, or more of the name: a to z, 0 to 9, . or -',
+    'line 5: <b>ada</b> 1,2,3: bad shape: column 1: "<"; a ballot has the name there: a to z, 0 to 9, . or -',
+    "line 6: (an empty line): bad shape: column 1: end of line; a ballot has the name there: a to z, 0 to 9, . or -",
+    'line 7: ben 1.,2,3: bad shape: column 6: "."; a ballot has a comma or its end there, or a second digit of the rank',
     "lines 8 to 9: zoe 1,2,3: bad not on roll: zoe is not on the roll",
     f'line 10: {"x" * 100} (the first 100 of 381 characters): bad shape: column 33: "x"; '
-    "the line has 381 bytes, and a ballot has 200 at most",
-    "line 11: ada 1,2: bad rank count: 2 ranks, the poll has 3 options; "
-    "is that of the last one missing, the default option N? ask the elector",
-    "line 12: café\\u202E 1,2,3: bad shape: column 4: letter e with acute (U+00E9); a voter's name has a to z, 0 to 9, . and -",
-    "line 13: cleo 1,\\u00092,3: bad shape: column 8: tab; between the ranks stand commas alone",
-    "line 15: cleo 1,\\u00092,3: bad shape: column 8: tab; between the ranks stand commas alone",
+    "a ballot has a space there: a name has at most 32 bytes",
+    "line 11: ada 1,2: bad rank count: 2 ranks, the poll has 3 options",
+    "line 12: café\\u202E 1,2,3: bad shape: column 4: Latin letter beyond a to z; "
+    "a ballot has a space there, or more of the name: a to z, 0 to 9, . or -",
+    "line 13: cleo 1,\\u00092,3: bad shape: column 8: tab; a ballot has a rank there: a number from 1 to 99, or a hyphen",
+    "line 15: cleo 1,\\u00092,3: bad shape: column 8: tab; a ballot has a rank there: a number from 1 to 99, or a hyphen",
 ]
 
 

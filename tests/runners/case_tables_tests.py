@@ -33,6 +33,8 @@ class TablesTest(unittest.TestCase):
     def test_what_is_written_is_read_again(self) -> None:
         rows = {f"explain-{place}": Row("steps", None, text, text, text, text, place) for place, text in enumerate(TEXTS)}
         rows |= {f"explain-without-{place}": Row("steps", "It shows this.", "title = 1\n", None, text) for place, text in enumerate(TEXTS)}
+        for place, text in enumerate(TEXTS):
+            rows[f"explain-swap-{place}"] = Row("steps", None, "title = 1\n", None, swap=["1", text], called=text)
         case_tables.write_table(self.file, rows, "# One.\n# Two.\n")
         self.assertEqual(case_tables.read_table(self.file), rows)
         self.assertEqual(self.file.read_text().count("title = 1"), 1)
@@ -43,6 +45,13 @@ class TablesTest(unittest.TestCase):
         self.assertEqual(row.words(), ["explain", "--poll", "poll.toml", "--ballots", "ballots"])
         alone = Row("check", None, POLL, None)
         self.assertEqual((alone.files(), alone.words()), ({"poll.toml": POLL.encode()}, ["check", "--poll", "poll.toml"]))
+
+    def test_a_case_with_other_texts_and_another_name(self) -> None:
+        row = Row("explain", None, POLL, "ada 1", swap=['"T"', '"U"', '"A"', '"A", "B"'], called="my ballots")
+        swapped = POLL.replace('"T"', '"U"').replace('"A"', '"A", "B"')
+        self.assertEqual(row.files(), {"poll.toml": swapped.encode(), "my ballots": b"ada 1"})
+        self.assertEqual(row.words(), ["explain", "--poll", "poll.toml", "--ballots", "my ballots"])
+        self.assertEqual(Row("check", None, POLL, None, called="my poll").words(), ["check", "--poll", "my poll"])
 
     def test_a_key_that_is_none_is_told(self) -> None:
         self.file.write_text("command = 'explain'\n[explain-a]\nbalots = 'ada'\n")

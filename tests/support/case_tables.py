@@ -7,15 +7,18 @@
     about = "What the case shows."
     args = ["count", "--poll", "poll.toml", ..]
     poll = ".."
+    swap = ["A poll", "Another poll"]
     ballots = ".."
+    called = "all ballots"
     sheet = ".."
     stdin = ".."
     stdout = ".."
     stderr = ".."
     status = 9
 
-`about` is also the first line of the poll file, after `# `. Without `args` the command runs on the files poll.toml and ballots, or only
-on poll.toml if a case has no ballots. A missing file is not there, a missing text is empty, and a missing status is 0.
+`about` is also the first line of the poll file, after `# `. `swap` has texts of the poll, each before the one that stands in its place.
+Without `args` the command runs on the files poll.toml and ballots, or only on poll.toml if a case has no ballots; `called` is another
+name of the last of them. A missing file is not there, a missing text is empty, and a missing status is 0.
 """
 
 import pathlib
@@ -39,17 +42,36 @@ class Row:
     args: list[str] | None = None
     sheet: str | None = None
     stdin: str = ""
+    swap: list[str] | None = None
+    called: str | None = None
+
+    def names(self) -> tuple[str, str]:
+        """The names of the poll and of the ballots."""
+        if self.ballots is None:
+            return self.called or POLL, BALLOTS
+        return POLL, self.called or BALLOTS
 
     def words(self) -> list[str]:
         """The arguments of the command line."""
         if self.args is not None:
             return self.args
-        return [self.command, "--poll", POLL, *([] if self.ballots is None else ["--ballots", BALLOTS])]
+        poll, ballots = self.names()
+        return [self.command, "--poll", poll, *([] if self.ballots is None else ["--ballots", ballots])]
+
+    def swapped_poll(self) -> str | None:
+        """The poll with each text of `swap` that stands in it."""
+        poll, pairs = self.poll, iter(self.swap or [])
+        for old, new in zip(pairs, pairs):
+            assert poll is not None and old in poll, old
+            poll = poll.replace(old, new, 1)
+        return poll
 
     def files(self) -> dict[str, bytes]:
         """The files that the program reads, by their names."""
         head = "" if self.about is None else f"# {self.about}\n"
-        texts = {POLL: self.poll and head + self.poll, BALLOTS: self.ballots, SHEET: self.sheet}
+        poll, ballots = self.names()
+        swapped = self.swapped_poll()
+        texts = {poll: swapped and head + swapped, ballots: self.ballots, SHEET: self.sheet}
         return {name: text.encode() for name, text in texts.items() if text is not None}
 
 
@@ -67,6 +89,13 @@ def written(text: str) -> str:
         return f"'''{start}{text}'''"
     quotes = '"""' if start else '"'
     return quotes + start + "".join(map(spelled, text)) + quotes
+
+
+def written_in_one_line(text: str) -> str:
+    """The text as a TOML string without a line feed."""
+    if "'" not in text and '"' in text and text.isprintable():
+        return f"'{text}'"
+    return '"' + "".join(map(spelled, text)).replace("\n", "\\n") + '"'
 
 
 def spelled(sign: str) -> str:
@@ -98,6 +127,8 @@ def write_table(file: pathlib.Path, rows: dict[str, Row], comment: str = "") -> 
         lines += [] if row.about is None else [f"about = {written(row.about)}"]
         lines += [] if row.args is None else [f"args = [{', '.join(map(written, row.args))}]"]
         lines += [f"poll = {written(row.poll)}"] if row.poll not in (shared, None) else []
+        lines += [] if row.swap is None else [f"swap = [{', '.join(map(written_in_one_line, row.swap))}]"]
+        lines += [] if row.called is None else [f"called = {written(row.called)}"]
         texts = {"ballots": row.ballots, "sheet": row.sheet}
         lines += [f"{part} = {written(text)}" for part, text in texts.items() if text is not None]
         lines += [f"{part} = {written(getattr(row, part))}" for part in ("stdin", "stdout", "stderr") if getattr(row, part)]
