@@ -11,7 +11,8 @@ fn push_word(alloc: Global, words: &mut Vec<String>, word: &str) -> Result<(), A
 {
     let mut owned = String::new(alloc);
     owned.push_str(word)?;
-    words.push(owned)
+    words.push(owned)?;
+    Ok(())
 }
 
 /// The words that ask for the sheet of the files `poll` and `ballots`, after the program's name.

@@ -6,6 +6,7 @@ use std::alloc::Global;
 use vote_files::{ReadFault, StandardInput};
 
 /// Has no bytes, and tells no readings.
+#[derive(Drop)]
 pub struct NoInput;
 
 impl StandardInput for NoInput {
