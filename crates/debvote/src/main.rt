@@ -7,11 +7,13 @@
 //! standard input, joined by a line `%%`, and acts as `steps`.
 //!
 //! The program passes what the system has to one call of `vote_program`: its words, the files and standard input, which can only be
-//! read, and standard output and standard error.
+//! read, standard output and standard error, and a call that takes votes in threads, for which alone a run may wait.
 #![tactic(auto)]
 
-ghost use Rattle.std.specs.Prelude.{◌≡◌, IfErr};
-ghost use Rattle.debvote.specs.Program.{AreNotGiven};
+ghost use Rattle.std.specs.Prelude.{◌≡◌, IfErr, false};
+ghost use Rattle.vote_steps.specs.Desks.{AreDesks};
+ghost use Rattle.vote_commands.specs.TakingVotes.{AreVotesTaken};
+ghost use Rattle.debvote.specs.Program.{AnswersSystem, AreNotGiven};
 
 use std::io::{ErrorKind, IsTerminal, Stderr};
 use std::marker::Brand;
@@ -22,7 +24,9 @@ use std::sync::ledger::{Blank, Ledger};
 use std::thread::Threads;
 use std::{env, io};
 use vote_command_line::ArgsFault;
+use vote_desks::{Audited, NoGate, VoteFault, take_votes};
 use vote_files::{Meter, ReadableFiles, ReadableInput, WriterSink};
+use vote_poll::{Lines, Poll};
 use vote_program::{answer, refuse};
 
 /// The program's arguments, its own name first. The contracts of std do not say what they are.
@@ -36,8 +40,8 @@ fn words_given<R: Env + AllocGlobal>(rt: &R) -> Result<Vec<String>, ArgsFault>
     }
 }
 
-/// Runs on what the system has, and returns the exit status. No contract can say what the system has. Standard output and standard
-/// error count with these blanks.
+/// Runs on what the system has, and returns the exit status: that of [`answer`] for some words, or of [`refuse`] if the system gives
+/// none. No contract can say what the system has. Standard output and standard error count with these blanks.
 fn run_on_system<
     R: Env + Files + Input + Print + AllocGlobal + Threads + Wait + Sync,
     P: Print,
@@ -48,16 +52,21 @@ fn run_on_system<
     requires output_parts { (output.parts ≡ O.parts) × (output.parts ≡ 2) }
     requires errors_name { errors.name ≡ E.name }
     requires errors_parts { (errors.parts ≡ E.parts) × (errors.parts ≡ 2) }
+    ensures { AnswersSystem at_terminal result }
 {
     let mut sink = WriterSink::new(io::writer(rt), Meter::<O>::new(output));
     let mut errors = WriterSink::new(io::writer(stderr), Meter::<E>::new(errors));
     match words_given(rt) {
         Ok(given) => answer(
-            rt,
+            rt.alloc(),
             &mut ReadableFiles::of(rt),
             &mut ReadableInput::of(rt),
             given.as_slice(),
             at_terminal,
+            |poll: &Poll, lines: &Lines<'_>, desks: u8| -> Result<Audited, VoteFault>
+                requires { AreDesks desks }
+                ensures { AreVotesTaken (λ desk. false) poll.now lines.now desks result }
+            { take_votes(rt, rt.alloc(), poll, lines, desks, &NoGate) },
             &mut sink,
             &mut errors,
         ),

@@ -6,9 +6,10 @@
 //! written, the test fails with `refused` or `refused a thread`. So whoever runs it with one growth or one start after another
 //! refused sees whether there is any other answer.
 
-ghost use Rattle.std.specs.Prelude.{◌≡◌};
+ghost use Rattle.std.specs.Prelude.{◌≡◌, false};
 ghost use Rattle.vote_request.specs.Requests.{DesksFit};
 ghost use Rattle.vote_steps.specs.Desks.{AreDesks};
+ghost use Rattle.vote_commands.specs.TakingVotes.{AreVotesTaken};
 
 use crate::inputs::{BALLOTS, CYCLE, SHEET, assert_same, lines_of, poll_of};
 use std::alloc::{AllocError, Global};
@@ -20,10 +21,10 @@ use std::sync::ledger::{Blank, Ledger};
 use std::test::Fail;
 use std::thread::Threads;
 use vote_commands::{
-    Ended, LoadedRequest, RunFault, perform_on, print_steps, run, sheet, split_joined, status,
-    steps_joined,
+    Ended, FinishedRun, LoadedRequest, RunFault, perform_on, print_steps, run, sheet, split_joined,
+    status, steps_joined,
 };
-use vote_desks::{Gate, NoGate, Slip, VoteFault, take_votes};
+use vote_desks::{Audited, Gate, NoGate, Slip, VoteFault, take_votes};
 use vote_files::{Meter, WriterSink};
 use vote_poll::{Lines, Poll};
 use vote_request::{Listing, Purpose, Request};
@@ -74,6 +75,23 @@ fn endless(alloc: Global) -> Result<Paper, AllocError> {
     })
 }
 
+/// Performs a request on a paper. The votes are taken through a gate.
+fn performed_on<G: Gate + Sync, R: Threads + Wait + Sync>(
+    rt: &R,
+    alloc: Global,
+    request: &LoadedRequest<'_>,
+    gate: &G,
+    paper: Paper,
+) -> (Paper, FinishedRun)
+    requires { DesksFit request.now }
+{
+    let take = |poll: &Poll, lines: &Lines<'_>, desks: u8| -> Result<Audited, VoteFault>
+        requires { AreDesks desks }
+        ensures { AreVotesTaken G.bars poll.now lines.now desks result }
+    { take_votes(rt, alloc, poll, lines, desks, gate) };
+    perform_on::<G, _, Paper>(alloc, request, take, paper)
+}
+
 /// Counts the cycle at one desk on such a paper. Returns whether a prefix of the sheet is written, how long it is, how often the
 /// paper was flushed, whether it was flushed after the last write, and how the count ends.
 fn written_of_cycle<R: Threads + Wait + Sync>(
@@ -94,7 +112,7 @@ fn written_of_cycle<R: Threads + Wait + Sync>(
         casting: None,
         purpose: Purpose::Sheet,
     };
-    let (paper, done) = perform_on(rt, alloc, &request, &NoGate, paper);
+    let (paper, done) = performed_on(rt, alloc, &request, &NoGate, paper);
     let ended = done.end;
     let is_front = SHEET.as_bytes().starts_with(paper.written.as_slice());
     let flushed = (paper.flushes, paper.is_flushed);
@@ -161,14 +179,17 @@ fn calls_metered<R: Threads + Wait + Sync, L: Ledger>(
     requires two { blank.parts ≡ 2 }
 {
     let mut sink = WriterSink::new(endless(alloc)?, Meter::<L>::new(blank));
-    let counted = run(
-        rt,
+    let take = |poll: &Poll, lines: &Lines<'_>, desks: u8| -> Result<Audited, VoteFault>
+        requires { AreDesks desks }
+        ensures { AreVotesTaken (λ desk. false) poll.now lines.now desks result }
+    { take_votes(rt, alloc, poll, lines, desks, &NoGate) };
+    let counted = run::<NoGate, _, WriterSink<Paper, L>>(
         alloc,
         CYCLE.as_bytes(),
         BALLOTS.as_bytes(),
         2,
         None,
-        &NoGate,
+        take,
         &mut sink,
     );
     let end = counted.end;
@@ -213,7 +234,7 @@ fn performed<G: Gate + Sync, R: Threads + Wait + Sync>(
     requires { DesksFit request.now }
 {
     let paper = endless(alloc)?;
-    let (paper, done) = perform_on(rt, alloc, request, gate, paper);
+    let (paper, done) = performed_on(rt, alloc, request, gate, paper);
     let ended = done.end;
     let is_text = paper.written.as_slice() == text.as_bytes();
     let len = paper.written.len();

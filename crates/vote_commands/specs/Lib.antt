@@ -4,6 +4,7 @@ pub mod TextAndEnd
 pub mod Joined
 pub mod Runs
 pub mod Counting
+pub mod TakingVotes
 pub mod TakenVotes
 pub mod Explaining
 pub mod Performing

@@ -8,17 +8,17 @@ ghost use Rattle.vote_commands.specs.Inputs.{inputs_at};
 ghost use Rattle.vote_commands.specs.Performing.{Counts};
 ghost use Rattle.vote_commands.specs.Runs.{Stops};
 ghost use Rattle.vote_commands.specs.TakenVotes.{CanBeCounted};
+ghost use Rattle.vote_commands.specs.TakingVotes.{TakesVotes};
 
 use crate::fault::{Ended, RunFault};
 use crate::finished_run::{FinishedRun, unaudited};
 use crate::output::{RunText, write_run};
 use crate::votes::{CountInputs, TakenVotes, take_inputs};
 use std::alloc::{AllocError, Global};
-use std::sync::Wait;
-use std::thread::Threads;
 use vote_count::Decision;
-use vote_desks::{AuditWitness, Gate};
+use vote_desks::{AuditWitness, Audited, Gate, VoteFault};
 use vote_files::Sink;
+use vote_poll::{Lines, Poll};
 use vote_request::Purpose;
 use vote_sheet::{Verification, picture_of_box, sheet_of_box, verify_sheet};
 
@@ -79,20 +79,20 @@ fn text_of_taken(
 }
 
 /// The text of a count of the inputs for this purpose, and the witness of its audit.
-fn count_inputs<G: Gate + Sync, R: Threads + Wait + Sync>(
-    rt: &R,
+fn count_inputs<G: Gate, V: FnOnce(&Poll, &Lines<'_>, u8) -> Result<Audited, VoteFault> + Drop>(
     alloc: Global,
     inputs: &CountInputs<'_>,
     purpose: Purpose<&[u8]>,
-    gate: &G,
+    take: V,
 ) -> Result<(RunText, AuditWitness), RunFault>
-    requires { AreDesks inputs.now.desks }
+    requires desks { AreDesks inputs.now.desks }
+    requires take { TakesVotes G.bars (V.pre take) (V.post take) }
     ensures counted { IfOk result (λ counted. IsCountFor purpose.entry inputs.now counted.0) }
     ensures desks { IfOk result (λ counted. IsCountedIn inputs.now counted.1) }
     ensures stops { Stops (StopsCount G.bars inputs.now) (result_err result) }
     ensures unwritten { result ≢ Err RunFault.Output }
 {
-    let taken = match take_inputs(rt, alloc, inputs, gate) {
+    let taken = match take_inputs::<G, V>(alloc, inputs, take) {
         Ok(taken) => taken,
         Err(fault) => return Err(fault),
     };
@@ -100,23 +100,27 @@ fn count_inputs<G: Gate + Sync, R: Threads + Wait + Sync>(
     Ok((text, taken.audited.witness()))
 }
 
-/// Takes the votes of a ballot file, and writes the text for this purpose, with the option that the casting vote names. A run that
-/// stops has written nothing, or a prefix if its output failed.
+/// Takes the votes of a ballot file by this call, at most once, and writes the text for this purpose, with the option that the
+/// casting vote names. A run that stops has written nothing, or a prefix if its output failed.
 #[tactic(auto, using(crate::proofs::Stopping::stops_at_output))]
-pub fn count_for<G: Gate + Sync, W: Sink, R: Threads + Wait + Sync>(
-    rt: &R,
+pub fn count_for<
+    G: Gate,
+    V: FnOnce(&Poll, &Lines<'_>, u8) -> Result<Audited, VoteFault> + Drop,
+    W: Sink,
+>(
     alloc: Global,
     inputs: &CountInputs<'_>,
     purpose: Purpose<&[u8]>,
-    gate: &G,
+    take: V,
     sink: &mut W,
 ) -> FinishedRun
-    requires { AreDesks inputs.now.desks }
+    requires desks { AreDesks inputs.now.desks }
+    requires take { TakesVotes G.bars (V.pre take) (V.post take) }
     ensures counts { Counts G.bars purpose.entry inputs.now (W.contents sink.old) (W.contents sink.new) result }
     ensures output { IsErrOf result.end RunFault.Output ↔ (W.faults sink.old < W.faults sink.new) }
     ensures flushed { OnOk result.end (W.flushed sink.new ≡ true) }
 {
-    let (counted, witness) = match count_inputs(rt, alloc, inputs, purpose, gate) {
+    let (counted, witness) = match count_inputs::<G, V>(alloc, inputs, purpose, take) {
         Ok(counted) => counted,
         Err(fault) => return unaudited(Err(fault)),
     };
@@ -129,21 +133,21 @@ pub fn count_for<G: Gate + Sync, W: Sink, R: Threads + Wait + Sync>(
     }
 }
 
-/// Takes the votes of a ballot file, with a thread for each desk, and writes the sheet of the audited box, with the option that the
-/// casting vote names. Nothing is written before the sheet is complete.
+/// Takes the votes of a ballot file by this call, and writes the sheet of the audited box, with the option that the casting vote
+/// names. Nothing is written before the sheet is complete.
 ///
 /// For callers of the library; the program calls `perform`.
-pub fn run<G: Gate + Sync, W: Sink, R: Threads + Wait + Sync>(
-    rt: &R,
+pub fn run<G: Gate, V: FnOnce(&Poll, &Lines<'_>, u8) -> Result<Audited, VoteFault> + Drop, W: Sink>(
     alloc: Global,
     poll_text: &[u8],
     ballots: &[u8],
     desks: u8,
     casting: Option<&[u8]>,
-    gate: &G,
+    take: V,
     sink: &mut W,
 ) -> FinishedRun
-    requires { AreDesks desks }
+    requires desks { AreDesks desks }
+    requires take { TakesVotes G.bars (V.pre take) (V.post take) }
     ensures counts { let inputs = inputs_at poll_text.entry ballots.entry desks casting.entry in
         Counts G.bars Purpose.Sheet inputs (W.contents sink.old) (W.contents sink.new) result }
     ensures output { IsErrOf result.end RunFault.Output ↔ (W.faults sink.old < W.faults sink.new) }
@@ -155,5 +159,5 @@ pub fn run<G: Gate + Sync, W: Sink, R: Threads + Wait + Sync>(
         desks,
         casting,
     };
-    count_for(rt, alloc, &inputs, Purpose::Sheet, gate, sink)
+    count_for::<G, V, W>(alloc, &inputs, Purpose::Sheet, take, sink)
 }

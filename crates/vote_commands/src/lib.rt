@@ -9,15 +9,17 @@
 //! - [`check_poll`] reads a poll file and writes how many options and electors it has, and [`explain`] writes all that is wrong
 //!   with it and with its ballots.
 //! - [`perform`] does the run that a [`LoadedRequest`] asks for, and [`perform_on`] does it on a writer of std. Both return how the
-//!   run ended ([`FinishedRun`]).
+//!   run ended ([`FinishedRun`]). [`perform_listing`] does the run of a listing.
+//! - No run here may wait. One that counts takes its votes by a call that it is given, at most once, and it returns if that call does.
+//!   The call promises what [`take_votes`](vote_desks::take_votes) promises.
 //! - [`sheet`] returns the result sheet of an audited box, for callers of the library.
 //! - [`status`] and [`fault_status`] return the exit status of a run, from how it ended ([`Ended`]) or why it did not
 //!   ([`RunFault`], whose `Display` is the program's fault line). [`unread`] returns the fault for a file that was not read.
 //!
 //! **What is promised.** A run writes the text that is meant, once, and nothing else. If its output fails, it has written a prefix
 //! of that text, and after any other fault nothing. It returns each fault exactly when the fault holds, in the order of the inputs.
-//! But memory may be refused at any growth, and then the run returns [`RunFault::Memory`] instead of any later fault; and a thread
-//! may be refused at any start. When a run returns Ok, its sink was flushed. The clauses hold for every [`Sink`](vote_files::Sink),
+//! But memory may be refused at any growth, and then the run returns [`RunFault::Memory`] instead of any later fault; and the call that
+//! takes votes may be refused a thread. When a run returns Ok, its sink was flushed. The clauses hold for every [`Sink`](vote_files::Sink),
 //! whatever it does and whenever it fails.
 //!
 //! The modules: `joined` splits a joined input, and [`laws`] says what its parts are. `reading` reads poll and lines. `votes` takes
@@ -48,5 +50,5 @@ pub use fault::{Ended, InputFault, InputFile, RunFault, fault_status, status, un
 pub use finished_run::FinishedRun;
 pub use joined::split_joined;
 pub use listing::{print_listing, print_steps, steps_joined};
-pub use requests::{LoadedRequest, perform, perform_on};
+pub use requests::{LoadedRequest, perform, perform_listing, perform_on};
 pub use votes::CountInputs;

@@ -3,7 +3,8 @@
 ghost use Rattle.std.specs.Prelude.{◌≡◌, ◌<◌, ◌↔◌, true, IsErrOf, OnOk};
 ghost use Rattle.std.specs.Result.{result_err};
 ghost use Rattle.vote_request.specs.Requests.{DesksFit};
-ghost use Rattle.vote_commands.specs.Performing.{EndsDone, Performs, TellsNoBox};
+ghost use Rattle.vote_commands.specs.Performing.{EndsDone, Lists, Performs, TellsNoBox};
+ghost use Rattle.vote_commands.specs.TakingVotes.{TakesVotes};
 
 use crate::checking::check_poll;
 use crate::counting::count_for;
@@ -15,12 +16,11 @@ use crate::votes::CountInputs;
 use std::alloc::Global;
 use std::io::Write;
 use std::marker::Brand;
-use std::sync::Wait;
 use std::sync::ledger::{Blank, Ledger};
-use std::thread::Threads;
-use vote_desks::Gate;
+use vote_desks::{Audited, Gate, VoteFault};
 use vote_files::{Meter, Sink, WriterSink};
-use vote_request::Request;
+use vote_poll::{Lines, Poll};
+use vote_request::{Listing, Request};
 
 /// A request with the bytes of its files.
 pub type LoadedRequest<'a> = Request<'a, &'a [u8]>;
@@ -37,16 +37,32 @@ fn ended_as_done(outcome: Result<(), RunFault>) -> FinishedRun
     }
 }
 
-/// Performs a request: writes the output that these bytes, this casting vote and this number of desks call for, and returns how
-/// the run ended.
-pub fn perform<G: Gate + Sync, W: Sink, R: Threads + Wait + Sync>(
-    rt: &R,
+/// Casts the ballots, and writes a listing of them. No votes are taken.
+pub fn perform_listing<W: Sink>(
     alloc: Global,
-    request: &LoadedRequest<'_>,
-    gate: &G,
+    poll: &[u8],
+    ballots: &[u8],
+    listing: Listing,
     sink: &mut W,
 ) -> FinishedRun
-    requires { DesksFit request.now }
+    ensures lists { Lists listing poll.now ballots.now (W.contents sink.old) (W.contents sink.new) (result_err result.end) }
+    ensures end { EndsDone result.end }
+    ensures none { TellsNoBox result }
+    ensures output { IsErrOf result.end RunFault.Output ↔ (W.faults sink.old < W.faults sink.new) }
+    ensures flushed { OnOk result.end (W.flushed sink.new ≡ true) }
+{
+    ended_as_done(print_listing(alloc, poll, ballots, listing, sink))
+}
+
+/// Performs a request: writes the output that these bytes, this casting vote and this number of desks call for, and returns how
+/// the run ended. Only a count takes votes, by this call.
+pub fn perform<
+    G: Gate,
+    V: FnOnce(&Poll, &Lines<'_>, u8) -> Result<Audited, VoteFault> + Drop,
+    W: Sink,
+>(alloc: Global, request: &LoadedRequest<'_>, take: V, sink: &mut W) -> FinishedRun
+    requires desks { DesksFit request.now }
+    requires take { TakesVotes G.bars (V.pre take) (V.post take) }
     ensures performs { Performs G.bars request.now (W.contents sink.old) (W.contents sink.new) result }
     ensures output { IsErrOf result.end RunFault.Output ↔ (W.faults sink.old < W.faults sink.new) }
     ensures flushed { OnOk result.end (W.flushed sink.new ≡ true) }
@@ -65,13 +81,13 @@ pub fn perform<G: Gate + Sync, W: Sink, R: Threads + Wait + Sync>(
                 desks: *desks,
                 casting: *casting,
             };
-            count_for(rt, alloc, &inputs, *purpose, gate, sink)
+            count_for::<G, V, W>(alloc, &inputs, *purpose, take, sink)
         }
         Request::List {
             poll,
             ballots,
             listing,
-        } => ended_as_done(print_listing(alloc, poll, ballots, *listing, sink)),
+        } => perform_listing(alloc, poll, ballots, *listing, sink),
         Request::Check { poll } => ended_as_done(check_poll(alloc, poll, sink)),
         Request::Explain {
             poll,
@@ -83,35 +99,33 @@ pub fn perform<G: Gate + Sync, W: Sink, R: Threads + Wait + Sync>(
 }
 
 /// Performs a request on a sink over a writer, and returns the writer. The sink counts with this blank.
-fn perform_metered<G: Gate + Sync, W: Write, L: Ledger, R: Threads + Wait + Sync>(
-    rt: &R,
-    alloc: Global,
-    request: &LoadedRequest<'_>,
-    gate: &G,
-    writer: W,
-    blank: Blank,
-) -> (W, FinishedRun)
+fn perform_metered<
+    G: Gate,
+    V: FnOnce(&Poll, &Lines<'_>, u8) -> Result<Audited, VoteFault> + Drop,
+    W: Write,
+    L: Ledger,
+>(alloc: Global, request: &LoadedRequest<'_>, take: V, writer: W, blank: Blank) -> (W, FinishedRun)
     requires desks { DesksFit request.now }
+    requires take { TakesVotes G.bars (V.pre take) (V.post take) }
     requires name { blank.name ≡ L.name }
     requires parts { blank.parts ≡ L.parts }
     requires two { blank.parts ≡ 2 }
     ensures { Performs G.bars request.now (W.contents writer) (W.contents result.0) result.1 }
 {
     let mut sink = WriterSink::new(writer, Meter::<L>::new(blank));
-    let finished = perform(rt, alloc, request, gate, &mut sink);
+    let finished = perform::<G, V, WriterSink<W, L>>(alloc, request, take, &mut sink);
     (sink.into_writer(), finished)
 }
 
 /// [`perform`] on a writer of std. Returns the writer.
-pub fn perform_on<G: Gate + Sync, W: Write, R: Threads + Wait + Sync>(
-    rt: &R,
-    alloc: Global,
-    request: &LoadedRequest<'_>,
-    gate: &G,
-    writer: W,
-) -> (W, FinishedRun)
-    requires { DesksFit request.now }
+pub fn perform_on<
+    G: Gate,
+    V: FnOnce(&Poll, &Lines<'_>, u8) -> Result<Audited, VoteFault> + Drop,
+    W: Write,
+>(alloc: Global, request: &LoadedRequest<'_>, take: V, writer: W) -> (W, FinishedRun)
+    requires desks { DesksFit request.now }
+    requires take { TakesVotes G.bars (V.pre take) (V.post take) }
     ensures { Performs G.bars request.now (W.contents writer) (W.contents result.0) result.1 }
 {
-    perform_metered::<G, W, Brand, R>(rt, alloc, request, gate, writer, Blank::new(2))
+    perform_metered::<G, V, W, Brand>(alloc, request, take, writer, Blank::new(2))
 }

@@ -5,14 +5,13 @@ ghost use Rattle.vote_poll.specs.PollFile.{poll_in};
 ghost use Rattle.vote_steps.specs.Desks.{AreDesks};
 ghost use Rattle.vote_commands.specs.Counting.{IsNamed, NamesNoOption};
 ghost use Rattle.vote_commands.specs.TakenVotes.{AreBallotsTaken, AreTaken, StopsTaking};
+ghost use Rattle.vote_commands.specs.TakingVotes.{TakesVotes};
 
 use crate::fault::RunFault;
 use crate::reading::{lines_of_file, poll_of_file};
 use std::alloc::Global;
 use std::marker::Model;
-use std::sync::Wait;
-use std::thread::Threads;
-use vote_desks::{Audited, Gate, take_votes};
+use vote_desks::{Audited, Gate, VoteFault};
 use vote_poll::{Lines, Poll};
 
 /// The inputs of a run that counts.
@@ -79,16 +78,16 @@ fn read_poll<G: Gate>(
     Ok((poll, casting))
 }
 
-/// Takes the votes of the ballot file, with a thread for each desk, and returns the lines and the audited box. `poll` is the poll
-/// of the poll file, and has the option that the casting vote names.
+/// Takes the votes of the ballot file by this call, and returns the lines and the audited box. `poll` is the poll of the poll file,
+/// and has the option that the casting vote names.
 #[tactic(auto, using(crate::proofs::Stopping::count_without_votes))]
-fn take_ballots<'t, G: Gate + Sync, R: Threads + Wait + Sync>(
-    rt: &R,
+fn take_ballots<'t, G: Gate, V: FnOnce(&Poll, &Lines<'_>, u8) -> Result<Audited, VoteFault> + Drop>(
     alloc: Global,
     poll: &Poll,
     inputs: &CountInputs<'t>,
-    gate: &G,
+    take: V,
 ) -> Result<(Lines<'t>, Audited), RunFault>
+    requires take { TakesVotes G.bars (V.pre take) (V.post take) }
     requires desks { AreDesks inputs.now.desks }
     requires poll { poll_in inputs.now.poll ≡ Ok poll.now }
     requires casting { ¬ NamesNoOption poll.now inputs.now.casting }
@@ -99,21 +98,21 @@ fn take_ballots<'t, G: Gate + Sync, R: Threads + Wait + Sync>(
         Ok(lines) => lines,
         Err(fault) => return Err(fault),
     };
-    let audited = match take_votes(rt, alloc, poll, &lines, inputs.desks, gate) {
+    let audited = match take(poll, &lines, inputs.desks) {
         Ok(audited) => audited,
         Err(fault) => return Err(RunFault::from(fault)),
     };
     Ok((lines, audited))
 }
 
-/// Reads the poll, then the casting vote, then the lines, and takes the votes with a thread for each desk.
-pub(crate) fn take_inputs<'t, G: Gate + Sync, R: Threads + Wait + Sync>(
-    rt: &R,
-    alloc: Global,
-    inputs: &CountInputs<'t>,
-    gate: &G,
-) -> Result<TakenVotes<'t>, RunFault>
-    requires { AreDesks inputs.now.desks }
+/// Reads the poll, then the casting vote, then the lines, and takes the votes by this call.
+pub(crate) fn take_inputs<
+    't,
+    G: Gate,
+    V: FnOnce(&Poll, &Lines<'_>, u8) -> Result<Audited, VoteFault> + Drop,
+>(alloc: Global, inputs: &CountInputs<'t>, take: V) -> Result<TakenVotes<'t>, RunFault>
+    requires desks { AreDesks inputs.now.desks }
+    requires take { TakesVotes G.bars (V.pre take) (V.post take) }
     ensures taken { IfOk result (AreTaken inputs.now) }
     ensures stopped { IfErr result (StopsTaking G.bars inputs.now) }
 {
@@ -121,7 +120,7 @@ pub(crate) fn take_inputs<'t, G: Gate + Sync, R: Threads + Wait + Sync>(
         Ok(read) => read,
         Err(fault) => return Err(fault),
     };
-    let (lines, audited) = match take_ballots(rt, alloc, &poll, inputs, gate) {
+    let (lines, audited) = match take_ballots::<G, V>(alloc, &poll, inputs, take) {
         Ok(taken) => taken,
         Err(fault) => return Err(fault),
     };

@@ -1,8 +1,9 @@
 //! What the program answers to its words: the exit status, and what it writes.
 
-ghost use Rattle.std.specs.Prelude.{◌≡◌, ◌<◌, ◌≤◌, ◌↔◌, IfOk, drop, length, map, string_bytes};
+ghost use Rattle.std.specs.Prelude.{◌≡◌, ◌<◌, ◌≤◌, ◌↔◌, false, IfOk, drop, length, map, string_bytes};
 ghost use Rattle.vote_command_line.specs.Words.{texts_of};
 ghost use Rattle.vote_files.specs.Sources.{HasRead};
+ghost use Rattle.vote_commands.specs.TakingVotes.{TakesVotes};
 ghost use Rattle.vote_program.specs.Errors.{SaysHint};
 ghost use Rattle.vote_program.specs.Outputs.{written_by};
 ghost use Rattle.vote_program.specs.ProgramAnswers.{AnswersHelp, AnswersJoined, AnswersWorded, AnswersWords, words_in};
@@ -11,11 +12,11 @@ ghost use Rattle.vote_program.specs.SheetOfFiles.{WritesTheSheet};
 use crate::exit_status::{args_status, report, say};
 use crate::request_run::{carry_out, print_joined};
 use std::alloc::{AllocError, Global};
-use std::sync::Wait;
-use std::thread::Threads;
 use vote_command_line::{ArgsFault, parse_args};
 use vote_commands::RunFault;
+use vote_desks::{Audited, VoteFault};
 use vote_files::{Sink, Sources, StandardInput, write_text};
+use vote_poll::{Lines, Poll};
 
 const TERMINAL_HINT: &str =
     "debvote: reading a poll and its ballots from the terminal; see debvote --help\n";
@@ -49,21 +50,21 @@ pub fn refuse<W: Sink, E: Sink>(fault: &ArgsFault, sink: &mut W, errors: &mut E)
 }
 
 /// Answers words: performs the request that they make, or says why they make none. Returns the exit status.
-fn answer_words<S: Sources, W: Sink, E: Sink, R: AllocGlobal + Threads + Wait + Sync>(
-    rt: &R,
-    files: &mut S,
-    words: &[&str],
-    sink: &mut W,
-    errors: &mut E,
-) -> u8
+fn answer_words<
+    S: Sources,
+    V: FnOnce(&Poll, &Lines<'_>, u8) -> Result<Audited, VoteFault> + Drop,
+    W: Sink,
+    E: Sink,
+>(alloc: Global, files: &mut S, words: &[&str], take: V, sink: &mut W, errors: &mut E) -> u8
+    requires take { TakesVotes (λ desk. false) (V.pre take) (V.post take) }
     ensures answers { AnswersWorded (S.file_bytes files.old) (HasRead S.file_readings files.old files.new) (texts_of words.now)
         (written_by W.contents W.faults W.flushed sink.old sink.new)
         (written_by E.contents E.faults E.flushed errors.old errors.new) result }
     ensures output { (result ≡ 7) ↔ (W.faults sink.old < W.faults sink.new) }
 {
-    match parse_args(rt.alloc(), words) {
+    match parse_args(alloc, words) {
         Ok(request) => {
-            let finished = carry_out(rt, rt.alloc(), files, &request, sink);
+            let finished = carry_out(alloc, files, &request, take, sink);
             report(errors, &finished.end)
         }
         Err(fault) => refuse(&fault, sink, errors),
@@ -80,8 +81,8 @@ fn say_hint<E: Sink>(errors: &mut E, at_terminal: bool)
 }
 
 /// Answers no words: a joined input. Returns the exit status.
-fn answer_joined<I: StandardInput, W: Sink, E: Sink, R: AllocGlobal + Threads + Wait + Sync>(
-    rt: &R,
+fn answer_joined<I: StandardInput, W: Sink, E: Sink>(
+    alloc: Global,
     input: &mut I,
     at_terminal: bool,
     sink: &mut W,
@@ -93,7 +94,7 @@ fn answer_joined<I: StandardInput, W: Sink, E: Sink, R: AllocGlobal + Threads + 
     ensures output { (result ≡ 7) ↔ (W.faults sink.old < W.faults sink.new) }
 {
     say_hint(errors, at_terminal);
-    report(errors, &print_joined(rt, rt.alloc(), input, sink).end)
+    report(errors, &print_joined(alloc, input, sink).end)
 }
 
 /// The words after the program's name.
@@ -118,22 +119,24 @@ fn borrowed<'a>(alloc: Global, words: &'a [String]) -> Result<Vec<&'a str>, Allo
 }
 
 /// Answers the words that the system gives: those after the first, which is the program's name, or without any a joined input. Returns
-/// the exit status.
+/// the exit status. A count takes its votes by this call, at most once; nothing else waits.
 pub fn answer<
     S: Sources,
     I: StandardInput,
+    V: FnOnce(&Poll, &Lines<'_>, u8) -> Result<Audited, VoteFault> + Drop,
     W: Sink,
     E: Sink,
-    R: AllocGlobal + Threads + Wait + Sync,
 >(
-    rt: &R,
+    alloc: Global,
     files: &mut S,
     input: &mut I,
     given: &[String],
     at_terminal: bool,
+    take: V,
     sink: &mut W,
     errors: &mut E,
 ) -> u8
+    requires take { TakesVotes (λ desk. false) (V.pre take) (V.post take) }
     ensures sheet { 1 < length given.now
         → WritesTheSheet (S.file_bytes files.old) (HasRead S.file_readings files.old files.new) (words_in given.now)
         (written_by W.contents W.faults W.flushed sink.old sink.new)
@@ -152,10 +155,10 @@ pub fn answer<
 {
     let words = after_name(given);
     if words.is_empty() {
-        return answer_joined(rt, input, at_terminal, sink, errors);
+        return answer_joined(alloc, input, at_terminal, sink, errors);
     }
-    match borrowed(rt.alloc(), words) {
-        Ok(words) => answer_words(rt, files, words.as_slice(), sink, errors),
+    match borrowed(alloc, words) {
+        Ok(words) => answer_words(alloc, files, words.as_slice(), take, sink, errors),
         Err(fault) => refuse(&ArgsFault::from(fault), sink, errors),
     }
 }

@@ -1,8 +1,9 @@
 //! The run of a request, or of a joined input, from its files to its end.
 
-ghost use Rattle.std.specs.Prelude.{◌≡◌, ◌<◌, ◌↔◌, Err, IsErrOf};
+ghost use Rattle.std.specs.Prelude.{◌≡◌, ◌<◌, ◌↔◌, false, Err, IsErrOf};
 ghost use Rattle.vote_request.specs.Requests.{DesksFit};
 ghost use Rattle.vote_commands.specs.Performing.{TellsNoBox};
+ghost use Rattle.vote_commands.specs.TakingVotes.{TakesVotes};
 ghost use Rattle.vote_files.specs.Sources.{HasRead};
 ghost use Rattle.vote_program.specs.Outputs.{written_by};
 ghost use Rattle.vote_program.specs.RequestEnds.{EndsJoined, EndsRequest, IsRequestDone};
@@ -10,13 +11,12 @@ ghost use Rattle.vote_program.specs.RequestEnds.{EndsJoined, EndsRequest, IsRequ
 use crate::inputs::{Inputs, read_inputs, read_joined};
 use crate::loaded_request::with_bytes;
 use std::alloc::Global;
-use std::sync::Wait;
-use std::thread::Threads;
 use vote_command_line::NamedRequest;
-use vote_commands::{FinishedRun, RunFault, perform, split_joined};
-use vote_desks::NoGate;
+use vote_commands::{FinishedRun, RunFault, perform, perform_listing, split_joined};
+use vote_desks::{Audited, NoGate, VoteFault};
 use vote_files::{Sink, Sources, StandardInput};
-use vote_request::{Listing, Request};
+use vote_poll::{Lines, Poll};
+use vote_request::Listing;
 
 /// How a run ends whose inputs were not all read.
 fn unread(fault: RunFault) -> FinishedRun
@@ -31,31 +31,31 @@ fn unread(fault: RunFault) -> FinishedRun
 
 /// Performs a request whose files were read. It is a function of its own, since a loaded request borrows words and bytes for the
 /// same lifetime: here both are lent.
-fn perform_with<W: Sink, R: Threads + Wait + Sync>(
-    rt: &R,
+fn perform_with<V: FnOnce(&Poll, &Lines<'_>, u8) -> Result<Audited, VoteFault> + Drop, W: Sink>(
     alloc: Global,
     request: &NamedRequest<'_>,
     inputs: &Inputs,
+    take: V,
     sink: &mut W,
 ) -> FinishedRun
-    requires { DesksFit request.now }
+    requires desks { DesksFit request.now }
+    requires take { TakesVotes (λ desk. false) (V.pre take) (V.post take) }
     ensures done { IsRequestDone request.now inputs.now (written_by W.contents W.faults W.flushed sink.old sink.new) result }
     ensures output { IsErrOf result.end RunFault.Output ↔ (W.faults sink.old < W.faults sink.new) }
 {
     let loaded = with_bytes(request, inputs);
-    perform(rt, alloc, &loaded, &NoGate, sink)
+    perform::<NoGate, V, W>(alloc, &loaded, take, sink)
 }
 
-/// Reads the files of a request, before anything is checked, and performs it.
+/// Reads the files of a request, before anything is checked, and performs it. A count takes its votes by this call.
 #[tactic(auto, using(crate::proofs::OnFiles::done_on_its_files))]
-pub fn carry_out<S: Sources, W: Sink, R: Threads + Wait + Sync>(
-    rt: &R,
-    alloc: Global,
-    files: &mut S,
-    request: &NamedRequest<'_>,
-    sink: &mut W,
-) -> FinishedRun
-    requires { DesksFit request.now }
+pub fn carry_out<
+    S: Sources,
+    V: FnOnce(&Poll, &Lines<'_>, u8) -> Result<Audited, VoteFault> + Drop,
+    W: Sink,
+>(alloc: Global, files: &mut S, request: &NamedRequest<'_>, take: V, sink: &mut W) -> FinishedRun
+    requires desks { DesksFit request.now }
+    requires take { TakesVotes (λ desk. false) (V.pre take) (V.post take) }
     ensures ends { EndsRequest (S.file_bytes files.old) (HasRead S.file_readings files.old files.new) request.now (written_by W.contents W.faults W.flushed sink.old sink.new) result }
     ensures output { IsErrOf result.end RunFault.Output ↔ (W.faults sink.old < W.faults sink.new) }
 {
@@ -63,12 +63,11 @@ pub fn carry_out<S: Sources, W: Sink, R: Threads + Wait + Sync>(
         Ok(inputs) => inputs,
         Err(fault) => return unread(fault),
     };
-    perform_with(rt, alloc, request, &inputs, sink)
+    perform_with(alloc, request, &inputs, take, sink)
 }
 
 /// Writes the reply to each ballot of standard input, a poll and its ballots joined by a line `%%`.
-pub fn print_joined<I: StandardInput, W: Sink, R: Threads + Wait + Sync>(
-    rt: &R,
+pub fn print_joined<I: StandardInput, W: Sink>(
     alloc: Global,
     input: &mut I,
     sink: &mut W,
@@ -81,10 +80,5 @@ pub fn print_joined<I: StandardInput, W: Sink, R: Threads + Wait + Sync>(
         Err(fault) => return unread(fault),
     };
     let (poll, ballots) = split_joined(text.as_slice());
-    let loaded = Request::List {
-        poll,
-        ballots,
-        listing: Listing::Steps,
-    };
-    perform(rt, alloc, &loaded, &NoGate, sink)
+    perform_listing(alloc, poll, ballots, Listing::Steps, sink)
 }

@@ -21,3 +21,4 @@ pub mod NormalRanksAreOne
 pub mod Publishing
 pub mod VerifiedOnce
 pub mod SheetExists
+pub mod PictureLaws

@@ -15,7 +15,7 @@ use Rattle.vote_count.specs.Laws.{AreSameOutcomes, DecisionsAreDetermined, HaveS
 use Rattle.vote_sheet.specs.Sheet.{Sheet, Text, casting_note, causes_text, count_text, counted_text, decision_text, defeat_line, defeat_lines, defeats_by, defeats_text, drop_line, dropped_line, dropped_text, drops_of, each, ending, head_text, line, name_of, numbers, options_text, or_none, right, round_text, rounds_from, row_text, sheet_text, table_head_text, table_text, tie_text, totals_text, votes_text, when, winner_text}
 use Rattle.vote_sheet.specs.SheetOf.{IsSheetOf, SheetIsUnique}
 
-each_same : (n : ℕ) (f g : ℕ → Text) → ((o : ℕ) → IsOption n o → f o ≡ g o) → each n f ≡ each n g
+pub each_same : (n : ℕ) (f g : ℕ → Text) → ((o : ℕ) → IsOption n o → f o ≡ g o) → each n f ≡ each n g
 each_same zero f g same = refl
 each_same (suc n) f g same =
     ap (λ front. front ++ f (suc n)) (each_same n f g (λ o is. same o (is.0, omega (arith, is.1))))
@@ -26,10 +26,10 @@ numbers_same n s t same =
     each_same n (λ o. when (has s o) (codes " " ++ decimal o)) (λ o. when (has t o) (codes " " ++ decimal o)) (λ o is. ap (λ b. when b (codes " " ++ decimal o)) (same o))
 
 -- ---- the texts
-same_has : (s t : List Bool) → ((o : ℕ) → In s o ↔ In t o) → (o : ℕ) → has s o ≡ has t o
+pub same_has : (s t : List Bool) → ((o : ℕ) → In s o ↔ In t o) → (o : ℕ) → has s o ≡ has t o
 same_has s t same o = both_ways (has s o) (has t o) (same o).0 (same o).1
 
-same_pair : (s t : List (List Bool)) → ((a b : ℕ) → Pairs s a b ↔ Pairs t a b) → (a b : ℕ) → has_pair s a b ≡ has_pair t a b
+pub same_pair : (s t : List (List Bool)) → ((a b : ℕ) → Pairs s a b ↔ Pairs t a b) → (a b : ℕ) → has_pair s a b ≡ has_pair t a b
 same_pair s t same a b = both_ways (has_pair s a b) (has_pair t a b) (same a b).0 (same a b).1
 
 votes_text_same : (n : ℕ) (m w : Votes) → HaveSameVotes n m w → (a b : ℕ) → IsOption n a → IsOption n b → votes_text m a b ≡ votes_text w a b
@@ -106,7 +106,7 @@ rounds_from_same n number (r ∷ rs) (s ∷ ss) h =
     ap (λ text. text ++ rounds_from n (number + 1) rs) (round_text_same n number r s h.0)
     ∙ ap (λ text. round_text n number s ++ text) (rounds_from_same n (number + 1) rs ss h.1)
 
-final_same : (rs ss : List Round) → AreSameRounds rs ss → (o : ℕ) → In (final_set rs) o ↔ In (final_set ss) o
+pub final_same : (rs ss : List Round) → AreSameRounds rs ss → (o : ℕ) → In (final_set rs) o ↔ In (final_set ss) o
 final_same [] [] h o = (λ i. i, λ i. i)
 final_same [] (s ∷ ss) h o = absurd h
 final_same (r ∷ rs) [] h o = absurd h

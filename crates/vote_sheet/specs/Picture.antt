@@ -1,5 +1,5 @@
 -- The text of a picture: the outcome of a sheet as a graph, in the language of Graphviz.
-use Rattle.std.specs.Prelude.{◌≡◌, ℕ, ◌+◌, Bool, ◌==◌, ◌||◌, if◌then◌else◌, List, [], ◌∷◌, ◌++◌, length, Option, Some, None, codes, decimal, string_bytes}
+use Rattle.std.specs.Prelude.{◌≡◌, ℕ, ◌+◌, Bool, ◌==◌, ◌||◌, if◌then◌else◌, List, [], ◌∷◌, ◌++◌, length, Ok, Option, Some, None, codes, decimal, string_bytes}
 use Rattle.std.specs.List.{concat, flat_map}
 use Rattle.std.specs.declared.string.String.{String}
 use Rattle.vote_count.specs.Votes.{Votes, votes}
@@ -10,6 +10,7 @@ use Rattle.vote_count.specs.declared.Cause.{Cause}
 use Rattle.vote_count.specs.declared.Decision.{Decision}
 use Rattle.vote_count.specs.declared.Decision.TheVariants.{Winner}
 use Rattle.vote_poll.specs.PollContent.{PollContent}
+use Rattle.vote_poll.specs.PollFile.{poll_in}
 use Rattle.vote_sheet.specs.Sheet.{Sheet, cause_name, each, name_of, when}
 use Rattle.vote_sheet.specs.SheetOf.{IsSheetOf}
 use Rattle.vote_sheet.specs.Texts.{Text, line}
@@ -98,6 +99,18 @@ picture_text poll s = concat (
 -- the text is the picture of a sheet of the poll, the lines and the casting vote, and this is the decision of the sheet
 abbrev pub IsPictureAndDecision : PollContent → List Text → Option ℕ → Text → Decision → Type 0
 IsPictureAndDecision poll lines casting text decision = (s : Sheet) × IsSheetOf poll lines casting s × (text ≡ picture_text poll s) × (decision ≡ s.decision)
+
+-- a poll, its lines and the casting vote have at most one picture, with at most one decision
+abbrev pub PictureIsUnique : Type 0
+PictureIsUnique =
+    (poll : PollContent) (lines : List Text) (casting : Option ℕ) (text other : Text) (decision second : Decision)
+    → IsPictureAndDecision poll lines casting text decision → IsPictureAndDecision poll lines casting other second → (text ≡ other) × (decision ≡ second)
+
+-- each poll that is read from a poll file has a picture, for any lines and any casting vote
+abbrev pub PictureExists : Type 0
+PictureExists =
+    (file : Text) (poll : PollContent) (lines : List Text) (casting : Option ℕ) → poll_in file ≡ Ok poll
+    → (text : Text) × (decision : Decision) × IsPictureAndDecision poll lines casting text decision
 
 -- the picture of a sheet of the poll, the lines and the casting vote was printed, and this is the decision of the sheet
 abbrev pub PrintsPicture : {Z : Type 0} → PollContent → List Text → Option ℕ → String Z × Decision → Type 0

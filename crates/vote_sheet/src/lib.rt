@@ -28,7 +28,7 @@ mod standing;
 mod steps;
 mod verify;
 
-pub use picture::picture_of_box;
+pub use picture::{picture_exists, picture_is_unique, picture_of_box};
 pub use sheet::{sheet_exists, sheet_is_unique, sheet_of_box};
 pub use standing::standing_text;
 pub use steps::{check_text, reply_words, steps_are_determined, steps_text};

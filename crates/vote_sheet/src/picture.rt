@@ -10,12 +10,15 @@ ghost use Rattle.vote_count.specs.Rounds.{final_set};
 ghost use Rattle.vote_steps.specs.HeldLines.{HoldsLines};
 ghost use Rattle.vote_sheet.specs.Counted.{as_sheet};
 ghost use Rattle.vote_sheet.specs.Sheet.{line, when};
-ghost use Rattle.vote_sheet.specs.Picture.{PrintsPicture, cause_label, decided_style, dropped_style, edge_line, edge_lines, edges_by, graph_head, node_of, node_lines, picture_text, quoted, removal_text, removing_round};
+ghost use Rattle.vote_sheet.specs.Picture.{PictureExists, PictureIsUnique, PrintsPicture, cause_label, decided_style, dropped_style, edge_line, edge_lines, edges_by, graph_head, node_of, node_lines, picture_text, quoted, removal_text, removing_round};
 
-use crate::sheet::{Count, count_of_box};
+use crate::sheet::{Count, count_of_box, sheet_exists};
 use crate::sheet_text::{option_name, when};
 use std::alloc::{AllocError, Global};
-use vote_count::{Cause, Decision, Matrix, OptionSet, Round, Verdict, decide};
+use vote_count::{
+    Cause, Decision, Matrix, OptionSet, Round, Verdict, decide, decisions_are_determined,
+    outcomes_are_determined,
+};
 use vote_poll::{Lines, Poll};
 use vote_steps::BallotBox;
 
@@ -229,4 +232,19 @@ pub fn picture_of_box(
     let mut text = String::new(alloc);
     push_picture(&mut text, poll, &count, decision)?;
     Ok((text, decision))
+}
+
+/// A poll, its lines and the casting vote have at most one picture.
+pub fn picture_is_unique()
+    ensures { PictureIsUnique }
+{
+    outcomes_are_determined();
+    decisions_are_determined();
+}
+
+/// Each poll that is read from a poll file has a picture, for any lines and any casting vote. By [`picture_is_unique`] it has only one.
+pub fn picture_exists()
+    ensures { PictureExists }
+{
+    sheet_exists();
 }

@@ -1,0 +1,2 @@
+pub mod CountWords
+pub mod MemoryCounts
