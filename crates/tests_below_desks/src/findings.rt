@@ -12,16 +12,16 @@ const FAULTY: &str =
     "title = 3\noptions = [\"A\", \"B \"]\nratios = [1, 12]\ndefault = \"A\"\nquorum = 11\nrol = 1\nwording = \"most\"\n[more]\nroll = [\"v0\"]\n[rest]\nx = 1\ny = 2\n";
 
 /// The findings in it.
-const FINDINGS: &str = "poll: key title: an integer, and a text is wanted\n\
-    poll: key roll: it is missing; more.roll or rol may be meant: ask which\n\
-    poll: name of option 2: \"B \" ends with a space\n\
-    poll: name of option 3: \"A\" is option 1 too\n\
-    poll: ratios: 12 is not from 1 to 10\n\
-    poll: quorum: 11 is not from 0 to 10; it says how many times Q is needed, half the square root of the number of electors\n\
-    poll: wording: \"most\" is neither at_least nor more_than\n\
-    poll: key more.roll is not read; it is one of several that may be roll: ask which is meant\n\
+const FINDINGS: &str = "poll: key title: an integer; a text is wanted\n\
+    poll: key roll: it is missing above all tables, and is in [more]; a list of texts is wanted\n\
+    poll: name of option 2: \"B \" ends with a space; an option's name has 1 to 40 characters of ASCII, no space at either end, and no other option has it\n\
+    poll: name of option 3: \"A\" is option 1 too; an option's name has 1 to 40 characters of ASCII, no space at either end, and no other option has it\n\
+    poll: ratios: 12 for option 2; a ratio is a whole number from 1 to 10\n\
+    poll: quorum: 11 found; a quorum is a whole number from 0 to 10: how many times Q is needed, half the square root of the number of electors\n\
+    poll: wording: \"most\" found; a wording is at_least or more_than\n\
+    poll: key more.roll is not read; it is read above all tables alone\n\
     poll: key rest is not read\n\
-    poll: key rol is not read; it is one of several that may be roll: ask which is meant\n";
+    poll: key rol is not read; did you mean roll?\n";
 
 /// The findings in a text, and its fault if it is not a poll.
 fn explained(alloc: Global, text: &[u8]) -> Result<(String, Option<PollFault>), AllocError> {
@@ -64,7 +64,7 @@ fn crowd(alloc: Global) -> Result<(String, Option<PollFault>), AllocError> {
 fn a_roll_with_one_name_too_many(rt: HostRuntime) -> Result<(), Fail> {
     let (findings, fault) = crowd(rt.alloc())?;
     assert_same(&rt, fault, Some(PollFault::RollSize));
-    let most = "poll: size of roll: 10001 names, 10000 are the most\n";
+    let most = "poll: size of roll: 10001 found; a roll has 1 to 10000 names\n";
     assert_same(&rt, findings.as_str(), most);
     Ok(())
 }

@@ -35,7 +35,7 @@ pub(crate) fn push_kind(
 ) -> Result<(), AllocError> {
     if let Some(kind) = file_kind(text) {
         words.push_str("is ")?;
-        words.push_str(kind.words())?;
+        words.push_str(kind)?;
         return words.push_str("; ballots are plain text in UTF-8");
     }
     if (0..lines.len()).any(|place| lines.line(place).starts_with(b"title =")) {

@@ -1,13 +1,20 @@
 -- What a file is that is no plain text in UTF-8, by its signs.
-use Rattle.std.specs.Prelude.{ℕ, List, codes}
-use Rattle.vote_explain_poll.specs.declared.file_kinds.FileKind.{FileKind}
-use Rattle.vote_explain_poll.specs.declared.file_kinds.FileKind.TheVariants as kind
+use Rattle.std.specs.Prelude.{ℕ, ◌==◌, ◌||◌, Bool, if◌then◌else◌, List, [], ◌∷◌, ◌++◌, Option, Some, None, codes, nat_eq, take}
+use Rattle.std.specs.List.{list_any, starts_with}
 
-abbrev pub kind_words : FileKind → List ℕ
-kind_words kind.Utf32 = codes "UTF-32"
-kind_words kind.Utf16 = codes "UTF-16"
-kind_words kind.Zip = codes "a ZIP file, as of word processors and spreadsheets"
-kind_words kind.Pdf = codes "a PDF file"
-kind_words kind.Rtf = codes "an RTF file"
-kind_words kind.OldOffice = codes "an old Word or Excel file"
-kind_words kind.NoText = codes "no text"
+-- a zero is among the first bytes
+abbrev pub has_zero : List ℕ → Bool
+has_zero text = list_any (λ b. b == 0) (take 16 text)
+
+-- what the file is with whose sign the text begins. The sign of UTF-32 may begin with that of UTF-16.
+abbrev pub file_kind : List ℕ → Option (List ℕ)
+file_kind text =
+    let begins : List ℕ → Bool = starts_with nat_eq text in
+    if begins (0xFF ∷ 0xFE ∷ 0 ∷ 0 ∷ []) || begins (0 ∷ 0 ∷ 0xFE ∷ 0xFF ∷ []) then Some (codes "UTF-32")
+    else if begins (0xFF ∷ 0xFE ∷ []) || begins (0xFE ∷ 0xFF ∷ []) then Some (codes "UTF-16")
+    else if begins (codes "PK" ++ 3 ∷ 4 ∷ []) then Some (codes "a ZIP file, as of word processors and spreadsheets")
+    else if begins (codes "%PDF") then Some (codes "a PDF file")
+    else if begins (codes "{\\rtf") then Some (codes "an RTF file")
+    else if begins (0xD0 ∷ 0xCF ∷ 0x11 ∷ 0xE0 ∷ []) then Some (codes "an old Word or Excel file")
+    else if has_zero text then Some (codes "no text")
+    else None

@@ -8,7 +8,7 @@ use Rattle.vote_poll.specs.PollFaults.{faults_in}
 use Rattle.vote_poll_keys.specs.FaultWords.{fault_words}
 use Rattle.vote_poll_keys.specs.declared.fault.PollFault.{PollFault}
 use Rattle.vote_explain_poll.specs.Hints.{IsHint}
-use Rattle.vote_explain_poll.specs.Places.{KeyPlace, path_of}
+use Rattle.vote_explain_poll.specs.UnreadKeys.{KeyPlace, path_of}
 use Rattle.vote_explain_poll.specs.Remarks.{IsKeyRemark}
 use Rattle.vote_explain_poll.specs.declared.TheConstants.{MAX_SHOWN}
 use Rattle.vote_explain_poll.specs.Syntax.{IsSyntaxFinding}

@@ -1,9 +1,8 @@
 -- What a hint is, and what calls say that add to a text.
-use Rattle.std.specs.Prelude.{◌≡◌, true, ◌≤◌, ◌/◌, ℕ, List, ◌++◌, Result, String, OnOk, length, string_bytes}
-use Rattle.std.specs.List.{All, list_all}
+use Rattle.std.specs.Prelude.{◌≡◌, ◌≤◌, ◌/◌, ℕ, List, ◌++◌, Result, String, OnOk, length, string_bytes}
+use Rattle.std.specs.List.{All}
 use Rattle.std.specs.declared.alloc.Global.{Global}
 use Rattle.vote_poll_text.specs.Lines.{IsUnbroken, text_of_lines}
-use Rattle.vote_poll_text.specs.Names.{is_printable}
 use Rattle.vote_poll_text.specs.Shown.{shown}
 use Rattle.vote_explain_poll.specs.declared.TheConstants.{MAX_HINT}
 
@@ -13,10 +12,6 @@ pub record IsHint (hint : List ℕ) : Type 0 where
   pub is_shown : hint ≡ shown (MAX_HINT / 4) words
   pub unbroken : IsUnbroken hint
   pub short : length hint ≤ MAX_HINT
-
--- part of a line
-abbrev pub IsPrintable : List ℕ → Type 0
-IsPrintable text = list_all is_printable text ≡ true
 
 -- lines that show a place
 abbrev pub IsExcerpt : List ℕ → Type 0

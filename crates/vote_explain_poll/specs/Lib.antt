@@ -2,7 +2,6 @@
 pub mod Limits
 pub mod Hints
 pub mod FileKinds
-pub mod Places
 pub mod Remarks
 pub mod UnreadKeys
 pub mod Syntax

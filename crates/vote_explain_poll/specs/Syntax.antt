@@ -1,12 +1,11 @@
 -- What is said of a poll file that is no TOML, by the place of an error in it: how many bytes stand before the error.
-use Rattle.std.specs.Prelude.{◌≡◌, ℕ, ◌+◌, ◌-◌, ◌≤◌, ◌↔◌, not, Bool, true, false, List, [], ◌++◌, Option, Some, None, count_by, length, slice_index_or, take, IsTrue, codes, decimal}
+use Rattle.std.specs.Prelude.{◌≡◌, ◌⊎◌, ℕ, ◌+◌, ◌-◌, ◌≤◌, not, Bool, List, [], ◌++◌, Option, Some, None, count_by, length, slice_index_or, take, codes, decimal}
 use Rattle.std.specs.List.{All}
 use Rattle.vote_poll_text.specs.Lines.{feed_count, line_feed, parts_of, text_of_lines}
 use Rattle.vote_poll_text.specs.Names.{is_within}
 use Rattle.vote_poll.specs.BallotLine.{IsBallotText}
-use Rattle.vote_explain_poll.specs.FileKinds.{kind_words}
+use Rattle.vote_explain_poll.specs.FileKinds.{file_kind}
 use Rattle.vote_explain_poll.specs.Hints.{IsHint}
-use Rattle.vote_explain_poll.specs.declared.file_kinds.FileKind.{FileKind}
 
 -- ---- lines
 -- the first line of a text, and what stands after its last line feed
@@ -29,36 +28,36 @@ abbrev pub column_number : List ℕ → ℕ
 column_number before = count_by begins_character before + 1
 
 -- ---- the whole
--- whether the files may be exchanged
-unfoldable pub exchanged_text : Bool → List ℕ
-exchanged_text true = codes "the poll file looks like ballots: are the files exchanged?\n"
-exchanged_text false = []
-
 -- the place as it is written
 abbrev pub place_words : List ℕ → List ℕ
 place_words before = codes "poll:" ++ decimal (line_number before) ++ codes ":" ++ decimal (column_number (last_line before)) ++ codes ": "
 
--- Whether the files may be exchanged, the line of the finding, and lines that show the place. Open are the place that `toml` tells
--- and the words.
+-- The line of the finding, and lines that show the place. Open are the place that `toml` tells and the words.
 pub record IsPlaceFinding (text finding : List ℕ) : Type 0 where
   pub place : ℕ
   pub within : place ≤ length text
-  pub exchanged : Bool
-  pub is_exchanged : IsTrue exchanged ↔ IsBallotText (first_line text)
   pub hint : List ℕ
   pub is_hint : IsHint hint
   pub excerpt : List (List ℕ)
   pub are_hints : All IsHint excerpt
-  pub is_text : finding ≡ exchanged_text exchanged ++ place_words (take place text) ++ hint ++ line_feed ++ text_of_lines excerpt
+  pub is_text : finding ≡ place_words (take place text) ++ hint ++ line_feed ++ text_of_lines excerpt
 
--- what is said of a file of this kind
-abbrev pub file_text : FileKind → List ℕ
-file_text kind = codes "the poll file is " ++ kind_words kind ++ codes "; a poll is plain text in UTF-8\n"
+abbrev pub exchanged_text : List ℕ
+exchanged_text = codes "the poll file looks like ballots: are the files exchanged?\n"
 
-abbrev pub IsFindingOf : Option FileKind → List ℕ → List ℕ → Type 0
+-- the files may be exchanged if the first line is that of a ballot; else there is a place
+abbrev pub IsPlainFinding : List ℕ → List ℕ → Type 0
+IsPlainFinding text finding =
+    (IsBallotText (first_line text) × (finding ≡ exchanged_text)) ⊎ (¬ IsBallotText (first_line text) × IsPlaceFinding text finding)
+
+-- what is said of a file that is this
+abbrev pub file_text : List ℕ → List ℕ
+file_text kind = codes "the poll file is " ++ kind ++ codes "; a poll is plain text in UTF-8\n"
+
+abbrev pub IsFindingOf : Option (List ℕ) → List ℕ → List ℕ → Type 0
 IsFindingOf (Some kind) text finding = finding ≡ file_text kind
-IsFindingOf None text finding = IsPlaceFinding text finding
+IsFindingOf None text finding = IsPlainFinding text finding
 
--- the kind of the file if it is no plain text, and else a place
+-- what the file is, if it is no plain text
 abbrev pub IsSyntaxFinding : List ℕ → List ℕ → Type 0
-IsSyntaxFinding text finding = (kind : Option FileKind) × IsFindingOf kind text finding
+IsSyntaxFinding text finding = IsFindingOf (file_kind text) text finding

@@ -10,8 +10,7 @@ ghost use Rattle.vote_explain_poll.specs.Findings.{AreFindings, AreFindingsOf};
 ghost use Rattle.vote_explain_poll.specs.Syntax.{IsSyntaxFinding};
 ghost use Rattle.vote_poll_keys.specs.declared.fault.PollFault.TheVariants.{Memory, Syntax};
 
-use crate::findings::{push_fault_lines, push_key_lines};
-use crate::hints::Hints;
+use crate::findings::{Hints, push_fault_lines, push_key_lines};
 use crate::syntax::syntax_finding;
 use crate::unread::unread_keys;
 use std::alloc::{AllocError, Global};
@@ -93,22 +92,6 @@ fn explain_table(alloc: Global, text: &[u8], table: &Table) -> Result<ExplainedP
     explain_judged(alloc, text, table, &keys, &faults)
 }
 
-/// That a text is no TOML, which is all that is wrong with it.
-fn explain_syntax(
-    alloc: Global,
-    text: &[u8],
-    error: &toml::de::Error,
-    file: Option<&str>,
-) -> Result<ExplainedPoll, AllocError>
-    ensures findings { IfOk result (λ told. IsSyntaxFinding text.now (string_bytes told.findings)) }
-    ensures outcome { IfOk result (λ told. told.outcome ≡ Err Syntax) }
-{
-    Ok(ExplainedPoll {
-        findings: syntax_finding(alloc, text, error, file)?,
-        outcome: Err(PollFault::Syntax),
-    })
-}
-
 /// Reads a poll file as [`Poll::from_text`] does, and says all that is wrong with it: each fault, judged by itself, with what was
 /// found; and each key that is not read. `file` is the name of the file for a command that mends it, where it has one.
 ///
@@ -130,7 +113,10 @@ pub fn explain_poll(
             if error.is_memory() {
                 return Err(AllocError);
             }
-            explain_syntax(alloc, text, &error, file)
+            Ok(ExplainedPoll {
+                findings: syntax_finding(alloc, text, &error, file)?,
+                outcome: Err(PollFault::Syntax),
+            })
         }
     }
 }

@@ -1,15 +1,338 @@
-//! The lines of findings: of a fault, and of a key that is not read.
+//! The lines of findings: of a fault, with what was found and what is wanted, and of a key that is not read.
+ghost use Rattle.std.specs.Prelude.{◌≡◌, IfOk};
 ghost use Rattle.toml.specs.View.{table_view};
 ghost use Rattle.vote_poll_text.specs.Adding.{Adds};
 ghost use Rattle.vote_explain_poll.specs.Findings.{AreLinesFor, SaysFault, SaysKey, fault_head, key_head};
-ghost use Rattle.vote_explain_poll.specs.Hints.{Tells};
-ghost use Rattle.vote_explain_poll.specs.Places.{path_of};
+ghost use Rattle.vote_explain_poll.specs.Hints.{IsHint, Tells};
+ghost use Rattle.vote_explain_poll.specs.Remarks.{IsKeyRemark, suggestion};
 
-use crate::hints::Hints;
-use crate::unread_key::UnreadKey;
+use crate::characters::push_character;
+use crate::near::near_key;
+use crate::unread::UnreadKey;
+use crate::{MAX_SHOWN, push_hint};
+use indexmap::IndexMap;
 use std::alloc::{AllocError, Global};
+use toml::{Table, Value};
+use vote_count::times_q;
+use vote_poll::{MAX_ELECTORS, MAX_OPTIONS, MAX_QUORUM_MULTIPLE, MAX_RATIO, parse_ratio};
+use vote_poll_keys::{FoundKeys, PollFault, PollKey, value_at};
+use vote_poll_text::{
+    MAX_LINES, MAX_OPTION_NAME, MAX_TITLE, MAX_VOTER_NAME, is_voter_byte, push_shown,
+};
 
-use vote_poll_keys::PollFault;
+/// Adds a text in quotes, at most so many of its bytes as are shown.
+fn push_quoted(words: &mut String, text: &str) -> Result<(), AllocError> {
+    words.push_str("\"")?;
+    push_shown(words, text.as_bytes(), MAX_SHOWN)?;
+    words.push_str("\"")
+}
+
+/// The first character of a name that it may not have, from 1, and how many bytes stand before it.
+fn bad_character(name: &str, is_voter: bool) -> Option<(usize, usize)> {
+    let mut number = 0usize;
+    for (place, character) in name.char_indices() {
+        number = number.saturating_add(1);
+        match character {
+            ' '..='~' if !is_voter || is_voter_byte(character as u8) => {}
+            _ => return Some((number, place)),
+        }
+    }
+    None
+}
+
+/// Adds a name, and what is wrong with its shape; nothing of the latter if it is a name, of at most so many bytes.
+fn push_shape(
+    words: &mut String,
+    name: &str,
+    most: usize,
+    is_voter: bool,
+) -> Result<bool, AllocError> {
+    push_quoted(words, name)?;
+    match bad_character(name, is_voter) {
+        _ if name.is_empty() => words.push_str(" is empty")?,
+        _ if name.len() > most => write!(words, " has {} bytes", name.len())?,
+        Some((number, place)) => {
+            write!(words, " has as character {number}: ")?;
+            push_character(words, name.as_bytes().get(place..).unwrap_or(b""))?;
+        }
+        None if name.starts_with(' ') => words.push_str(" begins with a space")?,
+        None if name.ends_with(' ') => words.push_str(" ends with a space")?,
+        None => return Ok(false),
+    }
+    Ok(true)
+}
+
+/// Adds what a quorum is, and how many votes the least and the greatest one need with a roll of this size, if a roll may have it.
+fn push_quorum(words: &mut String, electors: usize) -> Result<(), AllocError> {
+    write!(
+        words,
+        "; a quorum is a whole number from 0 to {MAX_QUORUM_MULTIPLE}: how many times Q is needed, half the square root of the number of electors"
+    )?;
+    if electors == 0 || electors > MAX_ELECTORS {
+        return Ok(());
+    }
+    let (least, greatest) = (times_q(1, electors), times_q(MAX_QUORUM_MULTIPLE, electors));
+    write!(
+        words,
+        "; with a roll of {electors}, the votes needed are {least} for 1 and {greatest} for {MAX_QUORUM_MULTIPLE}"
+    )
+}
+
+/// Adds that there are not so many ratios as options but the default, or else which is the first that is no ratio.
+fn push_ratios(words: &mut String, ratios: &[i64], others: usize) -> Result<(), AllocError> {
+    if ratios.len() != others {
+        let found = ratios.len();
+        return write!(
+            words,
+            "{found} found; one ratio is wanted for each option but the default, {others} in all"
+        );
+    }
+    let bad = ratios
+        .iter()
+        .position(|ratio| parse_ratio(*ratio).is_none());
+    let (place, option) = (bad.unwrap_or(0), bad.unwrap_or(0).saturating_add(1));
+    let ratio = ratios.get(place).copied().unwrap_or(0);
+    write!(
+        words,
+        "{ratio} for option {option}; a ratio is a whole number from 1 to {MAX_RATIO}"
+    )
+}
+
+/// What a value is.
+fn kind_words(value: &Value) -> &'static str {
+    match value {
+        Value::String(_) => "a text",
+        Value::Integer(_) => "an integer",
+        Value::Float(_) => "a float",
+        Value::Boolean(_) => "a boolean",
+        Value::Datetime(_) => "a date or time",
+        Value::Array(_) => "a list",
+        Value::Table(_) => "a table",
+    }
+}
+
+/// Adds the first entry of a list that is of the wrong kind: no whole number among ratios, or else no text.
+fn push_wrong_entry(words: &mut String, key: PollKey, entries: &[Value]) -> Result<(), AllocError> {
+    for (place, entry) in entries.iter().enumerate() {
+        let is_right = match key {
+            PollKey::Ratios => entry.is_integer(),
+            _ => entry.is_str(),
+        };
+        if !is_right {
+            let (kind, number) = (kind_words(entry), place.saturating_add(1));
+            return write!(words, " with {kind} as entry {number}");
+        }
+    }
+    Ok(())
+}
+
+/// Adds what belongs at a key, whose value is of the wrong kind or missing. The roll has this size, if it is there.
+fn push_wanted(words: &mut String, key: PollKey, electors: usize) -> Result<(), AllocError> {
+    match key {
+        PollKey::Title | PollKey::DefaultOption => words.push_str("; a text is wanted"),
+        PollKey::Wording => words.push_str("; a text is wanted: at_least or more_than"),
+        PollKey::Options | PollKey::Roll => words.push_str("; a list of texts is wanted"),
+        PollKey::Ratios => write!(
+            words,
+            "; a list of whole numbers from 1 to {MAX_RATIO} is wanted, one for each option but the default"
+        ),
+        PollKey::Quorum => push_quorum(words, electors),
+        PollKey::LastEnvelope => {
+            write!(words, "; a whole number from 0 to {MAX_LINES} is wanted")
+        }
+    }
+}
+
+/// The names of a list, each with the place at which it stands first.
+fn with_first_places<'t>(
+    alloc: Global,
+    names: &[&'t str],
+) -> Result<Vec<(&'t str, usize)>, AllocError> {
+    let mut seen = IndexMap::new(alloc);
+    let mut placed = Vec::new(alloc);
+    for (place, name) in names.iter().enumerate() {
+        let first = seen.get(*name).copied().unwrap_or(place);
+        if first == place {
+            seen.insert(*name, place)?;
+        }
+        placed.push((*name, first))?;
+    }
+    Ok(placed)
+}
+
+/// The entries of a list that was found, or none.
+fn entries<T>(list: &Option<Vec<T>>) -> &[T] {
+    list.as_deref().unwrap_or(&[])
+}
+
+/// Adds a key that may be meant.
+fn push_suggestion(text: &mut String, meant: PollKey) -> Result<(), AllocError>
+    ensures { Adds result text.old (suggestion meant) text.new }
+{
+    write!(text, "; did you mean {meant}?")
+}
+
+/// What hints on a poll file are made of.
+#[derive(Drop)]
+pub(crate) struct Hints<'f> {
+    /// The table of the file.
+    file: &'f Table,
+    keys: &'f FoundKeys<'f>,
+    unread: &'f [UnreadKey<'f>],
+    options: Vec<(&'f str, usize)>,
+    roll: Vec<(&'f str, usize)>,
+}
+
+impl<'f> Hints<'f> {
+    /// Of the table of a file, its keys that were found, and those that are not read.
+    pub(crate) fn of(
+        alloc: Global,
+        file: &'f Table,
+        keys: &'f FoundKeys<'f>,
+        unread: &'f [UnreadKey<'f>],
+    ) -> Result<Hints<'f>, AllocError>
+        ensures { IfOk result (λ hints. table_view hints.file.now ≡ table_view file.now) }
+    {
+        let names = keys.option_names(alloc)?;
+        let options = with_first_places(alloc, entries(&names))?;
+        let roll = with_first_places(alloc, entries(&keys.roll))?;
+        Ok(Hints {
+            file,
+            keys,
+            unread,
+            options,
+            roll,
+        })
+    }
+
+    /// Adds what was found where the file has a fault, and what is wanted there.
+    fn push_found(
+        &self,
+        alloc: Global,
+        text: &mut String,
+        fault: PollFault,
+    ) -> Result<(), AllocError>
+        ensures { Tells result text.old IsHint text.new }
+    {
+        let mut words = String::new(alloc);
+        self.push_fault(&mut words, fault)?;
+        push_hint(text, words.as_bytes())
+    }
+
+    /// Adds what is said of a key that is not read: where a key of its name is read, or a missing key that is near to it, or nothing.
+    fn push_remark(
+        &self,
+        alloc: Global,
+        text: &mut String,
+        key: &UnreadKey<'_>,
+    ) -> Result<(), AllocError>
+        ensures { Tells result text.old (IsKeyRemark (table_view self.now.file.now) key.now.name) text.new }
+    {
+        if PollKey::named(key.name()).is_some() {
+            return text.push_str("; it is read above all tables alone");
+        }
+        match near_key(alloc, self.file, key.name())? {
+            Some(near) => push_suggestion(text, near),
+            None => Ok(()),
+        }
+    }
+
+    /// The same as `push_found`, in words that may be longer than a hint.
+    fn push_fault(&self, words: &mut String, fault: PollFault) -> Result<(), AllocError> {
+        let keys = self.keys;
+        let others = entries(&keys.options).len();
+        match fault {
+            PollFault::Syntax => words.push_str("it is no TOML"),
+            PollFault::Key(key) => self.push_key(words, key),
+            PollFault::Title => {
+                push_shape(words, keys.title.unwrap_or(""), MAX_TITLE, false)?;
+                write!(words, "; a title has 1 to {MAX_TITLE} characters of ASCII")
+            }
+            PollFault::OptionCount => write!(
+                words,
+                "{} found; with the default option, a poll has 2 to {MAX_OPTIONS}",
+                others.saturating_add(1)
+            ),
+            PollFault::OptionName(option) => self.push_option(words, option),
+            PollFault::Ratio => push_ratios(words, entries(&keys.ratios), others),
+            PollFault::Quorum => {
+                write!(words, "{} found", keys.quorum.unwrap_or(0))?;
+                push_quorum(words, self.roll.len())
+            }
+            PollFault::RollSize => {
+                let found = self.roll.len();
+                write!(words, "{found} found; a roll has 1 to {MAX_ELECTORS} names")
+            }
+            PollFault::VoterName(place) => self.push_voter(words, place),
+            PollFault::LastEnvelope => write!(
+                words,
+                "{} found; a last envelope is a whole number from 0 to {MAX_LINES}",
+                keys.last_envelope.unwrap_or(0)
+            ),
+            PollFault::Wording => {
+                push_quoted(words, keys.wording.unwrap_or(""))?;
+                words.push_str(" found; a wording is at_least or more_than")
+            }
+            PollFault::Memory => words.push_str("out of memory"),
+        }
+    }
+
+    /// Adds what is wrong with the name of an option.
+    fn push_option(&self, words: &mut String, option: usize) -> Result<(), AllocError> {
+        let place = option.saturating_sub(1);
+        let (name, first) = self.options.get(place).copied().unwrap_or(("", place));
+        if !push_shape(words, name, MAX_OPTION_NAME, false)? {
+            write!(words, " is option {} too", first.saturating_add(1))?;
+        }
+        write!(
+            words,
+            "; an option's name has 1 to {MAX_OPTION_NAME} characters of ASCII, no space at either end, and no other option has it"
+        )
+    }
+
+    /// Adds what is wrong with the name of the voter at a place, from 0.
+    fn push_voter(&self, words: &mut String, place: usize) -> Result<(), AllocError> {
+        let (name, first) = self.roll.get(place).copied().unwrap_or(("", place));
+        if !push_shape(words, name, MAX_VOTER_NAME, true)? {
+            write!(words, " is at position {first} too")?;
+        }
+        write!(
+            words,
+            "; a voter's name has 1 to {MAX_VOTER_NAME} of a to z, 0 to 9, . and -, and no other voter has it; positions count from 0"
+        )
+    }
+
+    /// Adds what is wrong with a key: it is missing, or it is of the wrong kind.
+    fn push_key(&self, words: &mut String, key: PollKey) -> Result<(), AllocError> {
+        let Some(value) = value_at(self.file, key) else {
+            self.push_tables(words, key)?;
+            return push_wanted(words, key, self.roll.len());
+        };
+        words.push_str(kind_words(value))?;
+        match (value, key) {
+            (Value::Array(entries), PollKey::Options | PollKey::Ratios | PollKey::Roll) => {
+                push_wrong_entry(words, key, entries)?
+            }
+            _ => {}
+        }
+        push_wanted(words, key, self.roll.len())
+    }
+
+    /// Adds that a key is missing, and each table that has it.
+    fn push_tables(&self, words: &mut String, missing: PollKey) -> Result<(), AllocError> {
+        words.push_str("it is missing")?;
+        let mut before = " above all tables, and is in [";
+        for key in self.unread {
+            if key.name() == missing.name() {
+                words.push_str(before)?;
+                push_shown(words, key.table_path(), MAX_SHOWN)?;
+                words.push_str("]")?;
+                before = " and in [";
+            }
+        }
+        Ok(())
+    }
+}
 
 /// Adds the words of a fault, which are those of its fault line.
 fn push_fault_head(text: &mut String, fault: PollFault) -> Result<(), AllocError>
@@ -48,11 +371,11 @@ pub(crate) fn push_fault_lines(
 }
 
 /// Adds that a key is not read.
-fn push_key_head(text: &mut String, key: &UnreadKey<'_>) -> Result<(), AllocError>
-    ensures { Adds result text.old (key_head (path_of key.now)) text.new }
+fn push_key_head(text: &mut String, path: &[u8]) -> Result<(), AllocError>
+    ensures { Adds result text.old (key_head path.now) text.new }
 {
     text.push_str("poll: key ")?;
-    key.push_path(text)?;
+    push_shown(text, path, MAX_SHOWN)?;
     text.push_str(" is not read")
 }
 
@@ -65,7 +388,7 @@ fn push_key_line(
 ) -> Result<(), AllocError>
     ensures { Tells result text.old (SaysKey (table_view hints.now.file.now) key.now) text.new }
 {
-    push_key_head(text, key)?;
+    push_key_head(text, &key.path(alloc)?)?;
     hints.push_remark(alloc, text, key)?;
     text.push_str("\n")
 }

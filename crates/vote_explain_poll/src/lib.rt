@@ -2,50 +2,43 @@
 //! not said, but for the name of a key, as a question.
 //!
 //! - [`explain_poll`] reads a poll file as [`Poll::from_text`](vote_poll::Poll::from_text) does, and gives beside the poll, or its first
-//!   fault, a text of findings: a line for each fault of the file, with what was found there, and a line for each key that is
-//!   not read. Of a text that is no TOML it says where, or what kind of file it is.
-//! - [`file_kind`] is the kind of a file that is no plain text, and [`push_character`] appends the name of a character. Both are for
-//!   all files.
+//!   fault, a text of findings.
+//! - [`file_kind`] says what a file is that is no plain text, and [`push_character`] names a character. Both are for all files.
 //!
-//! Options are numbered from 1, the default among them, and voters from 0, by their place on the roll; lines and columns of the
-//! file from 1.
+//! Options are numbered from 1, the default among them, and voters from 0; lines and columns of the file from 1.
 //!
 //! **What is promised** (`specs/Findings.antt`), memory aside:
 //!
-//! - The faults that have a line are all faults of the file, each judged by itself, in their order (`specs/PollFaults.antt` of
-//!   vote_poll); each line has the words that the fault line of its fault has.
+//! - Each fault of the file has a line, judged by itself, in the order of the faults (`specs/PollFaults.antt` of vote_poll), with the
+//!   words of its fault line.
 //! - The poll that comes beside them, or the fault, is that of `from_text`. So the fault is the first that has a line
 //!   ([`first_fault_is_told`](vote_poll::first_fault_is_told)), and if none has one there is a poll.
 //! - After the faults each key that is not read has a line, in the order of the tables (`specs/UnreadKeys.antt`), with its path, as far
 //!   as it is shown. A key that is suggested for it is missing, few edits lead to it, and no other missing one is nearer
 //!   (`specs/Remarks.antt`).
-//! - Of a text that is no TOML the first line says whether the files may be exchanged, and the next one has the line and the column of
-//!   the place that `toml` tells (`specs/Syntax.antt`). A file of another kind has one line, with its kind (`specs/FileKinds.antt`).
+//! - Of a text that is no TOML it says what kind of file it is (`specs/FileKinds.antt`), or that the files may be exchanged, or else the
+//!   line and the column of the place that `toml` tells (`specs/Syntax.antt`).
 //! - What else a line says is a hint: one line of printable text of at most [`MAX_HINT`] bytes, whatever is in the file
 //!   (`specs/Hints.antt`). Its words are open.
-//!
-//! Nothing is judged here: vote_poll_keys and vote_poll find the faults.
 #![tactic(auto)]
 
+ghost use Rattle.vote_explain_poll.specs.Hints.{IsHint, Tells};
 ghost use Rattle.vote_explain_poll.specs.Limits.{LimitsAreAsWritten};
 
 mod characters;
 mod explain;
 mod file_kinds;
 mod findings;
-mod hints;
 mod near;
-mod place;
+mod structure;
 mod syntax;
-mod text;
-mod twice;
-mod unfinished;
 mod unread;
-mod unread_key;
 
 pub use characters::push_character;
 pub use explain::{ExplainedPoll, explain_poll};
-pub use file_kinds::{FileKind, file_kind};
+pub use file_kinds::file_kind;
+use std::alloc::AllocError;
+use vote_poll_text::push_shown;
 
 /// The most bytes of a name or text of a file that a finding shows.
 pub const MAX_SHOWN: usize = 60;
@@ -61,3 +54,10 @@ pub const MAX_EDITS: usize = 2;
 pub fn limits_are_as_written()
     ensures { LimitsAreAsWritten }
 {}
+
+/// Adds these words as a hint. Four characters may show a byte.
+pub(crate) fn push_hint(text: &mut String, words: &[u8]) -> Result<(), AllocError>
+    ensures { Tells result text.old IsHint text.new }
+{
+    push_shown(text, words, MAX_HINT / 4)
+}

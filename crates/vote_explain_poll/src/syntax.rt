@@ -1,20 +1,87 @@
 //! What is said of a poll file that is no TOML: what kind of file it is, or where it leaves TOML, and what stands there. The text and the
 //! place say the line and the column; at which place `toml` finds the error no contract says.
-ghost use Rattle.std.specs.Prelude.{◌≡◌, ◌≤◌, ◌++◌, IfOk, codes, decimal, length, string_bytes};
+ghost use Rattle.std.specs.Prelude.{◌≡◌, ◌≤◌, ◌++◌, IfOk, codes, decimal, length, string_bytes, take};
 ghost use Rattle.vote_poll_text.specs.Adding.{Adds};
 ghost use Rattle.vote_explain_poll.specs.Hints.{IsExcerpt, IsHint, Tells};
-ghost use Rattle.vote_explain_poll.specs.Syntax.{IsPlaceFinding, IsSyntaxFinding, exchanged_text, file_text};
+ghost use Rattle.vote_explain_poll.specs.Syntax.{IsPlaceFinding, IsPlainFinding, IsSyntaxFinding, begins_character, column_number, file_text, first_line, last_line, line_number};
 
-use crate::MAX_SHOWN;
 use crate::characters::push_character;
-use crate::file_kinds::{FileKind, file_kind};
-use crate::place::{Place, begins_character, column_number, first_line, place_at};
-use crate::text::push_hint;
-use crate::twice::{definition, first_definition};
-use crate::unfinished::unfinished;
+use crate::file_kinds::file_kind;
+use crate::structure::{definition, structure_of};
+use crate::{MAX_SHOWN, push_hint};
 use std::alloc::{AllocError, Global};
 use vote_poll::is_ballot_line;
-use vote_poll_text::{count_feeds, is_printable, push_mending, push_shown};
+use vote_poll_text::{count_feeds, is_printable, push_mending, push_shown, split_at_feed};
+
+/// A place in a text.
+#[derive(Clone, Copy, Drop)]
+struct Place<'t> {
+    text: &'t [u8],
+    /// All that stands before the place, and after it.
+    before: &'t [u8],
+    after: &'t [u8],
+    /// What stands before the place in its line, and after it.
+    left: &'t [u8],
+    right: &'t [u8],
+    /// The number of the line.
+    number: usize,
+}
+
+/// The first line of a text, without its line feed.
+pub(crate) fn first_line(text: &[u8]) -> &[u8]
+    ensures { result.now ≡ first_line text.now }
+{
+    match split_at_feed(text) {
+        Some((line, _)) => line,
+        None => text,
+    }
+}
+
+/// What stands in a text after its last line feed.
+fn last_line(text: &[u8]) -> &[u8]
+    ensures { result.now ≡ last_line text.now }
+{
+    let mut line = text;
+    while let Some((_, after)) = split_at_feed(line) {
+        line = after;
+    }
+    line
+}
+
+/// Whether a byte of UTF-8 is the first one of a character.
+fn begins_character(byte: u8) -> bool
+    ensures { result ≡ begins_character byte }
+{
+    !matches!(byte, 0x80..=0xBF)
+}
+
+/// The column after the beginning of a line. Columns count characters.
+fn column_number(before: &[u8]) -> usize
+    ensures { result ≡ column_number before.now }
+{
+    before
+        .iter()
+        .filter(|byte| begins_character(**byte))
+        .count()
+        + 1
+}
+
+/// The place in a text before which so many of its bytes stand.
+fn place_at(text: &[u8], at: usize) -> Place<'_>
+    requires { at ≤ length text.now }
+    ensures left { result.left.now ≡ last_line (take at text.now) }
+    ensures number { result.number ≡ line_number (take at text.now) }
+{
+    let (before, after) = text.split_at(at);
+    Place {
+        text,
+        before,
+        after,
+        left: last_line(before),
+        right: first_line(after),
+        number: count_feeds(before) + 1,
+    }
+}
 
 /// How many bytes of a text stand before an error.
 fn index_of(text: &[u8], error: &toml::de::Error) -> usize
@@ -24,17 +91,6 @@ fn index_of(text: &[u8], error: &toml::de::Error) -> usize
         Some(span) => span.start.min(text.len()),
         None => 0,
     }
-}
-
-/// Adds that the files may be exchanged, if they may.
-#[tactic(auto, unfolding(crate::specs::Syntax::exchanged_text))]
-fn push_exchanged(text: &mut String, is_exchanged: bool) -> Result<(), AllocError>
-    ensures { Adds result text.old (exchanged_text is_exchanged) text.new }
-{
-    if !is_exchanged {
-        return Ok(());
-    }
-    text.push_str("the poll file looks like ballots: are the files exchanged?\n")
 }
 
 /// Adds that a finding is at this line and column of the poll.
@@ -61,15 +117,20 @@ fn push_sign(words: &mut String, place: &Place<'_>) -> Result<(), AllocError> {
     }
 }
 
+/// The number of the line at a place in a text. Nothing is promised of it, unlike of that in [`Place`].
+fn line_at(text: &[u8], place: usize) -> usize {
+    count_feeds(text.get(..place).unwrap_or(b"")).saturating_add(1)
+}
+
 /// Adds what the file ends within, if it ends at a place.
 fn push_unfinished(words: &mut String, place: &Place<'_>) -> Result<(), AllocError> {
     if !place.after.trim_ascii().is_empty() {
         return Ok(());
     }
-    let Some((what, begin)) = unfinished(place.text) else {
+    let Some((what, begin)) = structure_of(place.text, b"").open else {
         return Ok(());
     };
-    let line = count_feeds(place.text.get(..begin).unwrap_or(b"")).saturating_add(1);
+    let line = line_at(place.text, begin);
     write!(
         words,
         "; the file ends within the {what} that begins in line {line}: its end may be missing"
@@ -78,28 +139,32 @@ fn push_unfinished(words: &mut String, place: &Place<'_>) -> Result<(), AllocErr
 
 /// Adds both places of a key that is there twice.
 fn push_both_places(words: &mut String, place: &Place<'_>) -> Result<(), AllocError> {
-    let Some(first) = first_definition(place) else {
+    let key = definition(place.right);
+    let first = structure_of(place.before, key).first;
+    let Some(first) = first.filter(|_| place.left.trim_ascii().is_empty()) else {
         return Ok(());
     };
+    let line = line_at(place.text, first);
     words.push_str(": ")?;
-    push_shown(words, definition(place.right), MAX_SHOWN)?;
-    write!(words, " is in line {first} and in line {}", place.number)
+    push_shown(words, key, MAX_SHOWN)?;
+    write!(words, " is in line {line} and in line {}", place.number)
 }
 
 /// What carriage returns in place of line feeds are.
-const OLD_MAC: &str = ": carriage returns end the lines, as on old Macs, and not line feeds: this can be mended";
+const OLD_MAC: &str =
+    ": carriage returns end the lines, as on old Macs, and not line feeds: this can be mended";
 
 /// Adds what is said of a place after the words of `toml`.
 fn push_facts(
     words: &mut String,
     place: &Place<'_>,
-    is_twice: bool,
+    said: &str,
     file: Option<&str>,
 ) -> Result<(), AllocError> {
     if !place.text.contains(&b'\n') && place.text.contains(&b'\r') {
         return push_mending(words, OLD_MAC, "tr '\\r' '\\n'", "", file);
     }
-    if is_twice {
+    if said == "duplicate key" {
         return push_both_places(words, place);
     }
     push_sign(words, place)?;
@@ -117,7 +182,7 @@ fn push_syntax_hint(
     ensures { Tells result text.old IsHint text.new }
 {
     let mut words = String::from_str(alloc, said)?;
-    push_facts(&mut words, place, said == "duplicate key", file)?;
+    push_facts(&mut words, place, said, file)?;
     push_hint(text, words.as_bytes())
 }
 
@@ -176,24 +241,54 @@ fn push_syntax(
     ensures { Tells result finding.old (IsPlaceFinding text.now) finding.new }
 {
     let place = place_at(text, at);
-    push_exchanged(finding, is_ballot_line(first_line(text)))?;
     push_place(finding, place.number, column_number(place.left))?;
     push_syntax_hint(alloc, finding, &place, said, file)?;
     finding.push_str("\n")?;
     push_excerpt(alloc, finding, &place)
 }
 
-/// What is said of a file of another kind.
-fn file_finding(alloc: Global, kind: FileKind) -> Result<String, AllocError>
-    ensures { IfOk result (λ finding. string_bytes finding ≡ file_text kind) }
+/// The finding on a text that is no TOML, by its place.
+fn place_finding(
+    alloc: Global,
+    text: &[u8],
+    error: &toml::de::Error,
+    file: Option<&str>,
+) -> Result<String, AllocError>
+    ensures { IfOk result (λ finding. IsPlaceFinding text.now (string_bytes finding)) }
+{
+    let mut finding = String::new(alloc);
+    let at = index_of(text, error);
+    push_syntax(alloc, &mut finding, text, at, error.message(), file)?;
+    Ok(finding)
+}
+
+/// The finding on plain text that is no TOML: the files may be exchanged, or it has a place.
+fn plain_finding(
+    alloc: Global,
+    text: &[u8],
+    error: &toml::de::Error,
+    file: Option<&str>,
+) -> Result<String, AllocError>
+    ensures { IfOk result (λ finding. IsPlainFinding text.now (string_bytes finding)) }
+{
+    if is_ballot_line(first_line(text)) {
+        let exchanged = "the poll file looks like ballots: are the files exchanged?\n";
+        return Ok(String::from_str(alloc, exchanged)?);
+    }
+    Ok(place_finding(alloc, text, error, file)?)
+}
+
+/// The finding on a file of another kind.
+fn file_finding(alloc: Global, kind: &str) -> Result<String, AllocError>
+    ensures { IfOk result (λ finding. string_bytes finding ≡ file_text kind.now) }
 {
     let mut finding = String::from_str(alloc, "the poll file is ")?;
-    finding.push_str(kind.words())?;
+    finding.push_str(kind)?;
     finding.push_str("; a poll is plain text in UTF-8\n")?;
     Ok(finding)
 }
 
-/// The findings on a text that is no TOML. `file` is the name of its file for a command that mends it, where it has one.
+/// The finding on a text that is no TOML. `file` is the name of its file for a command that mends it, where it has one.
 pub(crate) fn syntax_finding(
     alloc: Global,
     text: &[u8],
@@ -202,11 +297,8 @@ pub(crate) fn syntax_finding(
 ) -> Result<String, AllocError>
     ensures { IfOk result (λ finding. IsSyntaxFinding text.now (string_bytes finding)) }
 {
-    if let Some(kind) = file_kind(text) {
-        return file_finding(alloc, kind);
+    match file_kind(text) {
+        Some(kind) => file_finding(alloc, kind),
+        None => plain_finding(alloc, text, error, file),
     }
-    let mut finding = String::new(alloc);
-    let at = index_of(text, error);
-    push_syntax(alloc, &mut finding, text, at, error.message(), file)?;
-    Ok(finding)
 }

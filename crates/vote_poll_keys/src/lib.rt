@@ -9,8 +9,8 @@
 //! What is promised, unless memory runs out: each call returns what the definitions of `specs/Keys.antt` and
 //! `specs/KeyFaults.antt` say of the text or the table, and the words are those of `specs/FaultWords.antt`.
 //!
-//! Of the crates above, only vote_poll_hints has public calls with a type of `toml`. vote_poll names toml's tables only in
-//! definitions, and vote_poll_findings only in private calls.
+//! No crate above has public calls with a type of `toml`. vote_poll names toml's tables only in definitions, and
+//! vote_explain_poll only in private calls.
 #![tactic(auto)]
 
 mod fault;

@@ -4,6 +4,5 @@ pub mod Limits
 pub mod Lines
 pub mod FaultWords
 pub mod Names
-pub mod Letters
 pub mod Commands
 pub mod Shown

@@ -1,7 +1,7 @@
 use Rattle.std.proofs.Common.{◌∙◌, List, subst₂, string_bytes}
 use Rattle.toml.specs.Data.{Members}
 use Rattle.vote_explain_poll.specs.Hints.{Adding}
-use Rattle.vote_explain_poll.specs.Places.{KeyPlace}
+use Rattle.vote_explain_poll.specs.UnreadKeys.{KeyPlace}
 use Rattle.vote_explain_poll.specs.Findings.{AreLinesFor, SaysFault, SaysKey}
 use Rattle.vote_explain_poll.proofs.Lines.{both_from_nothing}
 use Rattle.vote_explain_poll.proofs.explain.findings_of.Goals as goal

@@ -8,4 +8,4 @@ in_three (Err x) a b d before one two after first second last = tt
 in_three (Ok x) a b d before one two after first second last = rw (last, second, first) (simp append_assoc)
 
 pub returns : goal.returns
-returns c = in_three c.push_str-2.result (codes "poll: key ") _ (codes " is not read") _ _ _ _ c.in_ok-push_str.ensures.bytes c.in_ok-push_path.ensures c.push_str-2.ensures.bytes
+returns c = in_three c.push_str-2.result (codes "poll: key ") _ (codes " is not read") _ _ _ _ c.in_ok-push_str.ensures.bytes c.in_ok-push_shown.ensures c.push_str-2.ensures.bytes

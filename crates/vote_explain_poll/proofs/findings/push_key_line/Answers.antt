@@ -1,5 +1,5 @@
 use Rattle.toml.specs.View.{table_view}
-use Rattle.vote_explain_poll.specs.Places.{path_of}
+use Rattle.vote_explain_poll.specs.UnreadKeys.{path_of}
 use Rattle.vote_explain_poll.specs.Remarks.{IsKeyRemark}
 use Rattle.vote_explain_poll.specs.Findings.{key_head}
 use Rattle.vote_explain_poll.proofs.Lines.{is_line}

@@ -3,7 +3,7 @@ use Rattle.std.proofs.lemmas.Grind.{common_steps}
 use Rattle.std.proofs.lemmas.List.{take_all}
 use Rattle.toml.specs.View.{table_view}
 use Rattle.vote_explain_poll.specs.Hints.{Adding}
-use Rattle.vote_explain_poll.specs.Places.{KeyPlace}
+use Rattle.vote_explain_poll.specs.UnreadKeys.{KeyPlace}
 use Rattle.vote_explain_poll.specs.Findings.{AreLinesFor, SaysKey}
 use Rattle.vote_explain_poll.proofs.Lines.{one_more}
 use Rattle.vote_explain_poll.proofs.findings.push_key_lines.Goals as goal

@@ -1,6 +1,0 @@
-use Rattle.vote_explain_poll.specs.Syntax.{IsSyntaxFinding}
-use Rattle.vote_explain_poll.proofs.Lines.{from_nothing}
-use Rattle.vote_explain_poll.proofs.syntax.syntax_finding.Goals as goal
-
-pub returns : goal.returns
-returns c = from_nothing (IsSyntaxFinding c.args.text.now) _ _ c.new-finding.ensures.bytes c.in_ok-push_syntax.ensures
