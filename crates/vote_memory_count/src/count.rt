@@ -71,10 +71,7 @@ fn count_metered<
 
 /// Counts the ballots of a file by a poll file, as `debvote count --poll poll --ballots ballots` does, with these bytes as the two files.
 /// The sheet is written after what stands on the output.
-pub fn count_in_memory<
-    'a,
-    V: FnOnce(&Poll, &Lines<'_>, u8) -> Result<Audited, VoteFault> + Drop,
->(
+pub fn count_in_memory<'a, V: FnOnce(&Poll, &Lines<'_>, u8) -> Result<Audited, VoteFault> + Drop>(
     alloc: Global,
     poll: &'a [u8],
     ballots: &'a [u8],
