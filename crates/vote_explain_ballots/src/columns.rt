@@ -107,20 +107,29 @@ fn line_of_names(poll: &Poll, lines: &Lines<'_>, steps: &[Step]) -> Option<usize
     None
 }
 
+/// Whether a byte can be of a name, in small letters or capitals.
+fn is_name_byte(byte: u8) -> bool {
+    byte.is_ascii_alphanumeric() || matches!(byte, b'.' | b'-')
+}
+
 /// The sign, no comma and no space, that parts a name from ranks, and the ranks from each other, in a line that has nothing else.
 fn sign_of(line: &[u8]) -> Option<u8> {
-    let (mut sign, mut signs, mut has_name) = (None, 0usize, false);
+    let (mut sign, mut has_name, mut is_repeated) = (0, false, false);
     for byte in line.strip_prefix(MARK).unwrap_or(line) {
-        match (sign, *byte) {
-            (_, b'"' | b'\r') => {}
-            (Some(other), byte) if byte == other => signs = signs.saturating_add(1),
-            (Some(_), b'0'..=b'9' | b'-' | b' ') => {}
-            (None, b'a'..=b'z' | b'A'..=b'Z' | b'0'..=b'9' | b'.' | b'-') => has_name = true,
-            (None, byte) if has_name && !matches!(byte, b',' | b' ') => sign = Some(byte),
-            _ => return None,
+        let byte = *byte;
+        if sign == 0 && is_name_byte(byte) {
+            has_name = true;
+        } else if matches!(byte, b'"' | b'\r') {
+            continue;
+        } else if sign == 0 && has_name && !matches!(byte, b',' | b' ') {
+            sign = byte;
+        } else if byte == sign {
+            is_repeated = true;
+        } else if sign == 0 || !matches!(byte, b'0'..=b'9' | b'-' | b' ') {
+            return None;
         }
     }
-    sign.filter(|_| signs > 0)
+    if is_repeated { Some(sign) } else { None }
 }
 
 /// Whether all lines that are not empty have the same sign, no comma, between the name and the ranks too.

@@ -7,7 +7,7 @@ ghost use Rattle.vote_poll_text.specs.Adding.{Adds};
 ghost use Rattle.vote_steps.specs.HeldLines.{HoldsLines};
 ghost use Rattle.vote_sheet.specs.LastBallots.{refused_count};
 ghost use Rattle.vote_explain_ballots.specs.Remarks.{AddsSome};
-ghost use Rattle.vote_explain_ballots.specs.Explained.{AreTotals, AreWarnings, IsExample, SaysAll, counted_line, counted_text, example_line, numbers_text};
+ghost use Rattle.vote_explain_ballots.specs.Explained.{AreTotals, AreWarnings, IsExample, IsIfText, SaysAll, counted_line, counted_text, example_line, numbers_text};
 ghost use Rattle.vote_explain_ballots.specs.Refusals.{EachRefusalIsListed};
 ghost use Rattle.vote_explain_ballots.specs.Replies.{AreReplies, RefusedAsBySteps};
 
@@ -142,17 +142,21 @@ fn push_counted(
     push_counted_line(text, last)
 }
 
-/// Adds what is said of a file that can be ballots before its lines.
+/// Adds what is said before the lines, of a file that can be ballots.
 fn push_warnings(
     text: &mut String,
+    is_text: bool,
     poll: &Poll,
     lines: &Lines<'_>,
     steps: &[Step],
     totals: &Totals,
 ) -> Result<(), AllocError>
     requires { AreTotals poll.now lines.now totals.now }
-    ensures { AddsSome (AreWarnings poll.now lines.now) result text.old text.new }
+    ensures { AddsSome (IsIfText is_text (AreWarnings poll.now lines.now)) result text.old text.new }
 {
+    if !is_text {
+        return Ok(());
+    }
     push_columns(text, poll, lines, steps)?;
     push_counted(text, poll, lines, totals)?;
     Ok(())
@@ -174,9 +178,7 @@ fn text_of(
 {
     let mut findings = Findings::new(alloc);
     let is_text = push_file_lines(alloc, &mut findings.text, lines, file_text, steps, file)?;
-    if is_text {
-        push_warnings(&mut findings.text, poll, lines, steps, totals)?;
-    }
+    push_warnings(&mut findings.text, is_text, poll, lines, steps, totals)?;
     findings.add_all(poll, lines, steps, is_text)?;
     let is_wanted = is_text && steps.iter().any(is_of_bad_shape);
     push_example(alloc, &mut findings.text, poll, is_wanted)?;

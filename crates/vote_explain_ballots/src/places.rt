@@ -128,7 +128,8 @@ pub(crate) fn place_words(place: Place) -> &'static str
         Place::NameEnd => "a space there: a name has at most 32 bytes",
         Place::Rank => "a rank there: a number from 1 to 99, or a hyphen",
         Place::Digit => "a comma or its end there, or a second digit of the rank",
-        Place::LastDigit => "its end there, or a second digit of the rank: a line has at most 200 bytes",
+        Place::LastDigit =>
+            "its end there, or a second digit of the rank: a line has at most 200 bytes",
         Place::RankEnd => "a comma or its end there",
         Place::LineEnd => "its end there: a line has at most 200 bytes",
     }
