@@ -1,4 +1,4 @@
-use Rattle.std.proofs.Common.{◌≡◌, ◌++◌, [], Bool, false, List, ℕ, inr, refl, ap, subst, ◌∙◌, sym, append-nil}
+use Rattle.std.proofs.Common.{◌≡◌, [], false, List, ℕ, inr, refl, ap, subst, ◌∙◌, sym, append-nil}
 use Rattle.std.specs.Prelude.{Option, Some, None, is_some}
 use Rattle.std.proofs.lemmas.Bool.{true≢false}
 use Rattle.toml.specs.Data.{Members}
