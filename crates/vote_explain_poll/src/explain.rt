@@ -4,10 +4,9 @@ ghost use Rattle.toml.specs.Data.{Members};
 ghost use Rattle.toml.specs.View.{table_view};
 ghost use Rattle.vote_poll_keys.specs.FoundView.{found_view};
 ghost use Rattle.vote_poll_keys.specs.Keys.{document};
-ghost use Rattle.vote_poll.specs.PollFaults.{IsJudged};
+ghost use Rattle.vote_poll.specs.PollFaults.{IsJudged, faults_in};
 ghost use Rattle.vote_poll.specs.PollFile.{IsPollOrFirst, poll_in, poll_in_table};
 ghost use Rattle.vote_explain_poll.specs.Findings.{AreFindings, AreFindingsOf};
-ghost use Rattle.vote_explain_poll.specs.Syntax.{IsSyntaxFinding};
 ghost use Rattle.vote_poll_keys.specs.declared.fault.PollFault.TheVariants.{Memory, Syntax};
 
 use crate::findings::{Hints, push_fault_lines, push_key_lines};
@@ -64,13 +63,12 @@ fn outcome_of(
 /// What a table says of which the keys were found and all faults.
 fn explain_judged(
     alloc: Global,
-    text: &[u8],
     table: &Table,
     keys: &FoundKeys<'_>,
     faults: &[PollFault],
 ) -> Result<ExplainedPoll, AllocError>
     requires { IsJudged (table_view table.now) (found_view keys.now) faults.now }
-    ensures findings { IfOk result (λ told. AreFindingsOf text.now (Ok (table_view table.now)) (string_bytes told.findings)) }
+    ensures findings { IfOk result (λ told. AreFindings (faults_in (Ok (table_view table.now))) (table_view table.now) (string_bytes told.findings)) }
     ensures outcome { IfOk result (λ told. told.outcome ≡ poll_in_table (table_view table.now)) }
     ensures known { IfOk result (λ told. told.outcome ≢ Err Memory) }
 {
@@ -81,15 +79,15 @@ fn explain_judged(
 }
 
 /// What the table of a poll file says, and all that is wrong with it: it is judged as [`Poll::from_text`] judges it.
-fn explain_table(alloc: Global, text: &[u8], table: &Table) -> Result<ExplainedPoll, AllocError>
-    ensures findings { IfOk result (λ told. AreFindingsOf text.now (Ok (table_view table.now)) (string_bytes told.findings)) }
+fn explain_table(alloc: Global, table: &Table) -> Result<ExplainedPoll, AllocError>
+    ensures findings { IfOk result (λ told. AreFindings (faults_in (Ok (table_view table.now))) (table_view table.now) (string_bytes told.findings)) }
     ensures outcome { IfOk result (λ told. told.outcome ≡ poll_in_table (table_view table.now)) }
     ensures known { IfOk result (λ told. told.outcome ≢ Err Memory) }
 {
     let keys = FoundKeys::of_table(alloc, table)?;
     let mut faults = keys.key_faults(alloc, table)?;
     push_faults(alloc, &mut faults, &keys)?;
-    explain_judged(alloc, text, table, &keys, &faults)
+    explain_judged(alloc, table, &keys, &faults)
 }
 
 /// Reads a poll file as [`Poll::from_text`] does, and says all that is wrong with it: each fault, judged by itself, with what was
@@ -108,7 +106,7 @@ pub fn explain_poll(
     ensures known { IfOk result (λ told. told.outcome ≢ Err Memory) }
 {
     match toml::table_from_slice(alloc, text) {
-        Ok(table) => explain_table(alloc, text, &table),
+        Ok(table) => explain_table(alloc, &table),
         Err(error) => {
             if error.is_memory() {
                 return Err(AllocError);

@@ -228,10 +228,10 @@ impl<'f> Hints<'f> {
     ) -> Result<(), AllocError>
         ensures { Tells result text.old (IsKeyRemark (table_view self.now.file.now) key.now.name) text.new }
     {
-        if PollKey::named(key.name()).is_some() {
+        if PollKey::named(key.name).is_some() {
             return text.push_str("; it is read above all tables alone");
         }
-        match near_key(alloc, self.file, key.name())? {
+        match near_key(alloc, self.file, key.name)? {
             Some(near) => push_suggestion(text, near),
             None => Ok(()),
         }
@@ -253,7 +253,7 @@ impl<'f> Hints<'f> {
                 "{} found; with the default option, a poll has 2 to {MAX_OPTIONS}",
                 others.saturating_add(1)
             ),
-            PollFault::OptionName(option) => self.push_option(words, option),
+            PollFault::OptionName(option) => self.push_option(words, option.saturating_sub(1)),
             PollFault::Ratio => push_ratios(words, entries(&keys.ratios), others),
             PollFault::Quorum => {
                 write!(words, "{} found", keys.quorum.unwrap_or(0))?;
@@ -277,9 +277,8 @@ impl<'f> Hints<'f> {
         }
     }
 
-    /// Adds what is wrong with the name of an option.
-    fn push_option(&self, words: &mut String, option: usize) -> Result<(), AllocError> {
-        let place = option.saturating_sub(1);
+    /// Adds what is wrong with the name of the option at a place, from 0.
+    fn push_option(&self, words: &mut String, place: usize) -> Result<(), AllocError> {
         let (name, first) = self.options.get(place).copied().unwrap_or(("", place));
         if !push_shape(words, name, MAX_OPTION_NAME, false)? {
             write!(words, " is option {} too", first.saturating_add(1))?;
@@ -323,7 +322,7 @@ impl<'f> Hints<'f> {
         words.push_str("it is missing")?;
         let mut before = " above all tables, and is in [";
         for key in self.unread {
-            if key.name() == missing.name() {
+            if key.name == missing.name() {
                 words.push_str(before)?;
                 push_shown(words, key.table_path(), MAX_SHOWN)?;
                 words.push_str("]")?;

@@ -3,7 +3,7 @@
 ghost use Rattle.std.specs.Prelude.{◌≡◌, ◌≤◌, ◌++◌, IfOk, codes, decimal, length, string_bytes, take};
 ghost use Rattle.vote_poll_text.specs.Adding.{Adds};
 ghost use Rattle.vote_explain_poll.specs.Hints.{IsExcerpt, IsHint, Tells};
-ghost use Rattle.vote_explain_poll.specs.Syntax.{IsPlaceFinding, IsPlainFinding, IsSyntaxFinding, begins_character, column_number, file_text, first_line, last_line, line_number};
+ghost use Rattle.vote_explain_poll.specs.Syntax.{IsPlaceFinding, IsSyntaxFinding, begins_character, column_number, first_line, last_line, line_number};
 
 use crate::characters::push_character;
 use crate::file_kinds::file_kind;
@@ -262,33 +262,8 @@ fn place_finding(
     Ok(finding)
 }
 
-/// The finding on plain text that is no TOML: the files may be exchanged, or it has a place.
-fn plain_finding(
-    alloc: Global,
-    text: &[u8],
-    error: &toml::de::Error,
-    file: Option<&str>,
-) -> Result<String, AllocError>
-    ensures { IfOk result (λ finding. IsPlainFinding text.now (string_bytes finding)) }
-{
-    if is_ballot_line(first_line(text)) {
-        let exchanged = "the poll file looks like ballots: are the files exchanged?\n";
-        return Ok(String::from_str(alloc, exchanged)?);
-    }
-    Ok(place_finding(alloc, text, error, file)?)
-}
-
-/// The finding on a file of another kind.
-fn file_finding(alloc: Global, kind: &str) -> Result<String, AllocError>
-    ensures { IfOk result (λ finding. string_bytes finding ≡ file_text kind.now) }
-{
-    let mut finding = String::from_str(alloc, "the poll file is ")?;
-    finding.push_str(kind)?;
-    finding.push_str("; a poll is plain text in UTF-8\n")?;
-    Ok(finding)
-}
-
-/// The finding on a text that is no TOML. `file` is the name of its file for a command that mends it, where it has one.
+/// The finding on a text that is no TOML: what it is, that the files may be exchanged, or its place. `file` is the name of its file for a
+/// command that mends it, where it has one.
 pub(crate) fn syntax_finding(
     alloc: Global,
     text: &[u8],
@@ -297,8 +272,15 @@ pub(crate) fn syntax_finding(
 ) -> Result<String, AllocError>
     ensures { IfOk result (λ finding. IsSyntaxFinding text.now (string_bytes finding)) }
 {
-    match file_kind(text) {
-        Some(kind) => file_finding(alloc, kind),
-        None => plain_finding(alloc, text, error, file),
+    if let Some(kind) = file_kind(text) {
+        let mut finding = String::from_str(alloc, "the poll file is ")?;
+        finding.push_str(kind)?;
+        finding.push_str("; a poll is plain text in UTF-8\n")?;
+        return Ok(finding);
     }
+    if is_ballot_line(first_line(text)) {
+        let exchanged = "the poll file looks like ballots: are the files exchanged?\n";
+        return Ok(String::from_str(alloc, exchanged)?);
+    }
+    place_finding(alloc, text, error, file)
 }

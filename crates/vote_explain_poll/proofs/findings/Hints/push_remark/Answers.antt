@@ -1,4 +1,4 @@
-use Rattle.std.proofs.Common.{◌≡◌, ◌++◌, [], Bool, false, List, ℕ, inr, refl, sym, append-nil}
+use Rattle.std.proofs.Common.{◌≡◌, [], false, List, ℕ, inr, refl, ap, subst, ◌∙◌, sym, append-nil}
 use Rattle.std.specs.Prelude.{Option, Some, None, is_some}
 use Rattle.std.proofs.lemmas.Bool.{true≢false}
 use Rattle.toml.specs.Data.{Members}
@@ -13,5 +13,7 @@ no_remark None file name none = inr refl
 
 pub returns-in-None : goal.returns-in-None
 returns-in-None c =
-    let none : is_some (key_named c.args.key.now.name) ≡ false = cc in
+    let name : c.key.inside.name.now ≡ c.args.key.now.name = cc in
+    let none : is_some (key_named c.args.key.now.name) ≡ false =
+    subst (λ n. is_some (key_named n) ≡ false) name (ap is_some (sym c.named.ensures) ∙ sym c.is_some.ensures ∙ c.if-is_some.false) in
     ([], no_remark (key_named c.args.key.now.name) _ c.args.key.now.name none, sym (append-nil _))
