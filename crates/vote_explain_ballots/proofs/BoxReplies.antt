@@ -12,39 +12,25 @@ use Rattle.vote_steps.specs.declared.Received.{Received}
 use Rattle.vote_steps.specs.declared.Step.{Step}
 use Rattle.vote_steps.specs.declared.Step.TheVariants.{Cast, Close}
 use Rattle.vote_steps.proofs.CastLemmas.{read_at}
-use Rattle.vote_explain_ballots.specs.Refusals.{refusing_reply}
-use Rattle.vote_explain_ballots.specs.Replies.{RefusedAsBySteps, if_refusing, reply_to_cast}
+use Rattle.vote_explain_ballots.specs.Refusals.{RefusedAsBySteps, if_refusing, refusing_reply, reply_to_cast}
 
 -- ---- the reply of an open box refuses the line that is late or no ballot
 beside_refuses_none : (other : Option Received) (stamp : ℕ) → if_refusing (reply_beside other stamp) ≡ None
 beside_refuses_none None stamp = refl
-beside_refuses_none (Some ballot) stamp =
-    elim (cases_Bool (nat_lt stamp ballot.stamp)) [
-      | inl before ↦ rw before
-      | inr later ↦ rw later
-    ]
+beside_refuses_none (Some ballot) stamp = elim (cases_Bool (nat_lt stamp ballot.stamp)) [ inl before ↦ rw before | inr later ↦ rw later ]
 
 refuses_as_read : (last : ℕ) (before : List Step) (stamp : ℕ) (read : Reading) → is_closed before ≡ false → if_refusing (reply_to last before stamp read) ≡ refusing_reply last stamp read
 refuses_as_read last before stamp (Bad fault) is_open =
-    elim (cases_Bool (is_late last stamp)) [
-      | inl late ↦ rw (is_open, late) refl
-      | inr in_time ↦ rw (is_open, in_time) refl
-    ]
+    elim (cases_Bool (is_late last stamp)) [ inl late ↦ rw (is_open, late) refl | inr in_time ↦ rw (is_open, in_time) refl ]
 refuses_as_read last before stamp (Ballot voter ranks) is_open =
-    elim (cases_Bool (is_late last stamp)) [
-      | inl late ↦ rw (is_open, late) refl
-      | inr in_time ↦ rw (is_open, in_time) (beside_refuses_none (standing last before voter) stamp)
-    ]
+    elim (cases_Bool (is_late last stamp)) [ inl late ↦ rw (is_open, late) refl | inr in_time ↦ rw (is_open, in_time) (beside_refuses_none (standing last before voter) stamp) ]
 
 -- ---- the box is open before its close
 open_before : (steps : List Step) (place : ℕ) → is_closed (take place (before_close steps)) ≡ false
 open_before steps zero = refl
 open_before [] (suc place) = refl
 open_before (step ∷ steps) (suc place) =
-    elim (cases_Bool (is_close step)) [
-      | inl close ↦ rw close refl
-      | inr cast ↦ rw cast (rw (cast, open_before steps place))
-    ]
+    elim (cases_Bool (is_close step)) [ inl close ↦ rw close refl | inr cast ↦ rw cast (rw (cast, open_before steps place)) ]
 
 is_open : (steps : List Step) (place : ℕ) → steps ≡ before_close steps ++ Close ∷ [] → place ≤ length (before_close steps) → is_closed (take place steps) ≡ false
 is_open steps place closed_last within =

@@ -1,6 +1,5 @@
 pub mod Scanning
 pub mod Nearest
-pub mod FileLines
 pub mod Listing
 pub mod BoxReplies
 pub mod Counting

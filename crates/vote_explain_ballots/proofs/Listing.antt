@@ -12,8 +12,7 @@ use Rattle.vote_steps.specs.declared.Reply.{Reply}
 use Rattle.vote_sheet.specs.Texts.{Text}
 use Rattle.vote_explain_ballots.specs.Remarks.{Added, IsRemark}
 use Rattle.vote_explain_ballots.specs.Explained.{AreLineFindings, IsLineHint, IsRemarked, finding, finding_head}
-use Rattle.vote_explain_ballots.specs.Refusals.{Refusal, refusal_by, refusal_of, refusing_reply}
-use Rattle.vote_explain_ballots.specs.Replies.{if_refusing, refusal}
+use Rattle.vote_explain_ballots.specs.Refusals.{Refusal, if_refusing, refusal, refusal_by, refusal_of, refusing_reply}
 
 -- ---- the finding of a line
 -- words were added, and then a remark

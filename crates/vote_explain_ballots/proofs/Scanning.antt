@@ -14,8 +14,7 @@ use Rattle.vote_poll.specs.BallotLine.{IsBallotText, IsRank, rank_text}
 use Rattle.vote_poll.proofs.NamesLaws.{within_bounds, within_from}
 use Rattle.vote_poll_text.specs.Names.{is_voter_byte, is_voter_name, is_within}
 use Rattle.vote_explain_ballots.specs.Column.{IsColumn, IsLinePrefix}
-use Rattle.vote_explain_ballots.specs.Places.{IsExit, IsPlaceAfter, has_byte, may_end}
-use Rattle.vote_explain_ballots.specs.Scanning.{next_part, place_in}
+use Rattle.vote_explain_ballots.specs.Places.{IsExit, IsPlaceAfter, has_byte, may_end, next_part, place_in}
 use Rattle.vote_explain_ballots.specs.declared.places.Part.{Part}
 use Rattle.vote_explain_ballots.specs.declared.places.Part.TheVariants as part
 

@@ -17,7 +17,7 @@ use Rattle.vote_sheet.specs.Steps.{reply_words}
 use Rattle.vote_sheet.specs.Texts.{Text, line}
 use Rattle.vote_explain_ballots.specs.Places.{IsExit, place_words}
 use Rattle.vote_explain_ballots.specs.NearNames.{IsNearest}
-use Rattle.vote_explain_ballots.specs.Remarks.{AreFileLines, IsRemark}
+use Rattle.vote_explain_ballots.specs.Remarks.{IsFileText, IsRemark}
 use Rattle.vote_explain_ballots.specs.declared.TheConstants.{MOST_SHOWN}
 use Rattle.vote_explain_ballots.specs.Refusals.{Refusal, refusals}
 use Rattle.vote_explain_ballots.specs.declared.places.Exit.{Exit}
@@ -143,7 +143,7 @@ IsIfText false Says text = text ≡ []
 -- what is remarked on the file, a line for each line that is refused, an example, and the numbers
 pub record IsExplained (poll : PollContent) (lines : List Text) (text : Text) : Type 0 where
   pub of_file : Text
-  pub are_of_file : AreFileLines of_file
+  pub is_of_file : IsFileText of_file
   pub is_text : Bool
   pub warnings : Text
   pub are_warnings : IsIfText is_text (AreWarnings poll lines) warnings

@@ -1,6 +1,6 @@
 -- What has to hold of each remark, whatever it says.
-use Rattle.std.specs.Prelude.{◌≡◌, ℕ, ◌≤◌, List, ◌++◌, Result, OnOk, IsTrue, codes, length, string_bytes}
-use Rattle.std.specs.List.{All, flat_map, list_all}
+use Rattle.std.specs.Prelude.{◌≡◌, ℕ, ◌≤◌, ◌⊎◌, List, [], ◌++◌, Result, OnOk, IsTrue, codes, length, string_bytes}
+use Rattle.std.specs.List.{list_all}
 use Rattle.std.specs.declared.string.String.{String}
 use Rattle.vote_poll_text.specs.Lines.{line_feed}
 use Rattle.vote_poll_text.specs.Names.{is_printable}
@@ -15,8 +15,8 @@ pub record IsRemark (text : List ℕ) : Type 0 where
 abbrev pub file_line : List ℕ → List ℕ
 file_line remark = codes "the ballot file " ++ (remark ++ line_feed)
 
-abbrev pub AreFileLines : List ℕ → Type 0
-AreFileLines text = (remarks : List (List ℕ)) × All IsRemark remarks × (text ≡ flat_map file_line remarks)
+abbrev pub IsFileText : List ℕ → Type 0
+IsFileText text = (text ≡ []) ⊎ ((remark : List ℕ) × IsRemark remark × (text ≡ file_line remark))
 
 -- a text of this kind was added, and nothing else has changed
 abbrev pub Added : (List ℕ → Type 0) → List ℕ → List ℕ → Type 0

@@ -11,22 +11,16 @@ use std::alloc::AllocError;
 use vote_poll::{LineFault, Lines, Poll};
 use vote_steps::{Reply, Step};
 
-/// Whether a name has digits and hyphens alone, as ranks have.
-fn is_like_ranks(name: &[u8]) -> bool {
-    name.iter()
-        .all(|byte| byte.is_ascii_digit() || *byte == b'-')
-}
-
-/// Whether a text begins with a name, in any case, and with no longer word.
+/// Whether a text begins with a name that has a letter, in any case, and with no longer word. Digits alone may be ranks.
 fn begins_with(text: &[u8], name: &[u8]) -> bool {
-    let (Some(begin), next) = (text.get(..name.len()), text.get(name.len())) else {
-        return false;
-    };
-    let same = begin
-        .iter()
-        .zip(name)
-        .all(|(one, other)| one.eq_ignore_ascii_case(other));
-    same && !next.is_some_and(|byte| byte.is_ascii_alphanumeric())
+    let mut pairs = text.iter().zip(name);
+    let ends_word = !text
+        .get(name.len())
+        .is_some_and(|byte| byte.is_ascii_alphanumeric());
+    ends_word
+        && text.len() >= name.len()
+        && name.iter().any(|byte| byte.is_ascii_alphabetic())
+        && pairs.all(|(one, other)| one.eq_ignore_ascii_case(other))
 }
 
 /// The bytes with which names of options begin, in any case.
@@ -35,9 +29,8 @@ fn first_bytes(poll: &Poll) -> [bool; 256] {
     for before in 0..poll.options() {
         let name = poll.option_name(before + 1).as_bytes();
         if let Some(byte) = name.first() {
-            let is_name = !is_like_ranks(name);
-            begins[byte.to_ascii_lowercase() as usize] |= is_name;
-            begins[byte.to_ascii_uppercase() as usize] |= is_name;
+            begins[byte.to_ascii_lowercase() as usize] = true;
+            begins[byte.to_ascii_uppercase() as usize] = true;
         }
     }
     begins
@@ -54,7 +47,7 @@ fn option_at(poll: &Poll, text: &[u8]) -> (u8, usize) {
     let mut found = (0, 0);
     for before in 0..poll.options() {
         let name = poll.option_name(before + 1).as_bytes();
-        if name.len() > found.1 && !is_like_ranks(name) && begins_with(text, name) {
+        if name.len() > found.1 && begins_with(text, name) {
             found = (before + 1, name.len());
         }
     }
@@ -107,40 +100,25 @@ fn line_of_names(poll: &Poll, lines: &Lines<'_>, steps: &[Step]) -> Option<usize
     None
 }
 
-/// Whether a byte can be of a name, in small letters or capitals.
-fn is_name_byte(byte: u8) -> bool {
-    byte.is_ascii_alphanumeric() || matches!(byte, b'.' | b'-')
-}
-
-/// The sign, no comma and no space, that parts a name from ranks, and the ranks from each other, in a line that has nothing else.
+/// The sign, no comma and no space, that parts a name from ranks, and the ranks from each other: the first byte that can't be of a
+/// name, if the line has it twice.
 fn sign_of(line: &[u8]) -> Option<u8> {
-    let (mut sign, mut has_name, mut is_repeated) = (0, false, false);
-    for byte in line.strip_prefix(MARK).unwrap_or(line) {
-        let byte = *byte;
-        if sign == 0 && is_name_byte(byte) {
-            has_name = true;
-        } else if matches!(byte, b'"' | b'\r') {
-            continue;
-        } else if sign == 0 && has_name && !matches!(byte, b',' | b' ') {
-            sign = byte;
-        } else if byte == sign {
-            is_repeated = true;
-        } else if sign == 0 || !matches!(byte, b'0'..=b'9' | b'-' | b' ') {
-            return None;
-        }
+    let line = line.strip_prefix(MARK).unwrap_or(line);
+    let is_sign = |byte: &&u8| !byte.is_ascii_alphanumeric()
+        && !matches!(**byte, b'.' | b'-' | b'"');
+    let sign = *line.iter().find(is_sign)?;
+    let count = line.iter().filter(|byte| **byte == sign).count();
+    if count < 2 || matches!(sign, b',' | b' ') {
+        return None;
     }
-    if is_repeated { Some(sign) } else { None }
+    Some(sign)
 }
 
-/// Whether all lines that are not empty have the same sign, no comma, between the name and the ranks too.
+/// Whether all lines have the same sign, no comma, between the name and the ranks too.
 fn look_like_table(lines: &Lines<'_>) -> bool {
     let mut common = None;
     for place in 0..lines.len() {
-        let line = lines.line(place);
-        if line.is_empty() {
-            continue;
-        }
-        let sign = sign_of(line);
+        let sign = sign_of(lines.line(place));
         if sign.is_none() || (common.is_some() && sign != common) {
             return false;
         }

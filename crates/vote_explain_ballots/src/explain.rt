@@ -7,13 +7,12 @@ ghost use Rattle.vote_poll_text.specs.Adding.{Adds};
 ghost use Rattle.vote_steps.specs.HeldLines.{HoldsLines};
 ghost use Rattle.vote_sheet.specs.LastBallots.{refused_count};
 ghost use Rattle.vote_explain_ballots.specs.Remarks.{AddsSome};
-ghost use Rattle.vote_explain_ballots.specs.Explained.{AreTotals, AreWarnings, IsExample, IsIfText, SaysAll, counted_line, counted_text, example_line, numbers_text};
-ghost use Rattle.vote_explain_ballots.specs.Refusals.{EachRefusalIsListed};
-ghost use Rattle.vote_explain_ballots.specs.Replies.{AreReplies, RefusedAsBySteps};
+ghost use Rattle.vote_explain_ballots.specs.Explained.{AreTotals, AreWarnings, IsExample, IsIfText, SaysAll, counted_text, example_line, numbers_text};
+ghost use Rattle.vote_explain_ballots.specs.Refusals.{AreReplies, EachRefusalIsListed, RefusedAsBySteps};
 
 use crate::columns::{is_of_bad_shape, push_columns};
 use crate::findings::Findings;
-use crate::whole_file::push_file_lines;
+use crate::whole_file::push_file_text;
 use std::alloc::{AllocError, Global};
 use vote_poll::{Lines, Poll, Reading, read_line};
 use vote_steps::laws::lines_are_counted;
@@ -112,16 +111,6 @@ fn push_totals(
     )
 }
 
-/// Adds that lines are counted.
-fn push_counted_line(text: &mut String, last: u32) -> Result<(), AllocError>
-    ensures { Adds result text.old (counted_line last) text.new }
-{
-    writeln!(
-        text,
-        "lines are counted: taking one out, or adding one above line {last}, changes which ballots are late"
-    )
-}
-
 /// Adds that lines are counted, if the poll has a last envelope, the file has a line with its number, and a line is refused that is not
 /// late.
 fn push_counted(
@@ -139,7 +128,10 @@ fn push_counted(
     if lines.len() < last as usize || totals.refused <= late_count(poll, lines) as u64 {
         return Ok(());
     }
-    push_counted_line(text, last)
+    writeln!(
+        text,
+        "lines are counted: taking one out, or adding one above line {last}, changes which ballots are late"
+    )
 }
 
 /// Adds what is said before the lines, of a file that can be ballots.
@@ -177,7 +169,7 @@ fn text_of(
     ensures { IfOk result (SaysAll poll.now lines.now) }
 {
     let mut findings = Findings::new(alloc);
-    let is_text = push_file_lines(alloc, &mut findings.text, lines, file_text, steps, file)?;
+    let is_text = push_file_text(alloc, &mut findings.text, lines, file_text, steps, file)?;
     push_warnings(&mut findings.text, is_text, poll, lines, steps, totals)?;
     findings.add_all(poll, lines, steps, is_text)?;
     let is_wanted = is_text && steps.iter().any(is_of_bad_shape);

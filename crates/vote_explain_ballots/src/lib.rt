@@ -9,8 +9,6 @@ mod explain;
 mod findings;
 mod near_names;
 mod places;
-mod question;
-mod remark;
 mod whole_file;
 
 pub use explain::{Explained, each_refusal_is_listed, explain_ballots, refused_as_by_steps};

@@ -3,8 +3,7 @@
 ghost use Rattle.std.specs.Prelude.{◌≡◌, List, ℕ};
 ghost use Rattle.vote_poll_text.specs.Adding.{Adds};
 ghost use Rattle.vote_explain_ballots.specs.Column.{IsColumn};
-ghost use Rattle.vote_explain_ballots.specs.Places.{IsExit, has_byte, place_words};
-ghost use Rattle.vote_explain_ballots.specs.Scanning.{next_part, place_in};
+ghost use Rattle.vote_explain_ballots.specs.Places.{IsExit, has_byte, next_part, place_in, place_words};
 
 use vote_poll::{MAX_LINE, MAX_VOTER_NAME, is_voter_byte};
 

@@ -1,14 +1,18 @@
-//! What is remarked on a whole ballot file: what it is if it is no ballots, and how the ends of its lines are mended.
+//! What lets only remarks through, one line of printable text each; and what is remarked on a whole ballot file: what it is if it is
+//! no ballots, and how the ends of its lines are mended.
 
-ghost use Rattle.vote_explain_ballots.specs.Remarks.{AddsSome, AreFileLines};
+ghost use Rattle.std.specs.Prelude.{◌≡◌, IsTrue};
+ghost use Rattle.std.specs.List.{list_all};
+ghost use Rattle.vote_poll_text.specs.Adding.{Adds};
+ghost use Rattle.vote_poll_text.specs.Names.{is_printable};
+ghost use Rattle.vote_explain_ballots.specs.Remarks.{AddsSome, IsFileText, IsRemark, file_line};
 
-use crate::MARK;
 use crate::columns::is_of_bad_shape;
-use crate::remark::push_file_line;
+use crate::{MARK, MOST_REMARK};
 use std::alloc::{AllocError, Global};
 use vote_explain_poll::file_kind;
 use vote_poll::Lines;
-use vote_poll_text::push_mending;
+use vote_poll_text::{is_printable, push_mending};
 use vote_steps::Step;
 
 /// The most bytes of a file's name in a command.
@@ -26,6 +30,47 @@ const WINDOWS: (&str, &str) = (
 );
 
 const MARKED: (&str, &str) = ("begins with a byte-order mark: this can be mended", "");
+
+/// Whether all bytes of a text are printable.
+fn are_printable(text: &[u8]) -> bool
+    ensures { result ≡ list_all is_printable text.now }
+{
+    text.iter().all(|byte| is_printable(*byte))
+}
+
+/// Whether a text is one line of printable text, and not too long.
+fn is_remark(text: &str) -> bool
+    ensures { IsTrue result → IsRemark text.now }
+{
+    text.len() <= MOST_REMARK && are_printable(text.as_bytes())
+}
+
+/// Adds a remark. What is none is left out.
+pub(crate) fn push_remark(text: &mut String, remark: &str) -> Result<(), AllocError>
+    ensures { AddsSome IsRemark result text.old text.new }
+{
+    if !is_remark(remark) {
+        return Ok(());
+    }
+    text.push_str(remark)
+}
+
+/// Adds a line on the file.
+fn push_line(text: &mut String, remark: &str) -> Result<(), AllocError>
+    ensures { Adds result text.old (file_line remark.now) text.new }
+{
+    writeln!(text, "the ballot file {remark}")
+}
+
+/// Adds a line with a remark on the file, if it is one.
+fn push_file_line(text: &mut String, remark: &str) -> Result<(), AllocError>
+    ensures { AddsSome IsFileText result text.old text.new }
+{
+    if remark.is_empty() || !is_remark(remark) {
+        return Ok(());
+    }
+    push_line(text, remark)
+}
 
 /// Adds what a file is that is no ballots: another kind of file, by its first bytes, or a poll, by one of its lines.
 pub(crate) fn push_kind(
@@ -99,9 +144,9 @@ pub(crate) fn push_ends(
     }
 }
 
-/// Adds a line with each remark on a file whose lines these steps cast, and says whether the file can be ballots. `file` is the name of
-/// the file for a command that mends it, where it has one.
-pub(crate) fn push_file_lines(
+/// Adds a line with a remark on a file whose lines these steps cast, if there is one, and says whether the file can be ballots. `file`
+/// is the name of the file for a command that mends it, where it has one.
+pub(crate) fn push_file_text(
     alloc: Global,
     text: &mut String,
     lines: &Lines<'_>,
@@ -109,17 +154,14 @@ pub(crate) fn push_file_lines(
     steps: &[Step],
     file: Option<&str>,
 ) -> Result<bool, AllocError>
-    ensures { AddsSome AreFileLines result text.old text.new }
+    ensures { AddsSome IsFileText result text.old text.new }
 {
     let mut words = String::new(alloc);
     push_kind(&mut words, lines, file_text)?;
-    if !words.is_empty() {
-        push_file_line(text, words.as_str())?;
-        return Ok(false);
+    let is_text = words.is_empty();
+    if is_text {
+        push_ends(&mut words, lines, file_text, steps, file)?;
     }
-    push_ends(&mut words, lines, file_text, steps, file)?;
-    if !words.is_empty() {
-        push_file_line(text, words.as_str())?;
-    }
-    Ok(true)
+    push_file_line(text, words.as_str())?;
+    Ok(is_text)
 }

@@ -1,5 +1,5 @@
 use Rattle.std.proofs.Common.{sym, subst}
-use Rattle.vote_explain_ballots.specs.Replies.{AreReplies}
+use Rattle.vote_explain_ballots.specs.Refusals.{AreReplies}
 use Rattle.vote_explain_ballots.proofs.BoxReplies.{replies_of_box}
 use Rattle.vote_explain_ballots.proofs.explain.explain_ballots.Goals as goal
 

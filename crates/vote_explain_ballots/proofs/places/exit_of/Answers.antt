@@ -3,8 +3,7 @@ use Rattle.std.proofs.lemmas.Bool.{cases_Bool}
 use Rattle.std.proofs.lemmas.Bool.Decides.{nat_tests}
 use Rattle.std.proofs.lemmas.List.{take_more}
 use Rattle.vote_explain_ballots.specs.Column.{IsLinePrefix}
-use Rattle.vote_explain_ballots.specs.Places.{IsExit, has_byte}
-use Rattle.vote_explain_ballots.specs.Scanning.{place_in}
+use Rattle.vote_explain_ballots.specs.Places.{IsExit, has_byte, place_in}
 use Rattle.vote_explain_ballots.proofs.Scanning.{IsAfter, after_byte, after_none, byte_after, exit_after, shorter_prefix}
 use Rattle.vote_explain_ballots.proofs.places.exit_of.Goals as goal
 
