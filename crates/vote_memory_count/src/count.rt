@@ -46,7 +46,7 @@ fn count_metered<
     requires output_parts { (output_blank.parts ≡ O.parts) × (output_blank.parts ≡ 2) }
     requires errors_name { errors_blank.name ≡ E.name }
     requires errors_parts { (errors_blank.parts ≡ E.parts) × (errors_blank.parts ≡ 2) }
-    ensures { IsCountOf files.poll files.ballots output.items result }
+    ensures { IsCountOf files.entry.poll files.entry.ballots output.items result }
 {
     let mut files = files;
     let mut sink = WriterSink::new(output, Meter::<O>::new(output_blank));
