@@ -100,25 +100,40 @@ fn line_of_names(poll: &Poll, lines: &Lines<'_>, steps: &[Step]) -> Option<usize
     None
 }
 
-/// The sign, no comma and no space, that parts a name from ranks, and the ranks from each other: the first byte that can't be of a
-/// name, if the line has it twice.
-fn sign_of(line: &[u8]) -> Option<u8> {
-    let line = line.strip_prefix(MARK).unwrap_or(line);
-    let is_sign = |byte: &&u8| !byte.is_ascii_alphanumeric()
-        && !matches!(**byte, b'.' | b'-' | b'"');
-    let sign = *line.iter().find(is_sign)?;
-    let count = line.iter().filter(|byte| **byte == sign).count();
-    if count < 2 || matches!(sign, b',' | b' ') {
-        return None;
-    }
-    Some(sign)
+/// Whether a byte can be of a name, in small letters or capitals.
+fn is_name_byte(byte: u8) -> bool {
+    byte.is_ascii_alphanumeric() || matches!(byte, b'.' | b'-')
 }
 
-/// Whether all lines have the same sign, no comma, between the name and the ranks too.
+/// The sign, no comma and no space, that parts a name from ranks, and the ranks from each other, in a line that has nothing else.
+fn sign_of(line: &[u8]) -> Option<u8> {
+    let (mut sign, mut has_name, mut is_repeated) = (0, false, false);
+    for byte in line.strip_prefix(MARK).unwrap_or(line) {
+        let byte = *byte;
+        if sign == 0 && is_name_byte(byte) {
+            has_name = true;
+        } else if matches!(byte, b'"' | b'\r') {
+            continue;
+        } else if sign == 0 && has_name && !matches!(byte, b',' | b' ') {
+            sign = byte;
+        } else if byte == sign {
+            is_repeated = true;
+        } else if sign == 0 || !matches!(byte, b'0'..=b'9' | b'-' | b' ') {
+            return None;
+        }
+    }
+    if is_repeated { Some(sign) } else { None }
+}
+
+/// Whether all lines that are not empty have the same sign, no comma, between the name and the ranks too.
 fn look_like_table(lines: &Lines<'_>) -> bool {
     let mut common = None;
     for place in 0..lines.len() {
-        let sign = sign_of(lines.line(place));
+        let line = lines.line(place);
+        if line.is_empty() {
+            continue;
+        }
+        let sign = sign_of(line);
         if sign.is_none() || (common.is_some() && sign != common) {
             return false;
         }
