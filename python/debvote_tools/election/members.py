@@ -59,8 +59,8 @@ class Member(NamedTuple):
     key: str
     # the elector of the book who is the same person; None if there is none
     known: Elector | None = None
-    # whether the name was made
-    is_proposed: bool = False
+    # the whole name that was proposed; empty if none was
+    proposal: str = ""
 
     @property
     def is_new(self) -> bool:
@@ -178,11 +178,7 @@ def faults_of_row(row: Row, member: Member, width: int, delimiter: str) -> Itera
 Entry = TypeVar("Entry")
 
 # by what a member is the same person as an elector: first by the name, then by `who`
-SAME_PERSON: tuple[Callable[[Member | Elector], str], ...] = (
-    lambda person: person.name,
-    lambda person: person.who,
-    lambda person: alike(person.who),
-)
+SAME_PERSON: tuple[Callable[[Member | Elector], str], ...] = (lambda person: person.name, lambda person: person.who)
 
 
 class Roll(NamedTuple):
@@ -257,16 +253,18 @@ def several(entries: Iterable[Entry], form: Callable[[Entry], Hashable]) -> list
 
 def with_proposals(electors: Sequence[Member], known: Sequence[Elector], language: str) -> list[Member]:
     """The electors, each with a name, made of `who` or of an address if possible."""
-    bases = {}
+    wholes = {}
     for elector in electors:
         mails = (address.partition("@")[0] for address in elector.addresses)
         proposals = (elector_name(text, language) for text in (elector.who, *mails) if not elector.name)
-        if base := next(filter(None, proposals), None):
-            bases[elector.line] = base
+        if whole := next(filter(None, proposals), None):
+            wholes[elector.line] = whole
     taken = [*(elector.name for elector in electors if elector.name), *(elector.name for elector in known)]
-    names = dict(zip(bases, made_different(list(bases.values()), taken, ELECTOR_LIMIT, "-")))
+    bases = [whole[:ELECTOR_LIMIT].rstrip("-") for whole in wholes.values()]
+    names = dict(zip(wholes, made_different(bases, taken, ELECTOR_LIMIT, "-")))
     return [
-        elector._replace(name=names[elector.line], is_proposed=True) if elector.line in names else elector for elector in electors
+        elector._replace(name=names[elector.line], proposal=wholes[elector.line]) if elector.line in names else elector
+        for elector in electors
     ]
 
 
