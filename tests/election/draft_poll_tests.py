@@ -273,12 +273,15 @@ class NewPoll(DraftTest):
         self.assertLess(max(map(len, text.splitlines())), 111)
         self.assertEqual(self.draft(text).faults, ())
         examples = re.findall(r"(?m)^#     (\w+)( = .*)$", text)
-        for key, value in [*examples, ("title", ' = "Frühling"')]:
-            text = re.sub(rf"(?m)^{key} = .*$", key + value, text)
-        for line in ("quorum = 1", 'wording = "more_than"', "secret = true"):
-            self.assertEqual(text.count(f"\n# {line}\n"), 1)
-            text = text.replace(f"\n# {line}\n", f"\n{line}\n")
-        draft = self.draft(text)
-        self.assertEqual(draft.faults, ())
-        self.assertIn("poll ok: 4 options, 3 electors", self.explained(draft))
-        self.assertEqual(seal(draft, ROLL, "en").secret, True)
+        self.assertEqual([key for key, _ in examples], ["options", "ratios", "default", "title", "options", "ratios", "default"])
+        for options, given in ((4, [("title", ' = "Frühling"'), *examples[:3]]), (2, examples[3:])):
+            filled = text
+            for key, value in given:
+                filled = re.sub(rf"(?m)^{key} = .*$", key + value, filled)
+            for line in ("quorum = 1", 'wording = "more_than"', "secret = true"):
+                self.assertEqual(filled.count(f"\n# {line}\n"), 1)
+                filled = filled.replace(f"\n# {line}\n", f"\n{line}\n")
+            draft = self.draft(filled)
+            self.assertEqual(draft.faults, ())
+            self.assertIn(f"poll ok: {options} options, 3 electors", self.explained(draft))
+            self.assertEqual(seal(draft, ROLL, "en").secret, True)
