@@ -248,7 +248,7 @@ class NamesAreCompleted(CalledTest):
         desk = Terminal(self)
         desk.until("Ballot: ")
         desk.type("Anna 1,2,4,3\n")
-        listed = "`anna` is part of several names:\n  1 anna-meier (Anna-Meier)\n  2 anna-schmidt (Anna-Schmidt)\n"
+        listed = "`anna` is part of 2 names:\n  1 anna-meier (Anna-Meier)\n  2 anna-schmidt (Anna-Schmidt)\n"
         self.assertIn(listed, desk.until("Type the number of one, or n for none: "))
         desk.type("2\n")
         self.assertIn("\nanna-schmidt: At the lake, ", desk.until(CAST))
@@ -261,7 +261,8 @@ class NamesAreCompleted(CalledTest):
             desk.until("It was not entered.\nBallot: ")
         desk.type("elector 1,2,4,3\n")
         shown = desk.until("for none: ")
-        self.assertIn("  9 elector-8 (Elector-8)\n  and 2 more: for one of them type more of the name\n", shown)
+        self.assertIn("`elector` is part of 11 names:\n  1 elector-0 (Elector-0)\n", shown)
+        self.assertTrue(shown.endswith("\n  9 elector-8 (Elector-8)\nType the number of one, or n for none: "), shown)
         desk.type("10\nq\n")
         desk.end()
         self.assertEqual(self.lines(), ["anna-schmidt 1,2,4,3"])

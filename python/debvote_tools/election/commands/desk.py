@@ -218,18 +218,16 @@ def completed(desk: Desk, line: Line) -> Line | None:
     if not found:
         return line
     number = 1
-    if len(found) > 1:
-        shown = [
-            f"  {number} {elector.name} ({shown_text(elector.who)})" for number, elector in enumerate(found[:MAX_NAMES], start=1)
-        ]
-        more = [f"  and {len(found) - MAX_NAMES} more: for one of them type more of the name"] if len(found) > MAX_NAMES else []
-        tell(f"`{shown_text(name)}` is part of several names:", *shown, *more)
+    if len(found) == 1:
+        tell(f"`{shown_text(name)}` was completed to `{found[0].name}`")
+    else:
+        tell(f"`{shown_text(name)}` is part of {len(found)} names:")
+        shown = found[:MAX_NAMES]
+        tell(*(f"  {place} {elector.name} ({shown_text(elector.who)})" for place, elector in enumerate(shown, start=1)))
         answer = (typed("Type the number of one, or n for none: ") or b"").strip()
         number = int(answer) if answer.isdigit() else 0
-        if not 1 <= number <= len(shown):
+        if not 0 < number <= len(shown):
             return None
-    else:
-        tell(f"`{shown_text(name)}` was completed to `{found[0].name}`")
     full = f"{found[number - 1].name} {ranks}".encode()
     return Line(line.source, line.place, full, full, full)
 
