@@ -165,7 +165,7 @@ class Unread(MembersTest):
     def test_a_folder_and_no_file(self) -> None:
         folder = pathlib.Path(tempfile.mkdtemp())
         self.addCleanup(folder.rmdir)
-        for file, part in ((folder, "it is not a file"), (folder / "no", "No such file"), (pathlib.Path("/dev/null"), "it is not a file")):
+        for file, part in ((folder, "Is a directory"), (folder / "no", "No such file")):
             with self.assertRaises(Fault) as caught:
                 members.members_in(file)
             self.assertEqual(caught.exception.status, Status.BAD_WORDS)
@@ -174,7 +174,7 @@ class Unread(MembersTest):
     def test_a_file_that_is_too_long(self) -> None:
         with tempfile.NamedTemporaryFile() as file:
             file.truncate(TABLE_LIMIT + 1)
-            with self.assertRaisesRegex(Fault, "too long"):
+            with self.assertRaisesRegex(Fault, "it is longer than .* bytes; shorten it, then run debvote-election roll again"):
                 members.members_in(pathlib.Path(file.name))
 
 

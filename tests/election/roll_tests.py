@@ -76,9 +76,14 @@ class Roll(RollTest):
         self.assertEqual(self.on_roll(), support.NAMES)
 
     def test_shared_addresses_are_told(self) -> None:
-        ended = self.roll("Ada,home@club.example", "Ben,Home@club.example")
+        ended = self.roll("Ada,a@club.example home@club.example", "Ben,Home@club.example", "Eve,e@club.example E@club.example", "Cleo,")
         self.assertEqual(ended.status, 0)
-        self.assertIn("several electors have the address home@club.example: ada, ben", ended.output)
+        self.assertIn("Note: several electors have the address home@club.example: ada, ben. Is that one person?\n", ended.output)
+        self.assertEqual(ended.output.count("Is that one person?"), 1)
+
+    def test_real_names_that_look_alike_are_told(self) -> None:
+        output = self.roll("Zo\u00eb,z@club.example", "zoe,", "Zo\u00eb L,").output
+        self.assertIn("Note: these real names look alike: zoe-1, zoe-2. Is that one person?\n", output)
 
     def test_several_people_in_one_cell_are_told(self) -> None:
         rows = ("Eve & Dan,e@club.example", "Fay und Gus Meier,", "Hal/Ida,", "Jan+Kim,", "Marie et Luc,", "Andrea Undset,", '"Meier, Anna",', "A-B,")

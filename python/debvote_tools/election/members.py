@@ -10,9 +10,9 @@ from typing import NamedTuple, TypeVar
 from debvote_tools.addresses import ADDRESS, address_key
 from debvote_tools.book.queries import Elector
 from debvote_tools.election.csv_tables import Row, read_table
-from debvote_tools.faults import Fault, Status, stop_at
-from debvote_tools.files import TABLE_LIMIT, read_at_most
-from debvote_tools.language import ENGLISH
+from debvote_tools.election.reporting import listed
+from debvote_tools.faults import Fault, stop_at
+from debvote_tools.files import TABLE_LIMIT, read_whole
 from debvote_tools.plain_names import ELECTOR_LIMIT, alike, elector_name, is_elector_name, made_different
 from debvote_tools.terminal_text import shown_text, steering
 
@@ -43,9 +43,6 @@ BETWEEN_ADDRESSES = re.compile(r"[\s,;]+")
 
 # the first cell of a row below the members, which a spreadsheet has summed up
 SUM = re.compile(r"(?:(?:grand |sub)?totale?s?|sum|(?:gesamt|zwischen)?summe|gesamt|insgesamt|anzahl|somme|suma)[ :=]*[\d.,]*")
-
-# `Eve & Dan`, `Eve und Dan`, `Eve/Dan`
-SEVERAL_PEOPLE = re.compile(r"\w ?[&+/] ?\w|\w (?:and|und|et) \w", re.IGNORECASE)
 
 # what programs write where they lost a character
 LOST = "\ufffd"
@@ -102,16 +99,8 @@ class Members(NamedTuple):
 
 def members_in(file: pathlib.Path) -> Members:
     """Reads the list of members in a file. Raises `Fault` if it is no table with their columns."""
-    cure = f"the list of members is a CSV file, as a spreadsheet saves it: put it there, {AGAIN}"
-    try:
-        if file.exists() and not file.is_file():
-            raise Fault(file, "it is not a file", cure, Status.BAD_WORDS, None)
-        data = read_at_most(file, TABLE_LIMIT)
-    except OSError as error:
-        raise Fault(file, error.strerror, cure, Status.BAD_WORDS, None) from None
-    if len(data) > TABLE_LIMIT:
-        raise Fault(file, "it is too long for a list of members", cure, done=None)
-    return members_of(data, file)
+    unread = "the list of members is a CSV file, as a spreadsheet saves it: put it there"
+    return members_of(read_whole(file, TABLE_LIMIT, unread, f", {AGAIN}"), file)
 
 
 def members_of(data: bytes, file: object = "members.csv") -> Members:
@@ -123,14 +112,12 @@ def members_of(data: bytes, file: object = "members.csv") -> Members:
         for words in map(str.split, choices):
             if free.issuperset(words):
                 used.setdefault(column, words)
-    head_faults = []
-    missing = [f"`{column}`" for column in REQUIRED if column not in used]
-    if missing:
+    twice = [head for head in itertools.chain(*used.values()) if heads.count(head) > 1]
+    wrong = [(f"the header line has the column `{head}` twice", "rename one of them") for head in twice]
+    if missing := [f"`{column}`" for column in REQUIRED if column not in used]:
         reason = f"the header line has no column {' and no column '.join(missing)}; it has {table.heads_in_words}; {BELONGS}"
-        head_faults.append((reason, "correct the header line"))
-    twice = [head for others in used.values() for head in others if heads.count(head) > 1]
-    head_faults += [(f"the header line has the column `{head}` twice", "rename one of them") for head in twice]
-    stop_at([bad_list(file, *fault, table.head.line) for fault in head_faults])
+        wrong.append((reason, "correct the header line"))
+    stop_at([bad_list(file, *fault, table.head.line) for fault in wrong])
     indices = {column: [heads.index(head) for head in others] for column, others in used.items()}
     # up to the last column that has a head
     width = max(index for index, head in enumerate(heads, start=1) if head)
@@ -205,22 +192,6 @@ class Roll(NamedTuple):
     # electors of the last list who are not on this one
     gone: tuple[Elector, ...]
     faults: tuple[Fault, ...]
-
-    @property
-    def shared_addresses(self) -> dict[str, list[Member]]:
-        """The electors of each address that several have."""
-        pairs = [(key, elector) for elector in self.electors for key in dict.fromkeys(map(address_key, elector.addresses))]
-        return {group[0][0]: [elector for _, elector in group] for group in several(pairs, lambda pair: pair[0])}
-
-    @property
-    def seeming_several(self) -> list[Member]:
-        """The electors whose real name seems to be those of several people."""
-        return [elector for elector in self.electors if SEVERAL_PEOPLE.search(elector.who)]
-
-    @property
-    def alike_people(self) -> list[list[Member]]:
-        """Groups of electors who look like one person, by case, accents and blanks."""
-        return several(self.electors, lambda elector: alike(elector.who))
 
 
 def roll_of(members: Members, known: Sequence[Elector], language: str, *, is_called: bool = False) -> Roll:
@@ -315,22 +286,16 @@ def faults_of_people(rows: Sequence[Member], electors: Sequence[Member]) -> Iter
 
 def faults_after_call(electors: Sequence[Member], gone: Sequence[Elector]) -> Iterator[tuple[int | None, str, str]]:
     """People who are not as the call has them."""
-    reasons = [("is missing", [f"{elector.name} ({shown_text(elector.who)})" for elector in gone])]
-    reasons.append(("is new", [f"{elector.label} on line {elector.line}" for elector in electors if elector.is_new]))
-    for elector in electors:
-        before = [shown_text(pair[0]) for what, pair in elector.changes.items() if what in ("name", "who")]
-        reasons += [(f"was {text}", [f"{elector.label} on line {elector.line}"]) for text in before]
-    for words, people in reasons:
+    cure = "put the list back as it was: after the call only addresses and keys may change"
+    others: dict[str, Sequence[Member | Elector]] = {"missing": gone, "new": [elector for elector in electors if elector.is_new]}
+    for words, people in others.items():
         if people:
-            cure = "put the list back as it was: after the call only addresses and keys may change"
-            yield None, f"{named_in_words(people)} {words}", cure
+            yield None, f"{words}: {listed([f'{one.name} ({shown_text(one.who)})' for one in people], NAMED_LIMIT)}", cure
+    for elector in electors:
+        for what, (before, _) in elector.changes.items():
+            if what in ("name", "who"):
+                yield elector.line, f"{elector.label} was {shown_text(before)}", cure
 
 
 def lines_in_words(electors: Sequence[Member]) -> str:
-    return f"lines {named_in_words([str(elector.line) for elector in electors])}"
-
-
-def named_in_words(names: Sequence[str]) -> str:
-    """Names as they are in a sentence; of many the first."""
-    more = [f"{len(names) - NAMED_LIMIT} more"] if len(names) > NAMED_LIMIT else []
-    return ENGLISH.joined([*names[:NAMED_LIMIT], *more])
+    return f"lines {listed([str(elector.line) for elector in electors], NAMED_LIMIT)}"

@@ -217,18 +217,18 @@ def completed(desk: Desk, line: Line) -> Line | None:
     found = [elector for elector, text in desk.texts if all(word in text for word in words)]
     if not found:
         return line
-    number = 1
+    chosen = found[:MAX_NAMES]
     if len(found) == 1:
         tell(f"`{shown_text(name)}` was completed to `{found[0].name}`")
     else:
         tell(f"`{shown_text(name)}` is part of {len(found)} names:")
-        shown = found[:MAX_NAMES]
-        tell(*(f"  {place} {elector.name} ({shown_text(elector.who)})" for place, elector in enumerate(shown, start=1)))
-        answer = (typed("Type the number of one, or n for none: ") or b"").strip()
-        number = int(answer) if answer.isdigit() else 0
-        if not 0 < number <= len(shown):
+        tell(*(f"  {place} {elector.name} ({shown_text(elector.who)})" for place, elector in enumerate(chosen, start=1)))
+        answer = typed("Type the number of one, or n for none: ") or b""
+        number = int(answer) if answer.strip().isdigit() else 0
+        chosen = chosen[number - 1 : number]
+        if not chosen:
             return None
-    full = f"{found[number - 1].name} {ranks}".encode()
+    full = f"{chosen[0].name} {ranks}".encode()
     return Line(line.source, line.place, full, full, full)
 
 
