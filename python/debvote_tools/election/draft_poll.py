@@ -50,7 +50,6 @@ IS_TOML = re.compile(r"(?m)^poll(?:: | ok)")
 RANK = "(?:-|[1-9][0-9]?)"
 # how accents may be taken off a name in a letter, and how long a real name may be, in characters
 FOLDINGS, LONGEST_REAL_NAME = ("en", "de"), 200
-BRACKETS = "([{<"
 
 
 @dataclasses.dataclass(frozen=True)
@@ -167,16 +166,14 @@ def ballots_in(text: str, names: Collection[str], option_count: int) -> list[str
     for repaired in {as_repaired(text, folding): None for folding in FOLDINGS}:
         for match in ranks.finditer(repaired):
             words = repaired[max(0, match.start() - LONGEST_REAL_NAME) : match.start()].rstrip(": ").split(" ")
-            before = [" ".join(words[-count:]) for count in range(1, most_words + 1)]
-            for name in (*before, *(words.lstrip(BRACKETS) for words in before)):
-                if name in names:
-                    found[f"{name} {match[0]}"] = None
+            before = (" ".join(words[-count:]) for count in range(1, most_words + 1))
+            found |= {f"{name} {match[0]}": None for name in before if name in names}
     return list(found)
 
 
 def as_repaired(text: str, language: str) -> str:
-    """A text on one line, in small letters without accents, and with what repairs take out or replace."""
-    plain = re.sub(r"[\"'*`]", "", without_accents(text, language)).lower().replace(";", ",")
+    """A text on one line, in small letters without accents and brackets, and with what repairs take out or replace."""
+    plain = re.sub(r"[\"'*`(\[{<]", "", without_accents(text, language)).lower().replace(";", ",")
     return " ".join(plain.split())
 
 

@@ -12,8 +12,6 @@ from debvote_tools.times import minute_in_words, now, time_in_words
 
 CAME_BEFORE_CLOSE = "--came-before-close"
 
-HOW = 'write it as "2026-12-04 18:00", as "2026-12-04 18:00+01:00" or in another form of ISO 8601, or with --zone Europe/Berlin'
-
 
 class Arguments(acting.Arguments):
     """The options of a command that enters lines."""
@@ -67,7 +65,8 @@ def parse_until(text: str, zone: str | None, earlier_zone: str | None = None) ->
         if time.tzinfo is None:
             return in_zone(time, named), named
     except (ValueError, OverflowError):
-        raise bad_until("it is not a date with a time of day, or there is no such day or time", HOW) from None
+        cure = 'write it as "2026-12-04 18:00", as "2026-12-04 18:00+01:00" or in another form of ISO 8601, or with --zone Europe/Berlin'
+        raise bad_until("it is not a date with a time of day, or there is no such day or time", cure) from None
     if zone is not None:
         raise Fault("--zone", "the time has an offset already", "leave out one of the two", Status.BAD_WORDS)
     time = time.replace(microsecond=0)

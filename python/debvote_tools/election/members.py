@@ -163,11 +163,8 @@ def faults_of_row(row: Row, member: Member, width: int, delimiter: str) -> Itera
         yield reason, "put quotation marks around a cell that contains the delimiter"
     if not member.who and not member.name:
         yield "it has no `who`", "write who it is, or take the line out"
-    if steering(member.who) is not None:
-        reason = (
-            f"`{shown_text(member.who)}` has the character {steering(member.who)}, which controls a terminal or turns text around"
-        )
-        yield reason, "take it out"
+    if odd := steering(member.who):
+        yield f"`{shown_text(member.who)}` has the character {odd}, which controls a terminal or turns text around", "take it out"
     if member.name and not is_elector_name(member.name):
         cure = f"write 1 to {ELECTOR_LIMIT} of a to z, 0 to 9, point and hyphen under `name`, or leave it empty"
         yield f"`{shown_text(member.name)}` cannot be a name on the roll", cure
@@ -243,17 +240,13 @@ def with_proposals(electors: Sequence[Member], known: Sequence[Elector], languag
     """The electors, each with a name, made of `who` or of an address if possible."""
     wholes = {}
     for elector in electors:
-        mails = (address.partition("@")[0] for address in elector.addresses)
-        proposals = (elector_name(text, language) for text in (elector.who, *mails) if not elector.name)
-        if whole := next(filter(None, proposals), None):
+        texts = [elector.who, *(address.partition("@")[0] for address in elector.addresses)]
+        if not elector.name and (whole := next(filter(None, (elector_name(text, language) for text in texts)), "")):
             wholes[elector.line] = whole
     taken = [*(elector.name for elector in electors if elector.name), *(elector.name for elector in known)]
     bases = [whole[:ELECTOR_LIMIT].rstrip("-") for whole in wholes.values()]
     names = dict(zip(wholes, made_different(bases, taken, ELECTOR_LIMIT, "-")))
-    return [
-        elector._replace(name=names[elector.line], proposal=wholes[elector.line]) if elector.line in names else elector
-        for elector in electors
-    ]
+    return [one._replace(name=names.get(one.line, one.name), proposal=wholes.get(one.line, "")) for one in electors]
 
 
 # ---------------------------------------------------------------- what is wrong: the line, the reason and the cure

@@ -1,5 +1,6 @@
 """Read the list of members, and give each elector a name on the roll."""
 
+import operator
 import re
 from collections.abc import Iterable
 
@@ -65,8 +66,8 @@ def demand_read(election: Election, history: History) -> None:
 
 def is_kept(book: Book, roll: Roll) -> bool:
     """Whether the book has these electors already, in this order."""
-    now = [(elector.name, elector.who, elector.addresses, elector.key) for elector in roll.electors]
-    return now == [(elector.name, elector.who, elector.addresses, elector.key) for elector in queries.electors(book)]
+    facts = operator.attrgetter("name", "who", "addresses", "key")
+    return list(map(facts, roll.electors)) == list(map(facts, queries.electors(book)))
 
 
 def keep_electors(book: Book, roll: Roll, seen: int) -> None:
