@@ -151,7 +151,7 @@ def similar_names(names: Iterable[str]) -> Iterable[tuple[str, str]]:
     pairs, first = {}, {**bare}
     for form, name in bare.items():
         ordered = "-".join(sorted(re.split("[.-]", form)))
-        for key in (ordered, *(form[:at] + form[at + 1 :] for at in range(len(form)))):
+        for key in (ordered, *[form[:at] + form[at + 1 :] for at in range(len(form))]):
             other = first.setdefault(key, name)
             if other != name:
                 pairs[other, name] = True

@@ -47,7 +47,6 @@ SET_ELSEWHERE = {
 # how `debvote explain` begins a line if it has read the poll as TOML
 IS_TOML = re.compile(r"(?m)^poll(?:: | ok)")
 
-RANK = "(?:-|[1-9][0-9]?)"
 # how accents may be taken off a name in a letter, and how long a real name may be, in characters
 FOLDINGS, LONGEST_REAL_NAME = ("en", "de"), 200
 
@@ -160,7 +159,8 @@ def faults_when_sealed(draft: DraftPoll, names: Collection[str], language: str) 
 
 def ballots_in(text: str, names: Collection[str], option_count: int) -> list[str]:
     """One of these names with a rank for each option, after the repairs of a line, and wherever a line of the text is broken at a blank."""
-    ranks = re.compile(rf"(?<![^\s:])(?:{RANK} ?, ?){{{option_count - 1}}}{RANK}(?![0-9])")
+    rank = "(?:-|[1-9][0-9]?)"
+    ranks = re.compile(rf"(?<![^\s:])(?:{rank} ?, ?){{{option_count - 1}}}{rank}(?![0-9])")
     most_words = max((name.count(" ") + 1 for name in names), default=0)
     found: dict[str, None] = {}
     for repaired in {as_repaired(text, folding): None for folding in FOLDINGS}:
@@ -216,8 +216,7 @@ def checked_poll(election: Election, *, deadline: str | None = None, address: st
         raise bad_poll(election.path(POLL_FILE), "it can't be read as TOML, as said above", "put it right with an editor") from None
     electors, language = queries.electors(election.book), election.language.code
     roll = [elector.name for elector in electors]
-    people = [*roll, *(elector.who for elector in electors if elector.who)]
-    faults = [*draft.faults, *faults_when_sealed(draft, people, language)]
+    faults = [*draft.faults, *faults_when_sealed(draft, [*roll, *(elector.who for elector in electors)], language)]
     if not roll:
         faults.append(Fault(None, "there are no electors yet", f"run {election.command('roll')} first", done=None))
     data = sealed_form(draft, roll or ["nobody"], language, deadline=deadline, address=address)
@@ -231,8 +230,7 @@ def faults_by_debvote(election: Election, poll_bytes: bytes) -> list[Fault]:
         words = answer.faults.strip().removeprefix("debvote: ") or f"debvote ended with status {answer.status}"
         return [Fault(file, words, f"run {election.command('check')} again", answer.status, None)]
     findings = [line.removeprefix("poll: ") for line in answer.text.splitlines() if line.startswith("poll: ")]
-    cure = f"put it right with an editor, then run {election.command('check')}"
-    return [Fault(file, finding, cure, Status.BAD_POLL, None) for finding in findings]
+    return [bad_poll(file, finding, "put it right with an editor") for finding in findings]
 
 
 def lacks_codes(election: Election, history: History, poll: SealedPoll) -> bool:
@@ -241,8 +239,8 @@ def lacks_codes(election: Election, history: History, poll: SealedPoll) -> bool:
 
 def tell_poll(poll: SealedPoll, sheet: Sheet) -> None:
     tell(f"Title: {poll.name}", *([f"  plain: {poll.title}"] if poll.name != poll.title else []), "Options:")
-    texts = poll.explanations or [""] * len(poll.options)
-    for number, (name, plain, text) in enumerate(zip(poll.names, poll.plain_names, [*texts, ""]), start=1):
+    texts = (*poll.explanations, *[""] * len(poll.names))
+    for number, (name, plain, text) in enumerate(zip(poll.names, poll.plain_names, texts), start=1):
         kind = f"majority ratio {sheet.ratios[number]}" if number in sheet.ratios else "the default option"
         tell(f"{number:3}  {name} ({kind})")
         if name != plain:

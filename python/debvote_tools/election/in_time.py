@@ -92,9 +92,8 @@ def in_zone(plain: datetime.datetime, name: str | None) -> datetime.datetime:
         raise Fault("--zone", "this computer knows no time zone of this name", cure, Status.BAD_WORDS) from None
     folded = [plain.replace(fold=fold) for fold in (0, 1)]
     first, second = (time.astimezone() if zone is None else time.replace(tzinfo=zone) for time in folded)
-    is_shown = any(time.astimezone(datetime.UTC).astimezone(zone).replace(tzinfo=None) == plain for time in (first, second))
     where = "where this computer is" if name is None else f"in {name}"
-    if not is_shown:
+    if not any(time.astimezone(datetime.UTC).astimezone(zone).replace(tzinfo=None) == plain for time in (first, second)):
         raise bad_until(f"{where} there is no such time: the clocks that are put forward on that day skip it", "write another time")
     if first.utcoffset() != second.utcoffset():
         both = " or ".join(f'"{time.isoformat(" ", "minutes")}"' for time in (first, second))

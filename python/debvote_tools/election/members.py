@@ -1,6 +1,7 @@
 """The list of members, a table as spreadsheets save it, and the roll that it becomes. It is read, and never written."""
 
 import itertools
+import operator
 import pathlib
 import re
 import unicodedata
@@ -32,7 +33,6 @@ REQUIRED = ("who", "mail")
 NEW_MEMBERS = "who,mail\n"
 
 AGAIN = "then run debvote-election roll again"
-BELONGS = "put the real names under `who` and the addresses under `mail`; a column `name`, with names on the roll, is optional"
 
 # the fingerprint of a key of OpenPGP
 FINGERPRINT = re.compile(r"[0-9A-F]{40}")
@@ -115,8 +115,9 @@ def members_of(data: bytes, file: object = "members.csv") -> Members:
     twice = [head for head in itertools.chain(*used.values()) if heads.count(head) > 1]
     wrong = [(f"the header line has the column `{head}` twice", "rename one of them") for head in twice]
     if missing := [f"`{column}`" for column in REQUIRED if column not in used]:
-        reason = f"the header line has no column {' and no column '.join(missing)}; it has {table.heads_in_words}; {BELONGS}"
-        wrong.append((reason, "correct the header line"))
+        reason = f"the header line has no column {' and no column '.join(missing)}; it has {table.heads_in_words}"
+        cure = "put the real names under `who` and the addresses under `mail`; a column `name`, with names on the roll, is optional"
+        wrong.append((reason, cure))
     stop_at([bad_list(file, *fault, table.head.line) for fault in wrong])
     indices = {column: [heads.index(head) for head in others] for column, others in used.items()}
     # up to the last column that has a head
@@ -151,11 +152,10 @@ def faults_of_row(row: Row, member: Member, width: int, delimiter: str) -> Itera
     if SUM.fullmatch(first.casefold()) and not any(map(ADDRESS.fullmatch, member.addresses)):
         yield f"`{shown_text(first)}` is a sum and no member", "take the line out"
         return
-    for cell in (member.who, member.name, member.key):
+    for cell in (member.who, member.name, member.key, *member.addresses):
         if delimiter == "," and ";" in cell:
             reason = f"`{shown_text(cell)}` has a semicolon, and the header line has commas between its cells"
             yield reason, "put a comma between the cells of this line too, or take the semicolon out"
-    for cell in (member.who, member.name, *member.addresses):
         if LOST in cell:
             yield f"`{shown_text(cell)}` has lost a character when it was saved (U+FFFD)", "write the character again"
     if beyond := row.cells_after(width):
@@ -177,9 +177,6 @@ def faults_of_row(row: Row, member: Member, width: int, delimiter: str) -> Itera
 
 
 Entry = TypeVar("Entry")
-
-# by what a member is the same person as an elector: first by the name, then by `who`
-SAME_PERSON: tuple[Callable[[Member | Elector], str], ...] = (lambda person: person.name, lambda person: person.who)
 
 
 class Roll(NamedTuple):
@@ -207,12 +204,13 @@ def roll_of(members: Members, known: Sequence[Elector], language: str, *, is_cal
 
 
 def with_known(rows: Sequence[Member], known: Sequence[Elector]) -> list[Member]:
-    """The members, each with the elector who is the same person, of the last list if possible, and with their name. If several would fit,
-    none of them does.
+    """The members, each with the elector of the same name, or else of the same `who`, of the last list if possible, and with their name. If
+    several would fit, none of them does.
     """
     found: dict[int, Elector] = {}
     last = [elector for elector in known if elector.position is not None]
-    for form, candidates in itertools.product(SAME_PERSON, (last, known)):
+    for what, candidates in itertools.product(("name", "who"), (last, known)):
+        form = operator.attrgetter(what)
         numbers = {elector.number for elector in found.values()}
         rows_by_form = grouped((row for row in rows if row.line not in found), form)
         for text, electors in grouped((elector for elector in candidates if elector.number not in numbers), form).items():

@@ -2,7 +2,6 @@
 
 import operator
 import re
-from collections.abc import Iterable
 
 from debvote_tools.addresses import address_key
 from debvote_tools.arguments import flag
@@ -98,10 +97,11 @@ def report(roll: Roll, *, has_all: bool) -> None:
         tell(f"{count_of(len(proposed), 'name was', 'names were')} proposed. {how}")
     pairs = [(key, elector) for elector in electors for key in dict.fromkeys(map(address_key, elector.addresses))]
     for sharing in several(pairs, lambda pair: pair[0]):
-        names = names_of(elector for _, elector in sharing)
+        names = listed([elector.name for _, elector in sharing], MAX_SHOWN)
         tell(f"Note: several electors have the address {sharing[0][0]}: {names}. Is that one person?")
     for group in several(electors, lambda elector: alike(elector.who)):
-        tell(f"Note: these real names look alike: {names_of(group)}. Is that one person?")
+        names = listed([elector.name for elector in group], MAX_SHOWN)
+        tell(f"Note: these real names look alike: {names}. Is that one person?")
     couples = "Note: these look like several people, who have one ballot together: {}. Give each a line of their own."
     notes = {
         f"Note: a name has at most {ELECTOR_LIMIT} characters, so these were cut: {{}}": [
@@ -120,10 +120,6 @@ def report(roll: Roll, *, has_all: bool) -> None:
     }
     tell(*(sentence.format(listed(names, MAX_SHOWN)) for sentence, names in notes.items() if names))
     tell(*(f"No longer on the list: {gone.name} ({shown_text(gone.who)})" for gone in roll.gone))
-
-
-def names_of(electors: Iterable[Member]) -> str:
-    return listed([elector.name for elector in electors], MAX_SHOWN)
 
 
 def change_addresses(book: Book, roll: Roll, seen: int, *, is_agreed: bool) -> bool:
