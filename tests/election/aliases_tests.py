@@ -151,7 +151,7 @@ class Slips(unittest.TestCase):
             for part in (said, options, example, "The code is no part of your ballot", "Whoever sees your code can see how you voted."):
                 self.assertIn(part, text)
         for text in self.each(dataclasses.replace(CALL, at="https://example.org/vote/")):
-            self.assertIn(f"{said}The page of the votehttps://example.org/vote/ ", text)
+            self.assertIn(f"{said}At the end of the subject{CALL.mark} The page of the votehttps://example.org/vote/ ", text)
         for text in self.each(dataclasses.replace(CALL, until=None, to=None)):
             self.assertIn("Until whenas the call for votes says Send your ballot toas the call for votes says", text)
         shown = dataclasses.replace(POLL, shown_title="Wohin?", shown_options=("Am See", "72 \u20ac", "Keine"))

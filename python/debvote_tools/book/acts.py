@@ -32,7 +32,7 @@ class Detail(TypedDict, total=False):
     quorum_votes: int
     signed: bool
     keyring: bool
-    # take back: the act of the call
+    # take back: the act of the call; its `codes` have lapsed
     call: int
     # what comes: how many letters and lines; of set aside, put back and enter their numbers
     letter: int

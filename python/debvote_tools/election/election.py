@@ -72,7 +72,13 @@ class History:
 
     @property
     def has_codes_on_roll(self) -> bool:
-        return any(act.detail.get("on_roll") for act in self.named("codes"))
+        acts = self.named("codes", "take back")
+        return bool(acts and acts[-1].detail.get("on_roll"))
+
+    @property
+    def has_lapsed_codes(self) -> bool:
+        """Whether codes were given out with a call that was taken back."""
+        return any(act.detail.get("codes") for act in self.named("take back"))
 
     @property
     def until(self) -> datetime.datetime | None:

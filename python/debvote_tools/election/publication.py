@@ -65,6 +65,7 @@ def current_data(
         is_signed=bool(value_of("signed")),
         has_aliases=sealed.is_aliased,
         has_codes_on_roll=bool(value_of("codes_on_roll")),
+        has_lapsed_codes=now.has_lapsed_codes,
     )
 
 

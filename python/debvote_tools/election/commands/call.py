@@ -12,7 +12,7 @@ from debvote_tools.call.files import call_files, extension_letter
 from debvote_tools.console import tell
 from debvote_tools.election import acting
 from debvote_tools.election.publication import current_data, until_of
-from debvote_tools.election.commands.codes import SLIPS, write_slips
+from debvote_tools.election.commands.codes import CODES, SLIPS, write_slips
 from debvote_tools.election.commands.roll import demand_read
 from debvote_tools.election.election import CALL, KEYRING, LETTERS, POLL, POLL_WITH_NAMES, PRIVATE, Election, History, Sealed
 from debvote_tools.election.made_files import OWN, PUBLIC, write_made
@@ -132,12 +132,20 @@ def take_back(election: Election, arguments: Arguments) -> None:
     if queries.has_come(election.book, call_act.number):
         words = "ballots or letters have come, and electors rely on the call"
         raise Fault(None, words, "finish this vote, or hold it anew in another folder")
-    with book.act("take back", {"call": call_act.number}, seen=history.last.number):
-        pass
+    coded = queries.electors(book) if election.sealed().counted.secret else []
+    with book.act("take back", {"call": call_act.number, "codes": len(coded)}, seen=history.last.number) as act:
+        # whoever compares the roll of this call with that of the next would see the alias of each elector who is new
+        lapsed = {"position": None} if history.has_codes_on_roll else {"code": "", "alias": ""}
+        queries.put_electors(act, (elector._replace(**lapsed) for elector in coded))
     write_made(election.path(CALL), {}, PUBLIC, FILES)
     (election.path(LETTERS) / EXTENSION).unlink(missing_ok=True)
     tell("Took the call back. If anybody has seen it, tell them that it is void.")
-    tell(f"Next: put right what was wrong, then run {election.command('call')}")
+    first = "call"
+    if coded:
+        write_made(election.path(PRIVATE), {}, OWN, (SLIPS, CODES))
+        tell(f"All {len(coded)} codes are void, and their slips and table are removed: destroy what is printed.")
+        first = "roll" if history.has_codes_on_roll else "codes"
+    tell(f"Next: put right what was wrong, then run {election.command(first)}")
 
 
 def seal(act: NewAct, data: CallData, keyring: bytes | None) -> None:

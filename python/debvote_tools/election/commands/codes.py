@@ -83,7 +83,8 @@ def make_codes(election: Election, arguments: Arguments) -> tuple[SealedPoll, in
 def write_slips(election: Election, history: History, poll: SealedPoll) -> None:
     """Makes the folder `private`, with what the call says if there is one. With codes on the roll the names are the codes."""
     is_on_roll = history.has_codes_on_roll
-    call = current_data(election, history) if history.call else CallData(election.language, poll, 0, has_codes_on_roll=is_on_roll)
+    unsaid = CallData(election.language, poll, 0, has_codes_on_roll=is_on_roll, has_lapsed_codes=history.has_lapsed_codes)
+    call = current_data(election, history) if history.call else unsaid
     rows = [
         CodeRow(name, who, " ".join(addresses), name if is_on_roll else code, alias)
         for _, name, _, who, addresses, _, code, alias in queries.electors(election.book)
