@@ -157,13 +157,13 @@ class InBrowser(support.LanguageTest):
 
     def found(self, window: at_browser.Window, name: str, code: str | None = None) -> list[str]:
         """What the page of a result says once a name is typed, and a code."""
-        typed = "" if code is None else f"document.getElementById('code').value = {json.dumps(code)};"
+        typed = "" if code is None else f"document.getElementById('Code').value = {json.dumps(code)};"
         window.ask(
-            f"document.getElementById('name').value = {json.dumps(name)}; {typed}"
-            "document.getElementById('answer').replaceChildren(); document.getElementById('show').click();"
+            f"document.getElementById('Name').value = {json.dumps(name)}; {typed}"
+            "document.getElementById('Answer').replaceChildren(); document.getElementById('Show').click();"
         )
-        window.until("document.getElementById('answer').textContent !== ''")
-        answers: list[str] = window.ask("[...document.querySelectorAll('#answer p')].map((row) => row.textContent)")
+        window.until("document.getElementById('Answer').textContent !== ''")
+        answers: list[str] = window.ask("[...document.querySelectorAll('#Answer p')].map((row) => row.textContent)")
         return answers
 
 

@@ -38,15 +38,15 @@ class Page(at_browser.Window):
 
     def find(self, name, code=None):
         """What the page says after a name, and a code, were typed."""
-        self.ask(f"document.getElementById('name').value = {json.dumps(name)}")
+        self.ask(f"document.getElementById('Name').value = {json.dumps(name)}")
         if code is not None:
-            self.ask(f"document.getElementById('code').value = {json.dumps(code)}")
-        self.ask("document.getElementById('answer').replaceChildren(); document.getElementById('show').click()")
-        self.until("document.getElementById('answer').textContent !== ''")
+            self.ask(f"document.getElementById('Code').value = {json.dumps(code)}")
+        self.ask("document.getElementById('Answer').replaceChildren(); document.getElementById('Show').click()")
+        self.until("document.getElementById('Answer').textContent !== ''")
         return self.found()
 
     def found(self):
-        return self.ask("[...document.querySelectorAll('#answer p')].map((node) => node.textContent)")
+        return self.ask("[...document.querySelectorAll('#Answer p')].map((node) => node.textContent)")
 
     def count_again(self, letter="", files=None):
         """What the page says after a press of the button, or of that for files from the disk."""
@@ -110,7 +110,7 @@ class ScriptsTest(support.PublishTest):
         self.expect("a place of the page", window.find("Votes"), ["No elector has the name votes. Type it as it is on the roll."])
         self.expect("nothing typed", window.find(" "), ["Type your name."])
         window.ask("location.hash = '#ben'")
-        window.until("document.getElementById('answer').textContent.includes('ben')")
+        window.until("document.getElementById('Answer').textContent.includes('ben')")
         self.expect("the address names an elector", window.found()[0], "This ballot counts for ben:")
         others = ["This page shows other ballots than its files have. Tell the other electors."]
         for what, change in [

@@ -32,6 +32,8 @@ class Detail(TypedDict, total=False):
     quorum_votes: int
     signed: bool
     keyring: bool
+    # call and publish, in a secret vote: the checksums of the texts that somebody agreed to make public
+    agreed: list[str]
     # take back: the act of the call; its `codes` have lapsed
     call: int
     # what comes: how many letters and lines; of set aside, put back and enter their numbers

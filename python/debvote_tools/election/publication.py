@@ -19,7 +19,7 @@ from debvote_tools.language import Language, language_of
 from debvote_tools.lines import ballot_file
 from debvote_tools.publish.doubts import Doubt, Kind
 from debvote_tools.publish.inputs import Act, CastingVote, Chronicle, Closed, Done, Publication, SecretVote
-from debvote_tools.publish.names import BALLOTS, PAGE, POLL
+from debvote_tools.publish.names import BALLOTS, CHECKSUMS, PAGE, POLL
 from debvote_tools.rendering import render_letter
 from debvote_tools.sealed_poll import SealedPoll
 from debvote_tools.secret.aliases import aliased_ballots, sealed_checksum
@@ -116,14 +116,21 @@ def publication_of(election: Election, words: Words) -> Publication:
         doubts=tuple(doubts),
         secret=secret,
         has_codes=history.has_codes_on_roll,
+        at=history.announced("at"),
     )
+
+
+def early_end(history: History) -> datetime.datetime | None:
+    """Until when one should have been able to vote, if the first close came before; after it nobody could."""
+    return history.until if history.closes and history.closes[0].detail.get("early") else None
 
 
 def closing_letter(history: History, poll: SealedPoll, language: Language) -> bytes:
     """The letter of the last close; the poll is the public one. The time is in the zone in which the end was announced."""
     close, zone = history.closes[-1], history.until.tzinfo if history.until else datetime.UTC
     time = close.time.astimezone(zone)
-    return render_letter("debvote_tools.letters_out", "closing.txt", language, close=close, time=time, poll=poll).encode()
+    values = {"close": close, "time": time, "poll": poll, "early_end": early_end(history)}
+    return render_letter("debvote_tools.letters_out", "closing.txt", language, **values).encode()
 
 
 def demand_as_closed(history: History, ballots: bytes) -> None:
@@ -155,13 +162,16 @@ def detail_of(words: Words, checksums: Mapping[str, str], doubts: list[Doubt], *
     return {
         "words": dataclasses.asdict(words),
         "casting": words.casting if decides else None,
-        "checksums": {name: checksums[name] for name in (POLL, BALLOTS, PAGE)},
+        "checksums": {name: checksums[name] for name in (POLL, BALLOTS, PAGE, CHECKSUMS)},
         "doubts": [doubt.as_data() for doubt in doubts],
     }
 
 
 def doubts_of(book: Book, history: History, poll: SealedPoll, casting: str | None) -> list[Doubt]:
     found = [] if history.is_closed else [Doubt.of(Kind.NOT_CLOSED)]
+    if (until := early_end(history)) is not None:
+        closed = history.closes[0].time.astimezone(until.tzinfo)
+        found.append(Doubt.of(Kind.CLOSED_EARLY, closed=closed.isoformat(), until=until.isoformat()))
     found += late_letters_in_time(book, history)
     names = dict(zip(poll.plain_names, poll.names))
     earlier = dict.fromkeys(act.detail["casting"] for act in history.named("publish"))

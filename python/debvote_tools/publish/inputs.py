@@ -180,6 +180,8 @@ class Publication:
     secret: SecretVote | None = None
     # whether the names on the roll are codes, and nobody has a list of them
     has_codes: bool = False
+    # the web address of the result, if it is known
+    at: str | None = None
 
     @property
     def has_aliases(self) -> bool:

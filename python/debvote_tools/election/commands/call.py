@@ -1,16 +1,19 @@
 """Make the call for votes, a page and a letter; from then on the poll cannot change."""
 
 import pathlib
+from collections.abc import Sequence
 
 from debvote_tools import times
 from debvote_tools.arguments import flag, option
 from debvote_tools.book import queries
+from debvote_tools.book.queries import Elector
 from debvote_tools.book.acts import Detail
 from debvote_tools.book.book import NewAct
 from debvote_tools.call.data import CallData, demand_mail_address, demand_web_address
 from debvote_tools.call.files import call_files, extension_letter
 from debvote_tools.console import tell
 from debvote_tools.election import acting
+from debvote_tools.election.agreed_texts import agreed_texts, texts_of_poll
 from debvote_tools.election.publication import current_data, until_of
 from debvote_tools.election.commands.codes import CODES, SLIPS, write_slips
 from debvote_tools.election.commands.roll import demand_read
@@ -23,6 +26,7 @@ from debvote_tools.faults import Fault, Status, stop_at
 from debvote_tools.files import read_at_most
 from debvote_tools.letters.signatures import read_keyring
 from debvote_tools.secret.aliases import aliased_poll
+from debvote_tools.secret.codes import demand_no_code
 
 EXTENSION = "extension.txt"
 
@@ -48,6 +52,7 @@ class Arguments(acting.Arguments):
         "FILE", "Say in the call that letters must be signed, each with its elector's key in members.csv; this file has the keys"
     )
     take_back: bool = flag("Take the call back; possible until a ballot or a letter has come")
+    yes: bool = flag("In a secret vote: answer yes when asked whether everybody may read the texts of the options")
 
 
 def run(election: Election, arguments: Arguments) -> None:
@@ -83,12 +88,22 @@ def call(election: Election, arguments: Arguments) -> None:
     said.update({"quorum_votes": sheet.quorum, "signed": arguments.keyring is not None})
     keyring = keyring_in(election, arguments.keyring)
     data = current_data(election, history, said, Sealed(public, poll))
+    if poll.secret:
+        demand_no_codes(data, queries.electors(book))
+        said["agreed"] = agreed_texts(history, texts_of_poll(poll), is_agreed=arguments.yes, done="nothing was changed")
     with book.act("call", said, seen=history.last.number) as act:
         act.insert("sealed", name=POLL, data=public.as_bytes())
         if public != poll:
             act.insert("sealed", name=POLL_WITH_NAMES, data=poll.as_bytes())
         seal(act, data, keyring)
     tell_poll(poll, sheet)
+
+
+def demand_no_codes(data: CallData, electors: Sequence[Elector]) -> None:
+    """Stops if a text of the call has a code, of its elector or of the roll."""
+    codes = {elector.code or elector.name for elector in electors}
+    for name, content in call_files(data).items():
+        demand_no_code(name, content, codes, "nothing was changed")
 
 
 def call_again(election: Election, arguments: Arguments) -> None:
@@ -135,8 +150,9 @@ def take_back(election: Election, arguments: Arguments) -> None:
     coded = queries.electors(book) if election.sealed().counted.secret else []
     with book.act("take back", {"call": call_act.number, "codes": len(coded)}, seen=history.last.number) as act:
         # whoever compares the roll of this call with that of the next would see the alias of each elector who is new
-        lapsed = {"position": None} if history.has_codes_on_roll else {"code": "", "alias": ""}
-        queries.put_electors(act, (elector._replace(**lapsed) for elector in coded))
+        is_on_roll = history.has_codes_on_roll
+        lapsed = (one._replace(position=None) if is_on_roll else one._replace(code="", alias="") for one in coded)
+        queries.put_electors(act, lapsed)
     write_made(election.path(CALL), {}, PUBLIC, FILES)
     (election.path(LETTERS) / EXTENSION).unlink(missing_ok=True)
     tell("Took the call back. If anybody has seen it, tell them that it is void.")
