@@ -326,7 +326,7 @@ class CallPageTest(CallFolder):
                 self.assertEqual(body, [f"{gap} 2,1,3,-\r\n"])
                 text = page.read_text()
                 self.assertNotRegex(text, "<(input|textarea)")
-                self.assertRegex(text, rf"In the letter, and not on this page, write your \w+ in the place of <b>{gap}</b>")
+                self.assertRegex(text, rf"In the letter, and not on this page, write your \w+ in the place of <code>{gap}</code>")
 
     def test_a_name_may_look_like_a_code_in_an_open_vote(self) -> None:
         name = "0123456789abcdef" * 2

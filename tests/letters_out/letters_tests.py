@@ -781,7 +781,7 @@ class Secret(OutTest):
         self.assertIn("find it with your name, ada, and your code, under", results["ada"])
         self.assertNotIn("#", results["ada"])
         self.assertIn("cat seal.txt ballots.txt | sha256sum", results["ada"])
-        self.assertIn("learns what you type into it, even without a network", " ".join(results["ada"].split()))
+        self.assertIn("learns what you type into it, with or without a network", " ".join(results["ada"].split()))
         texts = [one_line(message) for message in found] + list(results.values())
         for text in texts:
             self.assertFalse([code for code in [*codes.values(), *aliases] if code in text])
