@@ -49,9 +49,9 @@ WITH_CODES = dataclasses.replace(CALL, has_aliases=False, has_codes_on_roll=True
 CODES_ON_ROLL = [CodeRow(code, "", "", code, "") for code in CODES.values()]
 
 
-def run(*words: str, given: str = "") -> str:
+def run(*words: str, given: str = "", folder: pathlib.Path | None = None) -> str:
     """What a command answers that has to end well."""
-    return subprocess.run(words, input=given, capture_output=True, text=True, check=True).stdout
+    return subprocess.run(words, input=given, capture_output=True, text=True, check=True, cwd=folder).stdout
 
 
 class Codes(unittest.TestCase):
@@ -62,6 +62,16 @@ class Codes(unittest.TestCase):
             spaced = " ".join(re.findall("....", code))
             self.assertEqual(run("sh", "-c", BY_PYTHON, given=f"{spaced}\n{name}\n"), f"Code: Name: {ALIASES[name]}\n")
         self.assertNotEqual(alias_of(CODES["ada"], "ben"), ALIASES["ada"])
+
+    def test_whatever_lies_in_the_folder_the_alias_is_found(self) -> None:
+        with tempfile.TemporaryDirectory(prefix="debvote-alias-") as name:
+            folder = pathlib.Path(name)
+            for file in ("hmac.py", "hashlib.py", "sitecustomize.py", "codecs.py", "openssl.cnf", "printf", "cut"):
+                (folder / file).write_text("import os; os._exit(1)\n")
+            command = BY_OPENSSL.replace("NAME", "ada").replace("CODE", CODES["ada"])
+            self.assertEqual(run("sh", "-c", command, folder=folder), ALIASES["ada"] + "\n")
+            found = run("sh", "-c", BY_PYTHON, given=f"{CODES['ada']}\nada\n", folder=folder)
+            self.assertEqual(found, f"Code: Name: {ALIASES['ada']}\n")
 
     def test_codes_are_sixteen_bytes_of_the_generator_that_nobody_can_guess(self) -> None:
         with unittest.mock.patch("secrets.token_hex", return_value="c" * 32) as drawn:
@@ -107,11 +117,16 @@ class Published(unittest.TestCase):
         wanted = {"ada": "1,2,3", "dan": "1,-,1", "ben": "-,-,-", "cleo": "3,1,2"}
         lines = aliased_ballots(standing, ALIASES).decode().splitlines(keepends=True)
         self.assertEqual(lines, sorted(f"{ALIASES[name]} {ranks}\n" for name, ranks in wanted.items()))
+        # ranks are numbers, and no texts
+        self.assertEqual(aliased_ballots({"ada": "2,10,9", "ben": "99,9,10"}, dict(zip(ROLL, "abcd"))), b"a 1,3,2\nb 3,1,2\n")
         # whoever has no ballot has no line, and each line is of its own elector
         self.assertEqual(aliased_ballots({"ben": "2,1,3"}, ALIASES), f"{ALIASES['ben']} 2,1,3\n".encode())
         self.assertEqual(aliased_ballots({}, ALIASES), b"")
 
     def test_the_seal(self) -> None:
+        with unittest.mock.patch("secrets.token_hex", return_value="c" * 32) as drawn:
+            self.assertEqual(seal_line(), "c" * 32)
+        drawn.assert_called_once_with(16)
         seals = {seal_line() for _ in range(20)}
         self.assertEqual(len(seals), 20)
         self.assertTrue(all(re.fullmatch("[0-9a-f]{32}", seal) for seal in seals))

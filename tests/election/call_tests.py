@@ -45,6 +45,17 @@ class Open(CallTest):
         subprocess.run(["sha256sum", "--quiet", "-c", "SHA256SUMS"], cwd=self.folder / "call", check=True)
         self.assertEqual({file.stat().st_mode & 0o777 for file in (self.folder / "call").iterdir()}, {0o644})
 
+    def test_real_names_are_told_only_with_names(self) -> None:
+        people = {name: f"Person{number} of {name.title()}" for number, name in enumerate(support.NAMES)}
+        self.write("members.csv", "name,who,mail\n" + "".join(f"{name},{who},{name}@club.example\n" for name, who in people.items()))
+        self.done("roll")
+        self.done("call", *UNTIL)
+        told = b"".join(file.read_bytes() for file in (self.folder / "call").iterdir()).decode()
+        self.assertEqual([who for who in people.values() if who in told], [])
+        self.done("call", "--take-back")
+        self.done("call", *UNTIL, "--names")
+        self.assertEqual([who for who in people.values() if who in self.read("call/index.html").decode()], list(people.values()))
+
     def test_made_again_is_the_same_and_no_act(self) -> None:
         self.done("call", *UNTIL, "--to", "vote@club.example")
         before, log = self.contents(), self.done("log").output

@@ -590,7 +590,7 @@ class NoBallots(OutTest):
         self.add_lines(f"ada {RANKS}", "ben 1,2", f"cleo {RANKS}", f"cleo {OTHER_RANKS}")
         self.add_letters(letter("dan", f"I vote dan {RANKS} today\n"), letter("eve", f"fay {RANKS}\ngus {RANKS}\n"))
         kinds = {"call": found, "receipts": self.written("receipts"), "reminders": self.written("reminders")}
-        self.done("close", "--early", "--force", "--because", "all is said")
+        self.done("close", "--early", "--force", "--because", "cleo 1,2,3,4")
         kinds["closed"] = self.written("closed")
         self.done(
             "publish",
@@ -668,7 +668,7 @@ class Result(OutTest):
         texts = self.texts("result")
         self.assertEqual(sorted(texts), support.NAMES)
         self.assertIn(f"Dear Ada, {TITLE} Winner: Option 1: At the lake The result is published at: {AT} ", texts["ada"])
-        self.assertIn(f"Your own ballot, in words: {AT}#ada What was done", texts["ada"].replace("WHAT WAS DONE", "What was done"))
+        self.assertIn(f"Your own ballot, in words: {AT}#ada What is doubtful", texts["ada"])
         self.assertIn(f"{AT}#ben", texts["ben"])
         self.assertIn("It has no ballot of yours that counts.", texts["cleo"])
         self.assertNotIn("#", texts["cleo"])
@@ -713,7 +713,7 @@ class Result(OutTest):
         self.assertIn(
             "What is doubtful about this result: - More than half of the lines of the ballot file are refused: 2 of 3.", text
         )
-        self.assertIn("Why it was published all the same, in the secretary's words: they were asked", text)
+        self.assertIn("Why it was published all the same, in the secretary's words: (they were asked)", text)
 
 
 class ResultAt(OutTest):
@@ -763,7 +763,7 @@ class Secret(OutTest):
         self.done("close", "--early")
         self.done("publish", "--yes", "--force", "--because", "they were asked")
         for text in self.texts("result").values():
-            self.assertIn("- More than half of the lines that came are refused. Why it was published", text)
+            self.assertIn("- More than half of the lines that came are refused. - The vote was closed at ", text)
             self.assertNotIn("2 of 3", text)
 
     def test_nothing_else_has_codes_or_ranks(self) -> None:

@@ -405,7 +405,7 @@ class OfOpenVotes(OfElections):
         acts = re.findall(r"(?m)^- ((?:.+\n)+(?:  .+\n)*)", text)
         self.expect("in the letters", (len(letters), len(acts)), (3, len(told)))
         close = " ".join(acts[-1].split())
-        words = ("2 rechtzeitig eingetroffene Schreiben", "1 Schreiben, das nach dem Ende", "\u201ein a hurry\u201c")
+        words = ("2 rechtzeitig eingetroffene Schreiben", "1 Schreiben, das nach dem Ende", "(in a hurry)")
         self.expect(f"the close: {close}", [word in close for word in words], [True] * 3)
 
     def test_what_was_done_after_the_close(self):

@@ -121,6 +121,19 @@ class ScriptsTest(support.PublishTest):
             self.expect(what, window.find("ada"), others)
 
     @NEEDS_BROWSER
+    def test_electors_with_names_of_things_of_the_page(self):
+        roll = ["find", "code", "show", "answer", "votes", "name", "result", "again", "poll-file", "ballots", "graph0"]
+        poll = re.sub("roll = .*", f"roll = {json.dumps(roll)}", support.PLAIN_POLL)
+        room = plain_room(self.scratch / "names", poll, "".join(f"{name} 1,2,3\n" for name in roll[:-1]))
+        self.expect("it is published", publish(room, *FILES, "result"), ("Winner: 1 A\nverified\n", "", 0))
+        window = self.window
+        self.page_of(window, room=room)
+        for name in roll[:-1]:
+            self.expect(name, window.find(name), [f"This ballot counts for {name}:", f"{name} 1,2,3: Option 1: A; then Option 2: B; then Option 3: N"])
+        self.expect("no ballot", window.find(roll[-1]), [f"{roll[-1]} is on the roll, and no ballot counts for this name."])
+        self.expect("counted again", window.count_again()[0].startswith("The same, line for line"), True)
+
+    @NEEDS_BROWSER
     def test_finding_a_ballot_of_a_secret_vote(self):
         window = self.window
         self.page_of(window, room=self.secret)

@@ -107,7 +107,7 @@ def demand_place(target_folder: pathlib.Path, last: DoneAct | None) -> None:
     place = result_folder.real_place(target_folder)
     if result_folder.is_free(place) or (last and result_folder.is_publication(place, last.detail["checksums"][CHECKSUMS])):
         return
-    named = target_folder if target_folder.name not in ("", "..") else place
+    named = next(one for one in (target_folder, place, pathlib.Path(RESULT)) if one.name not in ("", ".."))
     others = (named.with_name(f"{named.name}-{number}") for number in itertools.count(2))
     other = next(other for other in others if not os.path.lexists(other))
     words = "what this election has published last, since its last close"
