@@ -695,7 +695,7 @@ class Result(OutTest):
         self.assertIn("Winner: Option 2: In the town hall by casting vote", text)
         self.assertIn('The secretary says that the casting vote was that of "the chair", given on 23 November 2026.', text)
         self.assertIn(
-            "The secretary struck envelope 2: its line does not count. The reason, in the secretary's words: “a mistake of 'ours' & <yours>”",
+            "The secretary struck envelope 2: its line does not count. The reason, in the secretary's words: (a mistake of 'ours' & <yours>)",
             text,
         )
 
