@@ -26,6 +26,9 @@ from debvote_tools.election.commands import publish as command  # noqa: E402
 from debvote_tools.election.election import Election  # noqa: E402
 from debvote_tools.letters import parse  # noqa: E402
 from debvote_tools.letters.sources import RawLetter  # noqa: E402
+from debvote_tools.language import ENGLISH  # noqa: E402
+from debvote_tools.publish.done import told_acts  # noqa: E402
+from debvote_tools.publish.inputs import Act, Chronicle, Done, Publication  # noqa: E402
 from debvote_tools.publish.result_folder import Made  # noqa: E402
 
 ELECTION = support.ROOT / "bin" / "debvote-election"
@@ -407,6 +410,16 @@ class OfOpenVotes(OfElections):
         close = " ".join(acts[-1].split())
         words = ("2 rechtzeitig eingetroffene Schreiben", "1 Schreiben, das nach dem Ende", "(in a hurry)")
         self.expect(f"the close: {close}", [word in close for word in words], [True] * 3)
+
+    def test_what_the_letter_tells_of_what_was_done(self):
+        """All but what is plain: also that the clock went back."""
+        time = datetime.datetime(2026, 12, 4, tzinfo=datetime.UTC)
+        plain = {Done.CALLED, Done.CALLED_UNTIL, Done.TAKEN_BACK, Done.KEYRING}
+        places = {"until": time, "before": time, "number": 1, "envelope": 1, "noted": 1, "there": 1}
+        for done in Done:
+            if done is not Done.CLOSED:
+                chronicle = Chronicle((Act(time, done, places),))
+                self.expect(str(done), len(told_acts(Publication(None, b"", chronicle=chronicle), ENGLISH)), 0 if done in plain else 1)
 
     def test_what_was_done_after_the_close(self):
         self.say("call", "--until", "2099-12-04 18:00", "--zone", "Europe/Berlin")

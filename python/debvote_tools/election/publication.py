@@ -171,7 +171,8 @@ def doubts_of(book: Book, history: History, poll: SealedPoll, casting: str | Non
     found = [] if history.is_closed else [Doubt.of(Kind.NOT_CLOSED)]
     if (until := early_end(history)) is not None:
         closed = history.closes[0].time.astimezone(until.tzinfo)
-        found.append(Doubt.of(Kind.CLOSED_EARLY, closed=closed.isoformat(), until=until.isoformat()))
+        # `close --early` has agreed to it
+        found.append(Doubt(Kind.CLOSED_EARLY, {"closed": closed.isoformat(), "until": until.isoformat()}, stops=False))
     found += late_letters_in_time(book, history)
     names = dict(zip(poll.plain_names, poll.names))
     earlier = dict.fromkeys(act.detail["casting"] for act in history.named("publish"))

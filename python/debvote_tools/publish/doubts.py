@@ -19,10 +19,6 @@ class Kind(enum.StrEnum):
     LATE_LETTER = "late letter"
     OTHER_CASTING_VOTE = "other casting vote"
 
-
-# the secretary has agreed to it already, by `close --early`
-AGREED = (Kind.CLOSED_EARLY,)
-
 FOR_SECRETARY = {
     Kind.NO_BALLOT: "no elector has a ballot that counts; check that these are the ballots of this poll",
     Kind.MOSTLY_REFUSED: "more than half of the lines are refused, {refused} of {lines}; debvote explain says why",
@@ -65,6 +61,8 @@ TIMES = ("arrival", "closed", "until")
 class Doubt:
     kind: Kind
     places: Mapping[str, Any]
+    # not so where an earlier act was forced although there was this doubt
+    stops: bool = True
 
     @classmethod
     def of(cls, kind: Kind, **places: str | int) -> "Doubt":

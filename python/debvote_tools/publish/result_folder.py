@@ -13,7 +13,7 @@ from debvote_tools.faults import Fault, Status
 from debvote_tools.files import sha256_of, sync_folder, temporary_folder, write_public
 from debvote_tools.publish import names
 from debvote_tools.publish.counting import KEEP_FILES, Counted, ask_the_rest, count_files, demand_same
-from debvote_tools.publish.doubts import AGREED, Doubt, doubts_about
+from debvote_tools.publish.doubts import Doubt, doubts_about
 from debvote_tools.publish.inputs import Publication
 from debvote_tools.publish.page import page_of
 from debvote_tools.publish.result_letter import letter_of
@@ -149,7 +149,7 @@ def demand_publishable(publication: Publication, sheet: Sheet, sheet_text: str) 
             raise Fault(None, words, KEEP_FILES, Status.DOUBT, "nothing was published")
         sheet = publication.secret.sheet
     doubts = [*doubts_about(sheet), *publication.doubts]
-    stopping = [doubt.for_secretary() for doubt in doubts if doubt.kind not in AGREED]
+    stopping = [doubt.for_secretary() for doubt in doubts if doubt.stops]
     if stopping and publication.chronicle is not None and not publication.is_forced:
         cure = 'put it right, or publish as it is with --force --because "TEXT" (the result page says so)'
         raise Fault(None, "; ".join(stopping), cure, Status.DOUBT, "nothing was published")

@@ -73,12 +73,12 @@ def publish(election: Election, arguments: Arguments, target_folder: pathlib.Pat
     The folder is whole and counted before the act, and takes its place after the act. So a kill leaves no folder that the book does
     not know, and `publish` without options makes the folder of the last act again.
     """
-    demand_place(target_folder, last_publication(election.history()))
     book = acting.book_for_act(election, arguments)
     acting.demand_whole(book)
     history, sealed = election.history(), election.sealed()
     count.demand_countable(election, history, sealed)
     before, given = last_publication(history), words_of(arguments)
+    demand_place(target_folder, before)
     again = before if given == Words(is_forced=arguments.force) else None
     words = given if again is None else Words(**again.detail["words"])
     count.demand_option(sealed.public, words.casting)
