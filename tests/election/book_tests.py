@@ -1,16 +1,44 @@
 """The book: what happens to an election whose book was copied, put back, rewritten, damaged, or lies where it can't be kept."""
 
+import contextlib
+import hashlib
+import itertools
+import json
 import os
 import pathlib
+import random
+import re
 import shutil
 import sqlite3
 import subprocess
 import sys
 import unittest
+from unittest import mock
 
 import support
 
+from debvote_tools.book import machine_note
+
+FORMATS = support.ROOT / "docs" / "FORMATS.md"
+
 MOVED = ("--moved", "--because", "the disk was exchanged")
+
+# the commands that stop at a book that this machine does not know, and those that say so and go on
+ACTING = [
+    *(("add", "--yes", "more"), ("close",), ("roll",), ("strike", "1", "--because", "x"), ("undo", "--yes"), ("desk",)),
+    *(("held", "1", "--set-aside"), ("reopen", "--because", "x"), ("call", "--to", "x@club.example"), ("codes",)),
+    *(("count",), ("publish",), ("letters", "receipts")),
+]
+READING = [
+    ("status",),
+    ("status", "--json"),
+    ("show", "ada"),
+    ("log",),
+    ("log", "--check"),
+    ("held",),
+    ("check",),
+    ("add", "--look", "more"),
+]
 
 # gives each lock that somebody asks for, as some file systems do
 NO_LOCKS = """
@@ -42,21 +70,29 @@ class BookTest(support.ElectionTest):
         self.done("add", "--yes", "lines")
 
     def sql(self, *statements: str) -> None:
-        """Changes the book with another program, past its triggers."""
-        with sqlite3.connect(self.book) as connection:
-            for (name,) in connection.execute("SELECT name FROM sqlite_schema WHERE type = 'trigger'").fetchall():
-                connection.execute(f"DROP TRIGGER {name}")
-            for statement in statements:
+        """Changes the book with another program, past its triggers, which are there again afterwards."""
+        with contextlib.closing(sqlite3.connect(self.book, isolation_level=None)) as connection:
+            triggers = connection.execute("SELECT name, sql FROM sqlite_schema WHERE type = 'trigger'").fetchall()
+            for statement in (*(f"DROP TRIGGER {name}" for name, _ in triggers), *statements, *(sql for _, sql in triggers)):
                 connection.execute(statement)
 
     def assert_stops(self, *parts: str) -> None:
-        """Each command that writes an act stops, and those that read say it and go on."""
+        """Each command that writes an act, or says what others rely on, stops; those that read say it and go on."""
         self.write("more", "hal 1,2,3,4\n")
-        for words in (("add", "--yes", "more"), ("close",), ("roll",)):
+        before = self.read("election.db")
+        for words in ACTING:
             with self.subTest(words):
-                self.assert_fault(self.election(*words), 9, *parts)
-        status = self.election("status")
-        self.assertEqual(status.status, 0, status)
+                self.assert_fault(self.election(*words), 9, *parts, "nothing was changed")
+        for words in READING:
+            with self.subTest(words):
+                ended = self.election(*words)
+                self.assertEqual(ended.status, 0, ended)
+                self.assertRegex(ended.faults, r"\ANote: .*\n\Z")
+                for part in parts:
+                    self.assertIn(part, ended.faults)
+                # what a program reads is what it is otherwise
+                self.assertNotIn("Note: ", ended.output)
+        self.assertEqual(self.read("election.db"), before)
 
 
 class Copies(BookTest):
@@ -68,8 +104,8 @@ class Copies(BookTest):
         shutil.copy(self.book, copy)
         self.add("ben 1,2,3,4")
         shutil.copy(copy, self.book)
-        self.assert_stops("election.db", "older copy", "--moved")
-        self.assertIn("older copy", self.election("status").output)
+        self.assert_stops("election.db", "older copy")
+        self.assertIn("--moved", self.election("add", "--yes", "more").faults)
 
     def test_accepted(self) -> None:
         copy = self.scratch / "copy"
@@ -104,7 +140,7 @@ class Copies(BookTest):
         moved = self.scratch / "moved"
         self.folder.rename(moved)
         self.folder = moved
-        self.assert_stops("never seen this election in this folder", "--moved")
+        self.assert_stops("never seen this election in this folder")
 
     def test_another_computer(self) -> None:
         self.state = self.scratch / "other state"
@@ -150,6 +186,12 @@ class Copies(BookTest):
         self.assertEqual((self.folder / "copy.db").stat().st_mode & 0o777, 0o600)
 
 
+def as_json(table: str, *row: object) -> str:
+    """A row as FORMATS has it."""
+    values = [hashlib.sha256(value).hexdigest() if isinstance(value, bytes) else value for value in row]
+    return json.dumps([table, *values], separators=(",", ":"), ensure_ascii=False)
+
+
 class Rewritten(BookTest):
     """A book that somebody changed with another program."""
 
@@ -157,14 +199,90 @@ class Rewritten(BookTest):
         super().setUp()
         self.add("ada 1,2,3,4", "ben 2,1,3,4")
 
-    def assert_broken(self, act: int) -> None:
-        ended = self.election("log", "--check")
-        self.assert_fault(ended, 9, "election.db", f"act {act} does not match its digest")
-        for words in (("close",), ("export", "out")):
-            self.assertIn("does not match its digest", self.election(*words).faults)
+    def formats(self) -> list[str]:
+        """What the program of FORMATS prints of the book."""
+        [program] = re.findall(r"^```python\n(.*?)^```$", FORMATS.read_text(), re.MULTILINE | re.DOTALL)
+        ended = subprocess.run([sys.executable, "-c", program], cwd=self.folder, capture_output=True, text=True)
+        return ended.stdout.splitlines() + ended.stderr.splitlines()[-1:]
+
+    def assert_broken(self, act: int, *parts: str) -> None:
+        """Each command on whose words others rely says so, with the number of the act; so does the program of FORMATS."""
+        said = f"act {act} does not match its digest"
+        for words in (("log", "--check"), ("count",), ("close",), ("publish",), ("export", "out"), ("backup", "copy.db")):
+            with self.subTest(words):
+                self.assert_fault(self.election(*words), 9, "election.db", said, *parts)
+        self.assertIn(said, self.formats())
 
     def test_whole(self) -> None:
         self.assertIn("The chain is whole: 4 acts", self.done("log", "--check").output)
+        [last] = self.formats()
+        self.assertEqual(last.split()[-1], json.loads(self.done("status", "--json").output)["digest"])
+
+    def test_digests(self) -> None:
+        """Each digest is over the one before and all rows of the act."""
+        with contextlib.closing(sqlite3.connect(self.book)) as connection:
+            before, digests = "", []
+            for *act, digest in connection.execute("SELECT * FROM act").fetchall():
+                lines = [before, as_json("act", *act)]
+                for table in ("elector", "elector_state", "sealed", "source", "envelope"):
+                    lines += [as_json(table, *row) for row in connection.execute(f"SELECT * FROM {table} WHERE act = ?", act[:1])]
+                before = hashlib.sha256("\n".join(lines).encode()).hexdigest()
+                digests.append((digest, before, len(lines)))
+        self.assertEqual([found for found, _, _ in digests], [computed for _, computed, _ in digests])
+        self.assertEqual([lines for _, _, lines in digests], [2, 2 + 9 + 9, 2 + 5, 2 + 1 + 2])
+
+    def test_an_act_with_its_digest_made_anew(self) -> None:
+        """Whoever changes an act can compute its digest, but then the next act does not match."""
+        self.add("cleo 1,2,3,4")
+        with contextlib.closing(sqlite3.connect(self.book)) as connection:
+            [(before,)] = connection.execute("SELECT digest FROM act WHERE act = 3")
+            [[*act, _]] = connection.execute("SELECT * FROM act WHERE act = 4").fetchall()
+            sources = connection.execute("SELECT * FROM source WHERE act = 4").fetchall()
+            first, *others = connection.execute("SELECT * FROM envelope WHERE act = 4").fetchall()
+        changed = (*first[:3], b"ada 4,3,2,1", *first[4:])
+        rows = [*(as_json("source", *row) for row in sources), *(as_json("envelope", *row) for row in (changed, *others))]
+        digest = hashlib.sha256("\n".join([before, as_json("act", *act), *rows]).encode()).hexdigest()
+        self.sql(
+            "UPDATE envelope SET line = CAST('ada 4,3,2,1' AS BLOB) WHERE envelope = 1",
+            f"UPDATE act SET digest = '{digest}' WHERE act = 4",
+        )
+        self.assert_broken(5)
+
+    def test_each_column(self) -> None:
+        """One row of each table is changed in each of its columns, which the book itself names."""
+        self.write("mail", "From: Ada <ada@club.example>\nMessage-ID: <1@x>\nSubject: x\n\nHello\n")
+        self.done("add", "--yes", "mail")
+        self.done("held", "1", "--set-aside")
+        self.done("strike", "2", "--because", "x")
+        self.done("letters", "receipts")
+        whole, tried = self.read("election.db"), 0
+        with contextlib.closing(sqlite3.connect(self.book)) as connection:
+            tables = [name for name, in connection.execute("SELECT name FROM sqlite_schema WHERE type = 'table'")]
+            columns = [
+                (table, name, kind) for table in tables for _, name, kind, *_ in connection.execute(f"PRAGMA table_info({table})")
+            ]
+            owners = {table: connection.execute(f"SELECT max(rowid), act FROM {table}").fetchone() for table in tables}
+        later = "strftime('%Y-%m-%dT%H:%M:%SZ', {}, '+1 second')"
+        other = {"INTEGER": "coalesce({} + 1000, 1000)", "TEXT": "{} || ' '", "BLOB": "CAST({} || 'x' AS BLOB)"}
+        for table, column, kind in columns:
+            row, act = owners[table]
+            value = (later if column == "time" else other[kind]).format(column)
+            self.sql(f"UPDATE {table} SET {column} = {value} WHERE rowid = {row}")
+            ended = self.election("log", "--check")
+            # an act that has another number now is missing
+            said = (
+                f"rows of act {act}, and no such act"
+                if (table, column) == ("act", "act")
+                else f"act {act} does not match its digest"
+            )
+            with self.subTest(f"{table}.{column}"):
+                self.assertEqual(ended.status, 9, ended)
+                self.assertIn(said, ended.faults)
+                self.assertGreater(len(self.formats()), 1)
+            self.book.write_bytes(whole)
+            tried += 1
+        self.assertEqual((len(tables), tried), (10, 50))
+        self.done("log", "--check")
 
     def test_line_changed(self) -> None:
         self.sql("UPDATE envelope SET line = CAST('ada 4,3,2,1' AS BLOB) WHERE envelope = 1")
@@ -181,12 +299,76 @@ class Rewritten(BookTest):
         )
         self.assert_broken(4)
 
-    def test_line_of_no_act(self) -> None:
-        columns = "envelope, act, elector, line, place, time, late"
-        self.sql(
-            f"INSERT INTO envelope ({columns}) VALUES (3, 5, 3, CAST('cleo 1,2,3,4' AS BLOB), ':3', '2026-12-04T17:00:00Z', 0)"
-        )
-        self.assert_broken(5)
+    def test_rows_of_no_act(self) -> None:
+        """Rows before the first act, within a gap that there is not, and after the last act."""
+        whole = self.read("election.db")
+        for act in (-1, 0, 5, 1_000_000):
+            self.sql(f"INSERT INTO struck VALUES (1, {act}), (2, {act})")
+            for words in (("log", "--check"), ("count",), ("close",), ("publish",), ("export", "out"), ("backup", "copy.db")):
+                self.assert_fault(self.election(*words), 9, f"it has rows of act {act}, and no such act")
+            self.assertGreater(len(self.formats()), 1)
+            self.book.write_bytes(whole)
+
+    def test_an_index_that_answers_in_place_of_the_table(self) -> None:
+        """The table says that other envelopes are struck than the index does; or an index is made over another column."""
+        self.done("strike", "1", "--because", "x")
+        whole = self.read("election.db")
+        with contextlib.closing(sqlite3.connect(self.book)) as connection:
+            [(page, size)] = connection.execute(
+                "SELECT rootpage, page_size FROM sqlite_schema, pragma_page_size WHERE name = 'struck'"
+            )
+        # the last cell of the page of the table: length, rowid, and the row
+        cell = (page - 1) * size + int.from_bytes(whole[(page - 1) * size + 5 : (page - 1) * size + 7], "big")
+        self.assertEqual(whole[cell + 1], 1)
+        for name, data in {
+            "the envelope": whole[: cell + 1] + b"\x02" + whole[cell + 2 :],
+            "the act": whole[: cell + 5] + bytes([whole[cell + 5] ^ 1]) + whole[cell + 6 :],
+        }.items():
+            with self.subTest(name):
+                self.book.write_bytes(data)
+                for words in (("log", "--check"), ("count",), ("close",), ("export", "out")):
+                    self.assert_fault(self.election(*words), 9, "election.db: the book is damaged", "struck")
+                self.assertGreater(len(self.formats()), 1)
+
+    def test_another_schema(self) -> None:
+        """What somebody adds to the schema, takes from it or changes in it is seen by each command that opens the book."""
+        whole = self.read("election.db")
+        strikes = "CREATE TRIGGER x AFTER INSERT ON envelope BEGIN INSERT INTO struck VALUES (new.envelope, new.act); END"
+        writable = "PRAGMA writable_schema = ON"
+        for name, statements in {
+            "trigger x": [strikes],
+            "trigger struck_DELETE": ["DROP TRIGGER struck_DELETE"],
+            "index struck_by_act": ["DROP INDEX struck_by_act", "CREATE INDEX struck_by_act ON struck (act DESC)"],
+            "index x": ["CREATE UNIQUE INDEX x ON envelope (elector)"],
+            "view x": ["CREATE VIEW x AS SELECT * FROM act"],
+            "table x": ["CREATE TABLE x (y)"],
+            "table sqlite_stat1": ["ANALYZE"],
+            "table struck": [
+                writable,
+                "UPDATE sqlite_schema SET sql = replace(sql, 'act INTEGER', 'act  INTEGER') WHERE name = 'struck'",
+            ],
+        }.items():
+            with contextlib.closing(sqlite3.connect(self.book, isolation_level=None)) as connection:
+                for statement in statements:
+                    connection.execute(statement)
+            changed = self.read("election.db")
+            for words in (("status",), ("desk",), ("log", "--check"), ("backup", "copy.db")):
+                with self.subTest(name, words=words):
+                    self.assert_fault(self.election(*words, given=""), 9, f"the {name} is not as new makes it")
+            self.assertEqual(self.read("election.db"), changed)
+            self.book.write_bytes(whole)
+
+    def test_nothing_is_built_on_a_broken_book(self) -> None:
+        """Each act computes the digest of the one before it anew."""
+        self.sql("UPDATE envelope SET line = CAST('ada 4,3,2,1' AS BLOB) WHERE envelope = 1")
+        self.write("more", "hal 1,2,3,4\n")
+        for words in (
+            ("add", "--yes", "more"),
+            ("strike", "1", "--because", "x"),
+            ("undo", "--yes"),
+            ("call", "--at", "https://club.example/"),
+        ):
+            self.assert_fault(self.election(*words), 9, "act 4 does not match its digest", "nothing was changed")
 
     def test_elector_and_detail(self) -> None:
         self.sql("UPDATE elector_state SET mail = '[\"eve@elsewhere.example\"]' WHERE elector = 1")
@@ -197,7 +379,6 @@ class Rewritten(BookTest):
     def test_act_cut_off(self) -> None:
         for table in ("envelope", "source", "act"):
             self.sql(f"DELETE FROM {table} WHERE act = 4")
-        self.assertEqual(self.election("log", "--check").status, 0)
         self.assert_stops("older copy")
 
     def test_triggers(self) -> None:
@@ -239,7 +420,18 @@ class Places(BookTest):
         with sqlite3.connect(self.book) as connection:
             connection.execute(f"PRAGMA application_id = {0x64627674}")
             connection.execute("PRAGMA user_version = 2")
-        self.assert_fault(self.election("status"), 2, "it is a book of version 2, and this program writes version 3")
+        self.assert_fault(self.election("status"), 2, "it is a book (version 2), and this program writes version 4")
+
+    def test_book_of_version_2_0_0(self) -> None:
+        """It is refused by name, and not opened: what a command of 2.0.0 left when it was cut off stays, too."""
+        with contextlib.closing(sqlite3.connect(self.book)) as connection:
+            connection.execute("PRAGMA user_version = 3")
+        (self.folder / "election.db-journal").write_bytes(b"what a command that was cut off has left")
+        self.write("more", "hal 1,2,3,4\n")
+        before = self.contents()
+        for words in (("status",), ("add", "--yes", "more"), ("log", "--check"), ("close",)):
+            self.assert_fault(self.election(*words), 2, "it is a book of debvote-election 2.0.0 (version 3)", "nothing was changed")
+            self.assertEqual(self.contents(), before)
 
     def test_damaged(self) -> None:
         data = self.book.read_bytes()
@@ -279,14 +471,17 @@ class Places(BookTest):
         source.write_text(NO_LOCKS)
         subprocess.run([compiler, "-shared", "-fPIC", "-o", library, source, "-ldl"], check=True)
         self.write("more", "ada 1,2,3,4\n")
+        # as if the folder was moved to another disk
+        self.state = self.scratch / "other state"
         before = self.contents()
         env = support.environment() | {"LD_PRELOAD": str(library), "XDG_STATE_HOME": str(self.state)}
-        ended = subprocess.run(
-            [sys.executable, support.ELECTION, "add", "--yes", "more"], cwd=self.folder, env=env, capture_output=True, text=True
-        )
-        self.assertEqual(ended.returncode, 9, ended)
-        self.assertIn("locks do not work", ended.stderr)
-        self.assertEqual(self.contents(), before)
+        for words in (("add", "--yes", *MOVED, "more"), ("new", "another")):
+            ended = subprocess.run(
+                [sys.executable, support.ELECTION, *words], cwd=self.folder, env=env, capture_output=True, text=True
+            )
+            self.assertEqual(ended.returncode, 9, ended)
+            self.assertIn("locks do not work", ended.stderr)
+            self.assertEqual(self.contents(), before)
 
 
 if __name__ == "__main__":

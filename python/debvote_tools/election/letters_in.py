@@ -43,8 +43,6 @@ def take_letters(election: Election, vote: Vote, files: Mapping[str, CameFile | 
         words = "only for lines and tables, and these are letters"
         raise Fault(", ".join(of_lines), words, "leave this out", Status.BAD_WORDS, NOTHING_ADDED)
     raws, passed_over = read(files)
-    if not arguments.look:
-        acting.book_for_act(election, arguments)
     new = new_of(election, raws)
     found = parsed(election, new)
     if not arguments.look:
