@@ -146,6 +146,27 @@ class Copies(BookTest):
         self.state = self.scratch / "other state"
         self.assert_stops("never seen this election in this folder")
 
+    def test_two_computers_with_one_home(self) -> None:
+        """Folder and home lie on a share: each computer has a note of its own, and an act names the computer that did it."""
+        other_id = self.scratch / "machine-id"
+        other_id.write_text("0123456789abcdef0123456789abcdef\n")
+        self.add("ada 1,2,3,4")
+        with mock.patch.object(machine_note, "MACHINE_ID", other_id):
+            self.assert_stops("never seen this election in this folder")
+            self.write("more", "hal 1,2,3,4\n")
+            self.done("add", "--yes", *MOVED, "more")
+        self.assert_stops("its act 6 was done on another computer")
+        self.write("more", "ida 1,2,3,4\n")
+        self.done("add", "--yes", *MOVED, "more")
+        with contextlib.closing(sqlite3.connect(self.book)) as connection:
+            [(salt,)] = connection.execute("SELECT salt FROM act WHERE act = 1")
+            machines = [machine for machine, in connection.execute("SELECT machine FROM act ORDER BY act")]
+        own_id = pathlib.Path("/etc/machine-id")
+        own, other = (
+            hashlib.sha256(salt + (file.read_bytes() if file.exists() else b"")).hexdigest()[:16] for file in (own_id, other_id)
+        )
+        self.assertEqual(machines, [own] * 4 + [other] * 2 + [own] * 2)
+
     def test_restored_home(self) -> None:
         """A home of yesterday is an act of the same book: nothing stops."""
         kept = self.scratch / "kept"
@@ -163,6 +184,42 @@ class Copies(BookTest):
         self.assert_fault(self.election("add", "--yes", "more"), 7, "this computer must note there")
         self.assertEqual(self.contents(), before)
 
+    def note_file(self) -> pathlib.Path:
+        """What this computer noted of the election."""
+        place = str(self.book.resolve())
+        files = (file for file in (self.state / "debvote").iterdir() if file.suffix == "" and file.name != "lock")
+        [note] = (file for file in files if json.loads(file.read_text())["path"] == place)
+        return note
+
+    def injected(self, inject: str, *words: str) -> support.Ended:
+        """Runs a command whose calls that write the next note fail."""
+        if shutil.which("strace") is None:
+            self.skipTest("strace is not installed")
+        traced = ["strace", "-o", "/dev/null", "-P", str(self.note_file().with_suffix(".next")), "-e", f"inject={inject}"]
+        return self.run_program(*traced, sys.executable, support.ELECTION, *words)
+
+    def test_no_room_for_the_note(self) -> None:
+        """Room is made before the act. What fails after the commit leaves the note at an earlier act of the book."""
+        self.add("ada 1,2,3,4")
+        self.write("more", "hal 1,2,3,4\n")
+        before, noted = self.contents(), self.note_file().read_bytes()
+        for call in ("write:error=ENOSPC", "fsync:error=EIO"):
+            self.assert_fault(self.injected(call, "add", "--yes", "more"), 7, "this computer must note there", "nothing was changed")
+            self.assertEqual((self.contents(), self.note_file().read_bytes()), (before, noted))
+        ended = self.injected("rename:error=ENOSPC", "add", "--yes", "more")
+        self.assertEqual((ended.status, ended.faults), (0, ""), ended)
+        self.assertEqual(self.note_file().read_bytes(), noted)
+        self.add("ben 1,2,3,4")
+        self.assertEqual(json.loads(self.note_file().read_bytes())["act"], 6)
+        self.assertFalse(self.note_file().with_suffix(".next").exists())
+
+    def test_a_new_election_in_the_same_place(self) -> None:
+        self.add("ada 1,2,3,4")
+        shutil.rmtree(self.folder)
+        self.done("new", str(self.folder), cwd=self.scratch)
+        self.write("members.csv", support.members_of(support.NAMES))
+        self.assertEqual(self.done("roll").faults, "")
+
     def test_left_by_a_sync_tool(self) -> None:
         self.add("ada 1,2,3,4")
         conflict = self.folder / "election (conflicted copy).db"
@@ -177,6 +234,28 @@ class Copies(BookTest):
         shutil.rmtree(self.state)
         state.rename(self.state)
         self.assert_stops("election (conflicted copy).db", "acts that election.db lacks")
+
+    def test_another_book_with_fewer_acts(self) -> None:
+        """What this book lacks counts, and not how many acts there are."""
+        self.add("ada 1,2,3,4")
+        shutil.copytree(self.state, self.scratch / "other state")
+        other = self.scratch / "other"
+        shutil.copytree(self.folder, other)
+        self.add("ben 1,2,3,4")
+        self.add("cleo 1,2,3,4")
+        here, self.folder, before = self.folder, other, self.state
+        self.state = self.scratch / "other state"
+        self.write("more", "dan 1,2,3,4\n")
+        self.done("strike", "1", "--because", "x", *MOVED[:1])
+        self.folder, self.state = here, before
+        for name, data in {"conflict.db": (other / "election.db").read_bytes(), "cut.db": self.read("election.db")[:5_000]}.items():
+            (self.folder / name).write_bytes(data)
+            self.assert_stops(name, "acts that election.db lacks")
+            (self.folder / name).unlink()
+        # this book as it was, and what is no book
+        shutil.copy(self.book, self.folder / "copy.db")
+        (self.folder / "a.db").write_bytes(b"SQLite format 3\0")
+        self.add("dan 1,2,3,4")
 
     def test_backup_beside_it(self) -> None:
         self.add("ada 1,2,3,4")
