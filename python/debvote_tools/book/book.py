@@ -201,11 +201,13 @@ class Book:
         try:
             self.connection.execute("COMMIT")
         except sqlite3.Error as error:
-            may_be_there = True
-            with contextlib.suppress(sqlite3.Error):
+            try:
                 self.connection.rollback()
-                may_be_there = bool(self.connection.execute("SELECT 1 FROM act WHERE act = ?", (act.number,)).fetchall())
-            if not may_be_there:
+                is_there = bool(self.connection.execute("SELECT 1 FROM act WHERE act = ?", (act.number,)).fetchall())
+            except sqlite3.Error:
+                # by the journal, the next command that can write takes the act back
+                is_there = not self.path.with_name(f"{self.path.name}-journal").exists()
+            if not is_there:
                 raise
             words, cure = f"the commit failed ({error})", "see debvote-election status, which tells the last act"
             raise Fault(self.path, words, cure, Status.BAD_OUTPUT, f"nobody knows whether act {act.number} was done") from None
@@ -388,7 +390,8 @@ def connected(path: pathlib.Path, mode: str) -> sqlite3.Connection:
 # what SQLite says if not the book is at fault, but its place: the words, and the cure
 PLACES = {
     ("BUSY", "LOCKED"): ("other commands have worked on it for two minutes", "wait until they are done"),
-    ("FULL", "IOERR"): ("it can't be read or written", "make room on the disk, or check that the disk is in order"),
+    ("IOERR_READ", "IOERR_SHORT_READ"): ("it can't be read", "check that the disk is in order"),
+    ("FULL", "IOERR"): ("it can't be written", "make room on the disk, or check that the disk is in order"),
     ("READONLY", "CANTOPEN", "PERM", "AUTH"): ("it can't be written", "make the file and its folder writable for you"),
     ("NOMEM", "INTERRUPT"): ("SQLite gave up", "make room in memory"),
 }
