@@ -24,8 +24,9 @@ from debvote_tools.files import read_at_most, uninterrupted
 
 NAME = "election.db"
 
-# the act that takes another book than that of the note
+# the act that takes another book than that of the note, and why it is there if this machine knew the book
 MOVED: Final = "moved"
+RESTORED = "it was restored, as the secretary says"
 
 # "dbvt": what tells a book from other databases of SQLite; and the version of its schema, and of what it keeps of letters as JSON
 APPLICATION_ID, VERSION = 0x64627674, 4
@@ -254,10 +255,10 @@ class Book:
             raise Fault(self.path, why, cure)
 
     def accept(self, because: str) -> None:
-        """The act `moved`: from now on this machine takes this book for the right one."""
-        noted, last, why = self.note().read(), self.last_act(), self.strangeness()
-        if why is None:
-            raise Fault("--moved", "this computer knows this book already", "leave it out", Status.BAD_WORDS)
+        """The act `moved`: from now on this machine takes this book for the right one. If a whole disk was put back, with what this
+        machine noted, only who did it knows.
+        """
+        noted, last, why = self.note().read(), self.last_act(), self.strangeness() or RESTORED
         self.demand_locks()
         there = {"act": last.number, "digest": last.digest}
         with self.act(MOVED, {"why": why, "noted": noted and noted._asdict(), "there": there, "because": because}):

@@ -14,7 +14,7 @@ from debvote_tools.book.book import NewAct, Overtaken
 from debvote_tools.book.letters import KeptLetter
 from debvote_tools.book.queries import NewEnvelope
 from debvote_tools.console import is_terminal, is_yes, tell
-from debvote_tools.election import acting, letter_words
+from debvote_tools.election import letter_words
 from debvote_tools.election.adding import Arguments
 from debvote_tools.election.came import NOTHING_ADDED, CameFile, safe
 from debvote_tools.election.election import KEYRING, Election, History

@@ -234,7 +234,7 @@ def acts_of_page(act: DoneAct, book: Book, history: History, *, is_secret: bool)
             yield Act(time, Done.REOPENED, because=reason)
         case "moved":
             noted, there = detail["noted"] and detail["noted"]["act"], detail["there"]["act"]
-            done = Done.MOVED if noted else Done.MOVED_UNKNOWN
+            done = Done.MOVED_UNKNOWN if noted is None else Done.RESTORED if noted == there else Done.MOVED
             yield Act(time, done, {"noted": noted, "there": there}, detail["because"])
     if detail.get("keyring"):
         yield Act(time, Done.KEYRING)
