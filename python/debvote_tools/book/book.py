@@ -119,7 +119,7 @@ class Book:
         for number, time, *others in self.rows(words, self.read_acts[-1].number if self.read_acts else 0):
             try:
                 self.read_acts.append(DoneAct(number, from_text(time), *others))
-            except ValueError:
+            except (ValueError, TypeError):
                 raise damaged(self.path, f"act {number} has no time") from None
         return tuple(self.read_acts)
 

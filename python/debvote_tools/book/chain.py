@@ -87,8 +87,11 @@ def broken(act: int) -> str:
 
 def damage(connection: sqlite3.Connection) -> list[str]:
     """What is not as the acts of a book wrote it; empty if the book is whole."""
-    order = connection.execute("PRAGMA integrity_check(1)").fetchone()
-    found = [] if order == ("ok",) else [str(order)]
+    order = "".join(words for words, in connection.execute("PRAGMA integrity_check(1)"))
+    if order != "ok":
+        # in the rows of such a file there may be anything
+        return [f"SQLite says: {' '.join(order.split())}"]
+    found = []
     if (lost := connection.execute("PRAGMA foreign_key_check").fetchone()) is not None:
         found.append(f"row {lost[1]} of {lost[0]} names a row of {lost[2]} that is not there")
     if (broken_at := break_in(connection)) is not None:
