@@ -347,9 +347,12 @@ def open_book(path: pathlib.Path) -> Book:
     demand_version(path)
     is_read_only = not os.access(path, os.W_OK) or not os.access(path.parent, os.W_OK)
     with sqlite_faults(path):
-        connection = connected(path, "ro" if is_read_only else "rw")
         try:
+            connection = connected(path, "ro" if is_read_only else "rw")
             differing = schema.difference(connection)
+        except UnicodeDecodeError:
+            # SQLite quotes what it can't read
+            raise damaged(path, "its schema is no text") from None
         except sqlite3.Error as error:
             if is_read_only and "unable to open" in str(error) or "readonly" in str(error):
                 words = "a command was cut off in its act, and the act can be taken back only in a folder that is writable"
