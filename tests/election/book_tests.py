@@ -465,6 +465,27 @@ class Rewritten(BookTest):
         ):
             self.assert_fault(self.election(*words), 9, "act 4 does not match its digest", "nothing was changed")
 
+    def test_what_no_command_can_read(self) -> None:
+        """It is told as what it is, by whatever command meets it."""
+        whole = self.read("election.db")
+        for act, statement in {
+            1: "UPDATE act SET detail = '{' WHERE act = 1",
+            2: "UPDATE elector_state SET mail = 'ada@club.example' WHERE elector = 1",
+            3: "UPDATE act SET detail = '[]' WHERE act = 3",
+            4: "UPDATE envelope SET time = 'noon' WHERE envelope = 1",
+        }.items():
+            self.sql(statement)
+            told = 0
+            for words in (("show", "ada"), ("status",), ("desk",), ("roll",), ("letters", "receipts")):
+                ended = self.election(*words, given="")
+                with self.subTest(statement, words=words):
+                    self.assertEqual(ended.status, 9 if ended.faults else 0, ended)
+                    if ended.faults:
+                        self.assert_fault(ended, 9, f"act {act} does not match its digest")
+                        told += 1
+            self.assertGreater(told, 0, statement)
+            self.book.write_bytes(whole)
+
     def test_elector_and_detail(self) -> None:
         self.sql("UPDATE elector_state SET mail = '[\"eve@elsewhere.example\"]' WHERE elector = 1")
         self.assert_broken(2)
@@ -487,6 +508,52 @@ class Rewritten(BookTest):
             ):
                 with self.subTest(statement), self.assertRaises(sqlite3.IntegrityError):
                     connection.execute(statement)
+
+
+class CutOff(BookTest):
+    """An act that is cut off in its commit, or right after it."""
+
+    def traced(self, *how: str, words: tuple[str, ...], given: str | None = None) -> support.Ended:
+        if shutil.which("strace") is None:
+            self.skipTest("strace is not installed")
+        return self.run_program("strace", "-o", "/dev/null", *how, sys.executable, support.ELECTION, *words, given=given)
+
+    def last_act(self) -> int:
+        ended = self.done("status", "--json")
+        self.assertEqual(ended.faults, "")
+        return json.loads(ended.output)["act"]
+
+    def test_a_disk_that_fails_in_the_commit(self) -> None:
+        """If the journal is gone already, the act is there; nobody knows whether that is on the disk."""
+        said = []
+        for call in range(1, 9):
+            before = self.last_act()
+            ended = self.traced("-e", f"inject=fdatasync:error=EIO:when={call}", words=("desk",), given="ada 1,2,3,4\n")
+            done = self.last_act() - before
+            if ended.status == 0:
+                said.append("done")
+            elif "nothing was changed" in ended.faults:
+                self.assert_fault(ended, 7, "election.db: ")
+                self.assertEqual(done, 0)
+                said.append("nothing")
+            else:
+                self.assert_fault(ended, 7, f"nobody knows whether act {before + 1} was done: see debvote-election status")
+                self.assertEqual(done, 1)
+                said.append("nobody knows")
+        self.assertEqual(set(said), {"done", "nothing", "nobody knows"})
+
+    def test_interrupted_in_the_commit(self) -> None:
+        """What is done is reported: the signal comes when SQLite removes the journal."""
+        journal = str(self.book.resolve()) + "-journal"
+        for rank, signal in enumerate(("INT", "TERM", "HUP"), start=1):
+            self.write("more", f"ben {rank},2,3,4\n")
+            for words, given in ((("desk",), "ada 1,2,3,4\n"), (("add", "--yes", "more"), None)):
+                before = self.last_act()
+                ended = self.traced("-P", journal, "-e", f"inject=unlink:signal={signal}", words=words, given=given)
+                self.assertEqual(self.last_act(), before + 1)
+                self.assertRegex(ended.output, r"(?m)^\d+ (counted|replaced)  (ada|ben): ", (signal, words))
+        ended = self.traced("-P", journal, "-e", "inject=unlink:signal=INT", words=("close",))
+        self.assert_fault(ended, 130, f"interrupted; act {self.last_act()} (close) was done, and nothing else")
 
 
 class Places(BookTest):
