@@ -17,7 +17,9 @@ from unittest import mock
 
 import support
 
-from debvote_tools.book import machine_note
+from debvote_tools.book import machine_note, queries
+from debvote_tools.book.book import open_book
+from debvote_tools.faults import Fault
 
 FORMATS = support.ROOT / "docs" / "FORMATS.md"
 
@@ -152,6 +154,22 @@ class Copies(BookTest):
         shutil.copy(other / "election.db", self.book)
         self.assert_stops("election.db", "is not the one that this computer saw")
 
+    def test_put_back_while_a_desk_is_open(self) -> None:
+        """The desk still has the file that is gone from the folder: what it entered there would be lost."""
+        copy = self.scratch / "copy"
+        shutil.copy(self.book, copy)
+        env = support.environment() | {"XDG_STATE_HOME": str(self.state)}
+        pipes = {"stdin": subprocess.PIPE, "stdout": subprocess.PIPE, "stderr": subprocess.PIPE, "text": True}
+        desk = subprocess.Popen([sys.executable, support.ELECTION, "desk"], cwd=self.folder, env=env, **pipes)
+        desk.stdin.write("ada 1,2,3,4\n")
+        desk.stdin.flush()
+        self.assertTrue(desk.stdout.readline().startswith("1 counted"))
+        copy.replace(self.book)
+        said, faults = desk.communicate("ben 1,2,3,4\n")
+        self.assertEqual((desk.returncode, said), (9, ""), faults)
+        self.assertIn("election.db: another file took its place while this command was running; act 4 (desk) was done: ", faults)
+        self.assert_stops("older copy")
+
     def test_another_place(self) -> None:
         moved = self.scratch / "moved"
         self.folder.rename(moved)
@@ -220,7 +238,9 @@ class Copies(BookTest):
         self.write("more", "hal 1,2,3,4\n")
         before, noted = self.contents(), self.note_file().read_bytes()
         for call in ("write:error=ENOSPC", "fsync:error=EIO"):
-            self.assert_fault(self.injected(call, "add", "--yes", "more"), 7, "this computer must note there", "nothing was changed")
+            self.assert_fault(
+                self.injected(call, "add", "--yes", "more"), 7, "this computer must note there", "nothing was changed"
+            )
             self.assertEqual((self.contents(), self.note_file().read_bytes()), (before, noted))
         ended = self.injected("rename:error=ENOSPC", "add", "--yes", "more")
         self.assertEqual((ended.status, ended.faults), (0, ""), ended)
@@ -554,6 +574,64 @@ class CutOff(BookTest):
                 self.assertRegex(ended.output, r"(?m)^\d+ (counted|replaced)  (ada|ben): ", (signal, words))
         ended = self.traced("-P", journal, "-e", "inject=unlink:signal=INT", words=("close",))
         self.assert_fault(ended, 130, f"interrupted; act {self.last_act()} (close) was done, and nothing else")
+
+
+class OnTheDisk(BookTest):
+    """What is brought to the disk, and in which order."""
+
+    def calls(self, *words: str, given: str | None = None, inject: str = "fsync:delay_exit=0") -> list[str]:
+        """The calls of a command that bring files to the disk and put them into their places, in their order."""
+        if shutil.which("strace") is None:
+            self.skipTest("strace is not installed")
+        trace = self.scratch / "trace"
+        command = [
+            "strace",
+            "-o",
+            trace,
+            "-e",
+            "trace=fsync,rename",
+            "-e",
+            f"inject={inject}",
+            sys.executable,
+            support.ELECTION,
+            *words,
+        ]
+        self.run_program(*command, given=given)
+        return re.findall(r"(?m)^(fsync|rename)\(", trace.read_text())
+
+    def test_what_takes_a_place_is_on_the_disk(self) -> None:
+        """The note, and files beside the book: first the content, then the name."""
+        for words, renames in ((("desk",), 1), (("close",), 2)):
+            calls = self.calls(*words, given="ada 1,2,3,4\n")
+            places = [at for at, call in enumerate(calls) if call == "rename"]
+            self.assertEqual(len(places), renames, calls)
+            for at in places:
+                self.assertEqual(calls[at - 1 : at + 2], ["fsync", "rename", "fsync"])
+
+    def test_what_can_not_take_its_place_is_gone(self) -> None:
+        self.calls("close", inject="rename:error=EIO:when=2")
+        self.assertEqual([file.name for file in self.folder.rglob("*") if file.name.startswith(".debvote-")], [])
+        self.assertFalse((self.folder / "letters" / "closed.txt").exists())
+
+    def test_a_note_goes_only_forward(self) -> None:
+        note = machine_note.MachineNote("a machine", self.book, "a book")
+        note.folder = self.scratch / "notes"
+        note.file, note.next = note.folder / "note", note.folder / "note.next"
+        for act, is_moved, stands in ((3, False, 3), (5, False, 5), (4, False, 5), (4, True, 4), (10**19, False, 10**19)):
+            note.make_ready()
+            note.put(machine_note.Note(act, hashlib.sha256(b"").hexdigest()), is_moved=is_moved)
+            self.assertEqual(note.read().act, stands)
+        # each has the room of the longest
+        size = note.file.stat().st_size
+        note.make_ready()
+        self.assertEqual(note.next.stat().st_size, size)
+
+    def test_rows_name_rows_that_are_there(self) -> None:
+        with mock.patch.dict(os.environ, {"XDG_STATE_HOME": str(self.state)}):
+            book = open_book(self.book)
+            with contextlib.closing(book.connection), self.assertRaises(Fault), book.act("strike") as act:
+                queries.strike_envelopes(act, [99])
+        self.assertIn("3 acts", self.done("log", "--check").output)
 
 
 class Places(BookTest):

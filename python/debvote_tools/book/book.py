@@ -104,6 +104,7 @@ class Book:
 
     def __init__(self, path: pathlib.Path, connection: sqlite3.Connection, *, is_read_only: bool = False) -> None:
         self.path, self.connection, self.is_read_only = path, connection, is_read_only
+        self.file = file_at(path)
         self.read_acts: list[DoneAct] = []
         # the acts of this process, each as `act 7 (add)`
         self.own_acts: list[str] = []
@@ -174,6 +175,7 @@ class Book:
             before = self.last_act()
             if seen not in (None, before.number):
                 raise Overtaken
+            self.demand_in_place()
             if name != MOVED:
                 self.demand_noted()
             if not chain.is_whole(self.connection, before.number):
@@ -276,6 +278,12 @@ class Book:
         except Fault as fault:
             found.append(fault)
         return found
+
+    def demand_in_place(self) -> None:
+        """Stops if another file took the place of the one that is open: what is written into that one, nobody finds again."""
+        if file_at(self.path) != self.file:
+            words = "another file took its place while this command was running"
+            raise Fault(self.path, words, "find out which of both is right, then run the command again")
 
     def demand_locks(self) -> None:
         """Stops if a second process gets the lock that this one holds."""
@@ -423,6 +431,15 @@ def damaged(path: pathlib.Path, how: str) -> Fault:
 def other_book(file: pathlib.Path) -> Fault:
     words = f"it is another book of this election, with acts that {NAME} lacks; a sync tool may have left it"
     return Fault(file, words, "find out which book is right, and move the other out of the folder")
+
+
+def file_at(path: pathlib.Path) -> tuple[int, int] | None:
+    """What tells the file at a path from each other one; None if there is none."""
+    try:
+        found = path.stat()
+    except OSError:
+        return None
+    return found.st_dev, found.st_ino
 
 
 def head_of(file: pathlib.Path) -> bytes:
