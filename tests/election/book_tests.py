@@ -425,22 +425,24 @@ class Rewritten(BookTest):
             self.book.write_bytes(whole)
 
     def test_an_index_that_answers_in_place_of_the_table(self) -> None:
-        """The table says that other envelopes are struck than the index does; or an index is made over another column."""
+        """One bit of the table is changed, and the index says what was there before; or one of the index, and the table says it."""
         self.done("strike", "1", "--because", "x")
         whole = self.read("election.db")
         with contextlib.closing(sqlite3.connect(self.book)) as connection:
-            [(page, size)] = connection.execute(
-                "SELECT rootpage, page_size FROM sqlite_schema, pragma_page_size WHERE name = 'struck'"
-            )
-        # the last cell of the page of the table: length, rowid, and the row
-        cell = (page - 1) * size + int.from_bytes(whole[(page - 1) * size + 5 : (page - 1) * size + 7], "big")
-        self.assertEqual(whole[cell + 1], 1)
-        for name, data in {
-            "the envelope": whole[: cell + 1] + b"\x02" + whole[cell + 2 :],
-            "the act": whole[: cell + 5] + bytes([whole[cell + 5] ^ 1]) + whole[cell + 6 :],
-        }.items():
+            [(size,)] = connection.execute("PRAGMA page_size")
+            pages = dict(connection.execute("SELECT name, rootpage FROM sqlite_schema WHERE tbl_name = 'struck'"))
+
+        def cell(name: str) -> int:
+            """Where the only cell of a page begins."""
+            start = (pages[name] - 1) * size
+            return start + int.from_bytes(whole[start + 5 : start + 7], "big")
+
+        # a row of the table: its length, its number, and the row; one of the index: its length, and the row
+        table, index = cell("struck"), cell("struck_by_act")
+        self.assertEqual((whole[table : table + 6], whole[index : index + 5]), (b"\x04\x01\x03\x00\x01\x05", b"\x04\x03\x01\x09\x05"))
+        for name, at in {"the envelope": table + 1, "the act": table + 5, "the act of the index": index + 4}.items():
             with self.subTest(name):
-                self.book.write_bytes(data)
+                self.book.write_bytes(whole[:at] + bytes([whole[at] ^ 2]) + whole[at + 1 :])
                 for words in (("log", "--check"), ("count",), ("close",), ("export", "out")):
                     self.assert_fault(self.election(*words), 9, "election.db: the book is damaged", "struck")
                 self.assertGreater(len(self.formats()), 1)
