@@ -17,7 +17,7 @@ from unittest import mock
 
 import support
 
-from debvote_tools.book import machine_note, queries
+from debvote_tools.book import chain, machine_note, queries
 from debvote_tools.book.book import open_book
 from debvote_tools.faults import Fault
 
@@ -447,6 +447,14 @@ class Rewritten(BookTest):
                     self.assert_fault(self.election(*words), 9, "election.db: the book is damaged", "struck")
                 self.assertGreater(len(self.formats()), 1)
 
+    def test_the_chain_reads_no_index(self) -> None:
+        with contextlib.closing(sqlite3.connect(self.book)) as connection:
+            chain.prepare(connection)
+            plans = [connection.execute(f"EXPLAIN QUERY PLAN {words}").fetchall() for words in chain.queries().of_all_acts()]
+        self.assertEqual(len(plans), 10)
+        for plan in plans:
+            self.assertEqual([step for *_, step in plan if "INDEX" in step], [])
+
     def test_another_schema(self) -> None:
         """What somebody adds to the schema, takes from it or changes in it is seen by each command that opens the book."""
         whole = self.read("election.db")
@@ -693,14 +701,17 @@ class Places(BookTest):
 
     def test_read_only_folder(self) -> None:
         self.add("ada 1,2,3,4")
-        for file in self.folder.rglob("*"):
+        for file in (*self.folder.rglob("*"), self.state, *self.state.rglob("*")):
             file.chmod(0o755 if file.is_dir() else 0o444)
-        shutil.copytree(self.state, self.scratch / "open", dirs_exist_ok=True)
         self.close_folder()
         ended = self.without_rights("status")
         self.assertEqual(ended.status, 0, ended)
         self.assertIn("Lines: 1", ended.output)
-        self.assertIn(self.without_rights("log", "--check").status, (0,))
+        for words in (("log", "--check"), ("count",)):
+            ended = self.without_rights(*words)
+            self.assertEqual(ended.status, 0, ended)
+        for words in (("close",), ("publish",), ("count", *MOVED)):
+            self.assert_fault(self.without_rights(*words), 7, "is not writable")
         self.write_outside = self.scratch / "more"
         self.write_outside.write_text("ben 1,2,3,4\n")
         self.assert_fault(self.without_rights("add", "--yes", self.write_outside), 7, "is not writable")

@@ -1,4 +1,4 @@
-"""The ways to the book, beside `Election.book`, which is for reading: for an act, for what is counted, and for what is checked."""
+"""The ways to the book, beside `Election.book`, which is for reading: for an act, for what others rely on, and for what is checked."""
 
 from debvote_tools.arguments import Options, flag, option
 from debvote_tools.book.book import Book
@@ -18,24 +18,16 @@ class Arguments(Options):
 
 
 def book_for_act(election: Election, arguments: Arguments) -> Book:
-    """The book for an act, or for what others rely on. Stops if it is not the one that this machine knows, and where an act would not be
-    safe.
+    """The book for an act. Stops if it is not the one that this machine knows, and where an act would not be safe."""
+    demand_writable(election)
+    return known_book(election, arguments)
+
+
+def book_for_count(election: Election, arguments: Arguments) -> Book:
+    """The book for what others rely on. Stops if it is not the one that this machine knows, and if anything in it is not as its acts wrote
+    it.
     """
-    book = election.opened
-    if book.is_read_only:
-        cure = "make it writable for you, or copy the folder to where you can write"
-        raise Fault(election.folder, "the folder is not writable", cure, Status.BAD_OUTPUT)
-    stop_at(book.doubts(is_accepted=arguments.moved))
-    if arguments.moved:
-        book.accept(demand_reason(arguments.because, "--moved"))
-    # from now on nothing has to be said of it
-    election.book = book
-    return book
-
-
-def book_for_result(election: Election, arguments: Arguments) -> Book:
-    """The same for what is counted: stops, too, if anything in it is not as its acts wrote it."""
-    book = book_for_act(election, arguments)
+    book = known_book(election, arguments)
     book.demand_whole()
     return book
 
@@ -44,6 +36,23 @@ def whole_book(election: Election) -> Book:
     """The book for reading. Stops if anything in it is not as its acts wrote it."""
     election.book.demand_whole()
     return election.book
+
+
+def demand_writable(election: Election) -> None:
+    if election.opened.is_read_only:
+        cure = "make it writable for you, or copy the folder to where you can write"
+        raise Fault(election.folder, "the folder is not writable", cure, Status.BAD_OUTPUT)
+
+
+def known_book(election: Election, arguments: Arguments) -> Book:
+    book = election.opened
+    stop_at(book.doubts(is_accepted=arguments.moved))
+    if arguments.moved:
+        demand_writable(election)
+        book.accept(demand_reason(arguments.because, "--moved"))
+    # from now on nothing has to be said of it
+    election.book = book
+    return book
 
 
 def has_reason(because: str | None) -> bool:

@@ -35,7 +35,8 @@ class Arguments(acting.Arguments):
 
 
 def run(election: Election, arguments: Arguments) -> None:
-    acting.book_for_result(election, arguments)
+    acting.demand_writable(election)
+    acting.book_for_count(election, arguments)
     sealed = election.sealed()
     is_new = not election.history().is_closed
     if is_new:

@@ -25,7 +25,7 @@ class Arguments(acting.Arguments):
 
 
 def run(election: Election, arguments: Arguments) -> int:
-    book = acting.book_for_result(election, arguments)
+    book = acting.book_for_count(election, arguments)
     sealed, history = election.sealed(), election.history()
     demand_countable(election, history, sealed)
     demand_option(sealed.counted, arguments.casting)

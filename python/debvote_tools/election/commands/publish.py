@@ -59,7 +59,8 @@ def publish(election: Election, arguments: Arguments, target_folder: pathlib.Pat
     not know, and `publish` without options makes the folder of the last act again.
     """
     result_folder.demand_free(target_folder, can_replace=True)
-    book = acting.book_for_result(election, arguments)
+    acting.demand_writable(election)
+    book = acting.book_for_count(election, arguments)
     history, sealed = election.history(), election.sealed()
     count.demand_countable(election, history, sealed)
     before, given = last_publication(history), words_of(arguments)
