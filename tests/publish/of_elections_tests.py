@@ -463,11 +463,14 @@ class OfOpenVotes(OfElections):
 
     @contextlib.contextmanager
     def changed_book(self):
-        """The book, in which another program changes what it likes."""
+        """The book, in which another program changes what it likes; its triggers are there again afterwards."""
         with contextlib.closing(sqlite3.connect(self.folder / "election.db")) as connection:
-            for (name,) in connection.execute("SELECT name FROM sqlite_master WHERE type = 'trigger'").fetchall():
+            triggers = connection.execute("SELECT name, sql FROM sqlite_master WHERE type = 'trigger'").fetchall()
+            for name, _ in triggers:
                 connection.execute(f"DROP TRIGGER {name}")
             yield connection
+            for _, sql in triggers:
+                connection.execute(sql)
             connection.commit()
 
     def test_late_letters(self):

@@ -7,6 +7,7 @@ CREATE TABLE act (
   act INTEGER PRIMARY KEY,              -- its number, from 1
   time TEXT NOT NULL,
   name TEXT NOT NULL,
+  machine TEXT NOT NULL,                -- the computer that did it
   detail TEXT NOT NULL,                 -- JSON
   salt BLOB NOT NULL,                   -- 16 random bytes
   digest TEXT NOT NULL                  -- SHA-256 over the digest before and the rows of the act

@@ -14,7 +14,7 @@ from debvote_tools.book.book import NewAct, Overtaken
 from debvote_tools.book.letters import KeptLetter
 from debvote_tools.book.queries import NewEnvelope
 from debvote_tools.console import is_terminal, is_yes, tell
-from debvote_tools.election import acting, letter_words
+from debvote_tools.election import letter_words
 from debvote_tools.election.adding import Arguments
 from debvote_tools.election.came import NOTHING_ADDED, CameFile, safe
 from debvote_tools.election.election import KEYRING, Election, History
@@ -43,8 +43,6 @@ def take_letters(election: Election, vote: Vote, files: Mapping[str, CameFile | 
         words = "only for lines and tables, and these are letters"
         raise Fault(", ".join(of_lines), words, "leave this out", Status.BAD_WORDS, NOTHING_ADDED)
     raws, passed_over = read(files)
-    if not arguments.look:
-        acting.book_for_act(election, arguments)
     new = new_of(election, raws)
     found = parsed(election, new)
     if not arguments.look:

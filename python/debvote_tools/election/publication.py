@@ -208,7 +208,7 @@ def late_letters_in_time(book: Book, history: History) -> list[Doubt]:
 def chronicle_of(book: Book, history: History, *, is_secret: bool) -> Chronicle:
     acts: list[Act] = []
     for before, act in zip([None, *history.acts], history.acts):
-        if before is not None and act.time < before.time:
+        if before is not None and act.went_back(before):
             acts.append(Act(act.time, Done.CLOCK, {"before": before.time}))
         acts += acts_of_page(act, book, history, is_secret=is_secret)
     # lines, rows and ballots of desks that came after the end, and count; what came in after a close had come before it, as its act says
@@ -246,7 +246,7 @@ def acts_of_page(act: DoneAct, book: Book, history: History, *, is_secret: bool)
             yield Act(time, Done.REOPENED, because=reason)
         case "moved":
             noted, there = detail["noted"] and detail["noted"]["act"], detail["there"]["act"]
-            done = Done.MOVED if noted else Done.MOVED_UNKNOWN
+            done = Done.MOVED_UNKNOWN if noted is None else Done.RESTORED if noted == there else Done.MOVED
             yield Act(time, done, {"noted": noted, "there": there}, detail["because"])
     if detail.get("keyring"):
         yield Act(time, Done.KEYRING)

@@ -56,8 +56,9 @@ class Arguments(acting.Arguments):
 
 
 def run(election: Election, arguments: Arguments) -> None:
+    acting.book_for_act(election, arguments)
     if arguments.take_back:
-        take_back(election, arguments)
+        take_back(election)
         return
     if election.history().call is None:
         call(election, arguments)
@@ -69,8 +70,7 @@ def run(election: Election, arguments: Arguments) -> None:
 
 # ---------------------------------------------------------------- the acts
 def call(election: Election, arguments: Arguments) -> None:
-    said = announced(arguments, None)
-    book = acting.book_for_act(election, arguments)
+    said, book = announced(arguments, None), election.book
     history = election.history()
     demand_read(election, history)
     poll, sheet = checked_poll(election, deadline=said.get("until"), address=arguments.to)
@@ -113,8 +113,7 @@ def call_again(election: Election, arguments: Arguments) -> None:
     history = election.history()
     said = announced(arguments, history.announced("zone"))
     is_act = bool(said) or arguments.keyring is not None
-    book = acting.book_for_act(election, arguments) if is_act else election.book
-    history = election.history()
+    book = election.book
     demand_no_change(election, history, arguments)
     if not is_act:
         return
@@ -137,9 +136,8 @@ def call_again(election: Election, arguments: Arguments) -> None:
             act.insert("sealed", name=f"{LETTERS}/{EXTENSION}", data=extension_letter(data).encode())
 
 
-def take_back(election: Election, arguments: Arguments) -> None:
-    book = acting.book_for_act(election, arguments)
-    history = election.history()
+def take_back(election: Election) -> None:
+    book, history = election.book, election.history()
     call_act = election.called(history)
     if history.closes:
         words = f"the vote was closed at {act_time(history.closes[0].time)}, and electors rely on the close"

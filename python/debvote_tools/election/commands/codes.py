@@ -28,6 +28,7 @@ class Arguments(acting.Arguments):
 
 
 def run(election: Election, arguments: Arguments) -> None:
+    acting.book_for_act(election, arguments)
     if election.history().call is None:
         poll, number = make_codes(election, arguments)
         tell(f"Made {count_of(number, 'code')}.")
@@ -54,8 +55,7 @@ def make_codes(election: Election, arguments: Arguments) -> tuple[SealedPoll, in
 
     Returns the poll as it would be sealed, and how many codes were made.
     """
-    book = acting.book_for_act(election, arguments)
-    history = election.history()
+    book, history = election.book, election.history()
     demand_read(election, history)
     poll, _ = checked_poll(election)
     if not poll.secret:

@@ -3,10 +3,11 @@
 import shlex
 from collections.abc import Iterable
 
-from debvote_tools.arguments import Options, option
+from debvote_tools.arguments import option
 from debvote_tools.book import queries
 from debvote_tools.console import tell_as_it_is, tell_aside
 from debvote_tools.debvote import casting_words
+from debvote_tools.election import acting
 from debvote_tools.election.election import Election, History, Sealed
 from debvote_tools.faults import Fault, Status
 from debvote_tools.lines import ballot_file
@@ -19,15 +20,16 @@ CASTING = (
 )
 
 
-class Arguments(Options):
+class Arguments(acting.Arguments):
     casting: str | None = option(*CASTING)
 
 
 def run(election: Election, arguments: Arguments) -> int:
+    book = acting.book_for_count(election, arguments)
     sealed, history = election.sealed(), election.history()
     demand_countable(election, history, sealed)
     demand_option(sealed.counted, arguments.casting)
-    ballots = ballot_file(queries.lines_in_time(election.book))
+    ballots = ballot_file(queries.lines_in_time(book))
     answer = election.debvote.answer("count", sealed.counted.as_bytes(), ballots, *casting_words(arguments.casting))
     # the sheet alone, so that it can go into a file
     tell_as_it_is(answer.text)

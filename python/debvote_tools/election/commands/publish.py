@@ -73,8 +73,8 @@ def publish(election: Election, arguments: Arguments, target_folder: pathlib.Pat
     The folder is whole and counted before the act, and takes its place after the act. So a kill leaves no folder that the book does
     not know, and `publish` without options makes the folder of the last act again.
     """
-    book = acting.book_for_act(election, arguments)
-    acting.demand_whole(book)
+    acting.demand_writable(election)
+    book = acting.book_for_count(election, arguments)
     history, sealed = election.history(), election.sealed()
     count.demand_countable(election, history, sealed)
     before, given = last_publication(history), words_of(arguments)

@@ -9,7 +9,6 @@ from debvote_tools.arguments import Options, flag
 from debvote_tools.book import queries
 from debvote_tools.console import shows, tell
 from debvote_tools.debvote import Finding, Findings, Totals
-from debvote_tools.election import acting
 from debvote_tools.election.election import Election, History, Stage
 from debvote_tools.election.reporting import act_time, count_of, quorum_words, wrapped
 from debvote_tools.election.waiting import waiting_letters
@@ -67,7 +66,6 @@ def run(election: Election, arguments: Arguments) -> None:
     if arguments.json:
         tell(json.dumps(state._asdict(), ensure_ascii=False))
         return
-    acting.tell_strangeness(election.book)
     tell_stage(election, history)
     tell(f"Lines: {state.lines} ({state.valid} valid, {state.refused} refused)")
     if state.late:
