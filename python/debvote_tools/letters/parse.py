@@ -263,6 +263,8 @@ def text_of(part: Part, *, is_first: bool) -> tuple[Body, list[str]]:
         is_plain = False
     if not is_plain:
         part.found(Reason.CHARSET(charset=charset or "us-ascii"))
+    if is_first and part.is_cut:
+        part.found(Reason.CUT())
     text = decoded_bytes(part.payload, charset or "utf-8").removeprefix("\ufeff")
     if odd := CONTROL.search(text):
         part.found(Reason.CONTROL(character=f"U+{ord(odd[0]):04X}"))
