@@ -6,7 +6,7 @@ from typing import NamedTuple
 
 from debvote_tools import times
 from debvote_tools.arguments import Options, flag
-from debvote_tools.book import queries
+from debvote_tools.book import queries, sent
 from debvote_tools.console import shows, tell
 from debvote_tools.debvote import Finding, Findings, Totals
 from debvote_tools.election import acting
@@ -43,6 +43,8 @@ class State(NamedTuple):
     # letters that wait for the secretary
     waiting: int
     without_ballot: list[str] | None
+    # the electors whose letters a mail server refused, and has taken none since
+    refused_letters: list[str]
     # the last one of the book
     act: int
     digest: str
@@ -81,6 +83,8 @@ def run(election: Election, arguments: Arguments) -> None:
     if state.waiting:
         wait = count_of(state.waiting, "letter waits", "letters wait")
         tell(f"{wait} until you have looked at them: {election.command('held')}")
+    if state.refused_letters:
+        tell(f"Refused by the mail server, and reached by no letter since: {', '.join(state.refused_letters)}")
     tell(f"Last act: {state.act}, digest {state.digest}", f"Next: {what_next(election, state)}")
 
 
@@ -113,6 +117,7 @@ def state_of(election: Election, history: History) -> tuple[State, list[Refused]
         voters=totals.voters,
         waiting=waiting,
         without_ballot=None if has_codes else [name for name in roll if name not in voters],
+        refused_letters=[elector.name for elector, _ in sent.refused(election.book)],
         act=history.last.number,
         digest=history.last.digest,
     )
