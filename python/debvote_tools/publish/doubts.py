@@ -16,6 +16,7 @@ class Kind(enum.StrEnum):
     MOSTLY_REFUSED = "mostly refused"
     NOT_CLOSED = "not closed"
     LATE_LETTER = "late letter"
+    LETTERS_LEFT = "letters left"
     OTHER_CASTING_VOTE = "other casting vote"
 
 
@@ -27,6 +28,10 @@ FOR_SECRETARY = {
         "the ballot of letter {letter} is late, but the letter arrived at {arrival}, before the end and the close; to count it run "
         "debvote-election reopen --in-time {envelopes} --because TEXT"
     ),
+    Kind.LETTERS_LEFT: (
+        "these letters arrived in time, and wait: {letters}; set aside what is no ballot (debvote-election held NUMBER --set-aside); if "
+        "one is a ballot, run debvote-election reopen --because TEXT, and add the mailbox once more"
+    ),
     Kind.OTHER_CASTING_VOTE: (
         "an earlier publication has a casting vote for {option}; only one can be right, so find out which was given"
     ),
@@ -37,6 +42,9 @@ FOR_READERS = {
     Kind.NOT_CLOSED: marked("The vote was not closed when this page was made: more ballots may come in."),
     Kind.LATE_LETTER: marked(
         "A letter arrived at {arrival}, before the end and the close, and was entered late, so that its ballot does not count."
+    ),
+    Kind.LETTERS_LEFT: marked(
+        "Letters that arrived before the end and the close, and of which nobody has decided whether they are ballots: {number}."
     ),
     Kind.OTHER_CASTING_VOTE: marked("An earlier result of this vote was published with another casting vote, for {option}."),
 }
@@ -53,6 +61,8 @@ IN_SECRET = FOR_READERS | {
 class Doubt:
     kind: Kind
     places: Mapping[str, Any]
+    # not so where an earlier act was forced although there was this doubt
+    stops: bool = True
 
     @classmethod
     def of(cls, kind: Kind, **places: str | int) -> "Doubt":

@@ -134,7 +134,7 @@ def demand_publishable(publication: Publication, sheet: Sheet, sheet_text: str) 
             raise Fault(None, words, KEEP_FILES, Status.DOUBT, "nothing was published")
         sheet = publication.secret.sheet
     doubts = [*doubts_about(sheet), *publication.doubts]
-    if doubts and publication.chronicle is not None and not publication.is_forced:
+    if any(doubt.stops for doubt in doubts) and publication.chronicle is not None and not publication.is_forced:
         cure = 'put it right, or publish as it is with --force --because "TEXT" (the result page says so)'
         raise Fault(None, "; ".join(doubt.for_secretary() for doubt in doubts), cure, Status.DOUBT, "nothing was published")
     tell_aside(*(f"Note: {doubt.for_secretary()}; the result page says so" for doubt in doubts))

@@ -1,8 +1,9 @@
 """Make the folder of the result for a web site; without options, make the last one again."""
 
 import contextlib
+import dataclasses
 import pathlib
-from collections.abc import Iterator
+from collections.abc import Iterator, Sequence
 
 from debvote_tools import times
 from debvote_tools.arguments import flag, option, positional
@@ -11,14 +12,16 @@ from debvote_tools.console import is_terminal, is_yes, tell, tell_aside
 from debvote_tools.debvote import casting_words
 from debvote_tools.election import acting
 from debvote_tools.election.commands import count
-from debvote_tools.election.election import RESULT, Election
+from debvote_tools.election.election import RESULT, Election, History
 from debvote_tools.election.publication import Words, detail_of, last_publication, publication_of
 from debvote_tools.election.reporting import act_time
+from debvote_tools.election.waiting import in_time, left, waiting_letters
 from debvote_tools.faults import Fault, Status
 from debvote_tools.files import locked
 from debvote_tools.language import LANGUAGES
 from debvote_tools.publish import result_folder
 from debvote_tools.publish.counting import Counted
+from debvote_tools.publish.doubts import Doubt, Kind
 from debvote_tools.publish.inputs import Publication, casting_vote_of, text_in
 
 
@@ -67,11 +70,14 @@ def publish(election: Election, arguments: Arguments, target_folder: pathlib.Pat
     again = before if given == Words() else None
     words = given if again is None else Words(**again.detail["words"])
     count.demand_option(sealed.public, words.casting)
-    publication = publication_of(election, words)
+    waiting = in_time(waiting_letters(election, history)) if history.is_closed else []
+    publication = with_letters_left(publication_of(election, words), waiting, history)
     if not arguments.yes:
         demand_agreed(publication, is_again=again is not None)
     with result_folder.made(publication, target_folder, election.program_folder) as made:
         detail = detail_of(words, made.checksums, made.doubts, decides=made.counted.sheet.is_by_casting)
+        if waiting:
+            detail["left"] = waiting
         is_new = before is None or before.detail != detail
         with alone(election):
             if is_new:
@@ -81,6 +87,18 @@ def publish(election: Election, arguments: Arguments, target_folder: pathlib.Pat
                 raise Overtaken
             made.take_place(target_folder)
         return made.counted, is_new
+
+
+def with_letters_left(publication: Publication, numbers: Sequence[int], history: History) -> Publication:
+    """The publication with a doubt about the letters that arrived in time and wait, but for those that the close tells. It stops unless
+    an earlier publication had it.
+    """
+    told = set(history.closes[-1].detail.get("left", [])) if history.closes else set[int]()
+    if not (found := [number for number in numbers if number not in told]):
+        return publication
+    places = {"number": len(found), "letters": ", ".join(map(str, found))}
+    doubt = Doubt(Kind.LETTERS_LEFT, places, stops=not left(history).issuperset(found))
+    return dataclasses.replace(publication, doubts=(*publication.doubts, doubt))
 
 
 @contextlib.contextmanager
