@@ -85,6 +85,44 @@ class Signature:
 
 
 @dataclasses.dataclass(frozen=True)
+class Near:
+    """A line near to a ballot: its number in the letter, what of it may be a ballot, whether other words are around that, and what debvote
+    says of it; None if it is a valid ballot.
+    """
+
+    number: int
+    ballot: str
+    is_within: bool
+    answer: str | None = None
+
+
+@dataclasses.dataclass(frozen=True)
+class ReadLine:
+    """What a line of a letter may be, by its number in it, from 1."""
+
+    number: int
+    # whose ballot: the elector whose name on the roll it has; or those whose name on the roll, or real name, people write so
+    elector: str = ""
+    on_roll: tuple[str, ...] = ()
+    real: tuple[str, ...] = ()
+    # its ranks, and what debvote says of them; None if they are valid
+    ranks: str = ""
+    answer: str | None = None
+    near: Near | None = None
+
+
+@dataclasses.dataclass(frozen=True)
+class Readings:
+    """What the lines of a letter may be; or how many there are that may be ballots, if they are more than are read. The `code_lines` are the
+    numbers of those with what looks like a code of a secret vote or an alias.
+    """
+
+    lines: tuple[ReadLine, ...] = ()
+    crowd: int = 0
+    code_lines: tuple[int, ...] = ()
+
+
+@dataclasses.dataclass(frozen=True)
 class ParsedLetter:
     """What the bytes of a letter say and, where letters have to be signed, what gpgv says of its signature."""
 
@@ -94,6 +132,8 @@ class ParsedLetter:
     # what a copy of it has in common with it: a digest of its Message-ID, its sender and its text; of a good signature and what it signs
     # where letters have to be signed, since anybody can change the rest
     identity: str
+    # the same without a signature
+    text_identity: str
     is_parted_off: bool
     # in one plain form, or empty
     in_reply_to: str
@@ -110,6 +150,7 @@ class ParsedLetter:
     # where letters have to be signed: the good signature, or why there is none
     signature: Signature | None = None
     why_unsigned: Because | None = None
+    readings: Readings = Readings()
 
     @property
     def key(self) -> str:
@@ -130,10 +171,12 @@ def parse(raw: RawLetter) -> ParsedLetter:
     if (longest := max(map(len, subjects), default=0)) > MAX_FIELD:
         letter.found(Reason.TOO_LONG(length=longest, what="characters in its subject", limit=MAX_FIELD))
     body, sender = body_of(letter), sender_of(senders)
+    identity = identity_of(letter, ids, sender or " ".join(senders), body)
     return ParsedLetter(
         where=raw.where,
         digest=hashlib.sha256(raw.data).hexdigest(),
-        identity=identity_of(letter, ids, sender or " ".join(senders), body),
+        identity=identity,
+        text_identity=identity,
         is_parted_off=raw.is_parted_off,
         in_reply_to=plain_id(letter.values("in-reply-to")),
         sender=sender,
@@ -325,8 +368,18 @@ def from_json(text: str) -> ParsedLetter:
         "body": Body(**values),
         "signature": signature and Signature(signature["fingerprint"], datetime.datetime.fromisoformat(signature["time"])),
         "why_unsigned": because_from(kept["why_unsigned"]),
+        "readings": readings_from(**kept["readings"]),
     }
     return ParsedLetter(**kept)
+
+
+def readings_from(lines: list[Any], crowd: int, code_lines: list[int]) -> Readings:
+    return Readings(tuple(map(read_line_from, lines)), crowd, tuple(code_lines))
+
+
+def read_line_from(kept: dict[str, Any]) -> ReadLine:
+    near = kept["near"] and Near(**kept["near"])
+    return ReadLine(**kept | {"on_roll": tuple(kept["on_roll"]), "real": tuple(kept["real"]), "near": near})
 
 
 def because_from(kept: Any) -> Because | None:

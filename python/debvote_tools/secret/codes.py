@@ -9,8 +9,10 @@ from typing import NamedTuple
 
 from debvote_tools.secret.aliases import alias_of
 
-# what a code and an alias look like
+# what a code and an alias look like, alone and within other text, where people may have typed them with the gaps of a slip
+CODE_DIGITS = 32
 CODE = re.compile(r"[0-9a-f]{32}")
+CODE_WITHIN = re.compile(r"(?<![0-9a-f])(?:[0-9a-f][ \t-]?+){31}[0-9a-f](?![0-9a-f])")
 
 # a spreadsheet takes such a text for a number, and writes it in another way
 NUMBER = re.compile(r"\d*e?\d*")
@@ -40,9 +42,9 @@ def new_code(name: str = "") -> str:
             return code
 
 
-def looks_like_code(text: str) -> bool:
-    """Whether a text is a code or an alias, also if it is typed with the gaps of a slip or in capitals."""
-    return CODE.fullmatch(re.sub(r"[\s-]", "", text).lower()) is not None
+def has_code(text: str) -> bool:
+    """Whether a text has what looks like a code or an alias within it, also with gaps or in capitals."""
+    return len(text) >= CODE_DIGITS and CODE_WITHIN.search(text.lower()) is not None
 
 
 def codes_csv(rows: Iterable[CodeRow]) -> bytes:
