@@ -1,6 +1,7 @@
 """Letters in an election: `add`, `held`, `undo`, `strike`, `close`, `status` as a secretary meets them."""
 
 import json
+import os
 import pathlib
 import shutil
 import sys
@@ -209,6 +210,55 @@ class Adding(LettersTest):
         self.assertIn("after the end of the vote", self.add(letter("ada", f"ada {RANKS}")).output)
         self.done("call", "--until", "2026-11-24 09:00", "--zone", "UTC")
         self.assertIn("1 counted", self.add(letter("ada", f"ada {RANKS}")).output)
+
+
+class ReadOnce(LettersTest):
+    """What a letter says is read when it comes. Else a few letters of a stranger would slow down each command, for good."""
+
+    def with_counter(self, *words: object) -> tuple[support.Ended, list[str]]:
+        """A command, and the tasks for which it ran debvote."""
+        place, said = self.scratch / "counting", self.scratch / "runs"
+        place.mkdir(exist_ok=True)
+        (place / "debvote").write_text(f'#!/bin/sh\necho "$1" >> {said}\nexec {support.PROGRAM} "$@"\n')
+        (place / "debvote").chmod(0o755)
+        said.write_text("")
+        env = support.environment() | self.clock | {"XDG_STATE_HOME": str(self.state)}
+        env["PATH"] = f"{place}:{env['PATH']}"
+        ended = self.election(*words, env=env)
+        self.assertEqual((ended.status, ended.faults), (0, ""), ended)
+        return ended, said.read_text().split()
+
+    def test_judging_again_asks_debvote_nothing(self) -> None:
+        letters = [letter("ada", f"adaa {RANKS}"), letter("ben", f"I vote ben {RANKS} today"), letter("cleo", f"cleo {RANKS}")]
+        self.write("inbox.mbox", mailbox(*letters, letter("dan", "1,2,4,3")))
+        self.assertEqual(self.with_counter("add", "--yes", "inbox.mbox")[1], ["explain", "explain", "steps"])
+        self.assertEqual(self.with_counter("add", "--yes", "inbox.mbox")[1], [])
+        shown, runs = self.with_counter("held")
+        self.assertEqual(runs, [])
+        for part in ("did you mean ada?", f"`ben {RANKS}`, within other words", f"line 1: dan {RANKS}"):
+            self.assertIn(part, shown.output)
+        self.assertEqual(self.with_counter("held", 1, "--set-aside")[1], [])
+
+    def test_who_has_voted_since_is_asked_of_their_lines_alone(self) -> None:
+        self.done("desk", given=f"ada {OTHER}\nben {OTHER}\n")
+        self.add(letter("ada", "hello"))
+        shown, runs = self.with_counter("held")
+        self.assertIn("no ballot found; has voted since", shown.output)
+        self.assertEqual(runs, ["explain"])
+
+    def test_no_letter_slows_down_later_commands(self) -> None:
+        """Whatever is in it."""
+        self.write("members.csv", support.members_of(support.NAMES))
+        lines = "\n".join(f"I vote ada 1,{number % 90},3, or not; Ada Lovelace{number} 1,2,3" for number in range(4_000))
+        others = ("\n" * 200_000 + f"ada {RANKS}", "a\n\n" * 80_000, "x " * 120_000, "<p>ada 1,2</p>" * 15_000)
+        self.add(*(letter("ada", text, sender="x@y.example", number=number) for number, text in enumerate((lines, *others))))
+        self.assertEqual(self.done("held").output.count("lines that may be ballots; at most 200 are read"), 1)
+        before = os.times()
+        for words in (("held",), ("status",), ("show", "ada"), ("letters", "receipts")):
+            self.done(*words)
+        after = os.times()
+        # a command takes some tenths, most of them to begin
+        self.assertLess(after.children_user - before.children_user, 6)
 
 
 class Held(LettersTest):

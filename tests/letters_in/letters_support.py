@@ -4,7 +4,6 @@ import dataclasses
 import datetime
 import os
 import pathlib
-import re
 import subprocess
 import sys
 from collections.abc import Mapping, Sequence
@@ -14,6 +13,7 @@ PROGRAM = pathlib.Path(os.environ.get("DEBVOTE", ROOT / "crates" / "debvote" / "
 SAMPLES = ROOT / "tests" / "letters"
 sys.path.insert(0, str(ROOT / "python"))
 
+from debvote_tools.debvote import findings_in  # noqa: E402
 from debvote_tools.letters.circumstances import Ballot, Circumstances, Names  # noqa: E402
 from debvote_tools.letters.judge import JudgedLetter, Outcome, judge_all  # noqa: E402
 from debvote_tools.letters.parse import ParsedLetter, as_json, from_json, parse  # noqa: E402
@@ -71,11 +71,11 @@ class DebvoteReader:
         given = b"".join(line + b"\n" for line in lines)
         text = subprocess.run(words, input=given, capture_output=True, check=False).stdout.decode("ascii")
         os.close(handle)
-        count = re.search(r"(?m)^(\d+) lines: ", text)
-        assert count is not None and int(count[1]) == len(lines), text
+        findings = findings_in(text)
+        assert findings.totals.lines == len(lines), text
         found: dict[bytes, str | None] = dict.fromkeys(lines)
-        for number, answer in re.findall(r"(?m)^ballots:(\d+): (.*)$", text):
-            found[lines[int(number) - 1]] = answer
+        for finding in findings.refused:
+            found[lines[finding.envelope - 1]] = f"{finding.word}: {finding._replace(remark='').hint}"
         return found
 
 

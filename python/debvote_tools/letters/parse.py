@@ -21,8 +21,11 @@ from debvote_tools.letters.sources import RawLetter
 MAX_TEXT, MAX_TEXTS = 262_144, 1_048_576
 # in characters; so much is read of a field of the head
 MAX_FIELD = 2_000
-# in characters; no longer line reads as a ballot, which has a number or a stroke. A letter has fewer lines with one; of more some are shown
-MAX_LINE, MAX_LINES, SHOWN_LINES = 500, 5_000, 200
+# in characters; no longer line reads as a ballot, which has a number or a stroke
+MAX_LINE = 500
+# all texts of a letter have fewer lines and marks of HTML; of one with more some lines are shown
+MAX_LINES, SHOWN_LINES = 10_000, 200
+LINE_OR_MARK = b"\n\r\v\f\x1c\x1d\x1e<"
 RANK = re.compile("[\\d\u2010-\u2014\u2212-]")
 
 CHARSETS = re.compile(r"utf-?8|us-ascii|ascii|iso-?8859-\d{1,2}|(?:windows-|cp)125\d", re.IGNORECASE)
@@ -268,6 +271,11 @@ def body_of(letter: Part) -> Body:
         if length > limit:
             letter.found(Reason.TOO_LONG(length=length, what=f"bytes in {what}", limit=limit))
             return Body(trouble=letter.trouble)
+    count = sum(len(part.payload) - len(part.payload.translate(None, LINE_OR_MARK)) for part, _ in texts)
+    if count > MAX_LINES:
+        letter.found(Reason.TOO_LONG(length=count, what="lines and marks", limit=MAX_LINES))
+        shown = decoded_bytes(texts[0][0].payload[: SHOWN_LINES * MAX_LINE], "utf-8").splitlines()
+        return Body(tuple(shown[:SHOWN_LINES]), trouble=letter.trouble)
     first, is_own = texts[0] if texts else (letter, False)
     if not is_own or (first.kind != "text/plain" and (first.kind != "text/html" or len(texts) > 1)):
         first.found(Reason.NO_PLAIN_TEXT())
@@ -280,10 +288,6 @@ def body_of(letter: Part) -> Body:
     lines = [line for other, _ in read[1:] for line in other.lines] + [line for _, pieces in read for line in pieces]
     own, others = ({" ".join(line.split()): None for line in some} for some in (text.lines, lines + outside))
     other_lines = [line for line in others if line not in own and may_be_ballot(line)]
-    count = len(other_lines) + sum(map(may_be_ballot, text.lines))
-    if count > MAX_LINES:
-        letter.found(Reason.TOO_LONG(length=count, what="lines with numbers", limit=MAX_LINES))
-        text, other_lines = Body(text.lines[:SHOWN_LINES]), []
     troubles = [Reason.PARTED_OFF()] if has_others else [part.trouble for part, _ in parts if part.trouble is not None]
     return dataclasses.replace(text, other_lines=tuple(other_lines), trouble=next(iter(troubles), None))
 

@@ -35,7 +35,7 @@ MAX_LOOKED_THROUGH = 200
 SEPARATOR = re.compile("[,;]")
 # the most lines that may be ballots: a letter with more waits. So many others with a number are looked at; and so many that are near to
 # a ballot are shown
-MAX_BALLOTS, MAX_OTHERS, MAX_NEAR = 200, 100, 5
+MAX_BALLOTS, MAX_OTHERS, MAX_NEAR = 200, 50, 5
 # debvote looks for names that were meant for the first lines alone, so it gets no more of unknown names at once
 MOST_AT_ONCE = 100
 
