@@ -137,7 +137,9 @@ def findings_in(text: str) -> Findings:
 
 def finding_in(envelope: int, word: str, hint: str) -> Finding:
     near = NEAR.fullmatch(hint)
-    return Finding(envelope, word, hint) if near is None else Finding(envelope, word, near[1], tuple(near[2].split(" or ")), near[3])
+    return (
+        Finding(envelope, word, hint) if near is None else Finding(envelope, word, near[1], tuple(near[2].split(" or ")), near[3])
+    )
 
 
 def standing_in(text: str) -> dict[str, str]:

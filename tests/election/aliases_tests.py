@@ -24,7 +24,8 @@ from debvote_tools.call.data import CallData  # noqa: E402
 from debvote_tools.language import LANGUAGES, language_of  # noqa: E402
 from debvote_tools.sealed_poll import SealedPoll, read_plain  # noqa: E402
 from debvote_tools.secret.aliases import alias_of, aliased_ballots, aliased_poll, seal_line, sealed_checksum  # noqa: E402
-from debvote_tools.secret.codes import NUMBER, CodeRow, codes_csv, has_code, new_code  # noqa: E402
+from debvote_tools.lines import has_code  # noqa: E402
+from debvote_tools.secret.codes import NUMBER, CodeRow, codes_csv, new_code  # noqa: E402
 from debvote_tools.secret.slips import slips  # noqa: E402
 from debvote_tools.secret.words import BY_OPENSSL, BY_PYTHON  # noqa: E402
 

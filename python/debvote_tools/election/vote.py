@@ -13,8 +13,7 @@ from debvote_tools.election.reporting import count_of
 from debvote_tools.faults import other_format
 from debvote_tools.files import BALLOTS_LIMIT, LINES_LIMIT
 from debvote_tools.language import ENGLISH
-from debvote_tools.lines import Line, ballot_file, differences
-from debvote_tools.secret.codes import has_code
+from debvote_tools.lines import Line, ballot_file, differences, has_code
 from debvote_tools.terminal_text import shown_line
 
 IS_CODE = " (32 digits, as in a code or an alias: a ballot has only the elector's name, and nobody may see a code)"

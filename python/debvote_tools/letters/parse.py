@@ -383,7 +383,8 @@ def readings_from(lines: list[Any], crowd: int, code_lines: list[int]) -> Readin
 
 def read_line_from(kept: dict[str, Any]) -> ReadLine:
     near = kept["near"] and Near(**kept["near"])
-    return ReadLine(**kept | {"on_roll": tuple(kept["on_roll"]), "real": tuple(kept["real"]), "near": near})
+    values: dict[str, Any] = kept | {"on_roll": tuple(kept["on_roll"]), "real": tuple(kept["real"]), "near": near}
+    return ReadLine(**values)
 
 
 def because_from(kept: Any) -> Because | None:

@@ -14,8 +14,7 @@ from typing import Protocol
 from debvote_tools.letters.circumstances import Names
 from debvote_tools.letters.greeting import is_quoted
 from debvote_tools.letters.parse import Near, ParsedLetter, ReadLine, Readings, may_be_ballot
-from debvote_tools.lines import DASHES, LONGEST_REPAIRED, changed
-from debvote_tools.secret.codes import has_code
+from debvote_tools.lines import DASHES, LONGEST_REPAIRED, changed, has_code
 
 # the grammar of a ballot line, and ranks alone
 RANKS = r"(?:-|[1-9][0-9]?)(?:,(?:-|[1-9][0-9]?))*"
@@ -55,9 +54,7 @@ def read_all(
     asked = dict.fromkeys(text for readings in found for line in readings.lines for text in texts_of(line, stand_in))
     answers = dict(known or {})
     answers |= answers_to([text for text in asked if text not in answers], names, reader)
-    return [
-        dataclasses.replace(letter, readings=answered(readings, answers, stand_in)) for letter, readings in zip(letters, found)
-    ]
+    return [dataclasses.replace(letter, readings=answered(readings, answers, stand_in)) for letter, readings in zip(letters, found)]
 
 
 def read(letter: ParsedLetter, names: Names) -> Readings:
@@ -128,9 +125,10 @@ def texts_of(line: ReadLine, stand_in: str) -> Iterator[str]:
 
 def answers_to(texts: Iterable[str], names: Names, reader: LineReader) -> dict[str, str | None]:
     """What debvote says of each, whatever the others are."""
-    certain, others = [], []
+    certain: list[str] = []
+    others: list[str] = []
     for text in texts:
-        is_certain = BALLOT.fullmatch(text) and text.partition(" ")[0] in names.roll
+        is_certain = BALLOT.fullmatch(text) is not None and text.partition(" ")[0] in names.roll
         (certain if is_certain else others).append(text)
     parts = [certain, *(others[first : first + MOST_AT_ONCE] for first in range(0, len(others), MOST_AT_ONCE))]
     answers: dict[str, str | None] = {}
@@ -154,8 +152,8 @@ def answers_in(letters: Iterable[ParsedLetter], roll: Collection[str]) -> dict[s
     stand_in, found = min(roll), dict[str, str | None]()
     for letter in letters:
         for line in letter.readings.lines:
-            said = (line.answer, line.near and line.near.answer) if line.ranks else (line.near and line.near.answer,)
-            found |= zip(texts_of(line, stand_in), said)
+            near = () if line.near is None else (line.near.answer,)
+            found |= zip(texts_of(line, stand_in), (line.answer, *near) if line.ranks else near)
     return found
 
 

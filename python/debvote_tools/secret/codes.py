@@ -9,10 +9,8 @@ from typing import NamedTuple
 
 from debvote_tools.secret.aliases import alias_of
 
-# what a code and an alias look like, alone and within other text, where people may have typed them with the gaps of a slip
-CODE_DIGITS = 32
+# what a code and an alias look like
 CODE = re.compile(r"[0-9a-f]{32}")
-CODE_WITHIN = re.compile(r"(?<![0-9a-f])(?:[0-9a-f][ \t-]?+){31}[0-9a-f](?![0-9a-f])")
 
 # a spreadsheet takes such a text for a number, and writes it in another way
 NUMBER = re.compile(r"\d*e?\d*")
@@ -40,11 +38,6 @@ def new_code(name: str = "") -> str:
         code = secrets.token_hex(16)
         if not NUMBER.fullmatch(code) and not NUMBER.fullmatch(alias_of(code, name)):
             return code
-
-
-def has_code(text: str) -> bool:
-    """Whether a text has what looks like a code or an alias within it, also with gaps or in capitals."""
-    return len(text) >= CODE_DIGITS and CODE_WITHIN.search(text.lower()) is not None
 
 
 def codes_csv(rows: Iterable[CodeRow]) -> bytes:
