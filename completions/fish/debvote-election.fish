@@ -92,6 +92,7 @@ complete -c debvote-election -n "__fish_seen_subcommand_from reopen" -l force -d
 complete -c debvote-election -n "__fish_seen_subcommand_from reopen" -l moved -d "Go on although the election was moved here, or an older copy was restored; the result page says so."
 complete -c debvote-election -n "__fish_seen_subcommand_from reopen" -l because -x -d "The reason, in your words, for --moved, --force, strike or reopen."
 complete -c debvote-election -n "__fish_seen_subcommand_from count" -l casting -x -d "The exact name of the option that the casting vote chooses in a tie; write --casting=NAME if the name begins with a hyphen."
+complete -c debvote-election -n "__fish_seen_subcommand_from count" -l force -d "Count although letters wait that arrived in time."
 complete -c debvote-election -n "__fish_seen_subcommand_from count" -l moved -d "Go on although the election was moved here, or an older copy was restored; the result page says so."
 complete -c debvote-election -n "__fish_seen_subcommand_from count" -l because -x -d "The reason, in your words, for --moved, --force, strike or reopen."
 complete -c debvote-election -n "__fish_seen_subcommand_from publish" -l casting -x -d "The exact name of the option that the casting vote chooses in a tie; write --casting=NAME if the name begins with a hyphen."

@@ -24,7 +24,8 @@ from debvote_tools.call.data import CallData  # noqa: E402
 from debvote_tools.language import LANGUAGES, language_of  # noqa: E402
 from debvote_tools.sealed_poll import SealedPoll, read_plain  # noqa: E402
 from debvote_tools.secret.aliases import alias_of, aliased_ballots, aliased_poll, seal_line, sealed_checksum  # noqa: E402
-from debvote_tools.secret.codes import NUMBER, CodeRow, codes_csv, looks_like_code, new_code  # noqa: E402
+from debvote_tools.lines import has_code  # noqa: E402
+from debvote_tools.secret.codes import NUMBER, CodeRow, codes_csv, new_code  # noqa: E402
 from debvote_tools.secret.slips import slips  # noqa: E402
 from debvote_tools.secret.words import BY_OPENSSL, BY_PYTHON  # noqa: E402
 
@@ -93,10 +94,11 @@ class Codes(unittest.TestCase):
         self.assertFalse(NUMBER.fullmatch("12a4"))
 
     def test_what_looks_like_a_code(self) -> None:
-        for code in ("0123456789abcdef" * 2, "0123 4567 89AB CDEF " * 2, "a" * 16 + "-\n" + "B" * 16, ALIASES["ada"]):
-            self.assertTrue(looks_like_code(code), code)
-        for other in ("", "ada", "a" * 31, "a" * 33, "g" * 32, "a" * 32 + "_", "\u0661" * 32, f"{'a' * 32} 1,2,3"):
-            self.assertFalse(looks_like_code(other), other)
+        for code in ("0123456789abcdef" * 2, "0123 4567 89AB CDEF " * 2, "a" * 16 + "-" + "B" * 16, ALIASES["ada"]):
+            for text in (code, f"my code is {code}.", f"ada 1,2,3 {code}", f"{code} 1,2,3"):
+                self.assertTrue(has_code(text), text)
+        for other in ("", "ada", "a" * 31, "a" * 33, "g" * 32, "\u0661" * 32, "a  " * 32):
+            self.assertFalse(has_code(other), other)
 
 
 class Published(unittest.TestCase):

@@ -1,6 +1,7 @@
 """Letters in an election: `add`, `held`, `undo`, `strike`, `close`, `status` as a secretary meets them."""
 
 import json
+import os
 import pathlib
 import shutil
 import sys
@@ -211,6 +212,55 @@ class Adding(LettersTest):
         self.assertIn("1 counted", self.add(letter("ada", f"ada {RANKS}")).output)
 
 
+class ReadOnce(LettersTest):
+    """What a letter says is read when it comes. Else a few letters of a stranger would slow down each command, for good."""
+
+    def with_counter(self, *words: object) -> tuple[support.Ended, list[str]]:
+        """A command, and the tasks for which it ran debvote."""
+        place, said = self.scratch / "counting", self.scratch / "runs"
+        place.mkdir(exist_ok=True)
+        (place / "debvote").write_text(f'#!/bin/sh\necho "$1" >> {said}\nexec {support.PROGRAM} "$@"\n')
+        (place / "debvote").chmod(0o755)
+        said.write_text("")
+        env = support.environment() | self.clock | {"XDG_STATE_HOME": str(self.state)}
+        env["PATH"] = f"{place}:{env['PATH']}"
+        ended = self.election(*words, env=env)
+        self.assertEqual((ended.status, ended.faults), (0, ""), ended)
+        return ended, said.read_text().split()
+
+    def test_judging_again_asks_debvote_nothing(self) -> None:
+        letters = [letter("ada", f"adaa {RANKS}"), letter("ben", f"I vote ben {RANKS} today"), letter("cleo", f"cleo {RANKS}")]
+        self.write("inbox.mbox", mailbox(*letters, letter("dan", "1,2,4,3")))
+        self.assertEqual(self.with_counter("add", "--yes", "inbox.mbox")[1], ["explain", "explain", "steps"])
+        self.assertEqual(self.with_counter("add", "--yes", "inbox.mbox")[1], [])
+        shown, runs = self.with_counter("held")
+        self.assertEqual(runs, [])
+        for part in ("did you mean ada?", f"`ben {RANKS}`, within other words", f"line 1: dan {RANKS}"):
+            self.assertIn(part, shown.output)
+        self.assertEqual(self.with_counter("held", 1, "--set-aside")[1], [])
+
+    def test_who_has_voted_since_is_asked_of_their_lines_alone(self) -> None:
+        self.done("desk", given=f"ada {OTHER}\nben {OTHER}\n")
+        self.add(letter("ada", "hello"))
+        shown, runs = self.with_counter("held")
+        self.assertIn("no ballot found; has voted since", shown.output)
+        self.assertEqual(runs, ["explain"])
+
+    def test_no_letter_slows_down_later_commands(self) -> None:
+        """Whatever is in it."""
+        self.write("members.csv", support.members_of(support.NAMES))
+        lines = "\n".join(f"I vote ada 1,{number % 90},3, or not; Ada Lovelace{number} 1,2,3" for number in range(4_000))
+        others = ("\n" * 200_000 + f"ada {RANKS}", "a\n\n" * 80_000, "x " * 120_000, "<p>ada 1,2</p>" * 15_000)
+        self.add(*(letter("ada", text, sender="x@y.example", number=number) for number, text in enumerate((lines, *others))))
+        self.assertEqual(self.done("held").output.count("lines that may be ballots; at most 200 are read"), 1)
+        before = os.times()
+        for words in (("held",), ("status",), ("show", "ada"), ("letters", "receipts")):
+            self.done(*words)
+        after = os.times()
+        # a command takes some tenths, most of them to begin
+        self.assertLess(after.children_user - before.children_user, 6)
+
+
 class Held(LettersTest):
     def setUp(self) -> None:
         super().setUp()
@@ -285,6 +335,116 @@ class Held(LettersTest):
         for words in (("--set-aside",), ("1", "2", "--enter", "5"), ("1", "--enter", "5", "--wait"), ("9",)):
             with self.subTest(words):
                 self.assertEqual(self.election("held", *words).status, 2)
+
+
+class InTime(LettersTest):
+    """A letter that arrived in time and waits may decide the vote, whenever it was added: it stops `close`, and after it `count` and `publish`."""
+
+    def setUp(self) -> None:
+        super().setUp()
+        self.done("desk", given=f"cleo {RANKS}\nben {OTHER}\n")
+        self.wordy = letter("ada", f"I thought about it for 3 days:\n\nada {OTHER}\n")
+
+    def assert_stops(self, number: int = 1) -> None:
+        """Nothing is counted, nothing is published, and each says which letter it is."""
+        named = f"these letters arrived in time, and wait: {number};"
+        for words in (("count",), ("publish",), ("count", "--casting", "At the lake")):
+            ended = self.election(*words)
+            self.assert_fault(ended, 9, named, "held NUMBER --set-aside", "reopen --because TEXT")
+            self.assertEqual(ended.output, "")
+        self.assertFalse((self.folder / "result").exists())
+        self.assertIn(f"These arrived in time, and count and publish stop while they wait: {number}\n", self.done("status").output)
+        self.assertEqual(self.numbers()["stopping"], [number])
+
+    def test_one_that_was_added_after_the_close(self) -> None:
+        """It arrived before the close, and stopped nothing: another won, and nobody was told."""
+        self.done("close")
+        self.add(self.wordy)
+        self.assert_stops()
+
+    def test_one_that_nobody_agreed_to(self) -> None:
+        self.done("close")
+        self.add(letter("ada", f"ada {OTHER}"), words=())
+        self.assert_stops()
+
+    def test_what_is_no_ballot_is_set_aside_at_any_time(self) -> None:
+        self.done("close")
+        self.add(letter("ada", "I am on holiday."))
+        self.assert_stops()
+        self.done("held", 1, "--set-aside")
+        self.assertEqual(self.numbers()["stopping"], [])
+        self.assertEqual((self.election("count").status, self.election("publish").status), (1, 1))
+        self.assertNotIn("nobody has decided", (self.folder / "result" / "index.html").read_text())
+        # after the publication, too
+        self.add(letter("dan", "hello"))
+        self.assertEqual(self.election("count").status, 9)
+        self.done("held", 2, "--set-aside")
+        self.assertEqual((self.election("count").status, self.election("publish").status), (1, 1))
+
+    def test_what_is_a_ballot_needs_reopen(self) -> None:
+        self.done("close")
+        self.add(self.wordy)
+        self.done("reopen", "--because", "a letter was forgotten")
+        self.assertIn("These arrived in time, and close stops while they wait: 1\n", self.done("status").output)
+        self.assert_fault(self.election("close"), 9, "these letters arrived in time, and wait: 1;")
+        self.done("held", 1, "--enter", 3)
+        self.done("close")
+        self.assertEqual(self.exported(), (f"cleo {RANKS}\nben {OTHER}\nada {OTHER}\n", ""))
+        self.assertIn("Winner: 2 In the town hall", self.done("count").output)
+        self.done("publish")
+
+    def test_forced(self) -> None:
+        """The page says how many, and the same letters stop nothing again; another one does."""
+        self.done("close")
+        self.add(self.wordy, letter("dan", "hello"))
+        ended = self.election("count", "--force")
+        self.assertEqual(ended.status, 1)
+        self.assertIn("Note: these letters arrived in time, and wait: 1, 2; they are in no count.\n", ended.faults)
+        self.assert_fault(self.election("publish", "--force"), 9, "these letters arrived in time, and wait: 1, 2;")
+        ended = self.election("publish", "--force", "--because", "nobody answers")
+        self.assertEqual(ended.status, 1, ended)
+        said = "and of which nobody has decided whether they are ballots: 2."
+        page = (self.folder / "result" / "index.html").read_bytes()
+        self.assertIn(said, page.decode())
+        self.assertIn("nobody answers", page.decode())
+        self.assertEqual(self.numbers()["stopping"], [])
+        self.assertEqual(self.election("count").status, 1)
+        # the same again is no act, and of another publication the page says it too
+        acts = self.done("log").output
+        self.assertEqual(self.election("publish").status, 1)
+        self.assertEqual(((self.folder / "result" / "index.html").read_bytes(), self.done("log").output), (page, acts))
+        self.write("about.txt", "Certified by Ida.\n")
+        self.assertEqual(self.election("publish", "--about", "about.txt").status, 1)
+        self.assertIn(said, (self.folder / "result" / "index.html").read_text())
+        self.add(letter("fay", "hello"))
+        self.assert_fault(self.election("count"), 9, "these letters arrived in time, and wait: 3;")
+        self.assert_fault(self.election("publish", "--about", "about.txt"), 9, "these letters arrived in time, and wait: 1, 2, 3;")
+
+    def test_forced_at_the_close(self) -> None:
+        self.add(self.wordy)
+        self.assert_fault(self.election("close", "--force"), 9, "these letters arrived in time, and wait: 1;")
+        self.done("close", "--force", "--because", "nobody answers")
+        self.assertEqual((self.election("count").status, self.election("publish").status), (1, 1))
+        said = "1 letter that had arrived in time was left waiting."
+        self.assertIn(said, (self.folder / "result" / "index.html").read_text())
+        # a second close says it again, and stops for another letter alone
+        self.done("reopen", "--because", "a bag was forgotten")
+        self.done("close")
+        self.assertEqual(self.election("publish").status, 1)
+        self.assertEqual((self.folder / "result" / "index.html").read_text().count(said), 2)
+        self.add(letter("fay", "hello"))
+        self.assert_fault(self.election("publish"), 9, "these letters arrived in time, and wait: 2;")
+
+    def test_what_arrived_later_stops_nothing(self) -> None:
+        self.done("close")
+        for name, arrived in (("ada", "Wed, 25 Nov 2026 09:00:01 +0000"), ("dan", "Mon, 16 Nov 2026 10:00:00 +0000")):
+            self.add(letter(name, "hello", arrived))
+        self.assertEqual((self.numbers()["waiting"], self.numbers()["stopping"]), (2, []))
+        self.assertEqual((self.election("count").status, self.election("publish").status), (1, 1))
+
+    def test_before_the_close_a_count_is_no_result(self) -> None:
+        self.add(self.wordy)
+        self.assertEqual(self.election("count").status, 1)
 
 
 class TakenBack(LettersTest):

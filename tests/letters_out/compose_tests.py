@@ -10,7 +10,7 @@ from debvote_tools.book.queries import Elector
 from debvote_tools.book.sent import SentLetter
 from debvote_tools.call.data import CallData, is_mail_address
 from debvote_tools.language import LANGUAGES, language_of
-from debvote_tools.letters.readings import Near
+from debvote_tools.letters.parse import Near
 from debvote_tools.letters.reasons import Reason
 from debvote_tools.letters_out.compose import Became, Came, Composer, Kind, without_ballots
 from debvote_tools.letters_out.message import message_of, new_message_id, one_line as on_one_line

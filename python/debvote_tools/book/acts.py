@@ -50,6 +50,8 @@ class Detail(TypedDict, total=False):
     # undo: the act that it takes back; strike: the envelope
     act: int
     envelope: int
+    # close and publish: the letters that had arrived in time and were left waiting
+    left: list[int]
     # close
     checksum: str
     seal: str

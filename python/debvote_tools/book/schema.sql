@@ -50,7 +50,7 @@ CREATE TABLE letter (
   act INTEGER NOT NULL REFERENCES act DEFERRABLE INITIALLY DEFERRED,
   source INTEGER NOT NULL REFERENCES source,
   identity TEXT NOT NULL,               -- what a copy of it has in common with it
-  known TEXT NOT NULL                   -- JSON: what its bytes and the keyring alone decide
+  known TEXT NOT NULL                   -- JSON: what its bytes, the keyring and the sealed poll alone decide
 ) STRICT;
 
 CREATE TABLE letter_state (

@@ -17,7 +17,9 @@ class Kind(enum.StrEnum):
     NOT_CLOSED = "not closed"
     CLOSED_EARLY = "closed early"
     LATE_LETTER = "late letter"
+    LETTERS_LEFT = "letters left"
     OTHER_CASTING_VOTE = "other casting vote"
+
 
 FOR_SECRETARY = {
     Kind.NO_BALLOT: "no elector has a ballot that counts; check that these are the ballots of this poll",
@@ -27,6 +29,10 @@ FOR_SECRETARY = {
     Kind.LATE_LETTER: (
         "the ballot of letter {letter} is late, but the letter arrived at {arrival}, before the end and the close; to count it run "
         "debvote-election reopen --in-time {envelopes} --because TEXT"
+    ),
+    Kind.LETTERS_LEFT: (
+        "these letters arrived in time, and wait: {letters}; set aside what is no ballot (debvote-election held NUMBER --set-aside); if "
+        "one is a ballot, run debvote-election reopen --because TEXT, and add the mailbox once more"
     ),
     Kind.OTHER_CASTING_VOTE: (
         "an earlier publication has a casting vote for {option}; only one can be right, so find out which was given"
@@ -41,6 +47,9 @@ FOR_READERS = {
     ),
     Kind.LATE_LETTER: marked(
         "A letter arrived at {arrival}, before the end and the close, and was entered late, so that its ballot does not count."
+    ),
+    Kind.LETTERS_LEFT: marked(
+        "Letters that arrived before the end and the close, and of which nobody has decided whether they are ballots: {number}."
     ),
     Kind.OTHER_CASTING_VOTE: marked("An earlier result of this vote was published with another casting vote, for {option}."),
 }

@@ -42,11 +42,6 @@ def new_code(name: str = "") -> str:
             return code
 
 
-def looks_like_code(text: str) -> bool:
-    """Whether a text is a code or an alias, also if it is typed with the gaps of a slip or in capitals."""
-    return CODE.fullmatch(re.sub(r"[\s-]", "", text).lower()) is not None
-
-
 def demand_no_code(name: str, data: bytes, codes: Collection[str], done: str) -> None:
     """Stops if a file for everybody would have the code of an elector: somebody may have given the list of codes as a text."""
     if codes and not {code.decode() for code in CODE_WITHIN.findall(data)}.isdisjoint(codes):

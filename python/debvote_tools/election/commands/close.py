@@ -14,7 +14,7 @@ from debvote_tools.election import acting
 from debvote_tools.election.election import LETTERS, Election, History, Sealed
 from debvote_tools.election.made_files import OWN, write_made
 from debvote_tools.election.reporting import act_time, count_of
-from debvote_tools.election.waiting import Arrived, waiting_letters
+from debvote_tools.election.waiting import Arrived, in_time, stopping, waiting_letters, why_they_stop
 from debvote_tools.election.publication import closing_letter
 from debvote_tools.faults import Fault, stop_at
 from debvote_tools.files import sha256_of
@@ -95,8 +95,7 @@ def what_is_closed(election: Election, sealed: Sealed, arguments: Arguments) -> 
     """What the act of the close keeps, and the acts that this was decided by. Stops at what stands against it."""
     history, now = election.history(), times.now()
     letters = waiting_letters(election, history)
-    in_time = [number for number, arrived in letters.items() if arrived is Arrived.IN_TIME]
-    counts = collections.Counter(letters.values())
+    left, stops, counts = in_time(letters), stopping(letters, history), collections.Counter(letters.values())
     faults, until = [], history.until
     is_early = until is not None and now < until
     if until is not None and is_early and not arguments.early:
@@ -104,15 +103,16 @@ def what_is_closed(election: Election, sealed: Sealed, arguments: Arguments) -> 
         words = f"the vote ends {times.time_in_words(until)}, and by the clock of this computer it is {here}"
         how = f"{election.command('close', '--early')} (the result page says so)"
         faults.append(Fault(None, words, f"close after that time, or now with {how}"))
-    if in_time and not (arguments.force and acting.has_reason(arguments.because)):
-        words = f"these letters arrived in time, and wait: {', '.join(map(str, in_time))}"
+    if stops and not (arguments.force and acting.has_reason(arguments.because)):
         look = f"look at them with {election.command('held')}"
         force = "or close anyway with --force --because TEXT (the result page says so)"
-        faults.append(Fault(None, words, f"add the mailbox once more, then {look}; {force}"))
+        faults.append(Fault(None, why_they_stop(stops), f"add the mailbox once more, then {look}; {force}"))
     stop_at(faults)
     detail = fixed(election, sealed)
-    detail.update({"waiting": len(in_time), "after_end": counts[Arrived.LATE], "before_call": counts[Arrived.BEFORE_THE_CALL]})
-    if in_time:
+    detail.update({"waiting": len(left), "after_end": counts[Arrived.LATE], "before_call": counts[Arrived.BEFORE_THE_CALL]})
+    if left:
+        detail["left"] = left
+    if stops:
         detail["because"] = acting.demand_reason(arguments.because, "--force")
     detail["early"] = is_early
     return detail, history

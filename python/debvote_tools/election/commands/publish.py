@@ -1,10 +1,11 @@
 """Make the folder of the result for a web site; without options, make the last one again."""
 
 import contextlib
+import dataclasses
 import itertools
 import os
 import pathlib
-from collections.abc import Iterator
+from collections.abc import Iterator, Sequence
 
 from debvote_tools import times
 from debvote_tools.arguments import flag, option, positional
@@ -18,11 +19,13 @@ from debvote_tools.election.election import LETTERS, RESULT, Election, History
 from debvote_tools.election.made_files import OWN, write_made
 from debvote_tools.election.publication import Words, detail_of, last_publication, publication_of
 from debvote_tools.election.reporting import act_time
+from debvote_tools.election.waiting import in_time, left, waiting_letters
 from debvote_tools.faults import Fault, Status
 from debvote_tools.files import locked
 from debvote_tools.language import LANGUAGES
 from debvote_tools.publish import result_folder
 from debvote_tools.publish.counting import Counted
+from debvote_tools.publish.doubts import Doubt, Kind
 from debvote_tools.publish.inputs import Publication, casting_vote_of, text_in
 from debvote_tools.publish.names import CHECKSUMS
 
@@ -82,10 +85,13 @@ def publish(election: Election, arguments: Arguments, target_folder: pathlib.Pat
     again = before if given == Words(is_forced=arguments.force) else None
     words = given if again is None else Words(**again.detail["words"])
     count.demand_option(sealed.public, words.casting)
-    publication = publication_of(election, words)
+    waiting = in_time(waiting_letters(election, history)) if history.is_closed else []
+    publication = with_letters_left(publication_of(election, words), waiting, history)
     agreed = [] if publication.secret is None else agreed_in_secret(history, publication, is_agreed=arguments.yes)
     with result_folder.made(publication, target_folder, election.program_folder) as made:
         detail = detail_of(words, made.checksums, made.doubts, decides=made.counted.sheet.is_by_casting)
+        if waiting:
+            detail["left"] = waiting
         is_new = before is None or dict(before.detail, agreed=agreed) != dict(detail, agreed=agreed)
         if again is not None and is_new and not arguments.force:
             raise would_differ(again)
@@ -119,6 +125,18 @@ def would_differ(last: DoneAct) -> Fault:
     why = "another version of a program makes it, or more was done since that the page tells"
     cure = "leave it as it is; or publish it once more, with a letter of its own: --force"
     return Fault(None, f"{words}: {why}", cure, Status.DOUBT, "nothing was published")
+
+
+def with_letters_left(publication: Publication, numbers: Sequence[int], history: History) -> Publication:
+    """The publication with a doubt about the letters that arrived in time and wait, but for those that the close tells. It stops unless
+    an earlier publication had it.
+    """
+    told = set(history.closes[-1].detail.get("left", [])) if history.closes else set[int]()
+    if not (found := [number for number in numbers if number not in told]):
+        return publication
+    places = {"number": len(found), "letters": ", ".join(map(str, found))}
+    doubt = Doubt(Kind.LETTERS_LEFT, places, stops=not left(history).issuperset(found))
+    return dataclasses.replace(publication, doubts=(*publication.doubts, doubt))
 
 
 @contextlib.contextmanager
