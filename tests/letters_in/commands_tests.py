@@ -430,10 +430,10 @@ class InTime(LettersTest):
         # a second close says it again, and stops for another letter alone
         self.done("reopen", "--because", "a bag was forgotten")
         self.done("close")
-        self.assertEqual(self.election("publish").status, 1)
-        self.assertEqual((self.folder / "result" / "index.html").read_text().count(said), 2)
+        self.assertEqual(self.election("publish", "result-2").status, 1)
+        self.assertEqual((self.folder / "result-2" / "index.html").read_text().count(said), 2)
         self.add(letter("fay", "hello"))
-        self.assert_fault(self.election("publish"), 9, "these letters arrived in time, and wait: 2;")
+        self.assert_fault(self.election("publish", "result-2"), 9, "these letters arrived in time, and wait: 2;")
 
     def test_what_arrived_later_stops_nothing(self) -> None:
         self.done("close")
