@@ -17,7 +17,7 @@ build: ## prove and build the program, crates/debvote/out/debvote
 	@tests/build
 
 check: ## prove the crate CRATE=..
-	@tests/modules/near.py crate "$(CRATE)" && cd "crates/$(CRATE)" && rt check
+	@tests/support/near.py crate "$(CRATE)" && cd "crates/$(CRATE)" && rt check
 
 test: ## run all tests that need no proof, in some minutes; with NAME=.. that test of the crates of tests alone
 	@if [ -n "$(NAME)" ]; then tests/one-test "$(NAME)"; else tests/quick; fi

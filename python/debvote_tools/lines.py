@@ -2,10 +2,10 @@
 
 A change is made only if the line can mean one thing: the byte-order mark at the start, carriage returns at line ends, spaces and tabs at
 either end, around commas and between name and ranks, capital letters of the name; and what mail programs and word processors put there:
-quotation marks around the line, asterisks for bold letters, a full stop at its end, semicolons for commas, a colon after the name,
-no-break spaces, and a dash in place of a hyphen. Of the cells of a table `csv_ballots.py` changes less: blanks at either end of each, line
-feeds within it, capital letters of the name and, if the call says so, an empty cell to a hyphen. Nothing else is changed, and nothing is
-guessed: no rank, no name, no order.
+quotation marks around the line, asterisks for bold letters, a full stop at its end, semicolons between all ranks in place of commas, a
+colon after the name, no-break spaces, and a dash in place of a hyphen. Of the cells of a table `csv_ballots.py` changes less: blanks at
+either end of each, line feeds within it, capital letters of the name and, if the call says so, an empty cell to a hyphen. Nothing else is
+changed, and nothing is guessed: no rank, no name, no order.
 """
 
 import codecs
@@ -145,8 +145,10 @@ def repaired(text: str) -> str:
         bare = FULL_STOP.sub("", unquoted(BOLD.sub(r"\2", bare)))
     bare = COLON.sub(r"\1 ", bare, count=1) if COLON.match(bare) else bare
     name, blank, ranks = bare.partition(" ")
-    cells = [cell.strip(" \t") for cell in ranks.replace(";", ",").split(",")]
-    if not any(cell in DASHES for cell in cells if cell) and ";" not in ranks:
+    # with both a comma may be that of a decimal
+    delimiter = "," if "," in ranks else ";"
+    cells = [cell.strip(" \t") for cell in ranks.split(delimiter)]
+    if delimiter == "," and not any(cell in DASHES for cell in cells if cell):
         return bare
     return name + blank + ",".join("-" if cell and cell in DASHES else cell for cell in cells)
 

@@ -236,6 +236,107 @@ class NoBallots(CalledTest):
         self.assert_stops(self.election("add", "one", "two"), before, 9, "one: debvote takes none of the 2 lines ")
 
 
+class OtherOrder(CalledTest):
+    """Ranks that may stand in another order than the options: without `--force` nothing is entered."""
+
+    ROWS = "ada 1,2,4,3\nben 1,2,4,3\ncleo 2,1,4,3\n"
+
+    def assert_named(self, head: str, place: str = "line 1") -> None:
+        """The line is named, in the words of debvote explain."""
+        with self.subTest(head=head):
+            words = f"wrong: {place} names options of the poll in another order than the poll has them: the ranks below it may stand in that order"
+            self.write("wrong", head + self.ROWS)
+            for asked in ((), ("--look",)):
+                ended = self.election("add", *asked, "wrong")
+                self.assert_stops(
+                    ended, self.last_act(), 9, f"{words}; nothing was added: ", f"take {place} out; if they do not, add it anyway"
+                )
+
+    def test_a_line_that_names_options_in_another_order(self) -> None:
+        self.assert_named("Name,In the town hall,At the lake,Further discussion,Sell the house and meet there\n")
+        self.assert_named("name in the TOWN hall, at the lake\n")
+        self.assert_named("\ufeff# further discussion;sell the house and meet there\r\n")
+        self.assert_named("\tFurther discussion\tAt  the lake\n")
+        self.assert_named("ada 1,2,4,3\n\nDear all, In the town hall is better than At the lake.\n", "line 3")
+        self.told("add", "--force", "wrong")
+        self.assertEqual(len(self.lines()), 5)
+
+    def test_lines_that_name_options_in_the_order_of_the_poll(self) -> None:
+        for head in (
+            "Name,At the lake,In the town hall,Sell the house and meet there,Further discussion\n",
+            "name At the lake, Further discussion\n",
+            "In the town hall, and once more In the town hall\n",
+            # parts of other words
+            "Further discussions are not At the lakeside\n",
+            "Lake, hall\n",
+        ):
+            with self.subTest(head=head):
+                self.assertIn("These would be 4 lines (1 bad shape, 3 counted)", self.told("add", "--look", given=head + self.ROWS))
+
+    def test_lines_of_a_table(self) -> None:
+        words = "wrong: the lines look like a table; its columns may stand in another order than the options; nothing was added: "
+        for sign in (";", "\t", "|", "; ", "\u00b7", ":"):
+            with self.subTest(sign=sign):
+                rows = "".join(f"{name}{sign}1{sign}2{sign}-{sign}3\n" for name in ("ada", "Ben", "nobody"))
+                self.write("wrong", rows)
+                ended = self.election("add", "wrong")
+                self.assert_stops(
+                    ended, self.last_act(), 9, words, "--csv --name COLUMN --ranks COLUMN,COLUMN,.., or add it anyway with --force"
+                )
+        self.write("wrong", '\ufeff"ada";"1";"";"3";"2"\r\n\r\n')
+        self.assert_stops(self.election("add", "wrong"), self.last_act(), 9, words)
+        self.told("add", "--force", "wrong")
+        # a comma, a space, two signs, words: few of them are ballots
+        for rows in (
+            "ada,1,2,3,4\nben,1,2,3,4\n",
+            "ada 1 2 3 4\nben 1 2 3 4\n",
+            "ada;1;2;3;4\nben|1|2|3|4\n",
+            "ada;1;2;3;4\nben;1;2;3;x\n",
+        ):
+            self.write("wrong", rows)
+            self.assert_stops(
+                self.election("add", "wrong"), self.last_act(), 9, "wrong: debvote takes none of the 2 lines as ballots"
+            )
+
+    def test_semicolons_between_ranks_are_commas(self) -> None:
+        self.told("add", given="ada 1;2;4;3\nben 1; 2 ;4; 3\ncleo 1, 2, 4, 3\ndan 1;2,4;3\n")
+        self.assertEqual(self.lines(), ["ada 1,2,4,3", "ben 1,2,4,3", "cleo 1,2,4,3", "dan 1;2,4;3"])
+
+    def test_a_table_whose_times_contradict_the_order(self) -> None:
+        self.write("form", "When,n,a,b,c,d\n2026-11-23 10:00,ada,1,2,4,3\n2026-11-22 10:00,ada,2,1,4,3\n")
+        table = ("--csv", "--name=n", "--ranks=a,b,c,d")
+        for words in (("--oldest-first",), ("--oldest-first", "--force"), ("--oldest-first", "--look")):
+            ended = self.election("add", *table, *words, "form")
+            self.assert_stops(
+                ended, self.last_act(), 2, "form: the times of the column `When` are ", ", against --oldest-first; nothing was "
+            )
+        self.told("add", *table, "--newest-first", "form")
+        self.assertEqual(self.lines(), ["ada 2,1,4,3", "ada 1,2,4,3"])
+
+    def test_a_table_whose_columns_are_in_another_order(self) -> None:
+        self.write("form", "n,At the lake,In the town hall,Sell,Further discussion\nada,1,2,4,3\n")
+        for words in ((), ("--force",), ("--look",)):
+            ended = self.election(
+                "add", "--csv", "--name=n", "--ranks=In the town hall,At the lake,Sell,Further discussion", *words, "form"
+            )
+            self.assert_stops(ended, self.last_act(), 2, "--ranks: `In the town hall` stands in the place of option 1 At the lake")
+        self.told("add", "--csv", "--name=n", "--ranks=At the lake,In the town hall,Sell,Further discussion", "form")
+        self.assertEqual(self.lines(), ["ada 1,2,4,3"])
+
+
+class ShortNames(CalledTest):
+    """Options whose names are letters, or like ranks: a ballot names none of these."""
+
+    poll = support.POLL.replace("At the lake", "B").replace("In the town hall", "2").replace("Sell the house and meet there", "1")
+
+    def test_ranks_are_no_names(self) -> None:
+        self.assertIn(
+            "Added 3 lines (2 counted, 1 bad rank count).\n", self.told("add", given="ada 2,1,4,3\nben 2,1\ncleo 1,2,3,4\n")
+        )
+        ended = self.election("add", given="further discussion b\nada 2,1,4,3\ncleo 1,2,4,3\n")
+        self.assertIn("standard input: line 1 names options of the poll in another order", ended.faults)
+
+
 class Changed(CalledTest):
     def test_each_change_is_told(self) -> None:
         came = b"\xef\xbb\xbfada 1,2,4,3\r\n Ben\t 2, 1 ,4,3 \r\n\r\ncleo 1,2,4,3\rdan  1,2,4,3"

@@ -16,7 +16,7 @@ import unittest
 import unittest.mock
 from collections.abc import Sequence
 
-from at_browser import BROWSER, Window
+from tests.support.at_browser import BROWSER, Window
 
 sys.path.insert(0, str(pathlib.Path(__file__).resolve().parents[2] / "python"))
 

@@ -3,8 +3,8 @@
 import unittest
 import urllib.parse
 
-from at_browser import BROWSER, Window
 from call_page_tests import POLL, CallFolder
+from tests.support.at_browser import BROWSER, Window
 
 ADDRESS = "vote@club.example"
 

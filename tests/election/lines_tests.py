@@ -24,6 +24,7 @@ class Changes(unittest.TestCase):
             b"Ada : 1,2": b"ada 1,2",
             b"ada 1;2": b"ada 1,2",
             b"ada 1; 2;3": b"ada 1,2,3",
+            b"ada 1 ;\t2 ; -": b"ada 1,2,-",
             b'"ada 1,2"': b"ada 1,2",
             b"'ada 1,2.'": b"ada 1,2",
             b'"ada 1,2".': b"ada 1,2",
@@ -60,6 +61,10 @@ class Changes(unittest.TestCase):
             b"\xff 1,2",
             b"ada 1,2,",
             b"ada 1,,2",
+            # half a point, or two ranks
+            b"ada 1;2,5;3",
+            b"ada 1,5; 2",
+            b"ada;1;2",
         ):
             self.assertEqual(changed(came), came)
 

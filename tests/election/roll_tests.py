@@ -72,6 +72,13 @@ class Roll(RollTest):
         self.assertEqual(ended.status, 0)
         self.assertIn("several electors have the address home@club.example: ada, ben", ended.output)
 
+    def test_several_people_in_one_cell_are_told(self) -> None:
+        rows = ("Eve & Dan,e@club.example", "Fay und Gus Meier,", "Hal/Ida,", "Jan+Kim,", "Marie et Luc,", "Andrea Undset,", '"Meier, Anna",', "A-B,")
+        ended = self.roll(*rows)
+        self.assertEqual(ended.status, 0, ended)
+        people = "eve-dan (Eve & Dan), fay-und-gus-meier (Fay und Gus Meier), hal-ida (Hal/Ida), jan-kim (Jan+Kim), marie-et-luc (Marie et Luc)"
+        self.assertIn(f"Note: these look like several people, who have one ballot together: {people}. Give each a line of their own.\n", ended.output)
+
     def test_again_is_no_act(self) -> None:
         before = self.done("log").output
         self.done("roll")
@@ -169,11 +176,22 @@ class Check(RollTest):
             ended = self.check(support.POLL.replace("At the lake", one).replace("In the town hall", other))
             self.assertEqual(ended.status, 3, (one, other, ended))
 
-    def test_no_toml(self) -> None:
-        ended = self.check("title = \n")
-        self.assertEqual(ended.status, 3, ended)
-        self.assertIn("poll:1:", ended.output)
-        self.assertIn("can't be read as TOML", ended.faults)
+    def test_of_what_is_no_toml_debvote_says_why_and_nobody_else(self) -> None:
+        polls = ["title = \n", 'title = "a\n', 'options = ["a", \u201cb\u201d]\n', "ada 1,2,3\n", "a = 1\na = 2\n", "a = " + "[" * 9000]
+        for poll in polls:
+            with self.subTest(poll=poll[:40]):
+                ended = self.check(poll)
+                said = self.run_program(support.PROGRAM, "explain", "--poll", "poll.toml", cwd=self.folder)
+                self.assertEqual((ended.status, said.status), (3, 3))
+                self.assertTrue(said.output)
+                self.assertEqual(ended.output, said.output)
+                words = "poll.toml: it can't be read as TOML, as said above; put it right with an editor, then run debvote-election check"
+                self.assertEqual(ended.faults, f"debvote-election: {words}\n")
+
+    def test_a_newer_toml_than_python_reads(self) -> None:
+        ended = self.check(support.POLL + "a = {b = 1,\n}\n")
+        self.assertEqual((ended.status, ended.output), (3, ""))
+        self.assertIn("poll.toml: it can't be read as TOML 1.0: ", ended.faults)
 
     def test_secret(self) -> None:
         self.assertIn("Next: debvote-election codes", self.check(support.POLL + "secret = true\n").output)

@@ -10,7 +10,7 @@ import unittest
 from collections.abc import Sequence
 from dataclasses import dataclass
 
-import forks
+from tests.support import forks
 
 from debvote_tools.book.book import open_book
 from debvote_tools.book.machine_note import Note

@@ -10,6 +10,9 @@ import time
 
 import support
 
+# words that have not come by then do not come
+SECONDS = 20
+
 
 class Terminal:
     """debvote-election at its own terminal, where a test types; without arguments it is a desk."""
@@ -33,7 +36,7 @@ class Terminal:
 
     def until(self, words: str) -> str:
         """The text of the terminal up to these words, from the end of the last call."""
-        end = time.monotonic() + support.SECONDS
+        end = time.monotonic() + SECONDS
         while words not in self.text:
             ready, _, _ = select.select([self.keys], [], [], max(0, end - time.monotonic()))
             self.test.assertTrue(ready, f"waits for {words!r}, has {self.text!r}")

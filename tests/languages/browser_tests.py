@@ -7,9 +7,9 @@ import sys
 import unittest
 import urllib.parse
 
-import at_browser
 import support
 from support import ELECTORS
+from tests.support import at_browser
 
 sys.path.insert(0, str(support.ROOT / "python"))
 

@@ -9,8 +9,8 @@ import sys
 import tempfile
 import unittest
 
-import forks
-import sentences
+from tests.support import forks, sentences
+
 from debvote_tools.language import catalog_of, language_of
 
 ROOT = pathlib.Path(__file__).resolve().parents[2]

@@ -9,8 +9,8 @@ import subprocess
 import sys
 import unittest
 
-import sentences
 import support
+from tests.support import sentences
 
 sys.path.insert(0, str(support.ROOT / "python"))
 

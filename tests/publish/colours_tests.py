@@ -6,8 +6,8 @@
 import re
 
 import browser
-import expecting
 import support
+from tests.support import expecting
 
 STYLES = sorted((support.ROOT / "python" / "debvote_tools").rglob("*.css"))
 

@@ -26,11 +26,11 @@ import sys
 import tempfile
 import tomllib
 
-import forks
 import page as pages
 import reference
 import reference_checks
 import support
+from tests.support import forks
 
 PROGRAM, PUBLISH, SECONDS = support.PROGRAM, support.PUBLISH, support.SECONDS
 

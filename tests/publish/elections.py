@@ -2,8 +2,8 @@
 
 import json
 
-import case_tables
 import support
+from tests.support import case_tables
 
 # cases of the tables in tests/cases/
 CASES = [

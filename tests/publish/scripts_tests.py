@@ -10,9 +10,9 @@ import re
 import sys
 import unittest
 
-import at_browser
 import support
 from support import FILES, plain_room, publish
+from tests.support import at_browser
 
 sys.path.append(str(support.ROOT / "python"))
 

@@ -8,8 +8,7 @@ import subprocess
 import sys
 import tempfile
 
-import expecting
-import forks
+from tests.support import expecting, forks
 
 ROOT = pathlib.Path(__file__).resolve().parent.parent.parent
 PROGRAM = pathlib.Path(os.environ.get("DEBVOTE", ROOT / "crates" / "debvote" / "out" / "debvote"))

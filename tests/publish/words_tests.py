@@ -4,8 +4,8 @@ import dataclasses
 import datetime
 import sys
 
-import expecting
 import support
+from tests.support import expecting
 
 sys.path.append(str(support.ROOT / "python"))
 

@@ -8,8 +8,8 @@ import sys
 import tempfile
 import unittest
 
-import case_tables
-from case_tables import Row
+from tests.support import case_tables
+from tests.support.case_tables import Row
 
 ROOT = pathlib.Path(__file__).resolve().parent.parent.parent
 
@@ -49,7 +49,8 @@ class TablesTest(unittest.TestCase):
         self.assertRaises(TypeError, case_tables.read_table, self.file)
 
     def test_a_case_that_is_not_answered_fails_until_it_is_accepted(self) -> None:
-        shutil.copytree(ROOT / "tests" / "modules", self.room / "tests" / "modules", ignore=shutil.ignore_patterns("__pycache__"))
+        shutil.copytree(ROOT / "tests" / "support", self.room / "tests" / "support", ignore=shutil.ignore_patterns("__pycache__"))
+        shutil.copy(ROOT / "tests" / "__init__.py", self.room / "tests")
         cases = self.room / "tests" / "cases"
         cases.mkdir()
         (self.room / "examples").mkdir()

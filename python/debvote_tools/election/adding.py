@@ -16,12 +16,14 @@ from debvote_tools.console import tell, tell_many
 from debvote_tools.election import acting, in_time
 from debvote_tools.election.vote import LATE_REPLY, JudgedLine, Vote, summary
 from debvote_tools.election.came import NOTHING_ADDED, CameFile, FileLines, sorted_out
+from debvote_tools.election.column_order import OptionNames, are_table
 from debvote_tools.election.csv_ballots import Columns, lines_of_table
 from debvote_tools.election.election import Election, History
 from debvote_tools.election.entering import entered, too_long
 from debvote_tools.election.reporting import count_of
 from debvote_tools.faults import Fault, Status, stop_at
 from debvote_tools.lines import MARK, lines_in
+from debvote_tools.sealed_poll import read_plain
 from debvote_tools.terminal_text import shown_line
 
 FORCE = "add it anyway with --force"
@@ -84,7 +86,13 @@ def doubt(where: object, words: str, cure: str) -> Fault:
 
 
 def read_lines(vote: Vote, files: Sequence[CameFile], columns: Columns | None, arguments: Arguments) -> list[FileLines]:
-    lists = [lines_in(file.data, file.name) if columns is None else lines_of_table(file.data, file.name, columns) for file in files]
+    is_newest_first = arguments.newest_first if arguments.newest_first or arguments.oldest_first else None
+    lists = [
+        lines_in(file.data, file.name)
+        if columns is None
+        else lines_of_table(file.data, file.name, columns, is_newest_first=is_newest_first)
+        for file in files
+    ]
     what = "it has only empty lines" if columns is None else "it has no row with a ballot"
     empty = [file for file, lines in zip(files, lists) if all(line.is_empty for line in lines)]
     stop_at([doubt(file.name, what, "write one ballot on each line") for file in empty])
@@ -131,7 +139,15 @@ def doubts(vote: Vote, plan: Plan, arguments: Arguments) -> Iterator[Fault]:
         long_lines = ((line.line.where, why) for line in file.new if (why := too_long(line.line)))
         for where, why in itertools.islice(long_lines, 1):
             yield doubt(where, why, f"take the line out if it is not a ballot, or {FORCE}")
-    yield from few_ballots(vote, [file for file in plan.files if file.new], arguments)
+    with_new_lines = [file for file in plan.files if file.new]
+    tables = [] if arguments.csv else [file for file in with_new_lines if is_table(file)]
+    for file in tables:
+        words = "the lines look like a table; its columns may stand in another order than the options"
+        cure = "write a header line above them, and add the file with --csv --name COLUMN --ranks COLUMN,COLUMN,.."
+        yield doubt(file.came.name, words, f"{cure}, or {FORCE}")
+    if not arguments.csv:
+        yield from under_other_names(vote, with_new_lines)
+    yield from few_ballots(vote, [file for file in with_new_lines if file not in tables], arguments)
     for file in plan.files:
         if not is_unsorted and (pair := new_one_above(file)):
             words = (
@@ -142,6 +158,21 @@ def doubts(vote: Vote, plan: Plan, arguments: Arguments) -> Iterator[Fault]:
         words = "the call does not say that an empty cell counts as a hyphen, so electors may have meant something else"
         cure = f"ask the electors whose rows have empty cells; if they knew it from elsewhere, {FORCE}"
         yield doubt("--blank-is-unranked", words, cure)
+
+
+def is_table(file: FileLines) -> bool:
+    return not any(line.is_ballot for line in file.lines) and are_table([line.line.unframed for line in file.lines])
+
+
+def under_other_names(vote: Vote, files: Sequence[FileLines]) -> Iterator[Fault]:
+    """A fault for each file with a line that names options in another order, so that the ranks may stand in it, too."""
+    options = OptionNames(read_plain(vote.poll_bytes))
+    for file in files:
+        refused = (line for line in file.lines if not line.is_ballot)
+        for line in itertools.islice((line for line in refused if options.are_in_another_order(line.line.unframed)), 1):
+            words = f"{place_in(line)} names options of the poll in another order than the poll has them"
+            cure = f"if they do, put them into the order of the poll, and take {place_in(line)} out; if they do not, {FORCE}"
+            yield doubt(file.came.name, f"{words}: the ranks below it may stand in that order", cure)
 
 
 def of_unknown_order(file: FileLines) -> tuple[JudgedLine, JudgedLine] | None:

@@ -1,26 +1,35 @@
 """The rows of a web form, as a spreadsheet or the form saves them: a row is a ballot, with one column a rank."""
 
+import collections
 import csv
 import re
 from collections.abc import Collection, Sequence
 from typing import NamedTuple
 
-from debvote_tools.ballots import UNRANKED
-from debvote_tools.election.csv_tables import head_form, read_table
+from debvote_tools.ballots import NUMBERS, UNRANKED
 from debvote_tools.election.came import NOTHING_ADDED
+from debvote_tools.election.column_order import OptionNames, counts_choices, in_other_place
+from debvote_tools.election.csv_tables import Table, head_form, read_table
+from debvote_tools.election.csv_times import against_order
 from debvote_tools.faults import Fault, Status
 from debvote_tools.lines import BLANKS, Line
+from debvote_tools.sealed_poll import SealedPoll
+from debvote_tools.terminal_text import shown_text
+
+OF_CHOICES = "such a table has the options in each row by preference, and a ballot has a rank for each option"
+TO_RANKS = "make a column for each option, with its rank in each row, and name these columns"
 
 
 class Columns(NamedTuple):
     """The heads of the columns that are read: that of the names, then that of each rank in the order of the options."""
 
     heads: list[str]
+    options: OptionNames
     # whether an empty cell is an option that is not ranked
     is_blank_unranked: bool = False
 
 
-def columns_of(name: str, ranks: str, options: Sequence[str], roll: Collection[str], *, is_blank_unranked: bool = False) -> Columns:
+def columns_of(name: str, ranks: str, poll: SealedPoll, roll: Collection[str], *, is_blank_unranked: bool = False) -> Columns:
     """The columns that the command line names. A head that has a comma is in quotation marks."""
     try:
         heads = [head.strip() for head in (name, *next(csv.reader([ranks], strict=True, skipinitialspace=True), []))]
@@ -30,15 +39,25 @@ def columns_of(name: str, ranks: str, options: Sequence[str], roll: Collection[s
     if head_form(name) in roll:
         reason = f"`{heads[0]}` is an elector, so the table seems to have no header line"
         raise bad_columns("--name", reason, "write a header line above the rows, and name the column by its header")
-    if len(heads) != 1 + len(options):
-        listed = ", ".join(f"{number} {option}" for number, option in enumerate(options, start=1))
-        reason = f"it names {len(heads) - 1} columns, and the poll has {len(options)} options with the default: {listed}"
+    numbered = [f"{number} {option}" for number, option in enumerate(poll.names, start=1)]
+    if len(heads) != 1 + len(numbered):
+        reason = (
+            f"it names {len(heads) - 1} columns, and the poll has {len(numbered)} options with the default: {', '.join(numbered)}"
+        )
         raise bad_columns("--ranks", reason, "name a column for each, in this order")
     forms = [head_form(head) for head in heads]
     for head, form in zip(heads, forms):
         if forms.count(form) > 1:
             raise bad_columns("--name, --ranks", f"the column `{head}` is named twice", "name each column once")
-    return Columns(heads, is_blank_unranked)
+    options = OptionNames(poll)
+    for place, head in enumerate(heads[1:], start=1):
+        if counts_choices(head) and options.option_of(head) != place:
+            raise bad_columns("--ranks", f"`{head}` counts choices; {OF_CHOICES}", TO_RANKS)
+    if found := in_other_place(options, heads[1:]):
+        place, other = found
+        reason = f"`{heads[place]}` stands in the place of option {numbered[place - 1]}, and names option {numbered[other - 1]}"
+        raise bad_columns("--ranks", reason, f"name the columns in the order of the options: {', '.join(numbered)}")
+    return Columns(heads, options, is_blank_unranked)
 
 
 def bad_columns(where: str, reason: str, cure: str) -> Fault:
@@ -49,8 +68,11 @@ def bad_table(where: object, reason: str, cure: str) -> Fault:
     return Fault(where, reason, cure, Status.BAD_BALLOTS, NOTHING_ADDED)
 
 
-def lines_of_table(data: bytes, file_name: str, columns: Columns) -> list[Line]:
-    """The lines that the rows of a table make. Each cell is repaired by itself, so that none becomes a part of another."""
+def lines_of_table(data: bytes, file_name: str, columns: Columns, *, is_newest_first: bool | None = None) -> list[Line]:
+    """The lines that the rows of a table make. Each cell is repaired by itself, so that none becomes a part of another.
+
+    If it is known how the rows are sorted, the times in the table must not say otherwise.
+    """
     table = read_table(data, columns.heads, file_name, bad_table)
     heads, width = table.heads, len(table.head.cells)
     indices, lines = [], []
@@ -76,7 +98,21 @@ def lines_of_table(data: bytes, file_name: str, columns: Columns) -> list[Line]:
             ranks = [rank or UNRANKED.encode() for rank in ranks]
         came = line_from(cells)
         lines.append(Line(file_name, place, came, re.sub(rb"[\r\n]+", b" ", came), line_from([elector.lower(), *ranks])))
+    demand_ranks(table, indices[1:], columns.options, file_name)
+    if is_newest_first is not None and (contradiction := against_order(table, is_newest_first=is_newest_first)):
+        option = "--newest-first" if is_newest_first else "--oldest-first"
+        cure = "give the option that is right, or sort the rows by time, and add the file again"
+        raise bad_columns(file_name, f"{contradiction}, against {option}", cure)
     return lines
+
+
+def demand_ranks(table: Table, indices: Sequence[int], options: OptionNames, file_name: str) -> None:
+    """Stops if most of the cells in which ranks should be are names of options."""
+    counts = collections.Counter(row.cells[index].strip() for row in table.rows for index in indices)
+    del counts[""]
+    named = [cell for cell in counts if cell not in NUMBERS and options.option_of(cell)]
+    if sum(map(counts.__getitem__, named)) * 2 > counts.total():
+        raise bad_table(file_name, f"most cells are names of options, like `{shown_text(named[0])}`; {OF_CHOICES}", TO_RANKS)
 
 
 def line_from(cells: Sequence[bytes]) -> bytes:

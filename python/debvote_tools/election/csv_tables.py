@@ -44,6 +44,7 @@ class Table(NamedTuple):
 
     head: Row
     rows: list[Row]
+    delimiter: str
 
     @property
     def heads(self) -> list[str]:
@@ -95,7 +96,7 @@ def read_table(
         raise bad_table(f"{file}:{line}", reason, cure) from None
     if head is None:
         raise bad_table(file, "it is empty", "write the header line, and a line for each row")
-    return Table(head, rows)
+    return Table(head, rows, delimiter)
 
 
 def decoded(data: bytes, file: object, bad_table: BadTable) -> str:
@@ -111,6 +112,6 @@ def decoded(data: bytes, file: object, bad_table: BadTable) -> str:
     except UnicodeDecodeError as error:
         if is_utf_16:
             raise bad_table(file, "it begins as text in UTF-16, but the rest is not", SAVE_AS) from None
-        feeds = error.object.count(b"\n", 0, error.start)
-        seen = shown_text(error.object.split(b"\n")[feeds].decode("cp1252", "replace"))
-        raise bad_table(f"{file}:{feeds + 1}", f"it is not in UTF-8, but perhaps in Latin-1: {seen}", SAVE_AS) from None
+        ends = len(re.findall(rb"\r\n?|\n", error.object[: error.start]))
+        seen = shown_text(re.split(rb"\r\n?|\n", error.object)[ends].decode("cp1252", "replace"))
+        raise bad_table(f"{file}:{ends + 1}", f"it is not in UTF-8, but perhaps in Latin-1: {seen}", SAVE_AS) from None

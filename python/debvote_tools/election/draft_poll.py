@@ -23,8 +23,6 @@ from debvote_tools.terminal_text import LINE_ENDS, shown_text
 # the file that `new` writes, with its explanations
 NEW_POLL = pathlib.Path(__file__).with_name("new_poll.toml")
 
-DRAFT_KEYS = ("title", "options", "ratios", "default", "quorum", "wording", "secret")
-
 # in bytes, of all texts together
 TEXTS_LIMIT = 524_288
 
@@ -35,7 +33,7 @@ OF_EDITORS = re.compile(r"\..*|.*~|#.*#")
 # what follows each cure
 THEN = ", then run debvote-election check"
 
-# how a key is set that is not the secretary's
+# how a key of a sealed poll is set that is not the secretary's; all others are
 SET_ELSEWHERE = {
     "roll": "roll reads the electors from members.csv",
     "last_envelope": "close ends the vote",
@@ -45,6 +43,10 @@ SET_ELSEWHERE = {
     "shown_options": "write `options` and `default` in any language",
     "explanations": "write the text of option 1 into texts/1.txt, and so on",
 }
+DRAFT_KEYS = tuple(key for key in KEYS if key not in SET_ELSEWHERE)
+
+# how `debvote explain` begins a line if it has read the poll as TOML
+IS_TOML = re.compile(r"(?m)^poll(?:: | ok)")
 
 RANK = "(?:-|[1-9][0-9]?)"
 # how accents may be taken off a name in a letter, and how long a real name may be, in characters
@@ -221,10 +223,12 @@ def checked_poll(election: Election, *, deadline: str | None = None, address: st
     try:
         draft = draft_in(election.folder)
     except Fault as fault:
-        if fault.status == Status.BAD_POLL:
-            # of what is no TOML debvote names line and column
-            tell_as_it_is(election.debvote.run("explain", "--poll", POLL_FILE).text)
-        raise
+        said = election.debvote.run("explain", "--poll", POLL_FILE).text if fault.status == Status.BAD_POLL else ""
+        # debvote reads a newer TOML than Python does
+        if not said or IS_TOML.search(said):
+            raise
+        tell_as_it_is(said)
+        raise bad_poll(election.path(POLL_FILE), "it can't be read as TOML, as said above", "put it right with an editor") from None
     electors, language = queries.electors(election.book), election.language.code
     roll = [elector.name for elector in electors]
     people = [*roll, *(elector.who for elector in electors if elector.who)]

@@ -32,6 +32,15 @@ FINGERPRINT = re.compile(r"[0-9A-F]{40}")
 IN_BRACKETS = re.compile(r"<([^<>]*)>")
 BETWEEN_ADDRESSES = re.compile(r"[\s,;]+")
 
+# the first cell of a row below the members, which a spreadsheet has summed up
+SUM = re.compile(r"(?:(?:grand |sub)?totale?s?|sum|(?:gesamt|zwischen)?summe|gesamt|insgesamt|anzahl|somme|suma)[ :=]*[\d.,]*")
+
+# `Eve & Dan`, `Eve und Dan`, `Eve/Dan`
+SEVERAL_PEOPLE = re.compile(r"\w ?[&+/] ?\w|\w (?:and|und|et) \w", re.IGNORECASE)
+
+# what programs write where they lost a character
+LOST = "\ufffd"
+
 # in electors
 ROLL_LIMIT = 10_000
 
@@ -113,7 +122,8 @@ def members_of(data: bytes, file: object = "members.csv") -> Members:
     for row in table.rows:
         if not row.is_blank:
             members.append(member_of(row, indices))
-            faults += [bad_list(file, *fault, row.line) for fault in faults_of_row(row, members[-1], width)]
+            found = faults_of_row(row, members[-1], width, table.delimiter)
+            faults += [bad_list(file, *fault, row.line) for fault in found]
     if not members:
         faults.append(bad_list(file, "there is nobody on it", "write a line for each member below the header line"))
     return Members(file, tuple(members), tuple(faults))
@@ -132,7 +142,18 @@ def member_of(row: Row, indices: dict[str, int]) -> Member:
     return Member(row.line, cells.get("name", ""), cells["who"], tuple(each_once), key)
 
 
-def faults_of_row(row: Row, member: Member, width: int) -> Iterator[tuple[str, str]]:
+def faults_of_row(row: Row, member: Member, width: int, delimiter: str) -> Iterator[tuple[str, str]]:
+    first = next(cell for cell in map(str.strip, row.cells) if cell)
+    if SUM.fullmatch(first.casefold()) and not any(map(ADDRESS.fullmatch, member.addresses)):
+        yield f"`{shown_text(first)}` is a sum and no member", "take the line out"
+        return
+    for cell in (member.who, member.name, member.key):
+        if delimiter == "," and ";" in cell:
+            reason = f"`{shown_text(cell)}` has a semicolon, and the header line has commas between its cells"
+            yield reason, "put a comma between the cells of this line too, or take the semicolon out"
+    for cell in (member.who, member.name, *member.addresses):
+        if LOST in cell:
+            yield f"`{shown_text(cell)}` has lost a character when it was saved (U+FFFD)", "write the character again"
     if beyond := row.cells_after(width):
         reason = f"`{shown_text(beyond[0])}` is after the last column of the header line"
         yield reason, "put quotation marks around a cell that contains the delimiter"
@@ -177,6 +198,11 @@ class Roll(NamedTuple):
         """The electors of each address that several have."""
         pairs = [(key, elector) for elector in self.electors for key in dict.fromkeys(map(address_key, elector.addresses))]
         return {group[0][0]: [elector for _, elector in group] for group in several(pairs, lambda pair: pair[0])}
+
+    @property
+    def seeming_several(self) -> list[Member]:
+        """The electors whose real name seems to be those of several people."""
+        return [elector for elector in self.electors if SEVERAL_PEOPLE.search(elector.who)]
 
     @property
     def alike_people(self) -> list[list[Member]]:

@@ -12,6 +12,7 @@ from debvote_tools.election.came import HYPHEN, NOTHING_ADDED, CameFile
 from debvote_tools.election.csv_ballots import columns_of
 from debvote_tools.election.election import Election
 from debvote_tools.faults import Fault, Status
+from debvote_tools.sealed_poll import read_plain
 
 
 def run(election: Election, arguments: Arguments) -> None:
@@ -47,8 +48,8 @@ def demand_words(arguments: Arguments) -> None:
 def take_lines(election: Election, vote: Vote, came_files: Sequence[CameFile], arguments: Arguments) -> None:
     columns = None
     if arguments.name is not None and arguments.ranks is not None:
-        blank, names = arguments.blank_is_unranked, vote.names_on_roll
-        columns = columns_of(arguments.name, arguments.ranks, vote.option_names, names, is_blank_unranked=blank)
+        blank, names, poll = arguments.blank_is_unranked, vote.names_on_roll, read_plain(vote.poll_bytes)
+        columns = columns_of(arguments.name, arguments.ranks, poll, names, is_blank_unranked=blank)
     files = adding.read_lines(vote, came_files, columns, arguments)
     if arguments.look:
         adding.look(election, vote, files, arguments)

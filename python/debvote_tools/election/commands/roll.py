@@ -94,11 +94,19 @@ def report(roll: Roll, *, has_all: bool) -> None:
         tell(f"Note: several electors have the address {address}: {names_of(sharing)}. Is that one person?")
     for group in roll.alike_people:
         tell(f"Note: these real names look alike: {names_of(group)}. Is that one person?")
+    if couples := roll.seeming_several:
+        tell(
+            f"Note: these look like several people, who have one ballot together: {named(couples)}. Give each a line of their own."
+        )
     if without := [elector for elector in electors if not elector.addresses]:
         tell(f"Without an address (letters in their names wait, letters to them are printed): {names_of(without)}")
     if unusual := [elector for elector in electors if elector.addresses and not any(map(is_mail_address, elector.addresses))]:
         tell(f"Without an address that every mail server takes (letters to them are printed): {names_of(unusual)}")
     tell(*(f"No longer on the list: {gone.name} ({shown_text(gone.who)})" for gone in roll.gone))
+
+
+def named(electors: Sequence[Member]) -> str:
+    return listed([elector.label for elector in electors], MAX_SHOWN)
 
 
 def names_of(electors: Sequence[Member]) -> str:

@@ -19,7 +19,7 @@ import unittest
 from collections.abc import Callable, Iterator, Sequence
 from dataclasses import dataclass, field
 
-import forks
+from tests.support import forks
 
 # a class that has not ended after this many seconds hangs; on a quiet machine the longest takes half a minute
 LIMIT = 3_600

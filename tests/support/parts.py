@@ -21,7 +21,7 @@ COUNT_OF_TRY = re.compile(r"test result: \w+\. (\d+) passed; (\d+) failed;.*")
 
 def environment_of_try() -> dict[str, str]:
     """The environment in which tests run `rt try`: without hints on names, and with half of the processor."""
-    return {**os.environ, "PATH": os.pathsep.join([str(ROOT / "tests" / "modules" / "without-hint"), os.environ["PATH"]])}
+    return {**os.environ, "PATH": os.pathsep.join([str(ROOT / "tests" / "support" / "without-hint"), os.environ["PATH"]])}
 
 
 @dataclasses.dataclass(frozen=True)
