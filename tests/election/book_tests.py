@@ -624,7 +624,7 @@ class OnTheDisk(BookTest):
         self.assertFalse((self.folder / "letters" / "closed.txt").exists())
 
     def test_a_note_goes_only_forward(self) -> None:
-        note = machine_note.MachineNote("a machine", self.book, "a book")
+        note = machine_note.MachineNote("a machine", self.book)
         note.folder = self.scratch / "notes"
         note.file, note.next = note.folder / "note", note.folder / "note.next"
         for act, is_moved, stands in ((3, False, 3), (5, False, 5), (4, False, 5), (4, True, 4), (10**19, False, 10**19)):

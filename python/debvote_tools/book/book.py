@@ -229,7 +229,7 @@ class Book:
         return machine_of(salt)
 
     def note(self) -> MachineNote:
-        return MachineNote(self.machine, self.path.resolve(), self.digest_at(1) or "")
+        return MachineNote(self.machine, self.path.resolve())
 
     def note_seen(self) -> None:
         """Notes the last act, if this is the book that this machine knows. Then nobody can remove this act unnoticed."""
@@ -353,7 +353,7 @@ def create(path: pathlib.Path, detail: Detail, final_path: pathlib.Path) -> None
             digest = book.finish(NewAct(connection, 1, times.now(), "new", detail), chain.BEGINNING)
         book.demand_locks()
         # before the folder is moved: a kill between both leaves a note of nothing
-        MachineNote(book.machine, final_path, digest).put(Note(1, digest))
+        MachineNote(book.machine, final_path).put(Note(1, digest))
 
 
 def open_book(path: pathlib.Path) -> Book:
