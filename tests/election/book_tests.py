@@ -439,7 +439,9 @@ class Rewritten(BookTest):
 
         # a row of the table: its length, its number, and the row; one of the index: its length, and the row
         table, index = cell("struck"), cell("struck_by_act")
-        self.assertEqual((whole[table : table + 6], whole[index : index + 5]), (b"\x04\x01\x03\x00\x01\x05", b"\x04\x03\x01\x09\x05"))
+        self.assertEqual(
+            (whole[table : table + 6], whole[index : index + 5]), (b"\x04\x01\x03\x00\x01\x05", b"\x04\x03\x01\x09\x05")
+        )
         for name, at in {"the envelope": table + 1, "the act": table + 5, "the act of the index": index + 4}.items():
             with self.subTest(name):
                 self.book.write_bytes(whole[:at] + bytes([whole[at] ^ 2]) + whole[at + 1 :])
@@ -624,7 +626,7 @@ class OnTheDisk(BookTest):
         self.assertFalse((self.folder / "letters" / "closed.txt").exists())
 
     def test_a_note_goes_only_forward(self) -> None:
-        note = machine_note.MachineNote("a machine", self.book, "a book")
+        note = machine_note.MachineNote("a machine", self.book)
         note.folder = self.scratch / "notes"
         note.file, note.next = note.folder / "note", note.folder / "note.next"
         for act, is_moved, stands in ((3, False, 3), (5, False, 5), (4, False, 5), (4, True, 4), (10**19, False, 10**19)):

@@ -115,18 +115,23 @@ class Book:
             return self.connection.execute(words, values).fetchall()
 
     def acts(self) -> Sequence[DoneAct]:
-        """All acts, in their order. An act never changes, so a call reads only the acts that came since the last call."""
+        """All acts, in their order."""
+        self.read_new_acts()
+        return tuple(self.read_acts)
+
+    def read_new_acts(self) -> None:
+        """An act never changes, so only those are read that came since the last call."""
         words = "SELECT act, time, name, machine, detail, digest FROM act WHERE act > ? ORDER BY act"
         for number, time, *others in self.rows(words, self.read_acts[-1].number if self.read_acts else 0):
             try:
                 self.read_acts.append(DoneAct(number, from_text(time), *others))
             except (ValueError, TypeError):
                 raise damaged(self.path, f"act {number} has no time") from None
-        return tuple(self.read_acts)
 
     def last_act(self) -> DoneAct:
         """The last act. There always is one: that of `new`."""
-        return self.acts()[-1]
+        self.read_new_acts()
+        return self.read_acts[-1]
 
     def last_number(self) -> int:
         return self.last_act().number
@@ -138,7 +143,8 @@ class Book:
 
     def digest_at(self, act: int) -> str | None:
         """The digest of an act; None if the book has no such act."""
-        return next((done.digest for done in self.acts() if done.number == act), None)
+        found = self.rows("SELECT digest FROM act WHERE act = ?", act)
+        return str(found[0][0]) if found else None
 
     def demand_whole(self) -> None:
         """Stops if anything in the book is not as its acts wrote it."""
@@ -223,7 +229,7 @@ class Book:
         return machine_of(salt)
 
     def note(self) -> MachineNote:
-        return MachineNote(self.machine, self.path.resolve(), self.acts()[0].digest)
+        return MachineNote(self.machine, self.path.resolve())
 
     def note_seen(self) -> None:
         """Notes the last act, if this is the book that this machine knows. Then nobody can remove this act unnoticed."""
@@ -347,7 +353,7 @@ def create(path: pathlib.Path, detail: Detail, final_path: pathlib.Path) -> None
             digest = book.finish(NewAct(connection, 1, times.now(), "new", detail), chain.BEGINNING)
         book.demand_locks()
         # before the folder is moved: a kill between both leaves a note of nothing
-        MachineNote(book.machine, final_path, digest).put(Note(1, digest))
+        MachineNote(book.machine, final_path).put(Note(1, digest))
 
 
 def open_book(path: pathlib.Path) -> Book:

@@ -38,15 +38,15 @@ class Note(NamedTuple):
 
 
 class MachineNote:
-    """The note of a machine about the book at a path, whose first act has the digest `book_id`. It lies where programs keep what has to
-    outlast them.
+    """The note of a machine, as the acts of a book name it, about the book at a path. It lies where programs keep what has to outlast
+    them.
     """
 
-    def __init__(self, machine: str, path: pathlib.Path, book_id: str) -> None:
+    def __init__(self, machine: str, path: pathlib.Path) -> None:
         base = os.environ.get("XDG_STATE_HOME", "")
         self.folder = (pathlib.Path(base) if os.path.isabs(base) else pathlib.Path.home() / ".local" / "state") / "debvote"
         self.path = str(path)
-        self.file = self.folder / hashlib.sha256(f"{machine}\n{path}\n{book_id}".encode()).hexdigest()[:40]
+        self.file = self.folder / hashlib.sha256(f"{machine}\n{path}".encode()).hexdigest()[:40]
         # takes the place of the note
         self.next = self.file.with_suffix(".next")
 

@@ -86,6 +86,7 @@ CREATE TABLE sent (
   detail TEXT NOT NULL                  -- JSON: Message-ID, address, what it was about
 ) STRICT;
 
+CREATE INDEX elector_by_act ON elector (act);
 CREATE INDEX elector_state_by_act ON elector_state (act);
 CREATE INDEX envelope_by_act ON envelope (act);
 CREATE INDEX envelope_by_elector ON envelope (elector);
