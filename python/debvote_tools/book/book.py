@@ -27,7 +27,7 @@ NAME = "election.db"
 MOVED: Final = "moved"
 
 # "dbvt": what tells a book from other databases of SQLite; and the version of its schema, and of what it keeps of letters as JSON
-APPLICATION_ID, VERSION = 0x64627674, 4
+APPLICATION_ID, VERSION = 0x64627674, 3
 
 # how many seconds an act waits for those of others
 PATIENCE = 120
