@@ -1,6 +1,7 @@
 """`letters`: what goes to the electors as files, to whom, and that nothing of it reads as a ballot."""
 
 import hashlib
+import json
 import pathlib
 import re
 import shutil
@@ -734,6 +735,19 @@ class ResultAt(OutTest):
         self.assertIn("https://x.example/s/#ada", self.texts("result", "--at", "https://x.example/s/")["ada"])
 
 
+class Family(OutTest):
+    def test_who_is_told_of_a_letter_with_two_ballots(self) -> None:
+        """Of the ballot that was entered its elector is told once, and the other one that the letter waits."""
+        self.write("members.csv", support.members_of(support.NAMES).replace("ben@", "ada@"))
+        self.done("roll", "--yes")
+        self.add_letters(letter("ada", f"ada {RANKS}\nben {OTHER_RANKS}\n"))
+        self.done("held", 1, "--enter", 1)
+        texts = self.texts("receipts")
+        self.assertEqual(texts["ada"].count("has arrived"), 1, texts["ada"])
+        self.assertIn("It counts unless you send a later one.", texts["ada"])
+        self.assertIn("No ballot from it is entered yet", texts["ben"])
+
+
 class Secret(OutTest):
     poll = support.POLL + "secret = true\n"
 
@@ -756,6 +770,15 @@ class Secret(OutTest):
         self.done("call", "--until", "2026-12-06 12:00", "--zone", "UTC")
         for message in self.written("call").values():
             self.assertFalse([code for code in codes.values() if code in message.get_content()])
+
+    def test_an_answer_to_the_call_goes_in(self) -> None:
+        """The mark in its subject is that of the poll that everybody sees."""
+        found = self.written("call")["ada"]
+        mark = hashlib.sha256((self.folder / "call" / "poll.toml").read_bytes()).hexdigest()[:16]
+        self.assertTrue(found["Subject"].endswith(f"[{mark}]"), found["Subject"])
+        head = f"In-Reply-To: {found['Message-ID']}\nSubject: Re: {found['Subject']}\n"
+        self.add_letters(letter("ada", f"ada {RANKS}\n", head=head, time="Mon, 23 Nov 2026 09:59:00 +0000"))
+        self.assertEqual(json.loads(self.done("status", "--json").output)["valid"], 1)
 
     def test_a_doubt_tells_no_number_of_lines(self) -> None:
         for line in (f"ada {RANKS}", "ben 1", "cleo 1"):

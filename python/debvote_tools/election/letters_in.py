@@ -203,22 +203,35 @@ def judged(
 
 
 def kept_letters(election: Election, vote: Vote, kept: Sequence[KeptLetter]) -> list[ParsedLetter]:
-    """What is known of the letters. While a letter waits, its signature is checked anew if it came before the present keyring, or if gpgv
-    was too slow, since its bytes do not decide that; and so are those of its copies.
+    """What is known of the letters. Signatures are checked anew of letters that came before the present keyring, and of those for which gpgv
+    was too slow, since their bytes do not decide that: while a letter waits; and while a signed one does, of those that had no good
+    signature when an act decided of them. Only then a copy is known as one.
     """
     found = [from_json(letter.known) for letter in kept]
     sealed = queries.last_act_that_sealed(election.book, KEYRING)
-    old = [index for index, letter in enumerate(kept) if letter.act < sealed or found[index].why_unsigned == SLOW]
-    waiting = {found[index].text_identity for index in old if kept[index].is_undecided}
-    again = [index for index in old if found[index].text_identity in waiting]
+    old = [
+        index
+        for index, letter in enumerate(kept)
+        if (letter.act < sealed and not found[index].is_never_signed) or found[index].why_unsigned == SLOW
+    ]
+    check_again(election, vote, kept, found, [index for index in old if kept[index].is_undecided])
+    if any(letter.signature is not None and one.is_undecided for letter, one in zip(found, kept)):
+        unsigned = [index for index in old if found[index].signature is None and not kept[index].is_undecided]
+        check_again(election, vote, kept, found, unsigned)
+    return found
+
+
+def check_again(
+    election: Election, vote: Vote, kept: Sequence[KeptLetter], found: list[ParsedLetter], indices: Sequence[int]
+) -> None:
+    """Reads some letters again, for their signatures. What debvote has said of lines it is not asked again."""
     raws = [
         RawLetter(found[index].where, letters.source_of(election.book, kept[index].source), found[index].is_parted_off)
-        for index in again
+        for index in indices
     ]
-    known = answers_in(found, vote.roll) if again else {}
-    for index, letter in zip(again, parsed(election, vote, raws, known)):
+    known = answers_in(found, vote.roll) if indices else {}
+    for index, letter in zip(indices, parsed(election, vote, raws, known)):
         found[index] = letter
-    return found
 
 
 def ballots_in(election: Election, vote: Vote, names: Collection[str], found: Sequence[ParsedLetter]) -> dict[str, list[Ballot]]:

@@ -135,8 +135,6 @@ class ParsedLetter:
     # what a copy of it has in common with it: a digest of its Message-ID, its sender and its text; of a good signature and what it signs
     # where letters have to be signed, since anybody can change the rest
     identity: str
-    # the same without a signature
-    text_identity: str
     is_parted_off: bool
     # in one plain form, or empty
     in_reply_to: str
@@ -163,6 +161,11 @@ class ParsedLetter:
         return f"{self.digest}, parted off" if self.is_parted_off else self.digest
 
     @property
+    def is_never_signed(self) -> bool:
+        """Whether its bytes alone say that it has no good signature, whatever the keyring."""
+        return self.why_unsigned is not None and self.why_unsigned.reason in (Reason.NOT_SIGNED, Reason.NOT_WHOLE, Reason.ODD_LINES)
+
+    @property
     def shown_lines(self) -> tuple[str, ...]:
         """The lines by their numbers, from 1: those of its text, then those of other parts that may read as a ballot."""
         return self.body.lines + self.body.other_lines
@@ -174,12 +177,10 @@ def parse(raw: RawLetter) -> ParsedLetter:
     if (longest := max(map(len, subjects), default=0)) > MAX_FIELD:
         letter.found(Reason.TOO_LONG(length=longest, what="characters in its subject", limit=MAX_FIELD))
     body, sender = body_of(letter), sender_of(senders)
-    identity = identity_of(letter, ids, sender or " ".join(senders), body)
     return ParsedLetter(
         where=raw.where,
         digest=hashlib.sha256(raw.data).hexdigest(),
-        identity=identity,
-        text_identity=identity,
+        identity=identity_of(letter, ids, sender or " ".join(senders), body),
         is_parted_off=raw.is_parted_off,
         in_reply_to=plain_id(letter.values("in-reply-to")),
         sender=sender,
