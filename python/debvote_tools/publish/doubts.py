@@ -19,6 +19,7 @@ class Kind(enum.StrEnum):
     LATE_LETTER = "late letter"
     OTHER_CASTING_VOTE = "other casting vote"
 
+
 FOR_SECRETARY = {
     Kind.NO_BALLOT: "no elector has a ballot that counts; check that these are the ballots of this poll",
     Kind.MOSTLY_REFUSED: "more than half of the lines are refused, {refused} of {lines}; debvote explain says why",
