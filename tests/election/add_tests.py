@@ -116,7 +116,7 @@ class BeforeTheCall(CalledTest):
 
 
 class AfterTheEnd(CalledTest):
-    call_words = ("--until", "2099-12-04 18:00 +01:00")
+    call_words = ("--until", "2099-12-04 18:00+01:00")
 
     def test_before_the_close_it_counts_and_is_told(self) -> None:
         self.assertNotIn("Note", self.told("add", given="ada 1,2,4,3\n"))

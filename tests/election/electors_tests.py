@@ -65,11 +65,12 @@ class Proposals(RollTest):
     def test_who_would_get_one_name_gets_a_number(self) -> None:
         self.assert_named(self.roll("Ann Lee", "Ánn Lee", "Ann-Lee", "Bo"), "ann-lee-1", "ann-lee-2", "ann-lee-3", "bo")
         self.assert_named(self.roll(f"{'a' * 32} b", f"{'a' * 33}"), "a" * 30 + "-1", "a" * 30 + "-2")
+        self.assert_named(self.roll("a" * 31 + " b", "Maximiliane " * 5), "a" * 31, "maximiliane-maximiliane-maximili")
 
     def test_names_of_others_are_not_taken(self) -> None:
         gone = Elector(7, "ann-3", None, "Ann Z", ())
-        self.assert_named(self.roll("Ann", "Other;;ann", "Another;;ann-2", "Ann.", known=[gone]), "ann-4", "ann", "ann-2", "ann.")
-        self.assertEqual([elector.line for elector in self.roll("Ann", "Other;;ann").electors if elector.is_proposed], [2])
+        self.assert_named(self.roll("Ann", "Other;;ann", "Another;;ann-2", "Ann.", known=[gone]), "ann-4", "ann", "ann-2", "ann-5")
+        self.assertEqual([elector.proposal for elector in self.roll("Ann", "Other;;ann").electors], ["ann", ""])
 
     def test_ten_thousand_of_one_name(self) -> None:
         marks = str.maketrans("01", "!?")
@@ -80,15 +81,22 @@ class Proposals(RollTest):
 
 class Known(RollTest):
     def test_a_name_stays_with_its_person(self) -> None:
-        roll = self.roll("Zoë", "Ben B;;ben", "ADA L;a@x", "Dan", known=KNOWN)
+        roll = self.roll("Zoë", "Ben B;;ben", "Ada L;a@x", "Dan", known=KNOWN)
         self.assert_named(roll, "zoe", "ben", "ada", "dan")
         self.assertEqual(numbers_of(roll), [3, 2, 1, None])
-        self.assertEqual(changes_of(roll), [("ben", ["who", "address", "key"]), ("ada", ["who"])])
+        self.assertEqual(changes_of(roll), [("ben", ["who", "address", "key"])])
         self.assertEqual((names_of(new_of(roll)), roll.gone), (["dan"], ()))
+
+    def test_who_is_renamed_keeps_the_name_in_the_list(self) -> None:
+        roll = self.roll(*SAME[:2], "Zoe", known=KNOWN)
+        self.assert_named(roll, "ada", "ben", "zoe-2")
+        self.assertEqual((names_of(new_of(roll)), names_of(roll.gone)), (["zoe-2"], ["zoe"]))
+        roll = self.roll(*SAME[:2], "Zoe;;zoe", known=KNOWN)
+        self.assertEqual((changes_of(roll)[-1], new_of(roll), roll.gone), (("zoe", ["who"]), [], ()))
 
     def test_the_same_list_changes_nothing(self) -> None:
         roll = self.roll(*SAME, known=KNOWN)
-        proposed = [elector for elector in roll.electors if elector.is_proposed]
+        proposed = [elector for elector in roll.electors if elector.proposal]
         self.assertEqual((changes_of(roll), new_of(roll), roll.gone, proposed, roll.faults), ([], [], (), [], ()))
 
     def test_a_new_name_for_the_same_person(self) -> None:
@@ -169,8 +177,7 @@ class AfterTheCall(RollTest):
         self.assert_faults(self.called(*SAME, "Dan"), ("dan (Dan) on line 5 is new",))
         self.assert_faults(self.called("Ada L;a@x;ada.l", *SAME[1:]), ("ada.l (Ada L) on line 2 was ada",))
         self.assert_faults(self.called("Eve;a@x;ada", *SAME[1:]), ("ada (Eve) on line 2 was Ada L",))
-        self.assert_faults(self.called("Ada L;a@x", SAME[1], "Zoe"), ("zoe (Zoe) on line 4 was Zoë",))
-        self.assert_faults(self.called(*SAME[:2], "Zoe;;z"), ("z (Zoe) on line 4 was zoe",), ("z (Zoe) on line 4 was Zoë",))
+        self.assert_faults(self.called("Ada L;a@x", SAME[1], "Zoe;;zoe"), ("zoe (Zoe) on line 4 was Zoë",))
         self.assert_named(self.called(*SAME[:2], "Zoe\u0308"), "ada", "ben", "zoe")
 
     def test_another_person_in_the_place_of_one(self) -> None:

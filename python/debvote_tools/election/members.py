@@ -4,7 +4,7 @@ import itertools
 import pathlib
 import re
 import unicodedata
-from collections.abc import Callable, Hashable, Iterable, Iterator, Sequence
+from collections.abc import Callable, Hashable, Iterable, Iterator, Mapping, Sequence
 from typing import NamedTuple, TypeVar
 
 from debvote_tools.addresses import ADDRESS, address_key
@@ -16,8 +16,17 @@ from debvote_tools.language import ENGLISH
 from debvote_tools.plain_names import ELECTOR_LIMIT, alike, elector_name, is_elector_name, made_different
 from debvote_tools.terminal_text import shown_text, steering
 
-REQUIRED, OPTIONAL = ("who", "mail"), ("name", "key")
-COLUMNS = (*REQUIRED, *OPTIONAL)
+# the heads of each column, the first that are there, without case, accents and what is no letter; some are of two columns
+HEADS = {
+    "who": (
+        *("who", "vorname nachname", "vorname name", "firstname lastname", "prenom nom", "nombre apellidos"),
+        *("name", "nom", "nombre"),
+    ),
+    "mail": ("mail", "email", "courriel", "correo"),
+    "name": ("name",),
+    "key": ("key",),
+}
+REQUIRED = ("who", "mail")
 
 # the file that `new` writes
 NEW_MEMBERS = "who,mail\n"
@@ -59,8 +68,8 @@ class Member(NamedTuple):
     key: str
     # the elector of the book who is the same person; None if there is none
     known: Elector | None = None
-    # whether the name was made
-    is_proposed: bool = False
+    # the whole name that was proposed; empty if none was
+    proposal: str = ""
 
     @property
     def is_new(self) -> bool:
@@ -106,18 +115,25 @@ def members_in(file: pathlib.Path) -> Members:
 
 
 def members_of(data: bytes, file: object = "members.csv") -> Members:
-    table = read_table(data, COLUMNS, file, bad_list, skips_spaces=True)
+    table = read_table(data, " ".join(itertools.chain(*HEADS.values())).split(), file, bad_list, skips_spaces=True)
+    heads = [re.sub(r"[\W_]", "", alike(head)) for head in table.head.cells]
+    used: dict[str, list[str]] = {}
+    for column, choices in HEADS.items():
+        free = {*heads}.difference(*used.values())
+        for words in map(str.split, choices):
+            if free.issuperset(words):
+                used.setdefault(column, words)
     head_faults = []
-    missing = [f"`{column}`" for column in REQUIRED if column not in table.heads]
+    missing = [f"`{column}`" for column in REQUIRED if column not in used]
     if missing:
         reason = f"the header line has no column {' and no column '.join(missing)}; it has {table.heads_in_words}; {BELONGS}"
         head_faults.append((reason, "correct the header line"))
-    twice = [column for column in COLUMNS if table.heads.count(column) > 1]
-    head_faults += [(f"the header line has the column `{column}` twice", "rename one of them") for column in twice]
+    twice = [head for others in used.values() for head in others if heads.count(head) > 1]
+    head_faults += [(f"the header line has the column `{head}` twice", "rename one of them") for head in twice]
     stop_at([bad_list(file, *fault, table.head.line) for fault in head_faults])
-    indices = {column: table.heads.index(column) for column in COLUMNS if column in table.heads}
+    indices = {column: [heads.index(head) for head in others] for column, others in used.items()}
     # up to the last column that has a head
-    width = max(index for index, head in enumerate(table.heads, start=1) if head)
+    width = max(index for index, head in enumerate(heads, start=1) if head)
     members, faults = [], []
     for row in table.rows:
         if not row.is_blank:
@@ -133,9 +149,10 @@ def bad_list(file: object, reason: str, cure: str, line: int | None = None) -> F
     return Fault(file if line is None else f"{file}:{line}", reason, f"{cure}, {AGAIN}", done=None)
 
 
-def member_of(row: Row, indices: dict[str, int]) -> Member:
-    """The member of a row, with each cell on one line."""
-    cells = {column: unicodedata.normalize("NFC", " ".join(row.cells[index].split())) for column, index in indices.items()}
+def member_of(row: Row, indices: Mapping[str, Sequence[int]]) -> Member:
+    """The member of a row, with what each column has on one line."""
+    joined = {column: " ".join(row.cells[index] for index in places) for column, places in indices.items()}
+    cells = {column: unicodedata.normalize("NFC", " ".join(text.split())) for column, text in joined.items()}
     addresses = IN_BRACKETS.findall(cells["mail"]) or BETWEEN_ADDRESSES.split(cells["mail"])
     each_once = dict.fromkeys(address.strip().removeprefix("mailto:") for address in addresses if address.strip())
     key = "".join(cells.get("key", "").split()).upper()
@@ -178,11 +195,7 @@ def faults_of_row(row: Row, member: Member, width: int, delimiter: str) -> Itera
 Entry = TypeVar("Entry")
 
 # by what a member is the same person as an elector: first by the name, then by `who`
-SAME_PERSON: tuple[Callable[[Member | Elector], str], ...] = (
-    lambda person: person.name,
-    lambda person: person.who,
-    lambda person: alike(person.who),
-)
+SAME_PERSON: tuple[Callable[[Member | Elector], str], ...] = (lambda person: person.name, lambda person: person.who)
 
 
 class Roll(NamedTuple):
@@ -257,16 +270,18 @@ def several(entries: Iterable[Entry], form: Callable[[Entry], Hashable]) -> list
 
 def with_proposals(electors: Sequence[Member], known: Sequence[Elector], language: str) -> list[Member]:
     """The electors, each with a name, made of `who` or of an address if possible."""
-    bases = {}
+    wholes = {}
     for elector in electors:
         mails = (address.partition("@")[0] for address in elector.addresses)
         proposals = (elector_name(text, language) for text in (elector.who, *mails) if not elector.name)
-        if base := next(filter(None, proposals), None):
-            bases[elector.line] = base
+        if whole := next(filter(None, proposals), None):
+            wholes[elector.line] = whole
     taken = [*(elector.name for elector in electors if elector.name), *(elector.name for elector in known)]
-    names = dict(zip(bases, made_different(list(bases.values()), taken, ELECTOR_LIMIT, "-")))
+    bases = [whole[:ELECTOR_LIMIT].rstrip("-") for whole in wholes.values()]
+    names = dict(zip(wholes, made_different(bases, taken, ELECTOR_LIMIT, "-")))
     return [
-        elector._replace(name=names[elector.line], is_proposed=True) if elector.line in names else elector for elector in electors
+        elector._replace(name=names[elector.line], proposal=wholes[elector.line]) if elector.line in names else elector
+        for elector in electors
     ]
 
 

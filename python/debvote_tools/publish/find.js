@@ -34,7 +34,7 @@
   function nameOnRoll(realName) {
     const plain = spelled(spelled(realName.normalize("NFC").toLowerCase()).normalize("NFKD").replace(/\p{M}/gu, ""));
     const bare = (name) => name.replace(/^-+|-+$/g, "");
-    return bare(bare(plain.replace(/[^a-z0-9.-]+/g, "-")).slice(0, DIGITS));
+    return bare(bare(plain.replace(/[^a-z0-9]+/g, "-")).slice(0, DIGITS));
   }
 
   // A code without the gaps that it may be written with.

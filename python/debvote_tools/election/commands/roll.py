@@ -12,7 +12,7 @@ from debvote_tools.election.election import MEMBERS_FILE, Election, History
 from debvote_tools.election.members import Member, Roll, members_in, roll_of
 from debvote_tools.election.reporting import count_of, listed
 from debvote_tools.faults import Fault, stop_at
-from debvote_tools.plain_names import alike
+from debvote_tools.plain_names import ELECTOR_LIMIT, alike, similar_names
 from debvote_tools.terminal_text import shown_text
 
 # how many electors are printed: of more the list itself is easier to read
@@ -87,9 +87,13 @@ def report(roll: Roll, *, has_all: bool) -> None:
     tell(*(f"  {elector.name}: {shown_text(elector.who)} {', '.join(elector.addresses)}".rstrip() for elector in shown))
     if len(shown) < len(electors):
         tell(f"  and {len(electors) - len(shown)} more (--all prints them)")
-    if proposed := sum(elector.is_proposed for elector in electors):
+    if proposed := [elector for elector in electors if elector.proposal]:
         how = f"To change a name, write it into a column `name` of {MEMBERS_FILE}, and run this again."
-        tell(f"{count_of(proposed, 'name was', 'names were')} proposed. {how}")
+        tell(f"{count_of(len(proposed), 'name was', 'names were')} proposed. {how}")
+    if cut := [elector for elector in proposed if not elector.name.startswith(elector.proposal)]:
+        tell(f"Note: a name has at most {ELECTOR_LIMIT} characters, so these were cut: {named(cut)}")
+    if similar := [" and ".join(pair) for pair in similar_names(elector.name for elector in electors)]:
+        tell(f"Note: these names are easily mistaken for each other: {listed(similar, MAX_SHOWN)}")
     for address, sharing in roll.shared_addresses.items():
         tell(f"Note: several electors have the address {address}: {names_of(sharing)}. Is that one person?")
     for group in roll.alike_people:
