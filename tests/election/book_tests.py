@@ -591,34 +591,24 @@ class CutOff(BookTest):
 class OnTheDisk(BookTest):
     """What is brought to the disk, and in which order."""
 
-    def calls(self, *words: str, given: str | None = None, inject: str = "fsync:delay_exit=0") -> list[str]:
-        """The calls of a command that bring files to the disk and put them into their places, in their order."""
+    def calls(self, *words: str, given: str | None = None, inject: str = "fsync:delay_exit=0") -> list[tuple[str, str]]:
+        """The calls of a command that bring a file to the disk or put it into its place, in their order, each with its path."""
         if shutil.which("strace") is None:
             self.skipTest("strace is not installed")
         trace = self.scratch / "trace"
-        command = [
-            "strace",
-            "-o",
-            trace,
-            "-e",
-            "trace=fsync,rename",
-            "-e",
-            f"inject={inject}",
-            sys.executable,
-            support.ELECTION,
-            *words,
-        ]
-        self.run_program(*command, given=given)
-        return re.findall(r"(?m)^(fsync|rename)\(", trace.read_text())
+        how = ["-y", "-o", trace, "-e", "trace=fsync,rename", "-e", f"inject={inject}"]
+        self.run_program("strace", *how, sys.executable, support.ELECTION, *words, given=given)
+        return re.findall(r"(?m)^(fsync|rename)\((?:\d+<|\")([^>\"]*)", trace.read_text())
 
     def test_what_takes_a_place_is_on_the_disk(self) -> None:
         """The note, and files beside the book: first the content, then the name."""
         for words, renames in ((("desk",), 1), (("close",), 2)):
             calls = self.calls(*words, given="ada 1,2,3,4\n")
-            places = [at for at, call in enumerate(calls) if call == "rename"]
+            places = [(at, path) for at, (call, path) in enumerate(calls) if call == "rename"]
             self.assertEqual(len(places), renames, calls)
-            for at in places:
-                self.assertEqual(calls[at - 1 : at + 2], ["fsync", "rename", "fsync"])
+            for at, path in places:
+                around = [("fsync", path), ("rename", path), ("fsync", str(pathlib.Path(path).parent))]
+                self.assertEqual(calls[at - 1 : at + 2], around)
 
     def test_what_can_not_take_its_place_is_gone(self) -> None:
         self.calls("close", inject="rename:error=EIO:when=2")
