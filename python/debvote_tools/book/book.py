@@ -29,7 +29,7 @@ MOVED: Final = "moved"
 RESTORED = "it was restored, as the secretary says"
 
 # "dbvt": what tells a book from other databases of SQLite; and the version of its schema, and of what it keeps of letters as JSON
-APPLICATION_ID, VERSION = 0x64627674, 3
+APPLICATION_ID, VERSION = 0x64627674, 4
 
 # the program that wrote the books of an earlier version
 PROGRAMS = {3: "debvote-election 2.0.0"}
