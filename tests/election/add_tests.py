@@ -541,6 +541,15 @@ class CodesOnRoll(CalledTest):
         for code in self.names:
             self.assertNotIn(code, output)
 
+    def test_a_near_code_that_has_a_ballot_in_the_same_file(self) -> None:
+        """Debvote says of it that it has one, behind the name that it offers."""
+        known, near = self.names[0], "0a" * 15 + "0b"
+        output = self.told("add", "--force", given=f"{known} {RANKS}\n{near} {RANKS}\n")
+        self.assertIn(f"{near} is not on the roll\n", output)
+        output = output.replace(f"1 counted  {known}: ", "")
+        self.assertNotIn(known, output)
+        self.assertNotIn("did you mean", output)
+
     def test_of_an_undo_and_a_strike_numbers_alone(self) -> None:
         first, second, third = self.names
         self.told("add", given=f"{first} {RANKS}\n{second} {RANKS}\n")

@@ -1,5 +1,6 @@
 """An election in its folder: the book, what its acts say of the election as a whole, and debvote."""
 
+import contextlib
 import dataclasses
 import datetime
 import enum
@@ -13,6 +14,7 @@ from typing import Any, NamedTuple
 from debvote_tools.book import queries
 from debvote_tools.book.acts import ActName
 from debvote_tools.book.book import NAME, Book, DoneAct, from_text, open_book
+from debvote_tools.console import tell_aside
 from debvote_tools.debvote import Debvote
 from debvote_tools.faults import Fault, Status
 from debvote_tools.language import Language, language_of
@@ -72,7 +74,13 @@ class History:
 
     @property
     def has_codes_on_roll(self) -> bool:
-        return any(act.detail.get("on_roll") for act in self.named("codes"))
+        acts = self.named("codes", "take back")
+        return bool(acts and acts[-1].detail.get("on_roll"))
+
+    @property
+    def has_lapsed_codes(self) -> bool:
+        """Whether codes were given out with a call that was taken back."""
+        return any(act.detail.get("codes") for act in self.named("take back"))
 
     @property
     def until(self) -> datetime.datetime | None:
@@ -138,12 +146,31 @@ class Election:
         return Debvote(self.folder, self.program_folder)
 
     @functools.cached_property
-    def book(self) -> Book:
+    def opened(self) -> Book:
+        """The book, of which nothing is said yet: commands use `book`, or one of the ways of `acting`."""
         if not self.path(NAME).is_file():
             raise no_book(self.folder)
         book = open_book(self.path(NAME))
         book.note_seen()
         return book
+
+    @functools.cached_property
+    def book(self) -> Book:
+        """The book for reading. It says on standard error why this may not be the book that this machine worked on last."""
+        tell_aside(*(f"Note: {doubt.file}: {doubt.reason}." for doubt in self.opened.doubts()))
+        return self.opened
+
+    @property
+    def own_acts(self) -> list[str]:
+        """The acts that this command has done, in words."""
+        return self.opened.own_acts if "opened" in vars(self) else []
+
+    def demand_undamaged(self) -> None:
+        """Stops if the book is damaged. It is opened anew: whoever asks can't work with what was read from it."""
+        if self.path(NAME).is_file():
+            book = open_book(self.path(NAME))
+            with contextlib.closing(book.connection):
+                book.demand_whole()
 
     @functools.cached_property
     def language(self) -> Language:

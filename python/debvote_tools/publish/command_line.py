@@ -53,7 +53,8 @@ def main(program_folder: pathlib.Path, words: Sequence[str] | None = None) -> in
     target_folder = pathlib.Path(arguments.target)
     console.prepare()
     try:
-        result_folder.demand_free(target_folder, can_replace=False)
+        if not result_folder.is_free(target_folder):
+            raise result_folder.in_use(target_folder, "an empty folder", "name another folder")
         publication = publication_of(arguments, program_folder)
         with result_folder.made(publication, target_folder, program_folder) as made:
             made.take_place(target_folder)
