@@ -518,6 +518,17 @@ class Rewritten(BookTest):
             self.assertGreater(told, 0, statement)
             self.book.write_bytes(whole)
 
+    def test_sealed_poll(self) -> None:
+        """A poll in the book that is not in plain form is the fault of the book, and of no file of the secretary's."""
+        whole = self.read("election.db")
+        for statement in ("DELETE FROM sealed", "UPDATE sealed SET data = CAST('title = 1' AS BLOB)"):
+            self.sql(statement)
+            for words in (("status",), ("desk",), ("held",)):
+                with self.subTest(statement, words=words):
+                    said = "election.db: the book is damaged, or another program changed it (its sealed poll is not in plain form)"
+                    self.assert_fault(self.election(*words, given=""), 9, said)
+            self.book.write_bytes(whole)
+
     def test_elector_and_detail(self) -> None:
         self.sql("UPDATE elector_state SET mail = '[\"eve@elsewhere.example\"]' WHERE elector = 1")
         self.assert_broken(2)

@@ -276,6 +276,7 @@ class Reopen(CloseTest):
     def test_a_result_before_the_last_close_is_not_the_result(self) -> None:
         self.done("publish")
         self.assertEqual(self.numbers()["stage"], "published")
+        self.assertTrue(self.done("status").output.endswith(", then debvote-election letters result\n"))
         self.done("reopen", "--because", "x")
         self.assertEqual(self.numbers()["stage"], "called")
         self.done("close")

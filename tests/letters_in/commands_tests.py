@@ -169,7 +169,8 @@ class Adding(LettersTest):
         """A letter that had arrived in time; then the vote is opened again."""
         self.done("desk", given=f"cleo {RANKS}\n")
         self.done("close")
-        self.add(letter("ada", f"ada {RANKS}"))
+        ended = self.add(letter("ada", f"ada {RANKS}"))
+        self.assertTrue(ended.output.endswith("\nNext: debvote-election status\n"), ended)
         self.assertEqual(self.exported(), (f"cleo {RANKS}\n", f"ada {RANKS}\n"))
         how = "run debvote-election reopen --in-time 2 --because TEXT"
         self.assert_fault(self.election("publish"), 9, "the ballot of letter 1 is late", f"to count it {how}")
@@ -442,6 +443,18 @@ class InTime(LettersTest):
         self.add(letter("fay", "hello"))
         self.assert_fault(self.election("count"), 9, "these letters arrived in time, and wait: 3;")
         self.assert_fault(self.election("publish", "--about", "about.txt"), 9, "these letters arrived in time, and wait: 1, 2, 3;")
+
+    def test_a_reason_is_not_one_for_letters_that_come_later(self) -> None:
+        self.done("close")
+        self.add(self.wordy)
+        self.assertEqual(self.election("publish", "--force", "--because", "nobody answers").status, 1)
+        before = self.contents()["result/index.html"]
+        self.add(letter("fay", "hello"))
+        for words in ((), ("--force",)):
+            self.assert_fault(self.election("publish", *words), 9, "these letters arrived in time, and wait: 1, 2;", "--because")
+        self.assertEqual(self.contents()["result/index.html"], before)
+        self.assertEqual(self.election("publish", "--force", "--because", "nor does Fay").status, 1)
+        self.assertEqual(self.election("publish").status, 1)
 
     def test_forced_at_the_close(self) -> None:
         self.add(self.wordy)

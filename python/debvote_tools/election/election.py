@@ -13,7 +13,7 @@ from typing import Any, NamedTuple
 
 from debvote_tools.book import queries
 from debvote_tools.book.acts import ActName
-from debvote_tools.book.book import NAME, Book, DoneAct, from_text, open_book
+from debvote_tools.book.book import NAME, Book, DoneAct, damaged, from_text, open_book
 from debvote_tools.console import tell_aside
 from debvote_tools.debvote import Debvote
 from debvote_tools.faults import Fault, Status
@@ -22,6 +22,9 @@ from debvote_tools.sealed_poll import SealedPoll, read_plain
 
 POLL_FILE, MEMBERS_FILE, TEXTS = "poll.toml", "members.csv", "texts"
 CALL, LETTERS, RESULT, PRIVATE = "call", "letters", "result", "private"
+
+# the letter of the result for all, in the folder of letters
+RESULT_LETTER = "result.txt"
 
 # the names under which the book has the sealed polls, that of the call, and in a secret vote the one that has names; and the keys of
 # those whose letters have to be signed
@@ -184,7 +187,10 @@ class Election:
         call = self.called(self.history())
         public = queries.sealed(self.book, POLL, call.number) or b""
         counted = queries.sealed(self.book, POLL_WITH_NAMES, call.number) or public
-        return Sealed(read_plain(public), read_plain(counted))
+        try:
+            return Sealed(read_plain(public), read_plain(counted))
+        except Fault:
+            raise damaged(self.path(NAME), "its sealed poll is not in plain form") from None
 
     def demand_private(self, target: pathlib.Path) -> None:
         """Stops if what is written there would be in a folder for electors or the web site."""

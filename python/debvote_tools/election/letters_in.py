@@ -133,10 +133,10 @@ def enter_letters(election: Election, vote: Vote, *, is_agreed: bool) -> None:
                 tell(*letter_words.reply_words(vote, done, ballots))
                 tell(letter_words.counts(all_letters, len(going_in)))
             break
-    undo = f"{election.command('undo')} takes back what was entered last"
+    undo = "" if history.is_closed else f"; {election.command('undo')} takes back what was entered last"
     waiting = f"{election.command('held')}, which lists the letters that wait"
     is_waiting = any(letter.outcome is Outcome.WAITS for letter in all_letters)
-    tell(f"Next: {waiting if is_waiting else election.command('status')}; {undo}")
+    tell(f"Next: {waiting if is_waiting else election.command('status')}{undo}")
 
 
 def agreed(ballots: str) -> bool:

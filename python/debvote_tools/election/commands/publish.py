@@ -15,7 +15,7 @@ from debvote_tools.debvote import casting_words
 from debvote_tools.election import acting
 from debvote_tools.election.agreed_texts import agreed_texts, demand_yes, texts_of_poll
 from debvote_tools.election.commands import count
-from debvote_tools.election.election import LETTERS, RESULT, Election, History
+from debvote_tools.election.election import LETTERS, RESULT, RESULT_LETTER, Election, History
 from debvote_tools.election.made_files import OWN, write_made
 from debvote_tools.election.publication import Words, detail_of, last_publication, publication_of
 from debvote_tools.election.reporting import act_time
@@ -28,9 +28,6 @@ from debvote_tools.publish.counting import Counted
 from debvote_tools.publish.doubts import Doubt, Kind
 from debvote_tools.publish.inputs import Publication, casting_vote_of, text_in
 from debvote_tools.publish.names import CHECKSUMS
-
-# the letter of the result for all
-LETTER = "result.txt"
 
 NOTHING_DONE = "nothing was published"
 
@@ -61,7 +58,7 @@ def run(election: Election, arguments: Arguments) -> int:
     as_before = "" if is_new else ", as it was published before; nothing was changed in the book"
     tell(counted.sheet.last_line, counted.verified, f"Made the folder {folder}{as_before}.")
     if counted.sheet.winner is not None:
-        letter = election.path(LETTERS) / LETTER
+        letter = election.path(LETTERS) / RESULT_LETTER
         send = f"send {letter} to all electors" if election.history().has_codes_on_roll else election.command("letters", "result")
         tell(f"Next: put the folder {folder} on the web site as it is, then {send}")
     else:
@@ -87,6 +84,9 @@ def publish(election: Election, arguments: Arguments, target_folder: pathlib.Pat
     count.demand_option(sealed.public, words.casting)
     waiting = in_time(waiting_letters(election, history)) if history.is_closed else []
     publication = with_letters_left(publication_of(election, words), waiting, history)
+    if again is not None and any(doubt.stops and doubt.as_data() not in again.detail["doubts"] for doubt in publication.doubts):
+        # the reason of then is not one for what came since
+        publication = dataclasses.replace(publication, is_forced=False)
     agreed = [] if publication.secret is None else agreed_in_secret(history, publication, is_agreed=arguments.yes)
     with result_folder.made(publication, target_folder, election.program_folder) as made:
         detail = detail_of(words, made.checksums, made.doubts, decides=made.counted.sheet.is_by_casting)
@@ -104,7 +104,7 @@ def publish(election: Election, arguments: Arguments, target_folder: pathlib.Pat
             elif book.last_number() != history.last.number:
                 raise Overtaken
             made.take_place(target_folder)
-            write_made(election.path(LETTERS), {LETTER: made.letter}, OWN)
+            write_made(election.path(LETTERS), {RESULT_LETTER: made.letter}, OWN)
         return made.counted, is_new
 
 

@@ -9,7 +9,7 @@ from debvote_tools.arguments import Options, flag
 from debvote_tools.book import queries, sent
 from debvote_tools.console import shows, tell
 from debvote_tools.debvote import Finding, Findings, Totals
-from debvote_tools.election.election import Election, History, Stage
+from debvote_tools.election.election import LETTERS, RESULT_LETTER, Election, History, Stage
 from debvote_tools.election.reporting import act_time, count_of, quorum_words, wrapped
 from debvote_tools.election.waiting import Arrived, stopping, waiting_letters
 from debvote_tools.lines import ballot_file
@@ -152,6 +152,13 @@ def what_next(election: Election, state: State) -> str:
     if state.stage is Stage.CALLED:
         add = f"{election.command('add', 'FILE')}, or {election.command('desk')}"
         return f"add the ballots as they come: {add}; when the vote is over: {election.command('close')}"
+    if state.stage is Stage.PUBLISHED and not state.stopping:
+        # where nobody knows whose each code is, no letter can be written to an elector
+        has_codes = state.without_ballot is None
+        send = (
+            f"send {election.path(LETTERS) / RESULT_LETTER} to all electors" if has_codes else election.command("letters", "result")
+        )
+        return f"put the published folder on the web site as it is, then {send}"
     return f"{election.command('count')}, then {election.command('publish')}"
 
 
