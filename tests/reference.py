@@ -10,6 +10,7 @@ Options are numbered from 1, the default option as the last; electors from 0; en
 import argparse
 import functools
 import itertools
+import math
 import operator
 import re
 import sys
@@ -60,12 +61,20 @@ def has_a_number_too_large(value):
     return is_of_kind(value, int) and not -(2**63) <= value < 2**63
 
 
+def float_of(text):
+    """A number with a point or an exponent. (Python makes one that is too large infinite, and the program refuses it.)"""
+    number = float(text)
+    if math.isinf(number) and "inf" not in text:
+        raise ValueError(text)
+    return number
+
+
 # a run asks for the same poll and ballots again, so what was read last is kept
 @functools.lru_cache(1)
 def toml_of(data):
     """Poll file: its table. (Python reads TOML 1.0. The program reads 1.1, which allows a little more.)"""
     try:
-        table = tomllib.loads(data.decode("utf-8").removeprefix("\ufeff"))
+        table = tomllib.loads(data.decode("utf-8").removeprefix("\ufeff"), parse_float=float_of)
     except (ValueError, RecursionError):
         table = None
     if table is None or has_a_number_too_large(table):

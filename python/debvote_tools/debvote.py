@@ -20,11 +20,20 @@ class Answer(NamedTuple):
 
 
 class Finding(NamedTuple):
-    """What `explain` says of a line: the number of its envelope, the word of `steps`, and the hint."""
+    """What `explain` says of a line: the number of its envelope, the word of `steps`, and what is wrong; the names on the roll that may have
+    been meant, and a remark on their ballots in other lines.
+    """
 
     envelope: int
     word: str
-    hint: str
+    said: str
+    near: tuple[str, ...] = ()
+    remark: str = ""
+
+    @property
+    def hint(self) -> str:
+        question = f"; did you mean {' or '.join(self.near)}?" if self.near else ""
+        return f"{self.said}{question}{self.remark}"
 
 
 class Totals(NamedTuple):
@@ -113,6 +122,7 @@ def casting_words(name: str | None) -> list[str]:
 
 
 FINDING = re.compile(r"ballots:(\d+): (late|bad shape|bad rank count|bad not on roll): (.*)")
+NEAR = re.compile(r"(?P<said>\S+ is not on the roll); did you mean (?P<near>\S+(?: or \S+)*)\?(?P<remark>.*)")
 TOTALS = re.compile(r"(\d+) lines: (\d+) valid, (\d+) refused, (\d+) of them late; (\d+) of (\d+) electors have a ballot")
 
 
@@ -121,8 +131,15 @@ def findings_in(text: str) -> Findings:
     totals = TOTALS.fullmatch(lines[-1]) if lines else None
     if totals is None:
         raise other_format("the list of findings of this debvote")
-    refused = [Finding(int(parts[1]), parts[2], parts[3]) for parts in map(FINDING.fullmatch, lines) if parts]
+    refused = [finding_in(int(parts[1]), parts[2], parts[3]) for parts in map(FINDING.fullmatch, lines) if parts]
     return Findings(refused, Totals(*map(int, totals.groups())))
+
+
+def finding_in(envelope: int, word: str, hint: str) -> Finding:
+    near = NEAR.fullmatch(hint)
+    return (
+        Finding(envelope, word, hint) if near is None else Finding(envelope, word, near[1], tuple(near[2].split(" or ")), near[3])
+    )
 
 
 def standing_in(text: str) -> dict[str, str]:

@@ -21,6 +21,11 @@ class Status(enum.IntEnum):
     NOT_FOUND = 127
 
 
+# what most faults say was done
+NOTHING = "nothing was "
+NOTHING_CHANGED = f"{NOTHING}changed"
+
+
 class Fault(Exception):
     """The fault that ends a run: the file that it is about, if any, the reason, the cure, the exit status, and what was done or was
     not.
@@ -29,7 +34,7 @@ class Fault(Exception):
     """
 
     def __init__(
-        self, file: object, reason: object, cure: str, status: int = Status.DOUBT, done: str | None = "nothing was changed"
+        self, file: object, reason: object, cure: str, status: int = Status.DOUBT, done: str | None = NOTHING_CHANGED
     ) -> None:
         ending = "; " if done is None else f"; {done}: " if done else ": "
         words = f"{reason}{ending}{cure}" if file is None else f"{file}: {reason}{ending}{cure}"
@@ -37,6 +42,13 @@ class Fault(Exception):
         self.words: str | None = words
         self.status = status
         self.file, self.reason, self.cure, self.done = file, reason, cure, done
+
+    def after(self, acts: Sequence[str]) -> "Fault":
+        """The same fault, of a run that did these acts before."""
+        if not acts or self.done is None or not self.done.startswith(NOTHING):
+            return self
+        others = self.done.removeprefix(NOTHING_CHANGED).removeprefix("; ")
+        return Fault(self.file, self.reason, self.cure, self.status, "; ".join(filter(None, [acts_in_words(acts), others])))
 
     def with_done(self, done: str) -> "Fault":
         """The same fault, if this was done, too."""
@@ -50,6 +62,11 @@ class Several(Fault):
         Exception.__init__(self, faults)
         self.faults = tuple(faults)
         self.status, self.words = faults[0].status, None
+
+
+def acts_in_words(acts: Sequence[str]) -> str:
+    """What a run has done, each act as `act 7 (add)`."""
+    return f"{acts[-1]} was done" if len(acts) == 1 else f"{len(acts)} acts were done, the last is {acts[-1]}"
 
 
 def stop_at(faults: Sequence[Fault]) -> None:

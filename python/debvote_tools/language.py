@@ -15,9 +15,6 @@ from collections.abc import Iterable, Mapping
 # each by the code that the pages have for it, with its name in English
 LANGUAGES = {"en": "English", "de": "German", "fr": "French", "es": "Spanish"}
 
-# of plain text
-QUOTATION_MARKS = {"en": "\u201c{}\u201d", "de": "\u201e{}\u201c", "fr": "\u00ab\u00a0{}\u00a0\u00bb", "es": "\u00ab{}\u00bb"}
-
 
 def marked(text: str) -> str:
     """Returns the text as it is. It marks a sentence that has translations, and is said elsewhere."""
@@ -78,7 +75,8 @@ class Language:
         return self.made(self.GIVEN).format(text)
 
     def quoted(self, text: str) -> str:
-        return QUOTATION_MARKS[self.code].format(text)
+        """Words of another person. In brackets none of them reads as a ballot: no repair of a line takes these away."""
+        return f"({text})"
 
     def strong(self, text: str) -> str:
         return self.made(self.STRONG).format(text)

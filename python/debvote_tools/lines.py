@@ -25,6 +25,8 @@ NAME = re.compile(rb"[a-z0-9.-]+")
 
 # the code or the alias of a secret vote, within other text
 CODE_WITHIN = re.compile(rb"(?<![0-9a-f])[0-9a-f]{32}(?![0-9a-f])")
+# the same as people type it, with the gaps of a slip
+TYPED_CODE = re.compile(r"(?<![0-9a-f])(?:[0-9a-f][ \t-]?+){31}[0-9a-f](?![0-9a-f])", re.IGNORECASE)
 
 NO_BREAK = "\u00a0\u202f"
 DASHES = "\u2010\u2011\u2012\u2013\u2014\u2212"
@@ -114,6 +116,11 @@ def name_in(line: bytes) -> bytes:
     """The name with which a line begins; empty if it begins with none."""
     found = NAME.match(line)
     return found[0] if found else b""
+
+
+def has_code(text: str) -> bool:
+    """Whether a text has what looks like a code or an alias within it."""
+    return TYPED_CODE.search(text) is not None
 
 
 def changed(line: bytes) -> bytes:

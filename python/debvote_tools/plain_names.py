@@ -4,7 +4,7 @@ import collections
 import itertools
 import re
 import unicodedata
-from collections.abc import Collection, Mapping, Sequence
+from collections.abc import Collection, Iterable, Mapping, Sequence
 from typing import NamedTuple
 
 from debvote_tools.terminal_text import LINE_ENDS, number_of, odd_sign, shown_text
@@ -14,6 +14,14 @@ TITLE_LIMIT, OPTION_LIMIT, ELECTOR_LIMIT = 80, 40, 32
 SHOWN_LIMIT = 200
 
 PLAIN_NAME = re.compile(r"[!-~](?:[ -~]*[!-~])?")
+
+# a title, and what belongs to it: `Dr. rer. nat.`, `Univ.-Prof.`, `Dipl.-Ing. (FH)`; some are words or names without their point
+TITLE = re.compile(
+    r"(?<!\w)(?i:(?:Dr|Prof)\b\.?|(?:Mag|Ing|Univ|Dipl)\.(?:-\w+\.?)?|Ph\.? ?D\b\.?|[BM]\.? ?Sc\b\.?|MBA\b|LL\. ?M\.)"
+    r"(?:(?:in|a)\b)?(?:\s*(?:[a-z]{2,6}\.|h\. ?c\.|\(\w{2,5}\.?\)))*"
+)
+# what follows a comma and is no first name
+JUNIOR = ("jr", "jun", "sr", "sen")
 
 # how each language spells letters that it has no accents on
 SPELLINGS: Mapping[str, Mapping[str, str]] = {"de": {"ä": "ae", "ö": "oe", "ü": "ue"}}
@@ -117,15 +125,37 @@ def plain_options(names: Sequence[str], language: str) -> list[str]:
 
 
 # ---------------------------------------------------------------- electors
-def elector_name(text: str, language: str) -> str:
-    """A name as a roll allows it, or an empty text where nothing is left."""
-    letters = re.sub(r"[^a-z0-9.-]+", "-", without_accents(text, language).lower())
-    name = letters.strip("-")[:ELECTOR_LIMIT].strip("-")
-    return name if re.search(r"[a-z0-9]", name) else ""
+def elector_name(who: str, language: str) -> str:
+    """The name on the roll to propose for a real name, in the words that people would type; empty where nothing is left. It may be too long.
+
+    `Meier, Dr. Anna` is anna-meier.
+    """
+    for text in (TITLE.sub(" ", who), who):
+        parts = [re.sub(r"[^a-z0-9]+", "-", part).strip("-") for part in without_accents(text, language).lower().split(",")]
+        if names := list(filter(None, parts)):
+            # the family name comes first
+            is_turned = len(names) == 2 and names[1] not in JUNIOR
+            return "-".join(reversed(names) if is_turned else names)
+    return ""
 
 
 def is_elector_name(name: str) -> bool:
     return len(name) <= ELECTOR_LIMIT and re.fullmatch(r"[a-z0-9.-]+", name) is not None
+
+
+def similar_names(names: Iterable[str]) -> Iterable[tuple[str, str]]:
+    """Pairs of names that are the same if one sign of each is left out, or but for the order of their words. Numbers make no difference."""
+    bare: dict[str, str] = {}
+    for name in names:
+        bare.setdefault(re.sub("-?[0-9]+", "", name), name)
+    pairs, first = {}, {**bare}
+    for form, name in bare.items():
+        ordered = "-".join(sorted(re.split("[.-]", form)))
+        for key in (ordered, *[form[:at] + form[at + 1 :] for at in range(len(form))]):
+            other = first.setdefault(key, name)
+            if other != name:
+                pairs[other, name] = True
+    return pairs
 
 
 # ---------------------------------------------------------------- names that people read

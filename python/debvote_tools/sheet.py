@@ -15,6 +15,9 @@ OPTION_LINE = re.compile(r" *(\d+) (?:ratio (\d+)|default) (.*)")
 QUORUM_LINE = re.compile(r"(\d+)Q, (\d+) votes")
 DEFEAT_LINE = re.compile(r" *(?:drop +)?(\d+) over +(\d+).*")
 
+# what a name may begin with that a spreadsheet would run, and the sign that keeps it from that
+STEERING = ("=", "+", "-", "@", "'")
+
 
 @dataclasses.dataclass(frozen=True)
 class Round:
@@ -180,11 +183,14 @@ def result_json(sheet: Sheet, poll: SealedPoll, version: str) -> str:
 
 
 def votes_csv(sheet: Sheet) -> str:
-    """The table of votes, a row an option: its number, its name, its ratio, how it ended, and the votes over each option."""
+    """The table of votes, a row an option: its number, its name, its ratio, how it ended, and the votes over each option.
+
+    A name that a spreadsheet would run has an apostrophe before it, and so has one that begins with an apostrophe.
+    """
     table = io.StringIO()
     writer = csv.writer(table, lineterminator="\n")
     writer.writerow(["option", "name", "ratio", "ended", *sheet.names])
     for a, name in sheet.names.items():
         votes = [sheet.votes.get((a, b), "") for b in sheet.names]
-        writer.writerow([a, name, sheet.ratios.get(a, ""), sheet.ended(a), *votes])
+        writer.writerow([a, f"'{name}" if name.startswith(STEERING) else name, sheet.ratios.get(a, ""), sheet.ended(a), *votes])
     return table.getvalue()

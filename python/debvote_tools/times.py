@@ -21,12 +21,13 @@ def now() -> datetime.datetime:
 
 def time_in_words(time: datetime.datetime, language: Language = ENGLISH) -> str:
     """A time with its offset, as `Friday, 4 December 2026, 18:00 (UTC+01:00)`. The seconds are left out if they are 0."""
+    offset = time.strftime("%z")
     return language.say(
         "{weekday}, {date}, {clock} ({offset})",
         weekday=language.say(DAYS[time.weekday()]),
         date=date_in_words(time, language),
         clock=time.strftime("%H:%M:%S" if time.second else "%H:%M"),
-        offset=offset_in_words(time),
+        offset=f"UTC{offset[:3]}:{offset[3:5]}" if time.utcoffset() else "UTC",
     )
 
 
@@ -41,9 +42,3 @@ def date_in_words(date: datetime.date, language: Language = ENGLISH) -> str:
     if date.day == 1:
         return language.say("1 {month} {year}", month=month, year=date.year)
     return language.say("{day} {month} {year}", day=date.day, month=month, year=date.year)
-
-
-def offset_in_words(time: datetime.datetime) -> str:
-    """The offset of a time, as `UTC+01:00`."""
-    offset = time.strftime("%z")
-    return f"UTC{offset[:3]}:{offset[3:5]}" if time.utcoffset() else "UTC"

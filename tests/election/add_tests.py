@@ -116,7 +116,7 @@ class BeforeTheCall(CalledTest):
 
 
 class AfterTheEnd(CalledTest):
-    call_words = ("--until", "2099-12-04 18:00 +01:00")
+    call_words = ("--until", "2099-12-04 18:00+01:00")
 
     def test_before_the_close_it_counts_and_is_told(self) -> None:
         self.assertNotIn("Note", self.told("add", given="ada 1,2,4,3\n"))
@@ -540,6 +540,15 @@ class CodesOnRoll(CalledTest):
         self.assertIn(f"{near} is not on the roll\nA valid line in this poll: CODE 1,2,3,4 (a code of the roll, ", output)
         for code in self.names:
             self.assertNotIn(code, output)
+
+    def test_a_near_code_that_has_a_ballot_in_the_same_file(self) -> None:
+        """Debvote says of it that it has one, behind the name that it offers."""
+        known, near = self.names[0], "0a" * 15 + "0b"
+        output = self.told("add", "--force", given=f"{known} {RANKS}\n{near} {RANKS}\n")
+        self.assertIn(f"{near} is not on the roll\n", output)
+        output = output.replace(f"1 counted  {known}: ", "")
+        self.assertNotIn(known, output)
+        self.assertNotIn("did you mean", output)
 
     def test_of_an_undo_and_a_strike_numbers_alone(self) -> None:
         first, second, third = self.names

@@ -24,7 +24,8 @@ from debvote_tools.call.data import CallData  # noqa: E402
 from debvote_tools.language import LANGUAGES, language_of  # noqa: E402
 from debvote_tools.sealed_poll import SealedPoll, read_plain  # noqa: E402
 from debvote_tools.secret.aliases import alias_of, aliased_ballots, aliased_poll, seal_line, sealed_checksum  # noqa: E402
-from debvote_tools.secret.codes import NUMBER, CodeRow, codes_csv, looks_like_code, new_code  # noqa: E402
+from debvote_tools.lines import has_code  # noqa: E402
+from debvote_tools.secret.codes import NUMBER, CodeRow, codes_csv, new_code  # noqa: E402
 from debvote_tools.secret.slips import slips  # noqa: E402
 from debvote_tools.secret.words import BY_OPENSSL, BY_PYTHON  # noqa: E402
 
@@ -49,9 +50,9 @@ WITH_CODES = dataclasses.replace(CALL, has_aliases=False, has_codes_on_roll=True
 CODES_ON_ROLL = [CodeRow(code, "", "", code, "") for code in CODES.values()]
 
 
-def run(*words: str, given: str = "") -> str:
+def run(*words: str, given: str = "", folder: pathlib.Path | None = None) -> str:
     """What a command answers that has to end well."""
-    return subprocess.run(words, input=given, capture_output=True, text=True, check=True).stdout
+    return subprocess.run(words, input=given, capture_output=True, text=True, check=True, cwd=folder).stdout
 
 
 class Codes(unittest.TestCase):
@@ -62,6 +63,16 @@ class Codes(unittest.TestCase):
             spaced = " ".join(re.findall("....", code))
             self.assertEqual(run("sh", "-c", BY_PYTHON, given=f"{spaced}\n{name}\n"), f"Code: Name: {ALIASES[name]}\n")
         self.assertNotEqual(alias_of(CODES["ada"], "ben"), ALIASES["ada"])
+
+    def test_whatever_lies_in_the_folder_the_alias_is_found(self) -> None:
+        with tempfile.TemporaryDirectory(prefix="debvote-alias-") as name:
+            folder = pathlib.Path(name)
+            for file in ("hmac.py", "hashlib.py", "sitecustomize.py", "codecs.py", "openssl.cnf", "printf", "cut"):
+                (folder / file).write_text("import os; os._exit(1)\n")
+            command = BY_OPENSSL.replace("NAME", "ada").replace("CODE", CODES["ada"])
+            self.assertEqual(run("sh", "-c", command, folder=folder), ALIASES["ada"] + "\n")
+            found = run("sh", "-c", BY_PYTHON, given=f"{CODES['ada']}\nada\n", folder=folder)
+            self.assertEqual(found, f"Code: Name: {ALIASES['ada']}\n")
 
     def test_codes_are_sixteen_bytes_of_the_generator_that_nobody_can_guess(self) -> None:
         with unittest.mock.patch("secrets.token_hex", return_value="c" * 32) as drawn:
@@ -83,10 +94,11 @@ class Codes(unittest.TestCase):
         self.assertFalse(NUMBER.fullmatch("12a4"))
 
     def test_what_looks_like_a_code(self) -> None:
-        for code in ("0123456789abcdef" * 2, "0123 4567 89AB CDEF " * 2, "a" * 16 + "-\n" + "B" * 16, ALIASES["ada"]):
-            self.assertTrue(looks_like_code(code), code)
-        for other in ("", "ada", "a" * 31, "a" * 33, "g" * 32, "a" * 32 + "_", "\u0661" * 32, f"{'a' * 32} 1,2,3"):
-            self.assertFalse(looks_like_code(other), other)
+        for code in ("0123456789abcdef" * 2, "0123 4567 89AB CDEF " * 2, "a" * 16 + "-" + "B" * 16, ALIASES["ada"]):
+            for text in (code, f"my code is {code}.", f"ada 1,2,3 {code}", f"{code} 1,2,3"):
+                self.assertTrue(has_code(text), text)
+        for other in ("", "ada", "a" * 31, "a" * 33, "g" * 32, "\u0661" * 32, "a  " * 32):
+            self.assertFalse(has_code(other), other)
 
 
 class Published(unittest.TestCase):
@@ -107,11 +119,16 @@ class Published(unittest.TestCase):
         wanted = {"ada": "1,2,3", "dan": "1,-,1", "ben": "-,-,-", "cleo": "3,1,2"}
         lines = aliased_ballots(standing, ALIASES).decode().splitlines(keepends=True)
         self.assertEqual(lines, sorted(f"{ALIASES[name]} {ranks}\n" for name, ranks in wanted.items()))
+        # ranks are numbers, and no texts
+        self.assertEqual(aliased_ballots({"ada": "2,10,9", "ben": "99,9,10"}, dict(zip(ROLL, "abcd"))), b"a 1,3,2\nb 3,1,2\n")
         # whoever has no ballot has no line, and each line is of its own elector
         self.assertEqual(aliased_ballots({"ben": "2,1,3"}, ALIASES), f"{ALIASES['ben']} 2,1,3\n".encode())
         self.assertEqual(aliased_ballots({}, ALIASES), b"")
 
     def test_the_seal(self) -> None:
+        with unittest.mock.patch("secrets.token_hex", return_value="c" * 32) as drawn:
+            self.assertEqual(seal_line(), "c" * 32)
+        drawn.assert_called_once_with(16)
         seals = {seal_line() for _ in range(20)}
         self.assertEqual(len(seals), 20)
         self.assertTrue(all(re.fullmatch("[0-9a-f]{32}", seal) for seal in seals))
@@ -151,7 +168,7 @@ class Slips(unittest.TestCase):
             for part in (said, options, example, "The code is no part of your ballot", "Whoever sees your code can see how you voted."):
                 self.assertIn(part, text)
         for text in self.each(dataclasses.replace(CALL, at="https://example.org/vote/")):
-            self.assertIn(f"{said}The page of the votehttps://example.org/vote/ ", text)
+            self.assertIn(f"{said}At the end of the subject{CALL.mark} The page of the votehttps://example.org/vote/ ", text)
         for text in self.each(dataclasses.replace(CALL, until=None, to=None)):
             self.assertIn("Until whenas the call for votes says Send your ballot toas the call for votes says", text)
         shown = dataclasses.replace(POLL, shown_title="Wohin?", shown_options=("Am See", "72 \u20ac", "Keine"))

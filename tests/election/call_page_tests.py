@@ -56,8 +56,10 @@ const named = (node) => Object.fromEntries([...node.querySelectorAll("b")].map((
 function choose(doc, choice) {
   const name = doc.getElementById("name");
   const tell = (node) => choice.isFilled || node.dispatchEvent(new Event("input", { bubbles: true }));
-  name.value = choice.name;
-  tell(name);
+  if (name) {
+    name.value = choice.name;
+    tell(name);
+  }
   [...doc.querySelectorAll("select")].forEach((select, place) => {
     select.value = choice.ranks[place];
     tell(select);
@@ -66,8 +68,8 @@ function choose(doc, choice) {
   const letter = doc.getElementById("letter");
   const is = (id) => !doc.getElementById(id).hidden;
   return { line: doc.getElementById("line").textContent, words: told(doc.getElementById("words")), names: named(doc.getElementById("words")),
-    said: doc.getElementById("name-said").textContent, missing: doc.getElementById("missing").textContent,
-    letter: letter && letter.getAttribute("href"), ready: is("ready"), long: is("long"), invalid: name.getAttribute("aria-invalid") };
+    said: name && doc.getElementById("name-said").textContent, missing: doc.getElementById("missing").textContent,
+    letter: letter && letter.getAttribute("href"), ready: is("ready"), long: is("long"), invalid: name && name.getAttribute("aria-invalid") };
 }
 async function copied(win, write) {
   Object.defineProperty(win.navigator, "clipboard", { value: { writeText: write }, configurable: true });
@@ -92,7 +94,7 @@ async function run(job) {
   const unlabelled = [...doc.querySelectorAll("input, select")].filter((field) => field.labels.length !== 1).length;
   return { results, clip, copies, violations, unlabelled, wide: doc.documentElement.scrollWidth, title: doc.title, head: doc.querySelector("h1").textContent,
     colours: style.color + " " + style.backgroundColor, requests: win.performance.getEntriesByType("resource").length,
-    offered: [...(doc.getElementById("name").list || { options: [] }).options].map((option) => option.value),
+    offered: [...(doc.getElementById("name")?.list || { options: [] }).options].map((option) => option.value),
     scripts: doc.querySelectorAll("script").length, shown: !doc.getElementById("ballot").hidden };
 }
 (async () => {
@@ -309,21 +311,28 @@ class CallPageTest(CallFolder):
             self.assertNotRegex(result["said"], "Did you mean|roll of this poll")
             self.assertEqual(bool(result["line"]), re.fullmatch("[A-Za-z0-9.-]+", name) is not None, name)
 
-    def test_a_secret_vote_takes_no_code_for_a_name(self) -> None:
-        page = self.called("secret", with_roll(POLL, [f"{number:x}" * 32 for number in range(9)]), has_aliases=True)
-        names = ["ada", "Ada ", "", "0123456789abcdef" * 2, "stranger", "0123 4567 89AB cdef " * 2]
-        choices = [{"name": name, "ranks": list("1234")} for name in names]
-        (found,), console = browse(self.scratch, [{"page": page.as_uri(), "width": 360, "choices": choices}])
-        self.assertEqual((console, found["offered"], found["violations"], found["wide"]), ("", [], [], 360))
-        lines = [result["line"] for result in found["results"]]
-        self.assertEqual(lines, ["ada 1,2,3,4", "ada 1,2,3,4", "", "", "stranger 1,2,3,4", ""])
-        self.assertIn("Type your name as it is on the slip with your code.", found["results"][2]["missing"])
-        for place in (3, 5):
-            self.assertIn("This looks like a code.", found["results"][place]["said"])
-        # in an open vote such a name may stand on the roll
-        page = self.called("open", with_roll(POLL, [names[3], *POLL.roll[1:]]))
-        (found,), _ = browse(self.scratch, [{"page": page.as_uri(), "width": 360, "choices": choices[3:4]}])
-        self.assertEqual(found["results"][0]["line"], f"{names[3]} 1,2,3,4")
+    def test_no_name_is_typed_into_the_page_of_a_secret_vote(self) -> None:
+        """Whoever can change the page would learn it. The line has a gap in its place, to be filled in the letter."""
+        poll = with_roll(POLL, [f"{number:x}" * 32 for number in range(9)])
+        choices = [{"ranks": list(ranks)} for ranks in ("1234", "----", "213-")]
+        for gap, how in {"NAME": {"has_aliases": True}, "CODE": {"has_codes_on_roll": True}}.items():
+            with self.subTest(gap):
+                page = self.called(gap, poll, to=ADDRESS, **how)
+                (found,), console = browse(self.scratch, [{"page": page.as_uri(), "width": 360, "choices": choices}])
+                self.assertEqual((console, found["offered"], found["violations"], found["wide"]), ("", [], [], 360))
+                self.assertEqual([result["line"] for result in found["results"]], [f"{gap} 1,2,3,4", "", f"{gap} 2,1,3,-"])
+                self.assertEqual([result["missing"] for result in found["results"]], ["", "Give at least one option a rank.", ""])
+                body = urllib.parse.parse_qs(found["results"][2]["letter"].partition("?")[2])["body"]
+                self.assertEqual(body, [f"{gap} 2,1,3,-\r\n"])
+                text = page.read_text()
+                self.assertNotRegex(text, "<(input|textarea)")
+                self.assertRegex(text, rf"In the letter, and not on this page, write your \w+ in the place of <code>{gap}</code>")
+
+    def test_a_name_may_look_like_a_code_in_an_open_vote(self) -> None:
+        name = "0123456789abcdef" * 2
+        page = self.called("open", with_roll(POLL, [name, *POLL.roll[1:]]))
+        (found,), _ = browse(self.scratch, [{"page": page.as_uri(), "width": 360, "choices": [{"name": name, "ranks": list("1234")}]}])
+        self.assertEqual(found["results"][0]["line"], f"{name} 1,2,3,4")
 
     def test_words(self) -> None:
         ranks = ["21-3", "1111", "1---", "1-1-", "99--", "2112"]

@@ -1,5 +1,6 @@
 """`call` and `codes`: what is sealed, what electors are told, and how a call is extended, added to and taken back."""
 
+import email
 import json
 import re
 import subprocess
@@ -43,6 +44,17 @@ class Open(CallTest):
         self.assertIn(FIRST, self.texts())
         subprocess.run(["sha256sum", "--quiet", "-c", "SHA256SUMS"], cwd=self.folder / "call", check=True)
         self.assertEqual({file.stat().st_mode & 0o777 for file in (self.folder / "call").iterdir()}, {0o644})
+
+    def test_real_names_are_told_only_with_names(self) -> None:
+        people = {name: f"Person{number} of {name.title()}" for number, name in enumerate(support.NAMES)}
+        self.write("members.csv", "name,who,mail\n" + "".join(f"{name},{who},{name}@club.example\n" for name, who in people.items()))
+        self.done("roll")
+        self.done("call", *UNTIL)
+        told = b"".join(file.read_bytes() for file in (self.folder / "call").iterdir()).decode()
+        self.assertEqual([who for who in people.values() if who in told], [])
+        self.done("call", "--take-back")
+        self.done("call", *UNTIL, "--names")
+        self.assertEqual([who for who in people.values() if who in self.read("call/index.html").decode()], list(people.values()))
 
     def test_made_again_is_the_same_and_no_act(self) -> None:
         self.done("call", *UNTIL, "--to", "vote@club.example")
@@ -145,6 +157,15 @@ class Again(CallTest):
         self.done("undo", "--yes")
         self.assert_fault(self.election("call", "--take-back"), 9, "have come")
 
+    def test_not_taken_back_once_a_letter_waits(self) -> None:
+        """Also if it was set aside since."""
+        self.write("letter.eml", "From: stranger@example.org\nDate: Fri, 27 Nov 2026 09:30:00 +0000\n\nada 1,2,3,4\n")
+        self.set_clock("2026-11-27T10:00:00+00:00")
+        self.done("add", "--yes", "letter.eml")
+        self.assert_fault(self.election("call", "--take-back"), 9, "have come")
+        self.done("held", "1", "--set-aside")
+        self.assert_fault(self.election("call", "--take-back"), 9, "have come")
+
 
 class Secret(CallTest):
     poll = support.POLL + "secret = true\n"
@@ -203,9 +224,9 @@ class Secret(CallTest):
             return [row.split(",")[3:] for row in self.read("private/codes.csv").decode().splitlines()[1:]]
 
         before = codes()
-        self.write("members.csv", support.members_of(support.NAMES).replace("Ada,", "ADA,"))
-        self.assertEqual(codes(), before)
         others = "".join(f",{name.title()},{name}@club.example\n" for name in support.NAMES[1:])
+        self.write("members.csv", f"name,who,mail\nada,ADA,ada@club.example\n{others}")
+        self.assertEqual(codes(), before)
         self.write("members.csv", f"name,who,mail\nada,Zed,zed@club.example\n{others}")
         after = codes()
         self.assertEqual(after[1:], before[1:])
@@ -233,6 +254,50 @@ class Secret(CallTest):
         for text in (ended.output, self.texts(), self.done("status").output, self.done("status", "--json").output, self.done("log").output):
             self.assertFalse(codes & set(re.findall(r"[0-9a-f]{32}", text)))
         self.assertIsNone(json.loads(self.done("status", "--json").output)["without_ballot"])
+
+    def published_codes(self) -> set[str]:
+        return set(re.findall(r"\b[0-9a-f]{32}\b", self.read("call/poll.toml").decode()))
+
+    def test_codes_lapse_with_the_call(self) -> None:
+        """Two published rolls tell nothing about an elector who was added in between."""
+        self.done("codes")
+        self.done("call", *UNTIL, "--to", "vote@club.example")
+        slip, aliases = self.read("private/slips.html").decode(), self.published_codes()
+        self.assertIn(f"<b>[{read_plain(self.read('call/poll.toml')).mark}]</b>", slip)
+        self.assertNotIn(" is void", slip + self.texts())
+        said = self.done("call", "--take-back").output
+        self.assertIn("All 9 codes are void", said)
+        self.assertIn("Next: put right what was wrong, then run debvote-election codes\n", said)
+        self.assertEqual([*(self.folder / "private").iterdir()], [])
+        self.write("members.csv", support.members_of([*support.NAMES, "jan"]))
+        self.done("roll")
+        self.assert_fault(self.election("call"), 9, "electors have no codes")
+        self.assertIn("Made 10 codes.", self.done("codes").output)
+        self.done("call", *UNTIL, "--to", "vote@club.example")
+        self.assertEqual(self.published_codes() & aliases, set())
+        self.done("letters", "call")
+        letters = [email.message_from_bytes(file.read_bytes()) for file in (self.folder / "letters" / "call").rglob("*.eml")]
+        texts = [letter.get_payload(decode=True).decode() for letter in letters]
+        for text in (*texts, self.read("call/index.html").decode()):
+            self.assertIn("each code that was given out with it is void", " ".join(text.split()))
+        self.assertEqual((len(texts), self.read("private/slips.html").decode().count("An earlier slip is void.")), (10, 10))
+
+    def test_codes_on_the_roll_lapse_with_the_call(self) -> None:
+        def codes() -> set[str]:
+            self.done("codes", "--on-roll")
+            self.done("call", *UNTIL)
+            return set(re.findall(r"\b[0-9a-f]{32} _", self.read("private/slips.html").decode()))
+
+        before = codes()
+        said = self.done("call", "--take-back").output
+        self.assertIn("then run debvote-election roll\n", said)
+        self.assertEqual([*(self.folder / "private").iterdir()], [])
+        self.assert_fault(self.election("codes", "--on-roll"), 9, "debvote-election roll")
+        self.write("members.csv", support.members_of([*support.NAMES, "jan"]))
+        self.done("roll")
+        after = codes()
+        self.assertEqual((len(before), len(after), before & after), (9, 10, set()))
+        self.assertIn("is void", self.texts())
 
     def test_not_a_secret_vote(self) -> None:
         self.write("poll.toml", support.POLL)

@@ -238,15 +238,12 @@ class Files(unittest.TestCase):
         receipts = ["a letter that says how your ballot was read", "a letter that says that your ballot has come"]
         polls = ["ratios, quorum and roll. It", "ratios, quorum, and an alias for each elector. It"]
         compared = ["Now, and again when the result is published, everybody can", "When the result is published, everybody can"]
-        fields = ["as it is on the roll.", "as it is on the slip with your code.", "your code as it is on your slip."]
-        for kind, own in {"open": (0, 0, 0, 0), "secret": (1, 1, 0, 1), "codes": (1, 0, 1, 2), "signed": (0, 0, 0, 0)}.items():
+        for kind, own in {"open": (0, 0, 0), "secret": (1, 1, 0), "codes": (1, 0, 1), "signed": (0, 0, 0)}.items():
             for text in texts_of(KINDS[kind]).values():
                 with self.subTest(kind=kind):
                     for sentences, wanted in zip((receipts, polls, compared), own):
                         self.assertEqual([sentence in text for sentence in sentences].index(True), wanted)
                         self.assertEqual(sum(sentence in text for sentence in sentences), 1)
-            words = Elements(call_files(KINDS[kind])["index.html"]).attributes_of("ballot")["data-words"] or ""
-            self.assertEqual([sentence in words for sentence in fields].index(True), own[3])
 
     def test_parts_have_their_headings(self) -> None:
         names = ["What is voted on", "The roll", "How a ballot is written", "What will be public", "The poll"]
@@ -407,21 +404,7 @@ class InBrowser(unittest.TestCase):
         found = self.chosen(self.window(KINDS["signed"]), "ada", "1234")
         self.assertEqual(urllib.parse.parse_qs(str(found["letter"]).partition("?")[2])["body"], [f"ada 1,2,3,4\r\n[{POLL.mark}]\r\n"])
 
-    def test_codes_and_names(self) -> None:
-        gaps = " ".join(["AAAA"] * 8)
-        window = self.window(SECRET)
-        found = self.chosen(window, gaps, "1234")
-        self.assertEqual(found["line"], "")
-        self.assertIn("This looks like a code. Type the name that is beside it", str(found["said"]))
-        self.assertEqual(self.chosen(window, "ada", "1234")["line"], "ada 1,2,3,4")
-        window = self.window(WITH_CODES)
-        found = self.chosen(window, gaps, "1234")
-        self.assertEqual(found["line"], f"{'a' * 32} 1,2,3,4")
-        self.assertIn("The gaps of the code are left out.", str(found["said"]))
-        for typed in ("ada", "a" * 31, "g" * 32, "a" * 33):
-            found = self.chosen(window, typed, "1234")
-            self.assertEqual((found["line"], str(found["said"]).startswith("A code has 32 digits, 0 to 9 and a to f.")), ("", True))
-        self.assertEqual(self.chosen(window, "", "1234")["missing"], "Type your code as it is on your slip.")
+    def test_real_names(self) -> None:
         names = {"ben": "Zo\u00eb \u00c5ngstr\u00f6m", "cleo": "Zoe Angstr\u00f6mer"}
         window = self.window(dataclasses.replace(CALL, real_names=names))
         self.assertIn("Did you mean ben?", str(self.chosen(window, "Zoe Angstrom", "1234")["said"]))

@@ -1,12 +1,21 @@
 """`close`, `reopen`, `status`, `export`: when lines are late, what the close binds, and what is said of it all."""
 
+import contextlib
 import hashlib
+import io
 import json
+import os
 import unittest
+from collections.abc import Iterator
+from unittest import mock
 
 import support
+from terminal import Terminal
 
 from debvote_tools.book.book import open_book
+from debvote_tools.election import command_line
+from debvote_tools.election.commands import close
+from debvote_tools.publish import result_folder
 
 UNTIL = ("--until", "2026-12-04 18:00", "--zone", "Europe/Berlin")
 
@@ -34,7 +43,8 @@ class Close(CloseTest):
         self.assertEqual(self.exported(), (before, b"ada 4,3,2,1\n"))
         self.assertEqual(
             {key: value for key, value in self.numbers().items() if key not in ("act", "digest", "without_ballot")},
-            {"stage": "closed", "electors": 9, "lines": 3, "valid": 2, "refused": 1, "late": 1, "voters": 2, "waiting": 0},
+            {"stage": "closed", "electors": 9, "lines": 3, "valid": 2, "refused": 1, "late": 1, "voters": 2, "waiting": 0}
+            | {"stopping": [], "refused_letters": []},
         )
 
     def test_letter(self) -> None:
@@ -96,6 +106,117 @@ class Close(CloseTest):
         self.assertEqual(self.exported()[0], b"ada 1,2,3,4\n")
 
 
+class Meanwhile(CloseTest):
+    """What others do while a vote is closed or published."""
+
+    def in_this_process(self, *words: str) -> tuple[int, str, str]:
+        """Runs a command here, where a test can put something between two of its steps."""
+        env = support.environment() | {"XDG_STATE_HOME": str(self.state)}
+        output, faults = io.TextIOWrapper(io.BytesIO()), io.TextIOWrapper(io.BytesIO())
+        with mock.patch.dict(os.environ, env), contextlib.chdir(self.folder):
+            with contextlib.redirect_stdout(output), contextlib.redirect_stderr(faults):
+                status = command_line.main(support.ELECTION.parent, words)
+        said = [stream.buffer.getvalue().decode() for stream in (output, faults)]
+        return status, said[0], said[1]
+
+    def closing_after(self, lines: Iterator[str]) -> mock._patch:
+        """Before each close that is decided, a desk enters the next of these lines."""
+        fixed = close.fixed
+
+        def after_a_desk(*found: object) -> object:
+            detail = fixed(*found)
+            if (line := next(lines, None)) is not None:
+                self.done("desk", given=f"{line}\n")
+            return detail
+
+        return mock.patch.object(close, "fixed", after_a_desk)
+
+    def test_a_line_between_checksum_and_close(self) -> None:
+        """The close is decided anew, with the line."""
+        self.add("ada 1,2,3,4")
+        with self.closing_after(iter(["ben 1,2,3,4", "cleo 2,1,3,4"])):
+            status, said, faults = self.in_this_process("close")
+        self.assertEqual((status, faults), (0, ""), said)
+        ballots = b"ada 1,2,3,4\nben 1,2,3,4\ncleo 2,1,3,4\n"
+        self.assertEqual(self.exported(), (ballots, b""))
+        self.assertIn(hashlib.sha256(ballots).hexdigest(), self.read("letters/closed.txt").decode())
+        self.assertIn("Closed: 3 lines came in time", said)
+        self.done("publish")
+
+    def test_a_desk_that_never_stops(self) -> None:
+        with mock.patch.object(close, "TRIES", 2), self.closing_after(iter(["ada 1,2,3,4"] * 9)):
+            status, _, faults = self.in_this_process("close")
+        self.assertEqual((status, self.numbers()["stage"]), (9, "called"))
+        self.assertIn("another command changed the election meanwhile; nothing was changed", faults)
+
+    def test_a_line_while_it_is_published(self) -> None:
+        """What is late by then is in no folder that does not say so; without new words the folder is that of the book, too."""
+        self.add("ada 1,2,3,4", "ben 1,2,3,4")
+        self.done("close")
+        made = result_folder.made
+
+        @contextlib.contextmanager
+        def before_a_line(*found: object) -> Iterator[object]:
+            with made(*found) as folder:
+                self.done("desk", given="dan 1,2,3,4\n")
+                yield folder
+
+        for is_made_again in (False, True):
+            if is_made_again:
+                self.done("publish")
+            files = {name: data for name, data in self.contents().items() if name.startswith("result/")}
+            with mock.patch.object(result_folder, "made", before_a_line):
+                status, _, faults = self.in_this_process("publish")
+            self.assertEqual(status, 9, faults)
+            self.assertIn("another command changed the election meanwhile; nothing was changed", faults)
+            self.assertEqual({name: data for name, data in self.contents().items() if name.startswith("result/")}, files)
+
+    def test_a_fault_after_the_act(self) -> None:
+        """It says which act was done, and not that nothing was changed."""
+        self.add("ada 1,2,3,4")
+        self.write("letters", "somebody's file")
+        ended = self.election("close")
+        self.assert_fault(ended, 7, "letters: File exists; it was not changed; act 5 (close) was done")
+        self.assertEqual(self.numbers()["stage"], "closed")
+        (self.folder / "letters").unlink()
+        self.assertIn("Made letters/closed.txt", self.done("close").output)
+        moved = self.election("publish", "--moved", "--because", "a new disk", "--casting", "nobody")
+        self.assert_fault(moved, 2, "; act 6 (moved) was done; nothing was published: ")
+
+
+class Asked(CloseTest):
+    def test_whether_that_is_all(self) -> None:
+        self.set_clock("2026-12-01T17:00:00+00:00")
+        self.add("ada 1,2,3,4")
+        self.set_clock("2026-12-02T18:30:00+00:00")
+        self.done("desk", given="ben 1,2,3,4\n")
+        last = "Added last: 2026-12-01 17:00:00 UTC. Entered last at a desk: 2026-12-02 18:30:00 UTC."
+        for answer in ("n\n", "\x04"):
+            terminal = Terminal(self, "close")
+            shown = terminal.until("[y/n] ")
+            self.assertIn(f"Until now 2 lines came in time. {last}", shown)
+            self.assertIn("mailbox", shown)
+            self.assertIn("desk is open", shown)
+            terminal.type(answer)
+            self.assertIn("you did not say that this is all; nothing was changed", terminal.end()[0])
+        self.assertEqual(self.numbers()["stage"], "called")
+        terminal = Terminal(self, "close")
+        terminal.until("[y/n] ")
+        self.done("desk", given="cleo 1,2,3,4\n")
+        terminal.type("y\n")
+        output, status = terminal.end()
+        # it is asked once, and the ballot that came meanwhile is closed, too
+        self.assertNotIn("[y/n]", output)
+        self.assertEqual((status, self.numbers()["lines"], self.numbers()["stage"]), (0, 3, "closed"))
+        self.assertIn("Closed: 3 lines came in time", output)
+
+    def test_yes(self) -> None:
+        terminal = Terminal(self, "close", "--yes")
+        output, status = terminal.end()
+        self.assertEqual((status, "[y/n]" in output), (0, False))
+        self.assertIn("Until now 0 lines came in time. Added last: never. Entered last at a desk: never.", output)
+
+
 class SecretClose(CloseTest):
     poll = support.POLL + "secret = true\n"
 
@@ -155,6 +276,7 @@ class Reopen(CloseTest):
     def test_a_result_before_the_last_close_is_not_the_result(self) -> None:
         self.done("publish")
         self.assertEqual(self.numbers()["stage"], "published")
+        self.assertTrue(self.done("status").output.endswith(", then debvote-election letters result\n"))
         self.done("reopen", "--because", "x")
         self.assertEqual(self.numbers()["stage"], "called")
         self.done("close")
@@ -205,11 +327,30 @@ class Told(CloseTest):
         self.assert_fault(self.election("export", out), 2, "already")
 
     def test_a_clock_that_went_back(self) -> None:
+        """By a minute at most it is only set right."""
+        for hour, back in (("18:00:00", True), ("18:58:59", True), ("18:59:00", False)):
+            self.set_clock("2026-12-04T19:00:00+01:00")
+            self.add(f"ada {hour[3:5]},2,3,4")
+            self.set_clock(f"2026-12-04T{hour}+01:00")
+            self.add(f"ben {hour[3:5]},2,3,4")
+            log = self.done("log").output
+            self.assertEqual(log.endswith("  the clock went back: the previous act has a later time\n"), back, hour)
         self.set_clock("2026-12-04T19:00:00+01:00")
-        self.add("ada 1,2,3,4")
-        self.set_clock("2026-12-04T18:00:00+01:00")
-        self.add("ben 1,2,3,4")
-        self.assertIn("the clock went back", self.done("log").output)
+        self.done("close")
+        self.done("publish")
+        self.assertEqual(self.read("result/index.html").decode().count("went back"), 2)
+
+    def test_a_line_after_the_end_by_its_zone(self) -> None:
+        """The end is announced in another zone than that in which the book keeps times."""
+        self.set_clock("2026-11-27T09:00:00+00:00")
+        self.done("call", *UNTIL)
+        for time, name in (("16:30", "ada"), ("17:30", "ben")):
+            self.set_clock(f"2026-12-04T{time}:00+00:00")
+            self.add(f"{name} 1,2,3,4")
+        self.done("close")
+        self.done("publish")
+        said = "1 ballot came after the end, and counts, since the vote was not closed yet."
+        self.assertIn(said, self.read("result/index.html").decode())
 
 
 if __name__ == "__main__":

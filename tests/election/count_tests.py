@@ -101,7 +101,9 @@ class OfForty(CountTest):
         self.assertEqual((folder / "sheet.txt").read_text(), self.election("count").output)
         checksum = hashlib.sha256((folder / "ballots.txt").read_bytes()).hexdigest()
         self.assertIn(checksum, (folder / "closed.txt").read_text())
-        self.assertIn(checksum, (folder / "letter.txt").read_text())
+        for name in ("SHA256SUMS", "index.html"):
+            named = f"{hashlib.sha256((folder / name).read_bytes()).hexdigest()}  {name}\n"
+            self.assertIn(named, self.read("letters/result.txt").decode())
         self.assertEqual((folder / "poll.toml").read_bytes(), self.read("call/poll.toml"))
         log = self.done("log").output
         before = {file.name: file.read_bytes() for file in folder.iterdir()}

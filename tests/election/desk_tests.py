@@ -216,38 +216,55 @@ class AtATerminal(CalledTest):
 
 
 class NamesAreCompleted(CalledTest):
-    names = ["anna-meier", "anna-schmidt", "ben", "benno", "clara-maria-lange"]
+    names = ["anna-meier", "anna-schmidt", "ben", "benno", "clara-müller-lange", *(f"elector-{number}" for number in range(11))]
 
-    def test_the_one_name_that_begins_so(self) -> None:
+    def test_a_part_of_one_name(self) -> None:
         desk = Terminal(self)
         desk.until("Ballot: ")
         # a tab, as whoever knows it from a shell types it
-        for typed in ("Clara 1,2,4,3", "cla\t1,2,4,3", "clara-maria-lang 1,2,4,3"):
+        for typed in ("Clara 1,2,4,3", "lang\t1,2,4,3", "LANGE Clara 1,2, 4,3", "Clara Müller 1,2,4,3", "clara muller\t1;2;4;3"):
             desk.type(f"{typed}\n")
-            self.assertIn("` was completed to `clara-maria-lange`\nclara-maria-lange: At the lake, ", desk.until(CAST))
+            self.assertIn("` was completed to `clara-muller-lange`\nclara-muller-lange: At the lake, ", desk.until(CAST))
             desk.type("n\n")
             desk.until("Ballot: ")
-        # several, and one that is whole
-        desk.type("anna 1,2,4,3\n")
-        self.assertIn("Several names begin with `anna`: anna-meier, anna-schmidt\nIt would be refused: ", desk.until(CAST_REFUSED))
-        desk.type("n\nben 1,2,4,3\n")
-        shown = desk.until(CAST)
-        self.assertRegex(shown, "(?m)^(Ballot: )?ben: At the lake, ")
-        self.assertNotIn("begin so", shown)
-        desk.type("n\nclara x\n")
-        self.assertIn("completed to `clara-maria-lange`\nIt would be refused: clara-maria-lange x: ", desk.until(CAST_REFUSED))
+        # one that is whole
+        desk.type("ben 1,2,4,3\n")
+        self.assertRegex(desk.until(CAST), "(?m)^(Ballot: )?ben: At the lake, ")
         desk.type("n\nclara 1 2 4 3\n")
         self.assertIn(
-            "completed to `clara-maria-lange`\nIt would be refused: clara-maria-lange 1 2 4 3: ", desk.until(CAST_REFUSED)
+            "completed to `clara-muller-lange`\nIt would be refused: clara-muller-lange 1 2 4 3: ", desk.until(CAST_REFUSED)
         )
-        # a real name is left whole: no line goes in that nobody typed
-        for typed in ("Clara Lange", "Clara Müller-Lange"):
-            desk.type(f"n\n{typed} 1,2,4,3\n")
+        # what has no ranks, and what is part of no name
+        for typed in ("clara x", "anna lange 1,2,4,3", "Clara Meier 1,2,4,3"):
+            desk.type(f"n\n{typed}\n")
             shown = desk.until(CAST_REFUSED)
-            self.assertIn(f"It would be refused: {typed} 1,2,4,3: bad shape: ", shown)
+            self.assertIn(f"It would be refused: {typed}: bad ", shown)
             self.assertNotIn("was completed", shown)
         desk.type("n\nq\n")
         desk.end()
+
+    def test_of_several_one_is_chosen(self) -> None:
+        desk = Terminal(self)
+        desk.until("Ballot: ")
+        desk.type("Anna 1,2,4,3\n")
+        listed = "`anna` is part of 2 names:\n  1 anna-meier (Anna-Meier)\n  2 anna-schmidt (Anna-Schmidt)\n"
+        self.assertIn(listed, desk.until("Type the number of one, or n for none: "))
+        desk.type("2\n")
+        self.assertIn("\nanna-schmidt: At the lake, ", desk.until(CAST))
+        desk.type("y\n")
+        desk.until("Ballot: ")
+        for answer in ("n", "3", "0", "", "ben 1,2,3,4", "\x04"):
+            desk.type("anna 2,1,4,3\n")
+            desk.until("for none: ")
+            desk.type(answer if answer == "\x04" else f"{answer}\n")
+            desk.until("It was not entered.\nBallot: ")
+        desk.type("elector 1,2,4,3\n")
+        shown = desk.until("for none: ")
+        self.assertIn("`elector` is part of 11 names:\n  1 elector-0 (Elector-0)\n", shown)
+        self.assertTrue(shown.endswith("\n  9 elector-8 (Elector-8)\nType the number of one, or n for none: "), shown)
+        desk.type("10\nq\n")
+        desk.end()
+        self.assertEqual(self.lines(), ["anna-schmidt 1,2,4,3"])
 
     def test_not_from_a_pipe_and_not_by_add(self) -> None:
         self.told("desk", given="clara 1,2,4,3\n")
@@ -258,7 +275,7 @@ class NamesAreCompleted(CalledTest):
         self.act("extend", {"codes_on_roll": True})
         desk = Terminal(self)
         self.assertIn("Type a ballot as CODE 1,2,3,4 (the code, then a rank ", desk.until("Ballot: "))
-        for typed in ("clara 1,2,4,3", "anna 1,2,4,3", "anna-maier 1,2,4,3"):
+        for typed in ("clara 1,2,4,3", "anna 1,2,4,3", "anna-maier 1,2,4,3", "Meier 1,2,4,3"):
             desk.type(f"{typed}\n")
             shown = desk.until(CAST_REFUSED)
             for name in self.names:

@@ -65,11 +65,12 @@ class Proposals(RollTest):
     def test_who_would_get_one_name_gets_a_number(self) -> None:
         self.assert_named(self.roll("Ann Lee", "Ánn Lee", "Ann-Lee", "Bo"), "ann-lee-1", "ann-lee-2", "ann-lee-3", "bo")
         self.assert_named(self.roll(f"{'a' * 32} b", f"{'a' * 33}"), "a" * 30 + "-1", "a" * 30 + "-2")
+        self.assert_named(self.roll("a" * 31 + " b", "Maximiliane " * 5), "a" * 31, "maximiliane-maximiliane-maximili")
 
     def test_names_of_others_are_not_taken(self) -> None:
         gone = Elector(7, "ann-3", None, "Ann Z", ())
-        self.assert_named(self.roll("Ann", "Other;;ann", "Another;;ann-2", "Ann.", known=[gone]), "ann-4", "ann", "ann-2", "ann.")
-        self.assertEqual([elector.line for elector in self.roll("Ann", "Other;;ann").electors if elector.is_proposed], [2])
+        self.assert_named(self.roll("Ann", "Other;;ann", "Another;;ann-2", "Ann.", known=[gone]), "ann-4", "ann", "ann-2", "ann-5")
+        self.assertEqual([elector.proposal for elector in self.roll("Ann", "Other;;ann").electors], ["ann", ""])
 
     def test_ten_thousand_of_one_name(self) -> None:
         marks = str.maketrans("01", "!?")
@@ -80,15 +81,22 @@ class Proposals(RollTest):
 
 class Known(RollTest):
     def test_a_name_stays_with_its_person(self) -> None:
-        roll = self.roll("Zoë", "Ben B;;ben", "ADA L;a@x", "Dan", known=KNOWN)
+        roll = self.roll("Zoë", "Ben B;;ben", "Ada L;a@x", "Dan", known=KNOWN)
         self.assert_named(roll, "zoe", "ben", "ada", "dan")
         self.assertEqual(numbers_of(roll), [3, 2, 1, None])
-        self.assertEqual(changes_of(roll), [("ben", ["who", "address", "key"]), ("ada", ["who"])])
+        self.assertEqual(changes_of(roll), [("ben", ["who", "address", "key"])])
         self.assertEqual((names_of(new_of(roll)), roll.gone), (["dan"], ()))
+
+    def test_who_is_renamed_keeps_the_name_in_the_list(self) -> None:
+        roll = self.roll(*SAME[:2], "Zoe", known=KNOWN)
+        self.assert_named(roll, "ada", "ben", "zoe-2")
+        self.assertEqual((names_of(new_of(roll)), names_of(roll.gone)), (["zoe-2"], ["zoe"]))
+        roll = self.roll(*SAME[:2], "Zoe;;zoe", known=KNOWN)
+        self.assertEqual((changes_of(roll)[-1], new_of(roll), roll.gone), (("zoe", ["who"]), [], ()))
 
     def test_the_same_list_changes_nothing(self) -> None:
         roll = self.roll(*SAME, known=KNOWN)
-        proposed = [elector for elector in roll.electors if elector.is_proposed]
+        proposed = [elector for elector in roll.electors if elector.proposal]
         self.assertEqual((changes_of(roll), new_of(roll), roll.gone, proposed, roll.faults), ([], [], (), [], ()))
 
     def test_a_new_name_for_the_same_person(self) -> None:
@@ -121,9 +129,9 @@ class Known(RollTest):
         self.assertEqual((numbers_of(roll), names_of(roll.gone)), ([None, 2], ["x"]))
 
     def test_two_with_one_who_need_names_of_their_own(self) -> None:
-        self.assert_faults(self.roll("Ann", "Bo", " Ann "), (":2: lines 2 and 4 have the same `who`: Ann", "under `name`"))
-        self.assert_faults(self.roll("Ann;;ann", "Ann"), (":3: lines 2 and 3 have the same `who`",))
-        self.assert_faults(self.roll("Zoë", "Zoe\u0308"), (":2: lines 2 and 3 have the same `who`: Zoë",))
+        self.assert_faults(self.roll("Ann", "Bo", " Ann "), (":2: lines 2, 4 have the same `who`: Ann", "under `name`"))
+        self.assert_faults(self.roll("Ann;;ann", "Ann"), (":3: lines 2, 3 have the same `who`",))
+        self.assert_faults(self.roll("Zoë", "Zoe\u0308"), (":2: lines 2, 3 have the same `who`: Zoë",))
         self.assert_named(self.roll("Ann;;ann", "Ann;;bo"), "ann", "bo")
         self.assert_faults(self.roll(";a@x", ";b@x", f";;;{KEY}"), *((f":{line}: it has no `who`",) for line in (2, 3, 4)))
 
@@ -135,7 +143,7 @@ class Known(RollTest):
 
     def test_names_and_keys_that_two_have(self) -> None:
         roll = self.roll(f"Ada;;x;{KEY}", "Bo;;y", f"Cy;;x;{KEY}")
-        self.assert_faults(roll, (":4: lines 2 and 4 have the same name: x",), (":4: lines 2 and 4 have the same key",))
+        self.assert_faults(roll, (":4: lines 2, 4 have the same name: x",), (":4: lines 2, 4 have the same key",))
 
     def test_too_many(self) -> None:
         rows = [f"Elector {number}" for number in range(10_001)]
@@ -143,16 +151,8 @@ class Known(RollTest):
         self.assertEqual(self.roll(*rows[1:]).faults, ())
 
     def test_the_faults_of_the_list_are_among_them(self) -> None:
-        self.assert_faults(self.roll("Ann;no", "Ann"), (":2: `no` is not a mail address",), (":2: lines 2 and 3",))
+        self.assert_faults(self.roll("Ann;no", "Ann"), (":2: `no` is not a mail address",), (":2: lines 2, 3",))
         self.assert_faults(self.roll(), ("there is nobody on it",))
-
-
-class Told(RollTest):
-    def test_who_has_no_address_and_what_appears_twice(self) -> None:
-        roll = self.roll("Ada;a@x B@x", "Ben", "Zoë;b@X", "zoe;z@x", "Eve;e@x e@X")
-        shared = {address: names_of(electors) for address, electors in roll.shared_addresses.items()}
-        self.assertEqual(shared, {"b@x": ["ada", "zoe-1"]})
-        self.assertEqual([names_of(group) for group in roll.alike_people], [["zoe-1", "zoe-2"]])
 
 
 class AfterTheCall(RollTest):
@@ -165,18 +165,17 @@ class AfterTheCall(RollTest):
         self.assertEqual(changes_of(roll), [("ben", ["address", "key"]), ("zoe", ["address"])])
 
     def test_the_people_stay(self) -> None:
-        self.assert_faults(self.called(SAME[1]), ("ada (Ada L) and zoe (Zoë) is missing", "only addresses and keys may change"))
-        self.assert_faults(self.called(*SAME, "Dan"), ("dan (Dan) on line 5 is new",))
-        self.assert_faults(self.called("Ada L;a@x;ada.l", *SAME[1:]), ("ada.l (Ada L) on line 2 was ada",))
-        self.assert_faults(self.called("Eve;a@x;ada", *SAME[1:]), ("ada (Eve) on line 2 was Ada L",))
-        self.assert_faults(self.called("Ada L;a@x", SAME[1], "Zoe"), ("zoe (Zoe) on line 4 was Zoë",))
-        self.assert_faults(self.called(*SAME[:2], "Zoe;;z"), ("z (Zoe) on line 4 was zoe",), ("z (Zoe) on line 4 was Zoë",))
+        self.assert_faults(self.called(SAME[1]), ("missing: ada (Ada L), zoe (Zoë)", "only addresses and keys may change"))
+        self.assert_faults(self.called(*SAME, "Dan"), ("new: dan (Dan)",))
+        self.assert_faults(self.called("Ada L;a@x;ada.l", *SAME[1:]), (":2: ada.l (Ada L) was ada",))
+        self.assert_faults(self.called("Eve;a@x;ada", *SAME[1:]), (":2: ada (Eve) was Ada L",))
+        self.assert_faults(self.called("Ada L;a@x", SAME[1], "Zoe;;zoe"), (":4: zoe (Zoe) was Zoë",))
         self.assert_named(self.called(*SAME[:2], "Zoe\u0308"), "ada", "ben", "zoe")
 
     def test_another_person_in_the_place_of_one(self) -> None:
-        self.assert_faults(self.called(*SAME[:2], "Eve;z@x"), ("zoe (Zoë) is missing",), ("eve (Eve) on line 4 is new",))
+        self.assert_faults(self.called(*SAME[:2], "Eve;z@x"), ("missing: zoe (Zoë)",), ("new: eve (Eve)",))
 
     def test_who_was_gone_before_the_call_is_new(self) -> None:
         known = [*KNOWN, Elector(4, "dan", None, "Dan", ())]
         roll = self.roll(*SAME, "Dan", known=known, is_called=True)
-        self.assert_faults(roll, ("dan (Dan) on line 5 is new",))
+        self.assert_faults(roll, ("new: dan (Dan)",))

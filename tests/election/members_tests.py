@@ -64,6 +64,23 @@ class Read(MembersTest):
         self.assert_rows('note, MAIL ,"Name",age,\tWho\nx,ada@x,ada,3,Ada L\n', (2, "ada", "Ada L", "ada@x"))
         self.assert_rows(";who;mail\n0;Ada;a@x\n", (2, "", "Ada", "a@x"))
 
+    def test_heads_in_other_words(self) -> None:
+        for text, who in {
+            "Nr;Name;E-Mail\n1;Ada L;a@x": "Ada L",
+            "Nachname;Vorname;Email\nL;Ada;a@x": "Ada L",
+            "Name;E_Mail;Vorname\nL;a@x;Ada": "Ada L",
+            "First Name,Last Name,MAIL\nAda,L,a@x": "Ada L",
+            "Nom\tPrénom\tCourriel\nL\tAda\ta@x": "Ada L",
+            "NOMBRE,apellidos,correo\nAda,L M,a@x": "Ada L M",
+            "Nom;Mail\nAda L;a@x": "Ada L",
+            "Nombre;Mail\nAda L;a@x": "Ada L",
+        }.items():
+            self.assert_rows(f"{text}\n", (2, "", who, "a@x"))
+        # `name` has the names on the roll where something else has the real ones
+        self.assert_rows("Name,who,E-Mail\nada,Ada L,a@x\n", (2, "ada", "Ada L", "a@x"))
+        self.assert_rows("Name,Vorname,Nachname,mail\nada,Ada,L,a@x\n", (2, "ada", "Ada L", "a@x"))
+        self.assert_rows("E-Mail,who,mail,Vorname\nx,Ada L,a@x,y\n", (2, "", "Ada L", "a@x"))
+
     def test_trailing_delimiters_blank_rows_and_short_rows(self) -> None:
         text = "\n,,\nname,who,mail,,\n,,,,\nada,Ada,,,\n\n   \nben\ncleo,,c@x,,,,,,\n,,,,"
         self.assert_rows(text, (5, "ada", "Ada", ""), (8, "ben", "", ""), (9, "cleo", "", "c@x"))
@@ -125,10 +142,12 @@ class Unread(MembersTest):
         self.assert_faults(codecs.BOM_UTF16_LE + "who,mail\n".encode("utf-16-le") + b"x", ("UTF-16",))
 
     def test_a_head_line_without_a_column(self) -> None:
-        self.assert_faults("name,who,e-mail\nada,Ada,a@x\n", ("members.csv:1: ", "no column `mail`", "`name`, `who`, `e-mail`"))
+        self.assert_faults("name,who,post\nada,Ada,a@x\n", ("members.csv:1: ", "no column `mail`", "`name`, `who`, `post`"))
+        self.assert_faults("Nachname,mail\nAda,a@x\n", ("no column `who`; it has `Nachname`, `mail`",))
         self.assert_faults("ada,Ada,a@x\n", ("no column `who` and no column `mail`; it has `ada`, `Ada`, `a@x`", "real names"))
 
     def test_a_column_twice(self) -> None:
+        self.assert_faults("Name,E-Mail,email\n", (":1: ", "column `email` twice"))
         self.assert_faults("\nwho,mail,Who,name,NAME\n,,,,\n", (":2: ", "column `who` twice"), (":2: ", "column `name` twice"))
 
     def test_nobody(self) -> None:
@@ -146,7 +165,7 @@ class Unread(MembersTest):
     def test_a_folder_and_no_file(self) -> None:
         folder = pathlib.Path(tempfile.mkdtemp())
         self.addCleanup(folder.rmdir)
-        for file, part in ((folder, "it is not a file"), (folder / "no", "No such file"), (pathlib.Path("/dev/null"), "it is not a file")):
+        for file, part in ((folder, "Is a directory"), (folder / "no", "No such file")):
             with self.assertRaises(Fault) as caught:
                 members.members_in(file)
             self.assertEqual(caught.exception.status, Status.BAD_WORDS)
@@ -155,7 +174,7 @@ class Unread(MembersTest):
     def test_a_file_that_is_too_long(self) -> None:
         with tempfile.NamedTemporaryFile() as file:
             file.truncate(TABLE_LIMIT + 1)
-            with self.assertRaisesRegex(Fault, "too long"):
+            with self.assertRaisesRegex(Fault, "it is longer than .* bytes; shorten it, then run debvote-election roll again"):
                 members.members_in(pathlib.Path(file.name))
 
 

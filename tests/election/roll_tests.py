@@ -22,16 +22,24 @@ class RollTest(support.ElectionTest):
 
 class Roll(RollTest):
     def test_names_are_proposed_and_the_list_is_not_written(self) -> None:
-        ended = self.roll("Cléo,cleo@club.example", "Anna Meier,", "Ødegård,o@club.example")
+        ended = self.roll("Chloé,chloe@club.example", "Anna Meier,", "Ødegård,o@club.example")
         self.assertEqual(ended.status, 0, ended)
-        self.assertEqual(self.on_roll(), ["cleo", "anna-meier", "odegard"])
-        self.assertIn("  cleo: Cléo cleo@club.example\n", ended.output)
-        self.assertIn("2 names were proposed", ended.output)
+        self.assertEqual(self.on_roll(), ["chloe", "anna-meier", "odegard"])
+        self.assertIn("  chloe: Chloé chloe@club.example\n", ended.output)
+        self.assertIn("3 names were proposed", ended.output)
         self.assertIn("Without an address (letters in their names wait, letters to them are printed): anna-meier", ended.output)
-        self.assertEqual(self.read("members.csv").decode(), "who,mail\nCléo,cleo@club.example\nAnna Meier,\nØdegård,o@club.example\n")
+        self.assertEqual(self.read("members.csv").decode(), "who,mail\nChloé,chloe@club.example\nAnna Meier,\nØdegård,o@club.example\n")
+
+    def test_names_that_were_cut_or_are_similar_are_told(self) -> None:
+        output = self.roll("Maximiliane Theodora Louise Schulz,", "Dr. Anna Meier,", '"Maier, Anna",', "Meier Anna,").output
+        self.assertIn("at most 32 characters, so these were cut: maximiliane-theodora-louise-schu (Maximiliane Theodora Louise Schulz)\n", output)
+        self.assertIn("these names are easily mistaken for each other: anna-meier and anna-maier, anna-meier and meier-anna\n", output)
+        output = self.roll("Anna Meier,", "Anna-Meier,").output
+        self.assertNotIn("cut:", output)
+        self.assertNotIn("mistaken", output)
 
     def test_an_address_that_not_every_mail_server_takes_is_told(self) -> None:
-        ended = self.roll("Cléo,cléo@club.example", "Ben,bén@club.example b@club.example")
+        ended = self.roll("Cleo,cléo@club.example", "Ben,bén@club.example b@club.example")
         self.assertIn("Without an address that every mail server takes (letters to them are printed): cleo\n", ended.output)
         self.assertNotIn("Without an address (", ended.output)
 
@@ -68,9 +76,14 @@ class Roll(RollTest):
         self.assertEqual(self.on_roll(), support.NAMES)
 
     def test_shared_addresses_are_told(self) -> None:
-        ended = self.roll("Ada,home@club.example", "Ben,Home@club.example")
+        ended = self.roll("Ada,a@club.example home@club.example", "Ben,Home@club.example", "Eve,e@club.example E@club.example", "Cleo,")
         self.assertEqual(ended.status, 0)
-        self.assertIn("several electors have the address home@club.example: ada, ben", ended.output)
+        self.assertIn("Note: several electors have the address home@club.example: ada, ben. Is that one person?\n", ended.output)
+        self.assertEqual(ended.output.count("Is that one person?"), 1)
+
+    def test_real_names_that_look_alike_are_told(self) -> None:
+        output = self.roll("Zo\u00eb,z@club.example", "zoe,", "Zo\u00eb L,").output
+        self.assertIn("Note: these real names look alike: zoe-1, zoe-2. Is that one person?\n", output)
 
     def test_several_people_in_one_cell_are_told(self) -> None:
         rows = ("Eve & Dan,e@club.example", "Fay und Gus Meier,", "Hal/Ida,", "Jan+Kim,", "Marie et Luc,", "Andrea Undset,", '"Meier, Anna",', "A-B,")

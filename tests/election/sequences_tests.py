@@ -225,7 +225,9 @@ class SequencesTest(support.ElectionTest):
     def exported(self) -> tuple[str, str]:
         out = self.scratch / "out"
         shutil.rmtree(out, ignore_errors=True)
-        self.done("export", out)
+        ended = self.done("export", out)
+        # a kill leaves what this computer noted behind the book, and never ahead of it
+        self.assertEqual(ended.faults, "", ended)
         return (out / "ballots.txt").read_text(), (out / "late.txt").read_text()
 
     def check_numbers(self) -> None:
@@ -311,7 +313,8 @@ class EightDesks(support.ElectionTest):
             self.assertEqual(entered[number - 1], line)
         # a desk that was killed has entered one line more at most
         self.assertLessEqual(len(entered), len(told) + 2)
-        self.done("log", "--check")
+        checked = self.done("log", "--check")
+        self.assertEqual(checked.faults, "", checked)
 
 
 if __name__ == "__main__":

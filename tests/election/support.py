@@ -79,7 +79,7 @@ def note_book(folder: pathlib.Path, state: pathlib.Path) -> None:
     before = os.environ.get("XDG_STATE_HOME")
     os.environ["XDG_STATE_HOME"] = str(state)
     try:
-        book.note().write(Note(last.number, last.digest))
+        book.note().put(Note(last.number, last.digest))
     finally:
         os.environ.pop("XDG_STATE_HOME")
         if before is not None:

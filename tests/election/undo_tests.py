@@ -27,7 +27,7 @@ class Undo(CalledTest):
         self.assertEqual(self.acts()[3:], [("undo", {"act": number}) for number in (first + 2, first + 1, first)])
         # nothing is gone
         self.assertEqual([envelope.struck for envelope in self.envelopes()], [first + 5] * 2 + [first + 4] * 3 + [first + 3])
-        self.assertIsNone(self.book.broken_act())
+        self.book.demand_whole()
 
     def test_and_then_it_goes_on(self) -> None:
         self.told("add", given=f"ada {RANKS}\n")

@@ -15,7 +15,7 @@ from debvote_tools.faults import Fault, Status  # noqa: E402
 from debvote_tools.language import language_of  # noqa: E402
 from debvote_tools.times import date_in_words, minute_in_words, now, time_in_words  # noqa: E402
 
-EXAMPLE = 'write it as "2026-12-04 18:00", as "2026-12-04 18:00 \\+01:00", or with --zone Europe/Berlin'
+EXAMPLE = 'write it as "2026-12-04 18:00", as "2026-12-04 18:00\\+01:00" or in another form of ISO 8601, or with --zone Europe/Berlin'
 
 
 class Until(unittest.TestCase):
@@ -32,13 +32,14 @@ class Until(unittest.TestCase):
 
     def test_forms(self) -> None:
         for text, zone, here, wanted in [
-            ("2026-12-04 18:00 +01:00", None, "UTC", "2026-12-04T18:00:00+01:00"),
+            ("2026-12-04 18:00+01:00", None, "UTC", "2026-12-04T18:00:00+01:00"),
             ("2026-12-04 18:00", "Europe/Berlin", "UTC", "2026-12-04T18:00:00+01:00"),
             ("2026-12-04 18:00", None, "Europe/Berlin", "2026-12-04T18:00:00+01:00"),
             ("2027-07-04 18:00", None, "Europe/Berlin", "2027-07-04T18:00:00+02:00"),
             (" 2026-12-04T18:00Z ", None, "Asia/Tokyo", "2026-12-04T18:00:00+00:00"),
-            ("2026-12-04 18:00 UTC", None, "Asia/Tokyo", "2026-12-04T18:00:00+00:00"),
-            ("2026-12-04 18:00:30 -0330", None, "UTC", "2026-12-04T18:00:30-03:30"),
+            ("2026-W49-5T18", None, "Asia/Tokyo", "2026-12-04T18:00:00+09:00"),
+            ("2026-12-04 18:00:30.5-0330", None, "UTC", "2026-12-04T18:00:30-03:30"),
+            ("2026-12-04 18:00:30.5", "Europe/Berlin", "UTC", "2026-12-04T18:00:30+01:00"),
         ]:
             with self.subTest(text=text, zone=zone, here=here):
                 self.in_zone(here)
@@ -50,9 +51,9 @@ class Until(unittest.TestCase):
             ("2026-12-06 18:00", None, "Europe/Berlin", ("2026-12-06T18:00:00+01:00", "Europe/Berlin")),
             ("2027-04-06 18:00", None, "Europe/Berlin", ("2027-04-06T18:00:00+02:00", "Europe/Berlin")),
             ("2026-12-06 18:00", None, "-03:30", ("2026-12-06T18:00:00-03:30", "-03:30")),
-            ("2026-12-06 18:00", None, "Z", ("2026-12-06T18:00:00+00:00", "Z")),
+            ("2026-12-06 18:00Z", None, "+05:00", ("2026-12-06T18:00:00+00:00", "+00:00")),
             ("2026-12-06 18:00", "America/New_York", "Europe/Berlin", ("2026-12-06T18:00:00-05:00", "America/New_York")),
-            ("2026-12-06 18:00 +05:00", None, "Europe/Berlin", ("2026-12-06T18:00:00+05:00", "+05:00")),
+            ("2026-12-06 18:00+0500", None, "Europe/Berlin", ("2026-12-06T18:00:00+05:00", "+05:00")),
             ("2026-12-06 18:00", None, None, ("2026-12-06T18:00:00+09:00", None)),
         ]:
             with self.subTest(text=text, zone=zone, earlier=earlier):
@@ -60,31 +61,36 @@ class Until(unittest.TestCase):
                 self.assertEqual((time.isoformat(), named), wanted)
 
     def test_other_words(self) -> None:
-        for text in ("tomorrow", "Friday, 4 December 2026", "2026-12-04", "18:00", "4.12.2026 18:00", "2026-12-04 6pm", "", "2026-12-04 18:00 sharp", "\u0662026-12-04 18:00"):
-            self.assert_refused(text, None, f"^.*--until: it is not a time; nothing was changed: {EXAMPLE}")
-        for text in ("2026-02-30 18:00", "2026-12-04 24:00", "2026-12-04 18:60", "2026-12-04 18:00 +99:00", "0000-01-01 10:00", "9999-12-31 23:59"):
-            self.assert_refused(text, "America/New_York" if text.startswith("9") else None, "there is no such day or time of day")
+        for text in (
+            *("tomorrow", "Friday, 4 December 2026", "18:00", "4.12.2026 18:00", "2026-12-04 6pm", "", "2026-12-04 18:00 sharp"),
+            *("\u0662026-12-04 18:00", "2026-12-04 18:00 UTC", "2026-02-30 18:00", "2026-12-04 24:00", "2026-12-04 18:60"),
+            *("2026-12-04 18:00+99:00", "2026-12-04 18:00+01:00:30", "0000-01-01 10:00"),
+            # no time of day
+            *("2026-12-04", "20261204", "2026-W49-5"),
+        ):
+            self.assert_refused(text, None, f"^.*--until: it is not a date with a time of day, or .*; nothing was changed: {EXAMPLE}")
+        self.assert_refused("9999-12-31 23:59", "America/New_York", "there is no such day or time")
         for name in ("Europe/Nowhere", "../../etc/passwd", "", "a\u202eb", "/etc/passwd"):
             self.assert_refused("2026-12-04 18:00", name, "--zone: this computer knows no time zone of this name")
-        self.assert_refused("2026-12-04 18:00 +01:00", "Europe/Berlin", "--zone: the time has an offset already")
+        self.assert_refused("2026-12-04 18:00+01:00", "Europe/Berlin", "--zone: the time has an offset already")
 
     def test_clocks_that_are_put_forward_or_back(self) -> None:
         for zone, here, where in (("Europe/Berlin", "UTC", "in Europe/Berlin"), (None, "Europe/Berlin", "where this computer is")):
             self.in_zone(here)
             self.assert_refused("2027-03-28 02:30", zone, f"{where} there is no such time: the clocks that are put forward on that day skip it")
-            both = r'write "2027-10-31 02:30 \+02:00" or "2027-10-31 02:30 \+01:00"'
+            both = r'write "2027-10-31 02:30\+02:00" or "2027-10-31 02:30\+01:00"'
             self.assert_refused("2027-10-31 02:30", zone, f"{where} this time comes twice.*{both}")
-        self.assert_refused("2027-10-31 01:30", "Europe/London", r'write "2027-10-31 01:30 \+01:00" or "2027-10-31 01:30 UTC"')
-        for again in ("2027-10-31 02:30 +01:00", "2027-10-31 01:30 UTC"):
+        self.assert_refused("2027-10-31 01:30", "Europe/London", r'write "2027-10-31 01:30\+01:00" or "2027-10-31 01:30\+00:00"')
+        for again in ("2027-10-31 02:30+01:00", "2027-10-31 01:30+00:00"):
             self.assertEqual(parse_until(again, None)[0].astimezone(datetime.UTC).hour, 1)
 
     def test_a_time_that_is_over(self) -> None:
         clock = datetime.datetime(2026, 11, 26, 10, 0, 30, tzinfo=datetime.UTC)
-        for text in ("2026-11-26 11:00:30 +01:00", "2026-11-26 11:00 +01:00"):
+        for text in ("2026-11-26 11:00:30+01:00", "2026-11-26 11:00+01:00"):
             said = r"\(UTC\+01:00\) is past: by the clock of this computer it is Thursday, 26 November 2026, 11:00 \(UTC\+01:00\); nothing was"
             with self.assertRaisesRegex(Fault, said):
                 demand_future(parse_until(text, None)[0], clock)
-        demand_future(parse_until("2026-11-26 11:00:31 +01:00", None)[0], clock)
+        demand_future(parse_until("2026-11-26 11:00:31+01:00", None)[0], clock)
 
 
 class InWords(unittest.TestCase):

@@ -52,8 +52,9 @@ class InBrowser(support.LanguageTest):
         with at_browser.Window(*TELEPHONE) as window:
             self.check_widths(window, language, files, TELEPHONE[0])
             for place in places.values():
-                # four options: who has won, one's own ballot, the bars and the reasons
+                # four options: who has won, one's own ballot, the bars and the reasons; few results have a doubt
                 window.open(place / "result" / "index.html")
+                window.ask("document.querySelector('.doubts').remove()")
                 end = window.ask("document.getElementById('Why').parentNode.getBoundingClientRect().bottom")
                 self.assertLessEqual(end, 3 * TELEPHONE[1], f"{place.name}: screens of a telephone")
             self.check_call(window, language, places["open"])
@@ -157,13 +158,13 @@ class InBrowser(support.LanguageTest):
 
     def found(self, window: at_browser.Window, name: str, code: str | None = None) -> list[str]:
         """What the page of a result says once a name is typed, and a code."""
-        typed = "" if code is None else f"document.getElementById('code').value = {json.dumps(code)};"
+        typed = "" if code is None else f"document.getElementById('Code').value = {json.dumps(code)};"
         window.ask(
-            f"document.getElementById('name').value = {json.dumps(name)}; {typed}"
-            "document.getElementById('answer').replaceChildren(); document.getElementById('show').click();"
+            f"document.getElementById('Name').value = {json.dumps(name)}; {typed}"
+            "document.getElementById('Answer').replaceChildren(); document.getElementById('Show').click();"
         )
-        window.until("document.getElementById('answer').textContent !== ''")
-        answers: list[str] = window.ask("[...document.querySelectorAll('#answer p')].map((row) => row.textContent)")
+        window.until("document.getElementById('Answer').textContent !== ''")
+        answers: list[str] = window.ask("[...document.querySelectorAll('#Answer p')].map((row) => row.textContent)")
         return answers
 
 

@@ -108,7 +108,7 @@ class MarkedElections(Marked):
     def test_an_open_vote(self) -> None:
         place = self.held("open", "de")
         self.check_files(place, "call/index.html", "call/call.txt", "letters/extension.txt", "letters/closed.txt")
-        self.check_files(place, "result/index.html", "result/letter.txt", "result/closed.txt")
+        self.check_files(place, "result/index.html", "letters/result.txt", "result/closed.txt")
         self.check_messages(place, ALL_KINDS)
 
     def test_a_secret_vote(self) -> None:
@@ -116,7 +116,7 @@ class MarkedElections(Marked):
         self.check_files(
             place, "call/index.html", "call/call.txt", "private/slips.html", "letters/extension.txt", "letters/closed.txt"
         )
-        self.check_files(place, "result/index.html", "result/letter.txt", "result/closed.txt")
+        self.check_files(place, "result/index.html", "letters/result.txt", "result/closed.txt")
         self.check_messages(place, ALL_KINDS)
 
     def test_codes_on_the_roll(self) -> None:
@@ -191,7 +191,7 @@ class MarkedDecisions(Marked):
         ):
             casting = () if option is None else ("--casting", option)
             self.election("cast", "publish", *casting, *words, status=status)
-            self.check_files(place, "result/index.html", "result/letter.txt")
+            self.check_files(place, "result/index.html", "letters/result.txt")
             self.election("cast", "letters", "result")
         self.assertIn('class="doubts"', (place / "result" / "index.html").read_text(encoding="utf-8"))
         self.check_messages(place, {"result"})

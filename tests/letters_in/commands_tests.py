@@ -1,15 +1,27 @@
 """Letters in an election: `add`, `held`, `undo`, `strike`, `close`, `status` as a secretary meets them."""
 
+import contextlib
+import hashlib
+import io
 import json
+import os
 import pathlib
 import shutil
 import sys
 import unittest
+from collections.abc import Sequence
+from unittest import mock
 
 sys.path[:0] = [str(pathlib.Path(__file__).resolve().parent.parent / "election")]
 
+import pgp  # noqa: E402
 import support  # noqa: E402
 from terminal import Terminal  # noqa: E402
+
+from debvote_tools.book.book import open_book  # noqa: E402
+from debvote_tools.election import command_line, letter_files  # noqa: E402
+from debvote_tools.election.commands import held  # noqa: E402
+from debvote_tools.letters import signatures  # noqa: E402
 
 RANKS, OTHER = "1,2,4,3", "2,1,4,3"
 LAKE = "At the lake, then In the town hall, then Further discussion, then Sell the house and meet there"
@@ -116,6 +128,18 @@ class Adding(LettersTest):
         desk.end()
         self.assertEqual(self.exported()[0], f"ada {OTHER}\nben {RANKS}\n")
 
+    def test_a_close_between_question_and_answer(self) -> None:
+        """It was agreed that the ballot counts; late it would not."""
+        self.write("inbox.mbox", mailbox(letter("ada", f"ada {RANKS}")))
+        desk = Terminal(self, "add", "inbox.mbox")
+        desk.until("Enter 1 ballot?")
+        self.done("close", "--force", "--because", "nobody answers")
+        desk.type("y\n")
+        self.assertIn("goes in, and is late", desk.until("Enter 1 ballot?"))
+        desk.type("n\n")
+        desk.end()
+        self.assertEqual(self.exported(), ("", ""))
+
     def test_the_order_is_that_of_the_arrivals(self) -> None:
         later = letter("ada", f"ada {OTHER}", "Mon, 23 Nov 2026 12:00:00 +0000", number=2)
         self.add(later, letter("ada", f"ada {RANKS}"))
@@ -145,7 +169,8 @@ class Adding(LettersTest):
         """A letter that had arrived in time; then the vote is opened again."""
         self.done("desk", given=f"cleo {RANKS}\n")
         self.done("close")
-        self.add(letter("ada", f"ada {RANKS}"))
+        ended = self.add(letter("ada", f"ada {RANKS}"))
+        self.assertTrue(ended.output.endswith("\nNext: debvote-election status\n"), ended)
         self.assertEqual(self.exported(), (f"cleo {RANKS}\n", f"ada {RANKS}\n"))
         how = "run debvote-election reopen --in-time 2 --because TEXT"
         self.assert_fault(self.election("publish"), 9, "the ballot of letter 1 is late", f"to count it {how}")
@@ -209,6 +234,55 @@ class Adding(LettersTest):
         self.assertIn("after the end of the vote", self.add(letter("ada", f"ada {RANKS}")).output)
         self.done("call", "--until", "2026-11-24 09:00", "--zone", "UTC")
         self.assertIn("1 counted", self.add(letter("ada", f"ada {RANKS}")).output)
+
+
+class ReadOnce(LettersTest):
+    """What a letter says is read when it comes. Else a few letters of a stranger would slow down each command, for good."""
+
+    def with_counter(self, *words: object) -> tuple[support.Ended, list[str]]:
+        """A command, and the tasks for which it ran debvote."""
+        place, said = self.scratch / "counting", self.scratch / "runs"
+        place.mkdir(exist_ok=True)
+        (place / "debvote").write_text(f'#!/bin/sh\necho "$1" >> {said}\nexec {support.PROGRAM} "$@"\n')
+        (place / "debvote").chmod(0o755)
+        said.write_text("")
+        env = support.environment() | self.clock | {"XDG_STATE_HOME": str(self.state)}
+        env["PATH"] = f"{place}:{env['PATH']}"
+        ended = self.election(*words, env=env)
+        self.assertEqual((ended.status, ended.faults), (0, ""), ended)
+        return ended, said.read_text().split()
+
+    def test_judging_again_asks_debvote_nothing(self) -> None:
+        letters = [letter("ada", f"adaa {RANKS}"), letter("ben", f"I vote ben {RANKS} today"), letter("cleo", f"cleo {RANKS}")]
+        self.write("inbox.mbox", mailbox(*letters, letter("dan", "1,2,4,3")))
+        self.assertEqual(self.with_counter("add", "--yes", "inbox.mbox")[1], ["explain", "explain", "steps"])
+        self.assertEqual(self.with_counter("add", "--yes", "inbox.mbox")[1], [])
+        shown, runs = self.with_counter("held")
+        self.assertEqual(runs, [])
+        for part in ("did you mean ada?", f"`ben {RANKS}`, within other words", f"line 1: dan {RANKS}"):
+            self.assertIn(part, shown.output)
+        self.assertEqual(self.with_counter("held", 1, "--set-aside")[1], [])
+
+    def test_who_has_voted_since_is_asked_of_their_lines_alone(self) -> None:
+        self.done("desk", given=f"ada {OTHER}\nben {OTHER}\n")
+        self.add(letter("ada", "hello"))
+        shown, runs = self.with_counter("held")
+        self.assertIn("no ballot found; has voted since", shown.output)
+        self.assertEqual(runs, ["explain"])
+
+    def test_no_letter_slows_down_later_commands(self) -> None:
+        """Whatever is in it."""
+        self.write("members.csv", support.members_of(support.NAMES))
+        lines = "\n".join(f"I vote ada 1,{number % 90},3, or not; Ada Lovelace{number} 1,2,3" for number in range(4_000))
+        others = ("\n" * 200_000 + f"ada {RANKS}", "a\n\n" * 80_000, "x " * 120_000, "<p>ada 1,2</p>" * 15_000)
+        self.add(*(letter("ada", text, sender="x@y.example", number=number) for number, text in enumerate((lines, *others))))
+        self.assertEqual(self.done("held").output.count("lines that may be ballots; at most 200 are read"), 1)
+        before = os.times()
+        for words in (("held",), ("status",), ("show", "ada"), ("letters", "receipts")):
+            self.done(*words)
+        after = os.times()
+        # a command takes some tenths, most of them to begin
+        self.assertLess(after.children_user - before.children_user, 6)
 
 
 class Held(LettersTest):
@@ -287,7 +361,277 @@ class Held(LettersTest):
                 self.assertEqual(self.election("held", *words).status, 2)
 
 
+class InTime(LettersTest):
+    """A letter that arrived in time and waits may decide the vote, whenever it was added: it stops `close`, and after it `count` and `publish`."""
+
+    def setUp(self) -> None:
+        super().setUp()
+        self.done("desk", given=f"cleo {RANKS}\nben {OTHER}\n")
+        self.wordy = letter("ada", f"I thought about it for 3 days:\n\nada {OTHER}\n")
+
+    def assert_stops(self, number: int = 1) -> None:
+        """Nothing is counted, nothing is published, and each says which letter it is."""
+        named = f"these letters arrived in time, and wait: {number};"
+        for words in (("count",), ("publish",), ("count", "--casting", "At the lake")):
+            ended = self.election(*words)
+            self.assert_fault(ended, 9, named, "held NUMBER --set-aside", "reopen --because TEXT")
+            self.assertEqual(ended.output, "")
+        self.assertFalse((self.folder / "result").exists())
+        self.assertIn(f"These arrived in time, and count and publish stop while they wait: {number}\n", self.done("status").output)
+        self.assertEqual(self.numbers()["stopping"], [number])
+
+    def test_one_that_was_added_after_the_close(self) -> None:
+        """It arrived before the close, and stopped nothing: another won, and nobody was told."""
+        self.done("close")
+        self.add(self.wordy)
+        self.assert_stops()
+
+    def test_one_that_nobody_agreed_to(self) -> None:
+        self.done("close")
+        self.add(letter("ada", f"ada {OTHER}"), words=())
+        self.assert_stops()
+
+    def test_what_is_no_ballot_is_set_aside_at_any_time(self) -> None:
+        self.done("close")
+        self.add(letter("ada", "I am on holiday."))
+        self.assert_stops()
+        self.done("held", 1, "--set-aside")
+        self.assertEqual(self.numbers()["stopping"], [])
+        self.assertEqual((self.election("count").status, self.election("publish").status), (1, 1))
+        self.assertNotIn("nobody has decided", (self.folder / "result" / "index.html").read_text())
+        # after the publication, too
+        self.add(letter("dan", "hello"))
+        self.assertEqual(self.election("count").status, 9)
+        self.done("held", 2, "--set-aside")
+        self.assertEqual((self.election("count").status, self.election("publish").status), (1, 1))
+
+    def test_what_is_a_ballot_needs_reopen(self) -> None:
+        self.done("close")
+        self.add(self.wordy)
+        self.done("reopen", "--because", "a letter was forgotten")
+        self.assertIn("These arrived in time, and close stops while they wait: 1\n", self.done("status").output)
+        self.assert_fault(self.election("close"), 9, "these letters arrived in time, and wait: 1;")
+        self.done("held", 1, "--enter", 3)
+        self.done("close")
+        self.assertEqual(self.exported(), (f"cleo {RANKS}\nben {OTHER}\nada {OTHER}\n", ""))
+        self.assertIn("Winner: 2 In the town hall", self.done("count").output)
+        self.done("publish")
+
+    def test_forced(self) -> None:
+        """The page says how many, and the same letters stop nothing again; another one does."""
+        self.done("close")
+        self.add(self.wordy, letter("dan", "hello"))
+        ended = self.election("count", "--force")
+        self.assertEqual(ended.status, 1)
+        self.assertIn("Note: these letters arrived in time, and wait: 1, 2; they are in no count.\n", ended.faults)
+        self.assert_fault(self.election("publish", "--force"), 9, "these letters arrived in time, and wait: 1, 2;")
+        ended = self.election("publish", "--force", "--because", "nobody answers")
+        self.assertEqual(ended.status, 1, ended)
+        said = "and of which nobody has decided whether they are ballots: 2."
+        page = (self.folder / "result" / "index.html").read_bytes()
+        self.assertIn(said, page.decode())
+        self.assertIn("nobody answers", page.decode())
+        self.assertEqual(self.numbers()["stopping"], [])
+        self.assertEqual(self.election("count").status, 1)
+        # the same again is no act, and of another publication the page says it too
+        acts = self.done("log").output
+        self.assertEqual(self.election("publish").status, 1)
+        self.assertEqual(((self.folder / "result" / "index.html").read_bytes(), self.done("log").output), (page, acts))
+        self.write("about.txt", "Certified by Ida.\n")
+        self.assertEqual(self.election("publish", "--about", "about.txt").status, 1)
+        self.assertIn(said, (self.folder / "result" / "index.html").read_text())
+        self.add(letter("fay", "hello"))
+        self.assert_fault(self.election("count"), 9, "these letters arrived in time, and wait: 3;")
+        self.assert_fault(self.election("publish", "--about", "about.txt"), 9, "these letters arrived in time, and wait: 1, 2, 3;")
+
+    def test_a_reason_is_not_one_for_letters_that_come_later(self) -> None:
+        self.done("close")
+        self.add(self.wordy)
+        self.assertEqual(self.election("publish", "--force", "--because", "nobody answers").status, 1)
+        before = self.contents()["result/index.html"]
+        self.add(letter("fay", "hello"))
+        for words in ((), ("--force",)):
+            self.assert_fault(self.election("publish", *words), 9, "these letters arrived in time, and wait: 1, 2;", "--because")
+        self.assertEqual(self.contents()["result/index.html"], before)
+        self.assertEqual(self.election("publish", "--force", "--because", "nor does Fay").status, 1)
+        self.assertEqual(self.election("publish").status, 1)
+
+    def test_forced_at_the_close(self) -> None:
+        self.add(self.wordy)
+        self.assert_fault(self.election("close", "--force"), 9, "these letters arrived in time, and wait: 1;")
+        self.done("close", "--force", "--because", "nobody answers")
+        self.assertEqual((self.election("count").status, self.election("publish").status), (1, 1))
+        said = "1 letter that had arrived in time was left waiting."
+        self.assertIn(said, (self.folder / "result" / "index.html").read_text())
+        # a second close says it again, and stops for another letter alone
+        self.done("reopen", "--because", "a bag was forgotten")
+        self.done("close")
+        self.assertEqual(self.election("publish", "result-2").status, 1)
+        self.assertEqual((self.folder / "result-2" / "index.html").read_text().count(said), 2)
+        self.add(letter("fay", "hello"))
+        self.assert_fault(self.election("publish", "result-2"), 9, "these letters arrived in time, and wait: 2;")
+
+    def test_what_arrived_later_stops_nothing(self) -> None:
+        self.done("close")
+        for name, arrived in (("ada", "Wed, 25 Nov 2026 09:00:01 +0000"), ("dan", "Mon, 16 Nov 2026 10:00:00 +0000")):
+            self.add(letter(name, "hello", arrived))
+        self.assertEqual((self.numbers()["waiting"], self.numbers()["stopping"]), (2, []))
+        self.assertEqual((self.election("count").status, self.election("publish").status), (1, 1))
+
+    def test_before_the_close_a_count_is_no_result(self) -> None:
+        self.add(self.wordy)
+        self.assertEqual(self.election("count").status, 1)
+
+
+class BetweenCloses(LettersTest):
+    """Who has seen the first close, or its numbers, does not vote again: only what arrived before it is in time."""
+
+    def test_letters_of_after_the_first_close(self) -> None:
+        self.set_clock("2026-11-24T09:00:00+00:00")
+        self.done("desk", given=f"ada {RANKS}\n")
+        self.done("close")
+        self.done("reopen", "--because", "a bag was forgotten")
+        self.set_clock("2026-11-25T09:00:00+00:00")
+        for name, day in (("ben", 24), ("cleo", 25)):
+            after = "it arrived after the vote was closed, 2026-11-24 09:00:00 UTC"
+            self.assertIn(after, self.add(letter(name, f"{name} {RANKS}", f"Tue, {day} Nov 2026 09:00:01 +0000")).output)
+            self.assertIn(after, self.add(letter(name, f"{name} {RANKS}", f"Tue, {day} Nov 2026 09:00:01 +0000")).output)
+            self.assertEqual((self.exported()[0], self.numbers()["stopping"]), (f"ada {RANKS}\n", []))
+            # none of them stops a close, and the page says that they came after the end
+            self.set_clock("2026-11-26T09:00:00+00:00")
+            self.assertNotIn("arrived in time", self.done("close").output)
+            self.assertIn("'waiting': 0, 'after_end': ", str(self.last_detail()))
+            self.done("reopen", "--because", "another bag")
+        for number, name in ((1, "ben"), (2, "cleo")):
+            self.done("held", number, "--enter", 1)
+            self.assertEqual(self.exported()[0], f"ada {RANKS}\n")
+            self.assertIn(f"{name} {RANKS}\n", self.exported()[1])
+
+    def last_detail(self) -> dict[str, object]:
+        book = open_book(self.folder / "election.db")
+        self.addCleanup(book.connection.close)
+        return [act.detail for act in book.acts() if act.name == "close"][-1]
+
+
+class Meanwhile(LettersTest):
+    """Another desk decides while a command makes up its mind."""
+
+    def overtaken(self, module: object, name: str, other: Sequence[object], words: Sequence[str]) -> None:
+        """Runs a command in this process; another one runs before a step of it, which it may have made untrue."""
+        is_first, step = [True], getattr(module, name)
+
+        def after_another(*given: object, **how: object) -> object:
+            found = step(*given, **how)
+            if is_first.pop() if is_first else False:
+                self.done(*other)
+            return found
+
+        env = {"PATH": support.environment()["PATH"], "XDG_STATE_HOME": str(self.state)}
+        with mock.patch.object(module, name, after_another), mock.patch.dict(os.environ, env), contextlib.chdir(self.folder):
+            with contextlib.redirect_stdout(io.StringIO()), contextlib.redirect_stderr(io.StringIO()):
+                command_line.main(support.ELECTION.parent, list(words))
+
+    def test_a_letter_that_another_desk_enters_is_not_set_aside(self) -> None:
+        self.add(letter("ada", f"I thought about it for 3 days:\n\nada {RANKS}"))
+        self.overtaken(held, "chosen_letters", ("held", 1, "--enter", 3), ("held", "1", "--set-aside"))
+        self.assertEqual(self.exported()[0], f"ada {RANKS}\n")
+        self.assertNotIn("Set aside", self.done("held").output)
+        self.assertIn("It was entered.", self.done("held", 1).output)
+
+    def test_letters_that_another_act_made_untrue_are_not_noted(self) -> None:
+        self.done("desk", given=f"ada {RANKS}\n")
+        self.overtaken(letter_files, "letter_files", ("undo", "--yes"), ("letters", "receipts"))
+        self.assertNotIn("receipt", self.done("show", "ada").output)
+
+
+@unittest.skipUnless(pgp.HAS_GPG, pgp.MISSING)
+class Signed(LettersTest):
+    """Letters have to be signed, and a member's key came later, or gpgv was slow."""
+
+    call_words = None
+
+    def setUp(self) -> None:
+        super().setUp()
+        self.keys = pgp.keys()
+        self.set_clock("2026-11-20T09:00:00+00:00")
+        self.call_with("ada", "cleo")
+        self.mark = hashlib.sha256((self.folder / "call" / "poll.toml").read_bytes()).hexdigest()[:16]
+        self.set_clock("2026-11-25T09:00:00+00:00")
+
+    def call_with(self, *names: str) -> None:
+        rows = "".join(f"{name.title()},{name}@club.example,{self.keys.fingerprints[name] if name in names else ''}\n" for name in support.NAMES)
+        self.write("members.csv", f"who,mail,key\n{rows}")
+        self.done("roll", "--yes")
+        (self.scratch / "ring").write_bytes(self.keys.ring(*names))
+        self.done("call", "--to", "vote@club.example", "--keyring", self.scratch / "ring")
+
+    def signed(self, name: str, number: int = 1) -> str:
+        text = self.keys.inline(name, f"{name} {RANKS}\n[{self.mark}]\n", "20261123T095000")
+        return letter(name, text, number=number)
+
+    def test_one_that_waited_for_a_key(self) -> None:
+        self.assertIn("signed with a key that is not in the keyring", self.add(self.signed("ben"), self.signed("ada")).output)
+        # a copy with another head is the same letter once more, before the key comes and after it
+        self.add("X-Status: R\n" + self.signed("ben"), self.signed("ben").replace("Subject: my", "Subject: My"))
+        self.call_with("ada", "ben", "cleo")
+        shown = self.done("held").output
+        self.assertEqual((shown.count("it goes in when you add it again"), shown.count("1 letter waits.")), (1, 1), shown)
+        self.assert_fault(self.election("close"), 9, "these letters arrived in time, and wait: 1;")
+        self.assertIn("2 counted  ben: ", self.add(self.signed("ben")).output)
+        self.assertEqual(self.exported()[0], f"ada {RANKS}\nben {RANKS}\n")
+        self.done("close")
+
+    def test_one_that_was_set_aside_stays_so(self) -> None:
+        """Also its copies, which come when the key has come: with another head, and one that anybody sends with another Message-ID."""
+        self.add(self.signed("ben"))
+        self.done("held", 1, "--set-aside")
+        self.call_with("ada", "ben", "cleo")
+        for number, copy in enumerate(("X-Status: R\n" + self.signed("ben"), self.signed("ben", number=2)), start=1):
+            self.assertIn(f"{number} cop{'y' if number == 1 else 'ies'} passed over", self.add(copy).output)
+        self.assertEqual((self.exported()[0], self.numbers()["waiting"]), ("", 0))
+
+    def test_one_about_which_gpgv_was_slow(self) -> None:
+        place = self.scratch / "slow"
+        place.mkdir()
+        (place / "gpgv").write_text("#!/bin/sh\nexec sleep 60\n")
+        (place / "gpgv").chmod(0o755)
+        self.write("inbox.mbox", mailbox(self.signed("ada")))
+        env = {"PATH": f"{place}:{support.environment()['PATH']}", "XDG_STATE_HOME": str(self.state)}
+        with mock.patch.object(signatures, "SECONDS", 0.2), mock.patch.dict(os.environ, env), contextlib.chdir(self.folder):
+            with contextlib.redirect_stdout(io.StringIO()) as said, contextlib.redirect_stderr(io.StringIO()):
+                command_line.main(support.ELECTION.parent, ["add", "--yes", "inbox.mbox"])
+        self.assertIn("gpgv did not answer about its signature in time", said.getvalue())
+        self.assertIn("1 counted  ada: ", self.add(self.signed("ada")).output)
+
+    def test_a_copy_that_only_its_signature_shows_stops_no_close(self) -> None:
+        """Its Message-ID is another, which nobody has signed."""
+        self.add(self.signed("ada"), self.signed("ben"))
+        self.done("held", 2, "--enter", 4)
+        self.call_with("ada", "ben", "cleo")
+        self.add(self.signed("ada", number=2), self.signed("ben", number=2))
+        self.assertEqual((self.numbers()["waiting"], self.numbers()["stopping"]), (0, []))
+        self.assertEqual(self.exported()[0], f"ada {RANKS}\nben {RANKS}\n")
+        self.done("close")
+
+
 class TakenBack(LettersTest):
+    def test_an_older_letter_after_a_ballot_that_was_struck(self) -> None:
+        """What the secretary took out holds back no letter."""
+        self.done("desk", given=f"ada {OTHER}\n")
+        self.done("strike", 1, "--because", "somebody else wrote it")
+        self.assertIn("1 ballot of letters went in", self.add(letter("ada", f"ada {RANKS}")).output)
+        self.assertEqual(self.exported()[0], f"ada {RANKS}\n")
+
+    def test_a_copy_of_one_that_was_entered_by_hand_and_taken_back(self) -> None:
+        """The secretary has decided of it, and it waits until it is entered anew, also if nothing is wrong with its copy."""
+        good = letter("ada", f"ada {RANKS}")
+        self.add(good.split("\n", 1)[1])
+        self.assertIn("no Received line", self.done("held").output)
+        self.done("held", 1, "--enter", 1)
+        self.done("undo", "--yes")
+        self.assertIn("1 copy passed over", self.add(good).output)
+        self.assertEqual(self.exported()[0], "")
+
     def test_undo_and_strike(self) -> None:
         box = (letter("ada", f"ada {RANKS}"), letter("ben", f"ben {RANKS}"))
         self.add(*box)

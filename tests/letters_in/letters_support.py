@@ -4,7 +4,6 @@ import dataclasses
 import datetime
 import os
 import pathlib
-import re
 import subprocess
 import sys
 from collections.abc import Mapping, Sequence
@@ -14,9 +13,11 @@ PROGRAM = pathlib.Path(os.environ.get("DEBVOTE", ROOT / "crates" / "debvote" / "
 SAMPLES = ROOT / "tests" / "letters"
 sys.path.insert(0, str(ROOT / "python"))
 
-from debvote_tools.letters.circumstances import Circumstances  # noqa: E402
+from debvote_tools.debvote import findings_in  # noqa: E402
+from debvote_tools.letters.circumstances import Ballot, Circumstances, Names  # noqa: E402
 from debvote_tools.letters.judge import JudgedLetter, Outcome, judge_all  # noqa: E402
 from debvote_tools.letters.parse import ParsedLetter, as_json, from_json, parse  # noqa: E402
+from debvote_tools.letters.readings import read_all  # noqa: E402
 from debvote_tools.letters.reasons import Because  # noqa: E402
 from debvote_tools.letters.sources import RawLetter  # noqa: E402
 
@@ -70,12 +71,18 @@ class DebvoteReader:
         given = b"".join(line + b"\n" for line in lines)
         text = subprocess.run(words, input=given, capture_output=True, check=False).stdout.decode("ascii")
         os.close(handle)
-        count = re.search(r"(?m)^(\d+) lines: ", text)
-        assert count is not None and int(count[1]) == len(lines), text
+        findings = findings_in(text)
+        assert findings.totals.lines == len(lines), text
         found: dict[bytes, str | None] = dict.fromkeys(lines)
-        for number, answer in re.findall(r"(?m)^ballots:(\d+): (.*)$", text):
-            found[lines[int(number) - 1]] = answer
+        for finding in findings.refused:
+            found[lines[finding.envelope - 1]] = f"{finding.word}: {finding._replace(remark='').hint}"
         return found
+
+
+def names(**other: object) -> Names:
+    """Those of the electors."""
+    usual: dict[str, object] = {"roll": frozenset(NAMES), "language": "en", "real_names": {name: name.capitalize() for name in NAMES}}
+    return Names(**{**usual, **other})  # type: ignore[arg-type]
 
 
 def circumstances(**other: object) -> Circumstances:
@@ -83,15 +90,12 @@ def circumstances(**other: object) -> Circumstances:
     usual: dict[str, object] = {
         "mark": MARK,
         "roll": frozenset(NAMES),
-        "language": "en",
         "addresses": {name: (f"{name}@club.example",) for name in NAMES},
-        "real_names": {name: name.capitalize() for name in NAMES},
         "called": CALLED,
         "end": None,
         "first_close": None,
         "now": NOW,
         "our_letters": OURS,
-        "ballots": {},
         "keys": None,
         "decisions": {},
     }
@@ -138,15 +142,28 @@ def parsed(data: bytes, where: str = "letter", *, is_parted_off: bool = False) -
     return kept
 
 
-def judged(*letters: bytes | ParsedLetter, reader: DebvoteReader | None = None, **other: object) -> list[JudgedLetter]:
-    """What becomes of letters, in the order of their times."""
+def read(*letters: bytes | ParsedLetter, reader: DebvoteReader | None = None, **of_names: object) -> list[ParsedLetter]:
+    """Letters with what their lines may be, as the book gives them back."""
     given = [
         one if isinstance(one, ParsedLetter) else parsed(one, f"letter {number}") for number, one in enumerate(letters, start=1)
     ]
-    reader = reader or DebvoteReader()
-    found = judge_all(given, circumstances(**other), reader)
-    assert reader.runs <= 1 and len(found) == len(given)
-    return found
+    found = read_all(given, names(**of_names), reader or DebvoteReader())
+    kept = [from_json(as_json(one)) for one in found]
+    assert kept == found and len(found) == len(given)
+    return kept
+
+
+def judged(
+    *letters: bytes | ParsedLetter,
+    reader: DebvoteReader | None = None,
+    ballots: Mapping[str, Sequence[Ballot]] | None = None,
+    **other: object,
+) -> list[JudgedLetter]:
+    """What becomes of letters, in the order of their times."""
+    of_names = {name: value for name, value in other.items() if name in ("roll", "language", "real_names")}
+    of_others = {name: value for name, value in other.items() if name not in ("language", "real_names")}
+    given = read(*letters, reader=reader, **of_names)
+    return judge_all(given, circumstances(**of_others), lambda _: ballots or {})
 
 
 def label(because: Because) -> str:

@@ -84,6 +84,14 @@ class Copies(unittest.TestCase):
     def test_the_same_bytes_twice(self) -> None:
         self.assertEqual(outcomes(first(), first()), [f"in: {BALLOT}", "copy"])
 
+    def test_other_parts_that_differ_make_no_copy(self) -> None:
+        """Two letters wait for one reason; only one of them may be genuine, and the secretary sees both."""
+        parts = [
+            alternatives("ada", BALLOT, f"<p>{ballot}</p>", time=None, head=f"X: {number}\n")
+            for number, ballot in enumerate((BALLOT, OTHER, OTHER))
+        ]
+        self.assertEqual(outcomes(*parts), ["waits: no arrival", "waits: no arrival", "copy"])
+
     def test_what_makes_no_other_letter(self) -> None:
         changes = [
             (b"\n", b"\r\n"), (f"{BALLOT}\n".encode(), f"{BALLOT}  \n\n\n".encode()), (b"To: ", b"X-Status: R\nTo: "),

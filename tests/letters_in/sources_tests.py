@@ -166,6 +166,26 @@ class Files(unittest.TestCase):
         )
         self.assertEqual([raw.is_parted_off for raw in letters_of_file("box", box).letters], [False, True, True, False])
 
+    def test_a_length_that_ends_elsewhere_parts_nothing_off(self) -> None:
+        """Any sender can write one. Else a stranger's letter would have all letters wait that come after it."""
+        carrier, body = letter("mallory", "hello\n"), len("hello\n")
+        exact = body + 1 + len(LINE) + len(BEN) + 1
+        for length in (exact - 2, exact + 1, exact + len(LINE), exact + 50, 10**9):
+            box = LINE + f"Content-Length: {length}\n".encode() + carrier + b"\n" + mailbox(BEN, ADA)
+            found = letters_of_file("box", box)
+            self.assertEqual([raw.is_parted_off for raw in found.letters], [False] * 3, length)
+            self.assertEqual(outcome_of(found)[1:], [f"in: ben {RANKS}", f"in: ada {RANKS}"], length)
+        # before a line without a date, too
+        for line, is_parted_off in ((LINE, True), (b"From \n", False)):
+            for empty in (0, 1):
+                head = f"Content-Length: {exact - empty - len(LINE) + len(line)}\n".encode()
+                box = LINE + head + (carrier + b"\n" + mailbox(BEN, ADA)).replace(LINE, line)
+                self.assertEqual([raw.is_parted_off for raw in letters_of_file("box", box).letters], [False, is_parted_off, False], box)
+        # its own text alone, and the end of the file
+        for length, is_parted_off in ((body, False), (exact, True), (exact + 1, True), (exact + 3, False)):
+            box = LINE + f"Content-Length: {length}\n".encode() + carrier + b"\n" + LINE + BEN
+            self.assertEqual([raw.is_parted_off for raw in letters_of_file("box", box).letters], [False, is_parted_off], length)
+
     def test_parts_that_end_part_nothing_off(self) -> None:
         for above in (
             letter("x", "--b\n\nhi\n--b--\n", kind="multipart/mixed; boundary=b"),

@@ -10,7 +10,7 @@ from debvote_tools.book.queries import Elector
 from debvote_tools.book.sent import SentLetter
 from debvote_tools.call.data import CallData, is_mail_address
 from debvote_tools.language import LANGUAGES, language_of
-from debvote_tools.letters.readings import Near
+from debvote_tools.letters.parse import Near
 from debvote_tools.letters.reasons import Reason
 from debvote_tools.letters_out.compose import Became, Came, Composer, Kind, without_ballots
 from debvote_tools.letters_out.message import message_of, new_message_id, one_line as on_one_line
@@ -52,7 +52,9 @@ def all_that_came() -> list[Came]:
 
 
 RESULT = {
-    "checksums": {"poll.toml": "a" * 64, "ballots.txt": "b" * 64, "index.html": "c" * 64},
+    "checksums": {"SHA256SUMS": "a" * 64, "index.html": "c" * 64},
+    "is_of_call": True,
+    "is_closed": True,
     "doubts": ("DOUBT",),
     "because": "BECAUSE",
     "acts": ("ACT",),
@@ -64,7 +66,8 @@ def result(now: Composer, ended: str = "Winner: {option} by casting vote", *, ha
     language = now.call.language
     casting = result_letter.casting_in_words(CastingVote("Lake", "the chair", datetime.date(2026, 11, 24)), language)
     own = {"ended": language.say(ended, option="Option 1: Lake", options="Option 2: Hall"), "casting": casting}
-    return now.text(Kind.RESULT, ADA, has_ballot=has_ballot, **RESULT | own | other)
+    poll = dataclasses.replace(now.call.poll, secret=now.call.has_aliases)
+    return now.text(Kind.RESULT, ADA, has_ballot=has_ballot, poll=poll, at=now.call.at, **RESULT | own | other)
 
 
 def texts(now: Composer) -> list[str]:

@@ -1,5 +1,7 @@
 """`letters`: what goes to the electors as files, to whom, and that nothing of it reads as a ballot."""
 
+import hashlib
+import json
 import pathlib
 import re
 import shutil
@@ -589,7 +591,7 @@ class NoBallots(OutTest):
         self.add_lines(f"ada {RANKS}", "ben 1,2", f"cleo {RANKS}", f"cleo {OTHER_RANKS}")
         self.add_letters(letter("dan", f"I vote dan {RANKS} today\n"), letter("eve", f"fay {RANKS}\ngus {RANKS}\n"))
         kinds = {"call": found, "receipts": self.written("receipts"), "reminders": self.written("reminders")}
-        self.done("close", "--early", "--force", "--because", "all is said")
+        self.done("close", "--early", "--force", "--because", "cleo 1,2,3,4")
         kinds["closed"] = self.written("closed")
         self.done(
             "publish",
@@ -667,15 +669,15 @@ class Result(OutTest):
         texts = self.texts("result")
         self.assertEqual(sorted(texts), support.NAMES)
         self.assertIn(f"Dear Ada, {TITLE} Winner: Option 1: At the lake The result is published at: {AT} ", texts["ada"])
-        self.assertIn(f"Your own ballot, in words: {AT}#ada What was done", texts["ada"].replace("WHAT WAS DONE", "What was done"))
+        self.assertIn(f"Your own ballot, in words: {AT}#ada What is doubtful", texts["ada"])
         self.assertIn(f"{AT}#ben", texts["ben"])
         self.assertIn("It has no ballot of yours that counts.", texts["cleo"])
         self.assertNotIn("#", texts["cleo"])
-        for name in ("poll.toml", "ballots.txt", "index.html"):
-            [checksum] = re.findall(rf"(?m)^([0-9a-f]{{64}})  {name}$", self.read("result/SHA256SUMS").decode())
+        for name in ("SHA256SUMS", "index.html"):
+            checksum = hashlib.sha256(self.read(f"result/{name}")).hexdigest()
             for text in texts.values():
                 self.assertIn(f"{checksum} {name}", text)
-        self.assertIn("sha256sum poll.toml ballots.txt index.html", texts["ada"])
+        self.assertIn("sha256sum SHA256SUMS index.html && sha256sum -c --ignore-missing SHA256SUMS", texts["ada"])
         self.assertIn("open the index.html that you downloaded and compared, and read that file", texts["ada"])
         # each act that the page tells
         self.assertIn("That was before the time until which one could vote.", texts["ada"])
@@ -694,7 +696,7 @@ class Result(OutTest):
         self.assertIn("Winner: Option 2: In the town hall by casting vote", text)
         self.assertIn('The secretary says that the casting vote was that of "the chair", given on 23 November 2026.', text)
         self.assertIn(
-            "The secretary struck envelope 2: its line does not count. The reason, in the secretary's words: “a mistake of 'ours' & <yours>”",
+            "The secretary struck envelope 2: its line does not count. The reason, in the secretary's words: (a mistake of 'ours' & <yours>)",
             text,
         )
 
@@ -712,7 +714,7 @@ class Result(OutTest):
         self.assertIn(
             "What is doubtful about this result: - More than half of the lines of the ballot file are refused: 2 of 3.", text
         )
-        self.assertIn("Why it was published all the same, in the secretary's words: they were asked", text)
+        self.assertIn("Why it was published all the same, in the secretary's words: (they were asked)", text)
 
 
 class ResultAt(OutTest):
@@ -731,6 +733,19 @@ class ResultAt(OutTest):
         self.assertEqual(len(self.book().acts()), len(acts))
         self.assertIn("https://x.example/r/#ada", self.texts("result")["ada"])
         self.assertIn("https://x.example/s/#ada", self.texts("result", "--at", "https://x.example/s/")["ada"])
+
+
+class Family(OutTest):
+    def test_who_is_told_of_a_letter_with_two_ballots(self) -> None:
+        """Of the ballot that was entered its elector is told once, and the other one that the letter waits."""
+        self.write("members.csv", support.members_of(support.NAMES).replace("ben@", "ada@"))
+        self.done("roll", "--yes")
+        self.add_letters(letter("ada", f"ada {RANKS}\nben {OTHER_RANKS}\n"))
+        self.done("held", 1, "--enter", 1)
+        texts = self.texts("receipts")
+        self.assertEqual(texts["ada"].count("has arrived"), 1, texts["ada"])
+        self.assertIn("It counts unless you send a later one.", texts["ada"])
+        self.assertIn("No ballot from it is entered yet", texts["ben"])
 
 
 class Secret(OutTest):
@@ -756,13 +771,22 @@ class Secret(OutTest):
         for message in self.written("call").values():
             self.assertFalse([code for code in codes.values() if code in message.get_content()])
 
+    def test_an_answer_to_the_call_goes_in(self) -> None:
+        """The mark in its subject is that of the poll that everybody sees."""
+        found = self.written("call")["ada"]
+        mark = hashlib.sha256((self.folder / "call" / "poll.toml").read_bytes()).hexdigest()[:16]
+        self.assertTrue(found["Subject"].endswith(f"[{mark}]"), found["Subject"])
+        head = f"In-Reply-To: {found['Message-ID']}\nSubject: Re: {found['Subject']}\n"
+        self.add_letters(letter("ada", f"ada {RANKS}\n", head=head, time="Mon, 23 Nov 2026 09:59:00 +0000"))
+        self.assertEqual(json.loads(self.done("status", "--json").output)["valid"], 1)
+
     def test_a_doubt_tells_no_number_of_lines(self) -> None:
         for line in (f"ada {RANKS}", "ben 1", "cleo 1"):
             self.add_lines(line)
         self.done("close", "--early")
         self.done("publish", "--yes", "--force", "--because", "they were asked")
         for text in self.texts("result").values():
-            self.assertIn("- More than half of the lines that came are refused. Why it was published", text)
+            self.assertIn("- More than half of the lines that came are refused. - The vote was closed at ", text)
             self.assertNotIn("2 of 3", text)
 
     def test_nothing_else_has_codes_or_ranks(self) -> None:
@@ -780,7 +804,7 @@ class Secret(OutTest):
         self.assertIn("find it with your name, ada, and your code, under", results["ada"])
         self.assertNotIn("#", results["ada"])
         self.assertIn("cat seal.txt ballots.txt | sha256sum", results["ada"])
-        self.assertIn("download the files index.html, poll.toml, seal.txt and ballots.txt", " ".join(results["ada"].split()))
+        self.assertIn("learns what you type into it, with or without a network", " ".join(results["ada"].split()))
         texts = [one_line(message) for message in found] + list(results.values())
         for text in texts:
             self.assertFalse([code for code in [*codes.values(), *aliases] if code in text])

@@ -14,7 +14,7 @@ import sqlite3
 import subprocess
 import sys
 import threading
-from collections.abc import Callable, Sequence
+from collections.abc import Callable, Mapping, Sequence
 
 import support
 from aiosmtpd.controller import Controller
@@ -181,6 +181,50 @@ class MailServer:
     def authenticated(self, server: object, session: object, envelope: object, mechanism: str, data: object) -> AuthResult:
         self.logins.append((data.login, data.password))  # type: ignore[attr-defined]
         return AuthResult(success=data.password == b"right", handled=False)  # type: ignore[attr-defined]
+
+
+class PlainServer:
+    """A mail server that answers by itself, as no good one does: to each step by its name, else as it should."""
+
+    usual = {"helo": "250 here", "from": "250 OK", "to": "250 OK", "data": "354 go on", "letter": "250 OK"}
+
+    def __init__(self, answers: Mapping[str, str]) -> None:
+        self.answers = {**self.usual, **answers}
+        self.socket = socket.create_server(("127.0.0.1", 0))
+        self.port = self.socket.getsockname()[1]
+        self.thread = threading.Thread(target=self.serve, daemon=True)
+
+    def __enter__(self) -> "PlainServer":
+        self.thread.start()
+        return self
+
+    def __exit__(self, *_: object) -> None:
+        self.socket.close()
+
+    def serve(self) -> None:
+        with contextlib.suppress(OSError):
+            while True:
+                self.converse(self.socket.accept()[0])
+
+    def converse(self, connection: socket.socket) -> None:
+        def say(text: str) -> None:
+            connection.sendall(f"{text}\r\n".encode())
+
+        with connection, connection.makefile("rb") as lines:
+            say("220 here")
+            steps = {"EHLO": "helo", "HELO": "helo", "MAIL": "from", "RCPT": "to", "DATA": "data"}
+            is_letter = False
+            for line in lines:
+                step = steps.get(line[:4].decode().upper(), "")
+                if is_letter:
+                    if line == b".\r\n":
+                        is_letter = False
+                        say(self.answers["letter"])
+                elif step:
+                    say(self.answers[step])
+                    is_letter = step == "data" and self.answers[step].startswith("354")
+                else:
+                    say("250 OK")
 
 
 class SendTest(OutTest):

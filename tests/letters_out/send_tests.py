@@ -1,6 +1,7 @@
 """`letters --send`: each letter goes out once, whatever happens between, and what a server refuses or postpones is told."""
 
 import datetime
+import json
 import os
 import shutil
 import ssl
@@ -13,9 +14,9 @@ import unittest.mock
 import support
 import terminal
 from letters_support import letter
-from out_support import OTHER_RANKS, RANKS, MailServer, SendTest, one_line, parsed
+from out_support import OTHER_RANKS, RANKS, MailServer, PlainServer, SendTest, one_line, parsed
 
-from debvote_tools.book.sent import TAKEN, SentLetter
+from debvote_tools.book.sent import POSTPONED, REFUSED, TAKEN, SentLetter
 from debvote_tools.faults import Fault
 from debvote_tools.letters_out import send
 
@@ -82,6 +83,45 @@ class Sending(SendTest):
         self.done("roll", "--yes")
         self.assertEqual(self.send("call").status, 0)
         self.assertEqual(self.server.addresses()[7:], ["ada@new.example"])
+
+    def test_who_was_refused_is_named_until_a_letter_is_taken(self) -> None:
+        """By each later run, of whatever letters, and by `status`. Else nobody sees that somebody was never asked to vote."""
+        named = "Refused: ada, ada@club.example: 550 5.1.1 no such user, call of 2026-11-23 10:00:00 UTC\n"
+        self.server.rcpt_answers = {"ada@club.example": "550 5.1.1 no such user"}
+        self.assertIn("Refused: ada, ada@club.example: 550 5.1.1 no such user\n", self.send("call").output)
+        self.add_lines(f"ben {RANKS}")
+        for kind in ("call", "receipts", "call"):
+            ended = self.send(kind)
+            self.assertEqual((ended.status, ended.output.count("Refused: ")), (0, 1), ended)
+            self.assertIn(named, ended.output)
+            self.assertIn("Refused by the mail server, and reached by no letter since: ada\n", self.done("status").output)
+            self.assertEqual(json.loads(self.done("status", "--json").output)["refused_letters"], ["ada"])
+        self.server.rcpt_answers = {}
+        self.assertNotIn("Refused", self.send("reminders").output)
+        self.assertNotIn("Refused by", self.done("status").output)
+        self.assertEqual(json.loads(self.done("status", "--json").output)["refused_letters"], [])
+
+    def test_an_old_address_that_refuses_is_no_fault(self) -> None:
+        self.write("members.csv", support.members_of(support.NAMES).replace("ada@club", "ada@new"))
+        self.done("roll", "--yes")
+        self.add_lines(f"ada {RANKS}")
+        for address, is_named in (("ada@club.example", False), ("ada@new.example", True)):
+            self.server.rcpt_answers = {address: "550 no"}
+            self.assertIn(f"Refused: ada, {address}: 550 no\n", self.send("receipts").output)
+            self.assertEqual("Refused by the mail server" in self.done("status").output, is_named, address)
+            self.add_lines(f"ada {OTHER_RANKS}")
+
+    def test_no_other_answer_than_that_it_was_taken_is_one(self) -> None:
+        """After the letter, and not before it; what is no answer of a mail server is none. Nobody else would learn that it is lost."""
+        self.server.stop()
+        for answers in ({"letter": "354 go on"}, {"letter": "yes"}, {"letter": "-99 x"}, {"data": "250 OK"}, {"data": "200 OK"}, {"to": "354 x"}, {"letter": "600 x"}):
+            with self.subTest(answers), PlainServer(answers) as server:
+                tried = list(send.send_all([outgoing()], "vote@club.example", send.Server("127.0.0.1", server.port, False), lambda letters: None))
+                self.assertEqual([letter.state for letter in tried], [POSTPONED], answers)
+        for answer, state in (("200 OK", TAKEN), ("250-OK\r\n250 yes", TAKEN), ("299 OK", TAKEN), ("400 x", POSTPONED), ("599 x", REFUSED)):
+            with self.subTest(answer), PlainServer({"letter": answer}) as server:
+                tried = list(send.send_all([outgoing()], "vote@club.example", send.Server("127.0.0.1", server.port, False), lambda letters: None))
+                self.assertEqual([letter.state for letter in tried], [state], answer)
 
     def test_a_receipt_that_was_postponed_goes_to_a_new_address(self) -> None:
         """So servers answer of a domain that has no mail server."""

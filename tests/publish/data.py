@@ -155,7 +155,8 @@ def table_of(count):
         else:
             ended = "left" if count.winner is None and a in count.final else "lost"
         votes = ["" if a == b else str(count.votes[a, b]) for b in poll.options]
-        yield [str(a), poll.names[a], str(poll.ratios.get(a, "")), ended, *votes]
+        name = f"'{poll.names[a]}" if poll.names[a][0] in "=+-@'" else poll.names[a]
+        yield [str(a), name, str(poll.ratios.get(a, "")), ended, *votes]
 
 
 # ---------------------------------------------------------------- the sentences

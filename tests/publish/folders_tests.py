@@ -13,9 +13,9 @@ import elections
 import reading
 import support
 
-# the files of a folder, but for picture and sums
+# the files of a folder, but for picture, sums and letter
 FILES = {"poll.toml", "ballots.txt", "sheet.txt", "standing.txt", "result.json", "votes.csv", "recount.py", "index.html"}
-FILES |= {"READING-A-SHEET.md", "letter.txt", "recount.js"}
+FILES |= {"READING-A-SHEET.md", "recount.js"}
 
 
 def try_folder(expect, name, poll, ballots, more, folder):
@@ -36,7 +36,11 @@ def try_folder(expect, name, poll, ballots, more, folder):
     expect(f"{name}: its poll is in plain form", (folder / "poll.toml").read_bytes(), plain_bytes(poll.read_bytes()))
     guide = (folder / "READING-A-SHEET.md").read_bytes()
     expect(f"{name}: its guide", guide, (support.ROOT / "docs" / "READING-A-SHEET.md").read_bytes())
-    found = {file.name: hashlib.sha256(file.read_bytes()).hexdigest() for file in folder.iterdir() if file.name != "SHA256SUMS"}
+    found = {file.name: hashlib.sha256(file.read_bytes()).hexdigest() for file in folder.iterdir()}
+    # the letter has the checksum of the checksums
+    letter = (folder / "letter.txt").read_text()
+    expect(f"{name}: its letter", [f"{found[file]}  {file}\n" in letter for file in ("SHA256SUMS", "index.html")], [True, True])
+    del found["SHA256SUMS"], found["letter.txt"]
     sums = dict(reversed(line.split("  ")) for line in (folder / "SHA256SUMS").read_text().splitlines())
     expect(f"{name}: its sums", sums, found)
     pictures = {"picture.svg"} if support.HAS_PICTURES else set()

@@ -202,7 +202,7 @@ def try_commands(expect, scratch):
         (folder / name).write_text(text)
     page = (folder / "index.html").read_text().partition('<h2 id="How-to-verify">')[2]
     found = re.findall(r"<pre><code>(.*?)</code></pre>\n(?:<p>It prints:</p>\n<pre><code>(.*?)</code></pre>)?", page, re.DOTALL)
-    expect("commands: how many", len({command for command, _ in found}), 15)
+    expect("commands: how many", len({command for command, _ in found}), 14)
     answers = {}
     for command, wanted in found:
         if ("| dot " in command and not HAS_PICTURES) or (command.startswith("nodejs") and shutil.which("nodejs") is None):
@@ -212,8 +212,8 @@ def try_commands(expect, scratch):
         ended = subprocess.run(["sh", "-c", html.unescape(command)], **how)
         answers[html.unescape(command)] = ended.stdout
         expect(f"commands: {command}: its faults", (ended.stderr, ended.returncode), ("", 0))
-        if command.startswith("ls "):
-            named = ['"SHA256SUMS"', r'"a\nb"', r'"c\"d"', '"hmac.py"', '"package.json"']
+        if " ls -A " in command:
+            named = ['"SHA256SUMS"', '"letter.txt"', r'"a\nb"', r'"c\"d"', '"hmac.py"', '"package.json"']
             expect("commands: other files are named", sorted(ended.stdout.splitlines()), sorted(named))
         elif wanted:
             expect(f"commands: {command}: what it answers", ended.stdout, html.unescape(wanted) + "\n")

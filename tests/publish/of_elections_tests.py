@@ -26,6 +26,9 @@ from debvote_tools.election.commands import publish as command  # noqa: E402
 from debvote_tools.election.election import Election  # noqa: E402
 from debvote_tools.letters import parse  # noqa: E402
 from debvote_tools.letters.sources import RawLetter  # noqa: E402
+from debvote_tools.language import ENGLISH  # noqa: E402
+from debvote_tools.publish.done import told_acts  # noqa: E402
+from debvote_tools.publish.inputs import Act, Chronicle, Done, Publication  # noqa: E402
 from debvote_tools.publish.result_folder import Made  # noqa: E402
 
 ELECTION = support.ROOT / "bin" / "debvote-election"
@@ -92,15 +95,20 @@ class OfElections(support.PublishTest):
         self.expect(f"{words}: {faults}", (output, [text for text in said if text not in faults], found), ("", [], status))
         self.expect(f"{words}: nothing is made", (len(self.acts()), (self.folder / folder).exists()), (acts, before))
 
+    def replace(self, *words, **how):
+        """Publishes where an earlier result is, which has to be taken away."""
+        shutil.rmtree(self.folder / "result")
+        return self.say("publish", *words, **how)
+
     def add(self, lines, words=(), **how):
         (self.folder / "lines").write_text(lines)
         return self.say("add", "lines", *words, **how)
 
-    def reopened_with(self, lines):
+    def reopened_with(self, lines, words=()):
         """Opens the vote for lines that had come before the close, and closes it again."""
         self.say("reopen", "--because", "lost letters", "--in-time")
         self.add(lines, words=("--came-before-close", "yes"))
-        self.say("close")
+        self.say("close", *words)
 
     def acts(self):
         book = open_book(self.folder / "election.db")
@@ -120,12 +128,17 @@ class OfElections(support.PublishTest):
         """The checksums of the page are those of the letters, each in its place."""
         answers = re.findall(r"<pre><code>([0-9a-f]{64})  (\S+)</code></pre>", files["index.html"].decode())
         shown = {name: checksum for checksum, name in answers}
-        letters = {name: re.findall(r"(?m)^  ([0-9a-f]{64})$", files[name].decode()) for name in ("letter.txt", "closed.txt")}
+        closed = re.findall(r"(?m)^  ([0-9a-f]{64})$", files["closed.txt"].decode())
         called = re.findall(r"\b[0-9a-f]{64}\b", (self.folder / "call" / "call.txt").read_text())
-        page = hashlib.sha256(files["index.html"]).hexdigest()
-        self.expect("the letter of the result", letters["letter.txt"], [shown["poll.toml"], shown["ballots.txt"], page])
+        named = re.findall(r"(?m)^  ([0-9a-f]{64})  (\S+)$", self.letter())
+        wanted = [(hashlib.sha256(files[name]).hexdigest(), name) for name in ("SHA256SUMS", "index.html")]
+        self.expect("the letter of the result", named, wanted)
         self.expect("the letter of the call", set(called), {shown["poll.toml"]})
-        self.expect("the letter of the close", letters["closed.txt"][:2], [shown["poll.toml"], shown[ballots]])
+        self.expect("the letter of the close", closed[:2], [shown["poll.toml"], shown[ballots]])
+
+    def letter(self):
+        """The letter of the result for all."""
+        return (self.folder / "letters" / "result.txt").read_text()
 
     def whole(self, folder="result"):
         """The folder is what its checksums say, and can be read by all."""
@@ -150,7 +163,7 @@ class OfOpenVotes(OfElections):
         self.say("export", "exported")
         files = self.files()
         names = {"poll.toml", "ballots.txt", "late.txt", "sheet.txt", "standing.txt", "result.json", "votes.csv", "recount.py"}
-        names |= {"recount.js", "letter.txt", "closed.txt", "READING-A-SHEET.md", "SHA256SUMS", "index.html"}
+        names |= {"recount.js", "closed.txt", "READING-A-SHEET.md", "SHA256SUMS", "index.html"}
         self.expect("the files", set(files), names | ({"picture.svg"} if support.HAS_PICTURES else set()))
         for name, source in [
             ("poll.toml", "call/poll.toml"),
@@ -212,11 +225,123 @@ class OfOpenVotes(OfElections):
         (self.folder / "result").mkdir()
         self.say("publish")
         (self.folder / "result" / "notes").write_text("mine")
-        self.stops("publish", "--language", "en", said=["result: it exists already, and is not a published folder"], status=2)
+        self.stops("publish", "--language", "en", said=["result: it exists already, and is not what this election has published last", "as result-2"], status=2)
         (self.folder / "mine").mkdir()
         (self.folder / "mine" / "a").write_text("b")
         self.stops("publish", "mine", said=["mine: it exists already"], status=2, folder="mine")
         self.stops("publish", "members.csv", said=["members.csv: it exists already"], status=2)
+
+    def test_no_other_result_is_replaced(self):
+        """Neither that of another election, nor an earlier one of this, nor one that somebody has changed."""
+        self.say("call")
+        self.add("ada-lovelace 1,2,3\n")
+        self.say("close")
+        self.say("publish")
+        (self.folder / "result" / "picture.svg").unlink(missing_ok=True)
+        self.say("publish", "--language", "en")
+        other = self.scratch / "another election"
+        shutil.copytree(self.folder / "result", other)
+        self.reopened_with("cleo 1,2,3\n")
+        said = "it exists already, and is not what this election has published last, since its last close; nothing was published"
+        for words in ((), ("--force", "--because", "x"), ("result",), (str(other),)):
+            self.stops("publish", *words, said=[said, "another election-2" if str(other) in words else "name another folder, as result-2:"], status=2)
+        self.say("publish", "result-2")
+        files = self.files("result-2")
+        self.stops("publish", "result-2/../result", said=["as result-2/../result-3"], status=2)
+        self.say("publish", "--language", "fr", "result-2")
+        self.expect("it takes the place of the last one", self.files("result-2") == files, False)
+        # as it was before, and with one file more, one other or one that is no file
+        shutil.rmtree(self.folder / "result-2")
+        (self.folder / "result-2").mkdir()
+        for name, data in files.items():
+            (self.folder / "result-2" / name).write_bytes(data)
+        self.stops("publish", "result-2", said=[said], status=2, folder="result-2")
+        for change in ("index.html", "mine"):
+            shutil.rmtree(self.folder / "result-2")
+            self.say("publish", "result-2")
+            (self.folder / "result-2" / change).write_text("mine")
+            self.stops("publish", "result-2", said=[said], status=2, folder="result-2")
+        self.expect("what somebody wrote is there", (self.folder / "result-2" / "mine").read_text(), "mine")
+
+    def test_made_again_otherwise(self):
+        """What was published is not made otherwise in silence; it can be published once more, with its letter."""
+        self.say("call", "--at", "https://x.example/")
+        self.add(TIE)
+        self.say("close")
+        self.say("publish", "--casting", "72 Euro", "--cast-by", "Anna", "--cast-on", "2026-11-20")
+        files, letter, acts = self.files(), self.letter(), len(self.acts())
+        (self.folder / "members.csv").write_text(MEMBERS.replace("zoe@x", "zoe@y"))
+        self.say("roll", "--yes")
+        self.stops("publish", said=[f"the result would differ from the one that was published (act {acts})", "--force"])
+        self.expect("nothing was made", (self.files() == files, self.letter()), (True, letter))
+        self.say("publish", "--force")
+        last = self.acts()[-1]
+        self.expect("one of its own", (last.name, last.number, last.detail["casting"]), ("publish", acts + 2, "72 Euro"))
+        self.checksums_of_letters(self.files(), "ballots.txt")
+        self.expect("with its letter", self.letter() == letter, False)
+        said = self.say("publish")
+        self.expect("and again", ("as it was published before" in said, len(self.acts())), (True, acts + 2))
+
+    def test_the_letter_binds_each_file(self):
+        """Whatever file somebody changes, the command of the letter shows it."""
+        self.say("call")
+        self.add("ada-lovelace 1,2,3\n")
+        self.say("close")
+        self.add("dan 3,2,1\n")
+        self.say("publish", "--language", "en")
+        [command] = re.findall(r"(?m)^  (sha256sum .*)$", self.letter())
+        wanted = re.findall(r"(?m)^  ([0-9a-f]{64}  \S+)$", self.letter())
+
+        def shown(name=None):
+            place = self.folder / "downloaded"
+            shutil.copytree(self.folder / "result", place)
+            if name is not None:
+                data = (place / name).read_bytes()
+                (place / name).write_bytes(data.replace(b"3", b"4", 1) if b"3" in data else data + b"\n")
+            ended = support.subprocess.run(["sh", "-c", command], cwd=place, capture_output=True, text=True)
+            shutil.rmtree(place)
+            lines = ended.stdout.splitlines()
+            return lines[:2] != wanted or ended.returncode != 0 or not all(line.endswith(": OK") for line in lines[2:])
+
+        self.expect("as it was published", shown(), False)
+        names = sorted(self.files())
+        self.expect("each that is changed", [name for name in names if not shown(name)], [])
+        self.expect("how many", len(names), 14 if support.HAS_PICTURES else 13)
+
+    def test_closed_early(self):
+        self.say("call", "--until", "2099-12-04 18:00", "--zone", "Europe/Berlin", "--at", "https://x.example/")
+        self.add("ada-lovelace 1,2,3\n")
+        self.say("close", "--early")
+        self.reopened_with("zoe-mueller 1,2,3\n", words=("--early",))
+        self.say("publish", "--language", "en")
+        end = "one should have been able to vote until Friday, 4 December 2099, 18:00 (UTC+01:00)."
+        [doubt] = self.doubts()
+        self.expect(f"the doubt: {doubt}", doubt.startswith("The vote was closed at ") and doubt.endswith(f"before its announced end: {end}"), True)
+        self.expect("the letter of the result", doubt in " ".join(self.letter().split()), True)
+        self.say("publish", "--language", "de")
+        self.say("letters", "result", "--from", "vote@x.example")
+        letters = [email.message_from_bytes(file.read_bytes()) for file in (self.folder / "letters" / "result").rglob("*.eml")]
+        texts = [" ".join(letter.get_payload(decode=True).decode().split()) for letter in letters]
+        until = "Freitag, 4. Dezember 2099, 18:00 (UTC+01:00)"
+        for text in (*texts, (self.folder / "letters" / "closed.txt").read_text()):
+            self.expect(f"until when: {text}", until in " ".join(text.split()), True)
+        self.expect("letters", len(texts), 3)
+
+    def test_each_late_letter_is_a_doubt(self):
+        """Also two of the same minute."""
+        self.say("call")
+        self.add("ada-lovelace 1,2,3\n")
+        self.say("close")
+        book = open_book(self.folder / "election.db")
+        with self.state_of_this(), contextlib.closing(book.connection), book.act("add") as act:
+            time = book.acts()[-1].time.replace(second=0)
+            for line in (b"zoe-mueller 1,2,3", b"cleo 1,2,3"):
+                data = b"Received: by mx; %s\nFrom: x@x.example\n\n%s\n" % (email.utils.format_datetime(time).encode(), line)
+                letter = letters.keep_letter(act, "letter.eml", data, "", parse.as_json(parse.parse(RawLetter("letter.eml", data))))
+                letters.decide(act, letter, "entered")
+                queries.add_envelopes(act, [queries.NewEnvelope(line, letter=letter, time=time)], [None], is_late=True)
+        self.say("publish", "--force", "--because", "so be it")
+        self.expect("doubts", len(self.doubts()), 2)
 
     def test_doubts_are_told_at_once(self):
         self.say("call")
@@ -233,7 +358,7 @@ class OfOpenVotes(OfElections):
         self.expect("it is in the act", [doubt["kind"] for doubt in self.acts()[-1].detail["doubts"]], ["no ballot", "mostly refused", "not closed"])
         self.add("ada-lovelace 1,2,3\n")
         self.say("close")
-        self.say("publish", "--force", "--because", "nothing", "--language", "en")
+        self.replace("--force", "--because", "nothing", "--language", "en")
         self.expect("half of the lines are refused", json.loads(self.files()["result.json"])["refused"], 1)
         self.expect("force where nothing stops", (self.doubts(), "nothing" in self.sections()["Result"].text()), ([], False))
 
@@ -283,8 +408,18 @@ class OfOpenVotes(OfElections):
         acts = re.findall(r"(?m)^- ((?:.+\n)+(?:  .+\n)*)", text)
         self.expect("in the letters", (len(letters), len(acts)), (3, len(told)))
         close = " ".join(acts[-1].split())
-        words = ("2 rechtzeitig eingetroffene Schreiben", "1 Schreiben, das nach dem Ende", "\u201ein a hurry\u201c")
+        words = ("2 rechtzeitig eingetroffene Schreiben", "1 Schreiben, das nach dem Ende", "(in a hurry)")
         self.expect(f"the close: {close}", [word in close for word in words], [True] * 3)
+
+    def test_what_the_letter_tells_of_what_was_done(self):
+        """All but what is plain: also that the clock went back."""
+        time = datetime.datetime(2026, 12, 4, tzinfo=datetime.UTC)
+        plain = {Done.CALLED, Done.CALLED_UNTIL, Done.TAKEN_BACK, Done.KEYRING}
+        places = {"until": time, "before": time, "number": 1, "envelope": 1, "noted": 1, "there": 1}
+        for done in Done:
+            if done is not Done.CLOSED:
+                chronicle = Chronicle((Act(time, done, places),))
+                self.expect(str(done), len(told_acts(Publication(None, b"", chronicle=chronicle), ENGLISH)), 0 if done in plain else 1)
 
     def test_what_was_done_after_the_close(self):
         self.say("call", "--until", "2099-12-04 18:00", "--zone", "Europe/Berlin")
@@ -328,11 +463,14 @@ class OfOpenVotes(OfElections):
 
     @contextlib.contextmanager
     def changed_book(self):
-        """The book, in which another program changes what it likes."""
+        """The book, in which another program changes what it likes; its triggers are there again afterwards."""
         with contextlib.closing(sqlite3.connect(self.folder / "election.db")) as connection:
-            for (name,) in connection.execute("SELECT name FROM sqlite_master WHERE type = 'trigger'").fetchall():
+            triggers = connection.execute("SELECT name, sql FROM sqlite_master WHERE type = 'trigger'").fetchall()
+            for name, _ in triggers:
                 connection.execute(f"DROP TRIGGER {name}")
             yield connection
+            for _, sql in triggers:
+                connection.execute(sql)
             connection.commit()
 
     def test_late_letters(self):
@@ -358,7 +496,7 @@ class OfOpenVotes(OfElections):
         sleep(max(0, (close + datetime.timedelta(seconds=1) - datetime.datetime.now(datetime.UTC)).total_seconds()))
         self.say("close")
         self.expect("the close after that letter", self.acts()[-1].time > close, True)
-        self.say("publish", "--language", "en")
+        self.replace("--language", "en")
         self.expect("entered in time", (self.doubts(), (self.folder / "result" / "late.txt").read_text().count("\n")), ([], 4))
 
     def test_what_comes_after_the_end(self):
@@ -404,7 +542,7 @@ class OfOpenVotes(OfElections):
         self.say("reopen", "--because", "a lost letter", "--in-time", "3")
         self.say("strike", "1", "--because", "twice")
         self.say("close")
-        self.expect("a tie again", self.say("publish", status=1).splitlines()[0], "Tie: 1 2")
+        self.expect("a tie again", self.replace(status=1).splitlines()[0], "Tie: 1 2")
 
     def test_bad_texts(self):
         self.say("call")
@@ -446,19 +584,19 @@ class OfOpenVotes(OfElections):
         self.say("publish", "--casting", "72 Euro", *cast, "--language", "en")
         said = 'The secretary says that the casting vote was that of "Anna <b>", given on 20 November 2026. No count can show this.'
         self.expect("on the page", said in self.sections()["Result"].text(), True)
-        self.expect("in the letter", said in (self.folder / "result" / "letter.txt").read_text().replace("\n", " "), True)
+        self.expect("in the letter", said in self.letter().replace("\n", " "), True)
         said = "Winner: Option 1: 72 Euro by casting vote"
-        self.expect("so does the letter say who has won", said in (self.folder / "result" / "letter.txt").read_text(), True)
+        self.expect("so does the letter say who has won", said in self.letter(), True)
         self.stops("publish", "--casting", "Groesse", *cast, said=["an earlier publication has a casting vote for 72 Euro"])
         self.reopened_with("cleo 1,2,3\n")
-        self.say("publish", "--casting", "72 Euro", *cast, "--language", "en")
-        texts = (self.sections()["Result"].text(), (self.folder / "result" / "letter.txt").read_text())
+        self.replace("--casting", "72 Euro", *cast, "--language", "en")
+        texts = (self.sections()["Result"].text(), self.letter())
         self.expect("one that decides nothing is not told", ["casting vote" in text for text in texts], [False, False])
         self.reopened_with("dan 2,1,3\n")
-        self.say("publish", "--casting", "Groesse", *cast, "--force", "--because", "She had meant this", "--language", "en")
+        self.replace("--casting", "Groesse", *cast, "--force", "--because", "She had meant this", "--language", "en")
         earlier = ["An earlier result of this vote was published with another casting vote, for 72 Euro."]
         self.expect("another casting vote", self.doubts(), earlier)
-        letter = (self.folder / "result" / "letter.txt").read_text()
+        letter = self.letter()
         self.expect("the letter says whom it chose", "Winner: Option 2: Größe by casting vote" in letter, True)
         files = self.files()
         self.say("publish")
@@ -613,14 +751,44 @@ class OfSecretVotes(OfElections):
         self.called()
         self.say("close")
         (self.folder / "about").write_text(TEXT)
-        self.stops("publish", "--about", "about", said=["texts for the page may tell who voted what", "--yes"])
+        self.stops("publish", "--about", "about", said=["these texts may tell who voted what", "--yes"])
         self.say("publish", "--about", "about", "--yes", status=1)
         files, acts = self.files(), len(self.acts())
         self.say("publish", status=1)
         self.expect("the same again is not asked for", (self.files() == files, len(self.acts())), (True, acts))
+        self.state = self.scratch / "other computer of a secret vote"
+        output, faults, status = self.run_words("publish", "--moved", "--because", "of <Ada>")
+        self.expect(f"a reason of --moved: {output} {faults}", ("these texts may tell" in faults, faults.count("  of <Ada>\n"), status), (True, 1, 9))
+        self.expect("is an act, and no publication", [act.name for act in self.acts()[acts:]], ["moved"])
+        self.say("publish", "--force", "--yes", status=1)
+        digest = hashlib.sha256(b"of <Ada>").hexdigest()
+        self.expect("the act keeps what was agreed to", self.acts()[-1].detail["agreed"], [digest])
+        self.say("publish", "--language", "fr", status=1)
         code = self.secrets()[0].code
         (self.folder / "about").write_text(f"x {code}\n")
         self.stops("publish", "--about", "about", "--yes", said=["index.html would have the code of an elector in it"])
+
+    def test_texts_of_options_are_asked_for_before_the_call(self):
+        """There they become public; later they are not asked about again."""
+        (self.folder / "texts").mkdir()
+        (self.folder / "texts" / "1.txt").write_text("Zoë is for it.\n")
+        acts = len(self.acts())
+        output, faults, status = self.run_words("call")
+        shown = "texts/1.txt:\n  Zoë is for it.\n"
+        self.expect(f"it stops: {output} {faults}", (faults.startswith(shown), "--yes" in faults, status), (True, True, 9))
+        self.expect("nothing is made", (len(self.acts()), (self.folder / "call").exists()), (acts, False))
+        code = self.secrets()[0].code
+        (self.folder / "texts" / "2.txt").write_text(f"x {code}\n")
+        self.expect("a code", "index.html would have the code of an elector in it" in self.run_words("call", "--yes")[1], True)
+        (self.folder / "texts" / "2.txt").unlink()
+        self.say("call", "--yes")
+        self.expect("the act", self.acts()[-1].detail["agreed"], [hashlib.sha256("Zoë is for it.\n".encode()).hexdigest()])
+        self.say("call", "--take-back")
+        self.say("codes")
+        self.say("call")
+        self.add("ada-lovelace 3,2,9\n")
+        self.say("close")
+        self.say("publish")
 
     def test_two_results_that_can_be_compared(self):
         self.called()
@@ -630,11 +798,12 @@ class OfSecretVotes(OfElections):
         self.add("cleo 1,2,3\nzoe-mueller 5,4,6\ndan 1,2,3\n")
         self.say("reopen", "--because", "Cleo's letter", "--in-time", "6", "7", "8")
         self.say("close")
-        self.stops("publish", said=["a comparison with the earlier result shows how these voted: cleo, dan"])
-        self.say("publish", "--yes")
-        self.expect("cleo and dan count", len((self.folder / "result" / "ballots.txt").read_text().splitlines()), 4)
-        self.checksums_of_letters(self.files(), "-")
-        self.expect("the reason stays in the log", "Cleo" in (self.folder / "result" / "index.html").read_text(), False)
+        said = "a comparison with the earlier result shows how these voted: cleo, dan"
+        self.stops("publish", "result-2", said=[said], folder="result-2")
+        self.say("publish", "--yes", "result-2")
+        self.expect("cleo and dan count", len((self.folder / "result-2" / "ballots.txt").read_text().splitlines()), 4)
+        self.checksums_of_letters(self.files("result-2"), "-")
+        self.expect("the reason stays in the log", "Cleo" in (self.folder / "result-2" / "index.html").read_text(), False)
 
     def test_a_sheet_that_is_not_that_of_the_votes(self):
         self.called()

@@ -62,6 +62,8 @@ def try_page(expect, name, folder):
     voters = [line.split()[0] for line in (folder / "standing.txt").read_text().splitlines()]
     expect(f"{name}: its tags", (page.faults, page.unwanted, page.scripts), ([], [], 1))
     expect(f"{name}: its places", len(set(page.ids)), len(page.ids))
+    roll = tomllib.loads((folder / "poll.toml").read_text())["roll"]
+    expect(f"{name}: no elector has the place of another thing", [place for place in set(page.ids) - set(roll) if place == place.lower()], [])
     expect(f"{name}: a place for each ballot", [voter for voter in voters if voter not in page.ids], [])
     files = {file.name for file in folder.iterdir()}
     astray = [link for link in page.links if link.removeprefix("#") not in (page.ids if link.startswith("#") else files)]

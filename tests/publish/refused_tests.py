@@ -99,3 +99,14 @@ class RefusedTest(support.PublishTest):
 
     def test_an_empty_folder(self):
         try_empty_folder(self.expect, self.scratch)
+
+    def test_numbers_that_no_float_holds(self):
+        """The second count takes and refuses the same ones as debvote."""
+        (self.scratch / "none").touch()
+        for number, is_taken in {"1e309": False, "-0.1e999": False, "[{a = 1_0e400}]": False, "1e308": True, "1e-400": True, "-inf": True}.items():
+            poll = self.scratch / "numbers.toml"
+            poll.write_text(f"{support.PLAIN_POLL}note = {number}\n")
+            words = ["count", "--poll", poll, "--ballots", self.scratch / "none"]
+            found = [support.run([*program, *words])[1:] for program in ([support.PROGRAM], [sys.executable, "-I", support.ROOT / "tests" / "reference.py"])]
+            wanted = ("", 0) if is_taken else ("debvote: poll refused: syntax\n", 3)
+            self.expect(number, found, [wanted] * 2)

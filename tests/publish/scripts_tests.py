@@ -17,12 +17,14 @@ from tests.support import at_browser
 sys.path.append(str(support.ROOT / "python"))
 
 from debvote_tools.publish import command_line, result_folder  # noqa: E402
+from debvote_tools.publish.inputs import SecretVote  # noqa: E402
 
 NEEDS_BROWSER = unittest.skipUnless(at_browser.BROWSER, "chromium is not installed")
 
 # names that people read, and recasts, a refused line and an elector who did not vote
 POLL = support.PLAIN_POLL + 'shown_title = "Größe"\nshown_options = ["72 Euro", "<i>B</i> & \\"C\\"", "N"]\n'
 BALLOTS = "ada 1,2,3\nben -,1,1\nada 2,1,-\nzoe 1,2,3\ncleo -,-,-\n"
+LAST_BALLOT = '<li id="cleo"><b>cleo</b> <code>-,-,-</code>: nothing is preferred</li>\n'
 LETTER_OTHER = "None of these is the checksum that you typed."
 
 
@@ -38,15 +40,15 @@ class Page(at_browser.Window):
 
     def find(self, name, code=None):
         """What the page says after a name, and a code, were typed."""
-        self.ask(f"document.getElementById('name').value = {json.dumps(name)}")
+        self.ask(f"document.getElementById('Name').value = {json.dumps(name)}")
         if code is not None:
-            self.ask(f"document.getElementById('code').value = {json.dumps(code)}")
-        self.ask("document.getElementById('answer').replaceChildren(); document.getElementById('show').click()")
-        self.until("document.getElementById('answer').textContent !== ''")
+            self.ask(f"document.getElementById('Code').value = {json.dumps(code)}")
+        self.ask("document.getElementById('Answer').replaceChildren(); document.getElementById('Show').click()")
+        self.until("document.getElementById('Answer').textContent !== ''")
         return self.found()
 
     def found(self):
-        return self.ask("[...document.querySelectorAll('#answer p')].map((node) => node.textContent)")
+        return self.ask("[...document.querySelectorAll('#Answer p')].map((node) => node.textContent)")
 
     def count_again(self, letter="", files=None):
         """What the page says after a press of the button, or of that for files from the disk."""
@@ -92,6 +94,17 @@ class ScriptsTest(support.PublishTest):
         file.write_text(changed)
         window.open(file)
 
+    def published(self, room, name, **changes):
+        """A room with the result of the files of another one, with what an election adds to them."""
+        programs = support.PROGRAM.parent
+        files = {"poll": str(room / "poll.toml"), "ballots": str(room / "ballots")}
+        given = command_line.Arguments(**files, casting=None, desks=1, language="en", target="result")
+        two = command_line.publication_of(given, programs)
+        made_room = plain_room(self.scratch / name)
+        with result_folder.made(dataclasses.replace(two, **changes), made_room / "result", programs) as made:
+            made.take_place(made_room / "result")
+        return made_room
+
     def test_the_folders_are_made(self):
         self.expect("open", self.told, ("Winner: 2 B\nverified\n", "", 0))
         self.expect("secret", self.told_in_secret[1:], ("", 1))
@@ -110,7 +123,7 @@ class ScriptsTest(support.PublishTest):
         self.expect("a place of the page", window.find("Votes"), ["No elector has the name votes. Type it as it is on the roll."])
         self.expect("nothing typed", window.find(" "), ["Type your name."])
         window.ask("location.hash = '#ben'")
-        window.until("document.getElementById('answer').textContent.includes('ben')")
+        window.until("document.getElementById('Answer').textContent.includes('ben')")
         self.expect("the address names an elector", window.found()[0], "This ballot counts for ben:")
         others = ["This page shows other ballots than its files have. Tell the other electors."]
         for what, change in [
@@ -119,6 +132,19 @@ class ScriptsTest(support.PublishTest):
         ]:
             self.page_of(window, change)
             self.expect(what, window.find("ada"), others)
+
+    @NEEDS_BROWSER
+    def test_electors_with_names_of_things_of_the_page(self):
+        roll = ["find", "code", "show", "answer", "votes", "name", "result", "again", "poll-file", "ballots", "graph0"]
+        poll = re.sub("roll = .*", f"roll = {json.dumps(roll)}", support.PLAIN_POLL)
+        room = plain_room(self.scratch / "names", poll, "".join(f"{name} 1,2,3\n" for name in roll[:-1]))
+        self.expect("it is published", publish(room, *FILES, "result"), ("Winner: 1 A\nverified\n", "", 0))
+        window = self.window
+        self.page_of(window, room=room)
+        for name in roll[:-1]:
+            self.expect(name, window.find(name), [f"This ballot counts for {name}:", f"{name} 1,2,3: Option 1: A; then Option 2: B; then Option 3: N"])
+        self.expect("no ballot", window.find(roll[-1]), [f"{roll[-1]} is on the roll, and no ballot counts for this name."])
+        self.expect("counted again", window.count_again()[0].startswith("The same, line for line"), True)
 
     @NEEDS_BROWSER
     def test_finding_a_ballot_of_a_secret_vote(self):
@@ -148,13 +174,7 @@ class ScriptsTest(support.PublishTest):
     @NEEDS_BROWSER
     def test_finding_a_ballot_by_its_code(self):
         """Where codes are on the roll, half a code is not called the code of nobody."""
-        room, programs = self.secret, support.PROGRAM.parent
-        files = {"poll": str(room / "poll.toml"), "ballots": str(room / "ballots")}
-        given = command_line.Arguments(**files, casting=None, desks=1, language="en", target="result")
-        two = command_line.publication_of(given, programs)
-        by_code = plain_room(self.scratch / "codes")
-        with result_folder.made(dataclasses.replace(two, has_codes=True), by_code / "result", programs) as made:
-            made.take_place(by_code / "result")
+        by_code = self.published(self.secret, "codes", has_codes=True)
         code = alias_of(self.code, "zoe-muller")
         window = self.window
         self.page_of(window, room=by_code)
@@ -163,6 +183,35 @@ class ScriptsTest(support.PublishTest):
         self.expect("half of it", window.find(code[:16]), [short])
         self.expect("no ballot", window.find(alias_of(self.code, "cleo")), ["The code is on the roll, and no ballot counts under it."])
         self.expect("nobody's", window.find("f" * 32), ["No elector has this code. Type it as it is on your slip."])
+
+    @NEEDS_BROWSER
+    def test_the_checksum_of_the_close(self):
+        """In a secret vote it covers the random line, too."""
+        folder, seal = self.secret / "result", "5" * 32
+        secret = SecretVote(codes=frozenset(), seal=seal, sheet_text=(folder / "sheet.txt").read_text(), late=0)
+        room = self.published(self.secret, "sealed", secret=secret)
+        window = self.window
+        self.page_of(window, room=room)
+        sealed = hashlib.sha256(f"{seal}\n".encode() + (folder / "ballots.txt").read_bytes()).hexdigest()
+        rows = [row for row in window.count_again(sealed) if "as the letter of the close has to have it" in row]
+        said = f"Yours is the same. The checksum of seal.txt and the ballots, as the letter of the close has to have it, is {sealed}."
+        self.expect("sealed", rows, [f"{said} This page names it too."])
+
+    @NEEDS_BROWSER
+    def test_what_is_typed(self):
+        """Enter shows the ballot, and an answer goes when another name is typed; of two with one real name both are shown."""
+        room = self.published(self.room, "real names", real_names={"ada": "Zoë", "ben": "Zoë", "dan": "Dan"})
+        window = self.window
+        self.page_of(window, room=room)
+        found = window.find("zoe")
+        self.expect("one real name", found[::2], ["This ballot counts for ada:", "This ballot counts for ben:"])
+        window.ask("document.getElementById('Name').focus()")
+        window.press("1")
+        window.until("document.getElementById('Answer').textContent === ''")
+        self.expect("what is typed now", window.ask("document.getElementById('Name').value"), "zoe1")
+        window.press("Enter")
+        window.until("document.getElementById('Answer').textContent !== ''")
+        self.expect("by Enter", window.found(), ["No elector has the name zoe1. Type it as it is on the roll."])
 
     @NEEDS_BROWSER
     def test_folded_parts(self):
@@ -212,6 +261,8 @@ class ScriptsTest(support.PublishTest):
             "the names of title and options ": ("(plain name, on the result sheet: A)", "(plain name, on the result sheet: B)"),
             "the table of votes": ("<td>0</td>", "<td>1</td>"),
             "the ballot of ben": ('<li id="ben"><b>ben</b> <code>-,1,1', '<li id="ben"><b>ben</b> <code>-,1,2'),
+            "the ballot of bem": ('<li id="ben">', '<li id="bem">'),
+            "the ballots, which are not as many": (LAST_BALLOT, ""),
             "the ballot of ada": ("</bdi>; then Option 1: <bdi>72 Euro</bdi>; not", "</bdi>; then Option 1: <bdi>73 Euro</bdi>; not"),
         }
         window = self.window
@@ -232,5 +283,13 @@ class ScriptsTest(support.PublishTest):
             "There it is: Winner: 2 B (without a line feed at its end). By this count it is: Winner: 2 B (with a line feed at its end)."
         )
         self.expect(f"no line feed at the end: {cut}", feeds in cut, True)
+        others = window.count_again(files=files | {"ballots.txt": files["ballots.txt"] + b"dan 1,2,3\n"})
+        told = "If the files are as they were published, tell the other electors."
+        shown = [(row.endswith(told), row.startswith("This page")) for row in others if row.startswith(("Not the same", "This page"))]
+        self.expect(f"other ballots: {others}", shown, [(True, False)])
+        named = {row.split()[4]: row.endswith("This page names it too.") for row in others if row.startswith("The checksum of the ")}
+        self.expect("what the page names", named, {"poll,": True, "ballots,": False})
+        two = window.count_again(files=files | {"poll-2.toml": files["poll.toml"]})
+        self.expect("two polls", two, ["Choose poll.toml and ballots.txt, one file of each and under these names; you may add sheet.txt."])
         toml = window.count_again(files=files | {"poll.toml": b"# a comment\n" + files["poll.toml"]})[0]
         self.expect(f"another form of TOML: {toml}", "not in plain form, as the poll.toml of a result is" in toml, True)

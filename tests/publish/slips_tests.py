@@ -1,4 +1,4 @@
-"""Slips of the hand: what is doubtful is told and stands on the page; files that are swapped are told as such."""
+"""Slips of the hand: what is doubtful is told and stands on the page; a poll that is refused, and a secret vote."""
 
 import os
 import sys
@@ -47,15 +47,13 @@ def try_slip(expect, name, scratch):
     return room / "result"
 
 
-def try_swapped(expect, scratch):
-    """Where the poll is refused since it is a ballot file, the fault says so, and nothing is made."""
-    room = support.plain_room(scratch / "swapped")
+def try_refused(expect, scratch):
+    """Where the poll is refused, the fault says what tells more (also that two files are exchanged), and nothing is made."""
+    room = support.plain_room(scratch / "refused")
     (room / "bad.toml").write_text("title = 1\n")
     (room / "new.toml").write_text(support.PLAIN_POLL + 'note = "\\e"\n')
-    refused = "poll refused: syntax, since it is a ballot file; nothing was published: "
     for poll, ballots, wanted in [
-        ("ballots", "poll.toml", f"ballots: {refused}the two files are swapped: give --poll poll.toml --ballots ballots"),
-        ("ballots", "ballots", f"ballots: {refused}give the poll"),
+        ("ballots", "poll.toml", "ballots: poll refused: syntax; nothing was published: debvote explain --poll ballots says what"),
         ("bad.toml", "ballots", "bad.toml: poll refused: key title; nothing was published: debvote explain --poll bad.toml says what"),
         ("new.toml", "ballots", "new.toml: it can't be read (Unescaped '\\' in a string"),
     ]:
@@ -104,8 +102,8 @@ class SlipsTest(support.PublishTest):
 
 
 class NoPublicationTest(support.PublishTest):
-    def test_swapped_files(self):
-        try_swapped(self.expect, self.scratch)
+    def test_refused_polls(self):
+        try_refused(self.expect, self.scratch)
 
     def test_secret_votes(self):
         try_secret(self.expect, self.scratch)

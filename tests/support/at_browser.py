@@ -106,9 +106,11 @@ class Window:
         return found["result"].get("value")
 
     def until(self, script: str) -> None:
-        """Waits until a script returns true."""
-        steps = f"new Promise((done) => {{ const look = () => ({script}) ? done(true) : setTimeout(look, 10); look(); }})"
-        self.ask(steps)
+        """Waits until a script returns true, for 20 seconds at most."""
+        end = "performance.now() > end ? done(false) : setTimeout(look, 10)"
+        look = f"const end = performance.now() + 20000; const look = () => ({script}) ? done(true) : {end}; look();"
+        if not self.ask(f"new Promise((done) => {{ {look} }})"):
+            raise AssertionError(f"it does not become true: {script}")
 
     def press(self, key: str, shift: bool = False) -> None:
         """Presses a key and lets it go."""

@@ -32,7 +32,9 @@ class Detail(TypedDict, total=False):
     quorum_votes: int
     signed: bool
     keyring: bool
-    # take back: the act of the call
+    # call and publish, in a secret vote: the checksums of the texts that somebody agreed to make public
+    agreed: list[str]
+    # take back: the act of the call; its `codes` have lapsed
     call: int
     # what comes: how many letters and lines; of set aside, put back and enter their numbers
     letter: int
@@ -48,6 +50,8 @@ class Detail(TypedDict, total=False):
     # undo: the act that it takes back; strike: the envelope
     act: int
     envelope: int
+    # close and publish: the letters that had arrived in time and were left waiting
+    left: list[int]
     # close
     checksum: str
     seal: str

@@ -6,6 +6,7 @@ An act adds rows, in one transaction, and is reported only after its commit. Tri
 import contextlib
 import datetime
 import fcntl
+import functools
 import itertools
 import json
 import os
@@ -15,19 +16,27 @@ from collections.abc import Iterable, Iterator, Sequence
 from typing import Any, Final, NamedTuple
 
 from debvote_tools import times
-from debvote_tools.book import chain
+from debvote_tools.book import chain, schema
 from debvote_tools.book.acts import ActName, Detail
-from debvote_tools.book.machine_note import MachineNote, Note
+from debvote_tools.book.machine_note import MachineNote, Note, machine_of
 from debvote_tools.faults import Fault, Status
-from debvote_tools.files import uninterrupted
+from debvote_tools.files import read_at_most, uninterrupted
 
 NAME = "election.db"
 
-# the act that takes another book than that of the note
+# the act that takes another book than that of the note, and why it is there if this machine knew the book
 MOVED: Final = "moved"
+RESTORED = "it was restored, as the secretary says"
 
 # "dbvt": what tells a book from other databases of SQLite; and the version of its schema, and of what it keeps of letters as JSON
-APPLICATION_ID, VERSION = 0x64627674, 3
+APPLICATION_ID, VERSION = 0x64627674, 4
+
+# the program that wrote the books of an earlier version
+PROGRAMS = {3: "debvote-election 2.0.0"}
+
+# a database of SQLite begins with these bytes; and where its head has the application id and the version
+SQLITE, HEAD = b"SQLite format 3\0", 72
+ID_AT, VERSION_AT = slice(68, 72), slice(60, 64)
 
 # how many seconds an act waits for those of others
 PATIENCE = 120
@@ -40,7 +49,8 @@ ROWS_AT_ONCE = 100
 # the byte of the file that SQLite locks for an act
 RESERVED_BYTE = 0x40000001
 
-REFUSE = """CREATE TRIGGER {table}_{verb} BEFORE {verb} ON {table} BEGIN SELECT RAISE(ABORT, 'a book only grows'); END"""
+# an act that is more seconds earlier than the one before it shows that the clock was put back; clocks are set by some seconds
+SECONDS_BACK = 60
 
 
 class Overtaken(Exception):
@@ -51,6 +61,7 @@ class DoneAct(NamedTuple):
     number: int
     time: datetime.datetime
     name: ActName
+    machine: str
     detail_as_json: str
     digest: str
 
@@ -58,6 +69,10 @@ class DoneAct(NamedTuple):
     def detail(self) -> Detail:
         found: Detail = json.loads(self.detail_as_json)
         return found
+
+    def went_back(self, before: "DoneAct") -> bool:
+        """Whether the clock went back since the act before."""
+        return (before.time - self.time).total_seconds() > SECONDS_BACK
 
 
 class NewAct(NamedTuple):
@@ -89,7 +104,10 @@ class Book:
 
     def __init__(self, path: pathlib.Path, connection: sqlite3.Connection, *, is_read_only: bool = False) -> None:
         self.path, self.connection, self.is_read_only = path, connection, is_read_only
+        self.file = file_at(path)
         self.read_acts: list[DoneAct] = []
+        # the acts of this process, each as `act 7 (add)`
+        self.own_acts: list[str] = []
 
     # ------------------------------------------------------------ reading
     def rows(self, words: str, *values: object) -> list[Any]:
@@ -97,15 +115,23 @@ class Book:
             return self.connection.execute(words, values).fetchall()
 
     def acts(self) -> Sequence[DoneAct]:
-        """All acts, in their order. An act never changes, so a call reads only the acts that came since the last call."""
-        words = "SELECT act, time, name, detail, digest FROM act WHERE act > ? ORDER BY act"
-        for number, time, name, detail, digest in self.rows(words, self.read_acts[-1].number if self.read_acts else 0):
-            self.read_acts.append(DoneAct(number, from_text(time), name, detail, digest))
+        """All acts, in their order."""
+        self.read_new_acts()
         return tuple(self.read_acts)
+
+    def read_new_acts(self) -> None:
+        """An act never changes, so only those are read that came since the last call."""
+        words = "SELECT act, time, name, machine, detail, digest FROM act WHERE act > ? ORDER BY act"
+        for number, time, *others in self.rows(words, self.read_acts[-1].number if self.read_acts else 0):
+            try:
+                self.read_acts.append(DoneAct(number, from_text(time), *others))
+            except (ValueError, TypeError):
+                raise damaged(self.path, f"act {number} has no time") from None
 
     def last_act(self) -> DoneAct:
         """The last act. There always is one: that of `new`."""
-        return self.acts()[-1]
+        self.read_new_acts()
+        return self.read_acts[-1]
 
     def last_number(self) -> int:
         return self.last_act().number
@@ -117,12 +143,14 @@ class Book:
 
     def digest_at(self, act: int) -> str | None:
         """The digest of an act; None if the book has no such act."""
-        return next((done.digest for done in self.acts() if done.number == act), None)
+        found = self.rows("SELECT digest FROM act WHERE act = ?", act)
+        return str(found[0][0]) if found else None
 
-    def broken_act(self) -> int | None:
-        """The first act that is not as its digest says; None if the chain of digests is whole."""
+    def demand_whole(self) -> None:
+        """Stops if anything in the book is not as its acts wrote it."""
         with self.snapshot():
-            return chain.broken_act(self.connection)
+            if found := chain.damage(self.connection):
+                raise damaged(self.path, "; ".join(found))
 
     def snapshot(self) -> contextlib.AbstractContextManager[None]:
         """All queries within see one state of the book."""
@@ -148,54 +176,81 @@ class Book:
         nobody is asked and no program runs. The act `moved` makes this book the one that the machine knows.
         """
         note = self.note()
-        with note.under_lock():
-            # only whether it can be written
-            pass
+        note.make_ready()
         with self.transaction("BEGIN IMMEDIATE"):
             before = self.last_act()
             if seen not in (None, before.number):
                 raise Overtaken
+            self.demand_in_place()
             if name != MOVED:
                 self.demand_noted()
+            if not chain.is_whole(self.connection, before.number):
+                raise damaged(self.path, chain.broken(before.number))
             act = NewAct(self.connection, before.number + 1, times.now(), name, detail or {})
             yield act
             with uninterrupted():
                 digest = self.finish(act, before.digest)
         # a note that can't be written stays at an earlier act, as after a kill
         with contextlib.suppress(Fault, OSError):
-            note.write(Note(act.number, digest), is_moved=name == MOVED)
+            note.put(Note(act.number, digest), is_moved=name == MOVED)
 
     def finish(self, act: NewAct, digest_before: str) -> str:
         """Adds the row of the act, with its digest, and commits."""
-        detail = json.dumps(act.detail, ensure_ascii=False)
-        row = (act.number, as_text(act.time), act.name, detail, os.urandom(16))
+        salt = os.urandom(16)
+        machine = machine_of(salt) if act.number == 1 else self.machine
+        row = (act.number, as_text(act.time), act.name, machine, json.dumps(act.detail, ensure_ascii=False), salt)
         digest = chain.digest_of(self.connection, digest_before, row)
-        self.connection.execute("INSERT INTO act VALUES (?, ?, ?, ?, ?, ?)", (*row, digest))
-        self.connection.execute("COMMIT")
+        self.connection.execute("INSERT INTO act VALUES (?, ?, ?, ?, ?, ?, ?)", (*row, digest))
+        self.commit(act)
+        self.own_acts.append(f"act {act.number} ({act.name})")
         return digest
 
+    def commit(self, act: NewAct) -> None:
+        """Commits an act. If SQLite says that it failed, and the act is there nevertheless, nobody knows whether it stays."""
+        try:
+            self.connection.execute("COMMIT")
+        except sqlite3.Error as error:
+            try:
+                self.connection.rollback()
+                is_there = bool(self.connection.execute("SELECT 1 FROM act WHERE act = ?", (act.number,)).fetchall())
+            except sqlite3.Error:
+                # by the journal, the next command that can write takes the act back
+                is_there = not self.path.with_name(f"{self.path.name}-journal").exists()
+            if not is_there:
+                raise
+            words, cure = f"the commit failed ({error})", "see debvote-election status, which tells the last act"
+            raise Fault(self.path, words, cure, Status.BAD_OUTPUT, f"nobody knows whether act {act.number} was done") from None
+
     # ------------------------------------------------------------ this machine's note
+    @functools.cached_property
+    def machine(self) -> str:
+        """This machine, as the acts of this book name it."""
+        [(salt,)] = self.rows("SELECT salt FROM act WHERE act = 1")
+        return machine_of(salt)
+
     def note(self) -> MachineNote:
-        return MachineNote(self.path.resolve(), self.acts()[0].digest)
+        return MachineNote(self.machine, self.path.resolve())
 
     def note_seen(self) -> None:
         """Notes the last act, if this is the book that this machine knows. Then nobody can remove this act unnoticed."""
         with contextlib.suppress(Fault, OSError):
             if self.strangeness() is None:
                 last = self.last_act()
-                self.note().write(Note(last.number, last.digest))
+                self.note().put(Note(last.number, last.digest))
 
     def strangeness(self) -> str | None:
         """Why this is not the book that this machine knows; None if it is."""
-        noted = self.note().read()
+        noted, last = self.note().read(), self.last_act()
         if noted is None:
             return "this computer has never seen this election in this folder"
         digest = self.digest_at(noted.act)
         if digest is None:
-            return f"it ends with act {self.last_number()}, and this computer has seen act {noted.act}: it is an older copy"
+            return f"it ends with act {last.number}, and this computer has seen act {noted.act}: it is an older copy"
         if digest != noted.digest:
             how = "somebody went on from a copy, or made the book anew"
             return f"its act {noted.act} is not the one that this computer saw: {how}"
+        if last.machine != self.machine:
+            return f"its act {last.number} was done on another computer"
         return None
 
     def demand_noted(self) -> None:
@@ -208,15 +263,34 @@ class Book:
             raise Fault(self.path, why, cure)
 
     def accept(self, because: str) -> None:
-        """The act `moved`: from now on this machine takes this book for the right one."""
-        noted, last, why = self.note().read(), self.last_act(), self.strangeness()
-        if why is None:
-            raise Fault("--moved", "this computer knows this book already", "leave it out", Status.BAD_WORDS)
+        """The act `moved`: from now on this machine takes this book for the right one. If a whole disk was put back, with what this
+        machine noted, only who did it knows.
+        """
+        noted, last, why = self.note().read(), self.last_act(), self.strangeness() or RESTORED
+        self.demand_locks()
         there = {"act": last.number, "digest": last.digest}
         with self.act(MOVED, {"why": why, "noted": noted and noted._asdict(), "there": there, "because": because}):
             pass
 
     # ------------------------------------------------------------ the file
+    def doubts(self, *, is_accepted: bool = False) -> list[Fault]:
+        """Why this may not be the book to work on: this machine knows another one, unless this one is accepted now, or a copy lies beside
+        it.
+        """
+        found = [other_book(file) for file in self.other_books()]
+        try:
+            if not is_accepted:
+                self.demand_noted()
+        except Fault as fault:
+            found.append(fault)
+        return found
+
+    def demand_in_place(self) -> None:
+        """Stops if another file took the place of the one that is open: what is written into that one, nobody finds again."""
+        if file_at(self.path) != self.file:
+            words = "another file took its place while this command was running"
+            raise Fault(self.path, words, "find out which of both is right, then run the command again")
+
     def demand_locks(self) -> None:
         """Stops if a second process gets the lock that this one holds."""
         with self.transaction("BEGIN IMMEDIATE"):
@@ -224,15 +298,13 @@ class Book:
                 words = "locks do not work on this file system, as on some network shares"
                 raise Fault(self.path, words, "move the folder to a disk of this computer")
 
-    def demand_alone(self) -> None:
-        """Stops if the folder has another book with acts that this book lacks, such as a copy that a sync tool leaves."""
+    def other_books(self) -> Iterator[pathlib.Path]:
+        """The books in the folder with acts that this book lacks, such as a copy that a sync tool leaves."""
         for file in sorted(self.path.parent.iterdir()):
             # a file that is gone by now was the journal of another command
             with contextlib.suppress(OSError):
-                if file.is_file() and not file.samefile(self.path) and has_our_id(file) and not self.begins_with(file):
-                    words = "it is another book of this election, with acts that election.db lacks; a sync tool may have left it"
-                    cure = "find out which book is right, and move the other out of the folder"
-                    raise Fault(file, words, cure)
+                if file.is_file() and not file.samefile(self.path) and has_our_id(head_of(file)) and not self.begins_with(file):
+                    yield file
 
     def begins_with(self, file: pathlib.Path) -> bool:
         """Whether this book has all acts of another book. False if the other book can't be read."""
@@ -273,44 +345,55 @@ def create(path: pathlib.Path, detail: Detail, final_path: pathlib.Path) -> None
     os.close(os.open(path, os.O_RDWR | os.O_CREAT | os.O_EXCL, 0o600))
     connection = connected(path, "rw")
     book = Book(path, connection)
-    with contextlib.closing(connection), book.transaction("BEGIN IMMEDIATE"):
-        connection.execute(f"PRAGMA application_id = {APPLICATION_ID}")
-        connection.execute(f"PRAGMA user_version = {VERSION}")
-        for statement in pathlib.Path(__file__).with_name("schema.sql").read_text().split(";\n"):
-            connection.execute(statement)
-        for table in (*chain.TABLES, "act"):
-            for verb in ("UPDATE", "DELETE"):
-                connection.execute(REFUSE.format(table=table, verb=verb))
-        digest = book.finish(NewAct(connection, 1, times.now(), "new", detail), chain.BEGINNING)
+    with contextlib.closing(connection):
+        with book.transaction("BEGIN IMMEDIATE"):
+            connection.execute(f"PRAGMA application_id = {APPLICATION_ID}")
+            connection.execute(f"PRAGMA user_version = {VERSION}")
+            schema.write(connection)
+            digest = book.finish(NewAct(connection, 1, times.now(), "new", detail), chain.BEGINNING)
         book.demand_locks()
-    # before the folder is moved: a kill between both leaves a note of nothing
-    MachineNote(final_path, digest).write(Note(1, digest))
+        # before the folder is moved: a kill between both leaves a note of nothing
+        MachineNote(book.machine, final_path).put(Note(1, digest))
 
 
 def open_book(path: pathlib.Path) -> Book:
-    """Opens the book of an election. If the file is no book of this version, the fault says what it is."""
+    """Opens the book of an election. If the file is no book of this version, or its schema is another one, the fault says so."""
+    demand_version(path)
     is_read_only = not os.access(path, os.W_OK) or not os.access(path.parent, os.W_OK)
     with sqlite_faults(path):
-        connection = connected(path, "ro" if is_read_only else "rw")
         try:
-            words = "SELECT application_id, user_version FROM pragma_application_id, pragma_user_version"
-            [(found, version)] = connection.execute(words)
+            connection = connected(path, "ro" if is_read_only else "rw")
+            differing = schema.difference(connection)
+        except UnicodeDecodeError:
+            # SQLite quotes what it can't read
+            raise damaged(path, "its schema is no text") from None
         except sqlite3.Error as error:
             if is_read_only and "unable to open" in str(error) or "readonly" in str(error):
                 words = "a command was cut off in its act, and the act can be taken back only in a folder that is writable"
                 cure = f"copy {NAME} and {NAME}-journal together into a folder of your own, and work there"
                 raise Fault(path, words, cure, Status.DOUBT, None) from None
             raise
-        if found != APPLICATION_ID:
-            cure = "name the folder of an election with --folder"
-            raise Fault(path, "it is a database of another program", cure, Status.BAD_WORDS, None)
-        if version != VERSION:
-            words = f"it is a book of version {version}, and this program writes version {VERSION}"
-            raise Fault(path, words, "use the debvote that began this election", Status.BAD_WORDS, None)
+        if differing is not None:
+            raise damaged(path, f"{differing} is not as new makes it")
         book = Book(path, connection, is_read_only=is_read_only)
         if book.digest_at(1) is None:
-            raise damaged(path)
+            raise damaged(path, "it has no first act")
     return book
+
+
+def demand_version(path: pathlib.Path) -> None:
+    """Stops at a file that is no book of this version. It is not opened as a database, so nothing in it changes."""
+    head = head_of(path)
+    if not head.startswith(SQLITE):
+        raise damaged(path, "it is no database of SQLite")
+    if not has_our_id(head):
+        cure = "name the folder of an election with --folder"
+        raise Fault(path, "it is a database of another program", cure, Status.BAD_WORDS, None)
+    version = int.from_bytes(head[VERSION_AT], "big")
+    if version != VERSION:
+        whose = f" of {PROGRAMS[version]}" if version in PROGRAMS else ""
+        words = f"it is a book{whose} (version {version}), and this program writes version {VERSION}"
+        raise Fault(path, words, "use the debvote-election that began this election", Status.BAD_WORDS)
 
 
 def connected(path: pathlib.Path, mode: str) -> sqlite3.Connection:
@@ -322,6 +405,16 @@ def connected(path: pathlib.Path, mode: str) -> sqlite3.Connection:
     return connection
 
 
+# what SQLite says if not the book is at fault, but its place: the words, and the cure
+PLACES = {
+    ("BUSY", "LOCKED"): ("other commands have worked on it for two minutes", "wait until they are done"),
+    ("IOERR_READ", "IOERR_SHORT_READ"): ("it can't be read", "check that the disk is in order"),
+    ("FULL", "IOERR"): ("it can't be written", "make room on the disk, or check that the disk is in order"),
+    ("READONLY", "CANTOPEN", "PERM", "AUTH"): ("it can't be written", "make the file and its folder writable for you"),
+    ("NOMEM", "INTERRUPT"): ("SQLite gave up", "make room in memory"),
+}
+
+
 @contextlib.contextmanager
 def sqlite_faults(path: pathlib.Path) -> Iterator[None]:
     """An error of SQLite is raised as a fault of the file."""
@@ -329,32 +422,40 @@ def sqlite_faults(path: pathlib.Path) -> Iterator[None]:
         yield
     except sqlite3.Error as error:
         kind = getattr(error, "sqlite_errorname", "").removeprefix("SQLITE_")
-        if kind.startswith(("CORRUPT", "NOTADB", "ERROR", "CONSTRAINT", "MISMATCH", "FORMAT")):
+        found = next((said for kinds, said in PLACES.items() if kind.startswith(kinds)), None)
+        if found is None:
             raise damaged(path, str(error)) from None
-        words, cure = str(error), "run the command again"
-        if kind.startswith("BUSY"):
-            words, cure = "other commands have worked on it for two minutes", "wait until they are done, then run the command again"
-        elif kind.startswith(("FULL", "IOERR")):
-            words = f"it can't be written ({error})"
-            cure = "make room on the disk, or check that the disk is in order, then run the command again"
-        elif kind.startswith(("READONLY", "CANTOPEN", "PERM", "AUTH")):
-            words, cure = (
-                f"it can't be written ({error})",
-                "make the file and its folder writable for you, then run the command again",
-            )
-        raise Fault(path, words, cure, Status.BAD_OUTPUT) from None
+        words, cure = found
+        raise Fault(path, f"{words} ({error})", f"{cure}, then run the command again", Status.BAD_OUTPUT) from None
 
 
-def damaged(path: pathlib.Path, how: str = "it has no first act") -> Fault:
-    cure = "restore the last copy made by debvote-election backup, and tell the maintainers"
-    return Fault(path, f"the book is damaged ({how})", cure)
+def damaged(path: pathlib.Path, how: str) -> Fault:
+    cure = "restore the last copy made by debvote-election backup, and find out how that came about"
+    return Fault(path, f"the book is damaged, or another program changed it ({how})", cure)
 
 
-def has_our_id(file: pathlib.Path) -> bool:
-    """Whether a file is a database of SQLite with the number of our books. Raises OSError."""
-    with open(file, "rb") as source:
-        head = source.read(72)
-    return head.startswith(b"SQLite format 3\0") and head[68:72] == APPLICATION_ID.to_bytes(4, "big")
+def other_book(file: pathlib.Path) -> Fault:
+    words = f"it is another book of this election, with acts that {NAME} lacks; a sync tool may have left it"
+    return Fault(file, words, "find out which book is right, and move the other out of the folder")
+
+
+def file_at(path: pathlib.Path) -> tuple[int, int] | None:
+    """What tells the file at a path from each other one; None if there is none."""
+    try:
+        found = path.stat()
+    except OSError:
+        return None
+    return found.st_dev, found.st_ino
+
+
+def head_of(file: pathlib.Path) -> bytes:
+    """The first bytes of a file, by which a book is known. Raises OSError."""
+    return read_at_most(file, HEAD - 1)
+
+
+def has_our_id(head: bytes) -> bool:
+    """Whether a file that begins so is a database of SQLite with the number of our books."""
+    return head.startswith(SQLITE) and head[ID_AT] == APPLICATION_ID.to_bytes(4, "big")
 
 
 # ---------------------------------------------------------------- values

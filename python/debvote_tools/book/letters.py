@@ -19,9 +19,13 @@ class KeptLetter(NamedTuple):
     source: int
     # what a copy of it has in common with it
     identity: str
-    # what its bytes and the keyring alone decide, as JSON
+    # what its bytes, the keyring and the sealed poll alone decide, as JSON
     known: str
     state: str
+
+    @property
+    def is_undecided(self) -> bool:
+        return self.state in (WAITS, PUT_BACK, TAKEN_BACK)
 
 
 KEPT_LETTERS = """
@@ -47,7 +51,7 @@ def source_of(book: Book, source: int) -> bytes:
 
 def undecided(kept: list[KeptLetter]) -> list[KeptLetter]:
     """The letters that may wait, and their copies."""
-    identities = {letter.identity for letter in kept if letter.state in (WAITS, PUT_BACK, TAKEN_BACK)}
+    identities = {letter.identity for letter in kept if letter.is_undecided}
     return [letter for letter in kept if letter.identity in identities]
 
 

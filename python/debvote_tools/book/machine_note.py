@@ -1,8 +1,8 @@
 """What this machine noted of a book: the number and the digest of the last act that it made or saw.
 
 The note lies outside of the election's folder. So a copy of yesterday that is put back, a book that another machine went on with, and a
-book that somebody wrote anew are noticed. The note is written after the commit, and only forward: a kill leaves it at an earlier act of
-the same book, never at one that the book lacks.
+book that somebody wrote anew are noticed. The note gets its room on the disk before an act and its content after the commit, and goes
+only forward: a kill leaves it at an earlier act of the same book, never at one that the book lacks.
 """
 
 import contextlib
@@ -14,7 +14,22 @@ from collections.abc import Iterator
 from typing import NamedTuple
 
 from debvote_tools.faults import Fault, Status
-from debvote_tools.files import locked, write_whole
+from debvote_tools.files import locked, sync_folder
+
+MACHINE_ID = pathlib.Path("/etc/machine-id")
+MACHINE_DIGITS = 16
+
+# digits of the number of an act, and of its digest, for which a note has room
+NUMBER_DIGITS, DIGEST_DIGITS = 20, 64
+
+
+def machine_of(salt: bytes) -> str:
+    """This machine as the acts of a book name it, by the random bytes of its first act: two books do not show that they are of one."""
+    try:
+        machine_id = MACHINE_ID.read_bytes()
+    except OSError:
+        machine_id = b""
+    return hashlib.sha256(salt + machine_id).hexdigest()[:MACHINE_DIGITS]
 
 
 class Note(NamedTuple):
@@ -23,13 +38,17 @@ class Note(NamedTuple):
 
 
 class MachineNote:
-    """The note of the book at a path, whose first act has the digest `book_id`, where programs keep what has to outlast them."""
+    """The note of a machine, as the acts of a book name it, about the book at a path. It lies where programs keep what has to outlast
+    them.
+    """
 
-    def __init__(self, path: pathlib.Path, book_id: str) -> None:
+    def __init__(self, machine: str, path: pathlib.Path) -> None:
         base = os.environ.get("XDG_STATE_HOME", "")
         self.folder = (pathlib.Path(base) if os.path.isabs(base) else pathlib.Path.home() / ".local" / "state") / "debvote"
         self.path = str(path)
-        self.file = self.folder / hashlib.sha256(f"{path}\n{book_id}".encode()).hexdigest()[:40]
+        self.file = self.folder / hashlib.sha256(f"{machine}\n{path}".encode()).hexdigest()[:40]
+        # takes the place of the note
+        self.next = self.file.with_suffix(".next")
 
     def read(self) -> Note | None:
         """The act that this machine noted; None if it has never seen this book here."""
@@ -43,23 +62,40 @@ class MachineNote:
             words = f"this computer's note of the election can't be read ({error})"
             raise Fault(self.file, words, cure, Status.DOUBT, None) from None
 
-    def write(self, note: Note, *, is_moved: bool = False) -> None:
+    def make_ready(self) -> None:
+        """Makes room on the disk for the next note. Stops if there is none."""
+        with self.under_lock():
+            self.write_next(b"")
+
+    def put(self, note: Note, *, is_moved: bool = False) -> None:
         """Notes an act, unless a later one is noted."""
         with self.under_lock():
             before = None if is_moved else self.read()
             if before is None or before.act < note.act:
-                write_whole(self.file, json.dumps({"path": self.path, **note._asdict()}).encode(), 0o600)
+                self.write_next(self.as_bytes(note))
+                os.rename(self.next, self.file)
+                sync_folder(self.folder)
+
+    def write_next(self, content: bytes) -> None:
+        """Writes over what is to take the place of the note, in the room that the longest note takes."""
+        room = len(self.as_bytes(Note(0, ""))) + NUMBER_DIGITS + DIGEST_DIGITS
+        handle = os.open(self.next, os.O_WRONLY | os.O_CREAT | os.O_CLOEXEC, 0o600)
+        with open(handle, "wb") as target:
+            target.write(content.ljust(room))
+            target.flush()
+            os.fsync(handle)
+
+    def as_bytes(self, note: Note) -> bytes:
+        return json.dumps({"path": self.path, **note._asdict()}).encode()
 
     @contextlib.contextmanager
     def under_lock(self) -> Iterator[None]:
         """Keeps others from writing a note. Stops if no note could be written."""
         try:
             self.folder.mkdir(mode=0o700, parents=True, exist_ok=True)
-            if not os.access(self.folder, os.W_OK):
-                raise PermissionError(13, os.strerror(13))
             with locked(self.folder / "lock"):
                 yield
         except OSError as error:
             words = f"this computer must note there what it did last, but can't ({error.strerror})"
-            cure = "make the folder writable for you, or set XDG_STATE_HOME"
-            raise Fault(self.folder, words, cure, Status.BAD_OUTPUT, None) from None
+            cure = "make room there and the folder writable for you, or set XDG_STATE_HOME"
+            raise Fault(self.folder, words, cure, Status.BAD_OUTPUT) from None

@@ -196,9 +196,18 @@ def lines_after(book: Book, act: int, electors: Collection[int] | None = None, *
     condition = "late = 0 AND (struck.act IS NULL OR struck.act > ?1) AND envelope.act <= ?1 AND envelope.act <> ?2"
     if electors is None:
         return lines(book, condition, act, without)
+    return lines(book, f"{condition} AND {of_electors(electors)}", act, without, json.dumps(list(electors)))
+
+
+def of_electors(electors: Collection[int]) -> str:
+    """The condition that an envelope is of one of these electors, who are the last value, as JSON."""
     # with the sign SQLite uses no index: to look for the lines of each of many takes longer than to look at all lines
-    condition += f" AND {'+' if len(electors) > MOST_LOOKED_FOR else ''}elector IN (SELECT value FROM json_each(?3))"
-    return lines(book, condition, act, without, json.dumps(list(electors)))
+    return f"{'+' if len(electors) > MOST_LOOKED_FOR else ''}elector IN (SELECT value FROM json_each(?))"
+
+
+def envelopes_of(book: Book, electors: Collection[int]) -> list[Envelope]:
+    """The envelopes of some electors that are not struck, also those that are late."""
+    return envelopes(book, f"{NOT_STRUCK} AND {of_electors(electors)}", json.dumps(list(electors)))
 
 
 def lines_of_electors(book: Book, electors: Collection[int], *, without: int = 0) -> list[bytes]:

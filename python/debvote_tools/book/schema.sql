@@ -7,6 +7,7 @@ CREATE TABLE act (
   act INTEGER PRIMARY KEY,              -- its number, from 1
   time TEXT NOT NULL,
   name TEXT NOT NULL,
+  machine TEXT NOT NULL,                -- the computer that did it
   detail TEXT NOT NULL,                 -- JSON
   salt BLOB NOT NULL,                   -- 16 random bytes
   digest TEXT NOT NULL                  -- SHA-256 over the digest before and the rows of the act
@@ -49,7 +50,7 @@ CREATE TABLE letter (
   act INTEGER NOT NULL REFERENCES act DEFERRABLE INITIALLY DEFERRED,
   source INTEGER NOT NULL REFERENCES source,
   identity TEXT NOT NULL,               -- what a copy of it has in common with it
-  known TEXT NOT NULL                   -- JSON: what its bytes and the keyring alone decide
+  known TEXT NOT NULL                   -- JSON: what its bytes, the keyring and the sealed poll alone decide
 ) STRICT;
 
 CREATE TABLE letter_state (
@@ -85,6 +86,7 @@ CREATE TABLE sent (
   detail TEXT NOT NULL                  -- JSON: Message-ID, address, what it was about
 ) STRICT;
 
+CREATE INDEX elector_by_act ON elector (act);
 CREATE INDEX elector_state_by_act ON elector_state (act);
 CREATE INDEX envelope_by_act ON envelope (act);
 CREATE INDEX envelope_by_elector ON envelope (elector);

@@ -3,10 +3,11 @@
 import dataclasses
 import datetime
 import json
-from collections.abc import Iterable
+from collections.abc import Iterable, Iterator
 from typing import Any
 
 from debvote_tools.book.book import Book, NewAct, from_text
+from debvote_tools.book.queries import Elector, electors
 
 # it is written; the server may have it; the server has taken it; it takes it never, or not now
 WRITTEN, BEGUN, TAKEN, REFUSED, POSTPONED = "written", "begun", "taken", "refused", "postponed"
@@ -34,18 +35,38 @@ class SentLetter:
 
 def sent_letters(book: Book, kind: str | None = None, elector: int | None = None) -> list[SentLetter]:
     """The letters of a kind, if one is given, and to an elector, if one is given, in the order in which they were written."""
+    return list({key: letter for key, letter in states(book, kind, elector)}.values())
+
+
+def states(book: Book, kind: str | None = None, elector: int | None = None) -> Iterator[tuple[str, SentLetter]]:
+    """All states of these letters, in their order, each with what identifies the letter."""
     found: dict[str, SentLetter] = {}
     words = "SELECT * FROM sent WHERE kind = coalesce(?, kind) AND elector = coalesce(?, elector) ORDER BY sent"
     for row, _, number, its_kind, state, text in book.rows(words, kind, elector):
         detail = json.loads(text)
-        message_id = detail["message_id"]
+        key = detail["message_id"] or f"printed {row}"
         if state == WRITTEN:
             time, about = from_text(detail["time"]), tuple((what, number, is_struck) for what, number, is_struck in detail["about"])
-            letter = SentLetter(number, its_kind, detail["for_act"], detail["address"], message_id, time, about)
-            found[message_id or f"printed {row}"] = letter
+            found[key] = SentLetter(number, its_kind, detail["for_act"], detail["address"], detail["message_id"], time, about)
         else:
-            found[message_id] = dataclasses.replace(found[message_id], state=state, reply=detail.get("reply", ""))
-    return list(found.values())
+            found[key] = dataclasses.replace(found[key], state=state, reply=detail.get("reply", ""))
+        yield key, found[key]
+
+
+def refused(book: Book) -> list[tuple[Elector, SentLetter]]:
+    """The electors of whom a server refused a letter and has taken none since, each with the last such letter. Letters to addresses that
+    an elector had before count only if none to a present one was taken or refused.
+    """
+    if not book.rows("SELECT 1 FROM sent WHERE state = ? LIMIT 1", REFUSED):
+        return []
+    found = electors(book)
+    present = {elector.number: elector.addresses for elector in found}
+    last: dict[tuple[int, bool], SentLetter] = {}
+    for _, letter in states(book):
+        if letter.state in (TAKEN, REFUSED):
+            last[letter.elector, letter.address in present.get(letter.elector, ())] = letter
+    pairs = ((elector, last.get((elector.number, True)) or last.get((elector.number, False))) for elector in found)
+    return [(elector, letter) for elector, letter in pairs if letter is not None and letter.state == REFUSED]
 
 
 def note(act: NewAct, letters: Iterable[SentLetter]) -> None:

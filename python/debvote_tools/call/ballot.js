@@ -1,4 +1,5 @@
-// Makes the line of a ballot from the name and the ranks that are chosen on the page, and says it in words.
+// Makes the line of a ballot from the name and the ranks that are chosen on the page, and says it in words. In a secret vote the page
+// asks for no name, and the line has a gap in its place: whoever can change the page learns what is typed into it.
 // It counts nothing and asks nobody. All texts of the poll are read in the page, and written as texts, never as markup.
 "use strict";
 
@@ -7,8 +8,6 @@
   // mail programs break longer lines at their space
   const MAIL_LIMIT = 72;
   const UNRANKED = "-";
-  // what an elector has in a secret vote, and does not send; where codes are on the roll, it is the name on the ballot
-  const CODE = /^[0-9a-f]{32}$/;
   // how many names that are near a typed one are shown
   const NEAR_LIMIT = 5;
 
@@ -17,23 +16,18 @@
   // the sentences, in the language of the page, with their places in braces
   const words = JSON.parse(form.dataset.words);
   const sentence = (key, places = {}) => words[key].replace(/\{([a-z]+)\}/g, (all, place) => places[place]);
+  // not in a secret vote
   const nameInput = byId("name");
-  const isSecret = "secret" in form.dataset;
-  const hasCodes = "codes" in form.dataset;
   const selects = [...form.querySelectorAll("select")];
   // the names on the roll, and the real names beside them, where the page shows them
   const electors = [...document.querySelectorAll("#roll li")].map((item) => [...item.children].map((part) => part.textContent));
   const roll = electors.map(([name]) => name);
 
   // ---------------------------------------------------------------- the name
-  // A code without the gaps with which a slip shows it.
-  const withoutGaps = (text) => text.replace(/[\s-]/g, "");
-
   // What is put right in a name, and the sentence that says so.
   const repairs = [
     [(text) => text.trim(), sentence("spaces")],
     [(text) => text.replace(/[A-Z]/g, (letter) => letter.toLowerCase()), sentence("capitals")],
-    [(text) => (hasCodes && CODE.test(withoutGaps(text)) ? withoutGaps(text) : text), sentence("gaps")],
   ];
 
   // The name as it stands in the line, with the sentences on what was put right.
@@ -86,8 +80,6 @@
   // Why no elector can have this name, or nothing.
   function oddity(name) {
     if (name === "") return sentence("type_name");
-    if (isSecret && CODE.test(withoutGaps(name))) return sentence("code_typed");
-    if (hasCodes && !CODE.test(name)) return sentence("no_code");
     const odd = [...name].find((character) => !/[a-z0-9.-]/.test(character));
     if (odd !== undefined) return /\s/.test(odd) ? sentence("has_space") : sentence("has_sign", { sign: odd });
     if (name.length > NAME_LIMIT) return sentence("too_long", { number: name.length, most: NAME_LIMIT });
@@ -179,21 +171,27 @@
     if (letter !== null && line === "") letter.removeAttribute("href");
   }
 
-  function update() {
+  // The name for the line, and what has to be done before it is one.
+  function nameTyped() {
+    if (nameInput === null) return { name: form.dataset.name, missing: "" };
     const { name, notes } = repaired(nameInput.value);
     const fault = faultOf(name);
     const isTyped = nameInput.value !== "";
     say("name-said", isTyped ? [...notes, fault].filter(Boolean).join(" ") : "");
     nameInput.setAttribute("aria-invalid", String(isTyped && fault !== ""));
+    return { name, missing: fault && isTyped ? sentence("name_missing") : fault };
+  }
+
+  function update() {
+    const { name, missing } = nameTyped();
     const ranks = selects.map((select) => select.value);
     const isRanked = ranks.some((rank) => rank !== UNRANKED);
     byId("words").replaceChildren(...(isRanked ? [listOf(sentencesOf(groupsOf(ranks)))] : []));
     byId("meaning").hidden = !isRanked;
-    const nameMissing = fault && isTyped ? sentence("name_missing") : fault;
     const rankMissing = isRanked ? "" : sentence("rank_missing");
-    say("missing", [nameMissing, rankMissing].filter(Boolean).join(" "));
+    say("missing", [missing, rankMissing].filter(Boolean).join(" "));
     say("copied", "");
-    showLine(fault === "" && isRanked ? `${name} ${ranks.join(",")}` : "");
+    showLine(missing === "" && isRanked ? `${name} ${ranks.join(",")}` : "");
   }
 
   // ---------------------------------------------------------------- the copy
@@ -227,7 +225,7 @@
 
   if (roll.length > 0) offer();
   // a telephone begins a text with a capital letter
-  nameInput.autocapitalize = "none";
+  if (nameInput !== null) nameInput.autocapitalize = "none";
   form.addEventListener("input", update);
   byId("copy").addEventListener("click", copyLine);
   // a browser that comes back to the page may fill in what was chosen before

@@ -46,6 +46,8 @@ class CallData:
     has_aliases: bool = False
     # the roll has codes in place of names, so the poll is published with the result alone
     has_codes_on_roll: bool = False
+    # codes were given out with a call that was taken back
+    has_lapsed_codes: bool = False
 
     @property
     def is_open(self) -> bool:
@@ -92,6 +94,11 @@ class CallData:
     @property
     def example_in_words(self) -> str:
         return ranks_in_words(self.example, self.option_names, self.language)
+
+    @property
+    def name_gap(self) -> str:
+        """What the page of a secret vote has in place of the name, which an elector writes into the letter alone."""
+        return "CODE" if self.has_codes_on_roll else "NAME"
 
     @property
     def gaps(self) -> str:

@@ -12,11 +12,8 @@ SENTENCES = {
     "option": OPTION,
     "subject": SUBJECT,
     "type_name": marked("Type your name as it is on the roll."),
-    "code_typed": marked("This looks like a code. Type the name that is beside it, and send the code to nobody."),
     "spaces": marked("Spaces before or after the name are left out."),
     "capitals": marked("Capital letters of the name are made small."),
-    "gaps": marked("The gaps of the code are left out."),
-    "no_code": marked("A code has 32 digits, 0 to 9 and a to f. Type yours as it is on your slip."),
     "did_you_mean": marked("Did you mean {name}?"),
     "did_you_mean_one_of": marked("Did you mean {names} or {last}?"),
     "not_on_roll": marked("{name} is not on the roll of this poll; the names on the roll are below."),
@@ -39,10 +36,6 @@ SENTENCES = {
     "copied": marked("The line is copied."),
 }
 
-# in place of `type_name`, if the slip of an elector has the name or the code
-TYPE_NAME_IN_SECRET = marked("Type your name as it is on the slip with your code.")
-TYPE_CODE = marked("Type your code as it is on your slip.")
-
 
 def call_letter(call: CallData) -> str:
     return render_letter(PACKAGE, "call.txt", call.language, call=call)
@@ -54,11 +47,8 @@ def extension_letter(call: CallData) -> str:
 
 
 def call_page(call: CallData) -> bytes:
-    sentences = SENTENCES
-    if not call.is_open:
-        sentences = SENTENCES | {"type_name": TYPE_CODE if call.has_codes_on_roll else TYPE_NAME_IN_SECRET}
     style, script = resources(PACKAGE, "fields.css", "given.css", "ballot.css"), resources(PACKAGE, "ballot.js")
-    script_words = call.language.words(sentences)
+    script_words = call.language.words(SENTENCES)
     return render_page(PACKAGE, "page.html", call.language, style=style, script=script, call=call, script_words=script_words)
 
 

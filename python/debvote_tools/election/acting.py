@@ -1,10 +1,9 @@
-"""What commands ask of the book first: that this machine knows it, that it is whole, and that nobody writes another."""
+"""The ways to the book, beside `Election.book`, which is for reading: for an act, for what others rely on, and for what is checked."""
 
 from debvote_tools.arguments import Options, flag, option
 from debvote_tools.book.book import Book
-from debvote_tools.console import tell
 from debvote_tools.election.election import Election
-from debvote_tools.faults import Fault, Status
+from debvote_tools.faults import Fault, Status, stop_at
 from debvote_tools.terminal_text import LINE_ENDS, number_of, odd_sign
 
 # in characters; a reason is a sentence or some
@@ -20,36 +19,40 @@ class Arguments(Options):
 
 def book_for_act(election: Election, arguments: Arguments) -> Book:
     """The book for an act. Stops if it is not the one that this machine knows, and where an act would not be safe."""
-    book = election.book
-    if book.is_read_only:
-        cure = "make it writable for you, or copy the folder to where you can write"
-        raise Fault(election.folder, "the folder is not writable", cure, Status.BAD_OUTPUT)
-    book.demand_alone()
-    book.demand_locks()
-    if arguments.moved:
-        book.accept(demand_reason(arguments.because, "--moved"))
-    else:
-        book.demand_noted()
+    demand_writable(election)
+    return known_book(election, arguments)
+
+
+def book_for_count(election: Election, arguments: Arguments) -> Book:
+    """The book for what others rely on. Stops if it is not the one that this machine knows, and if anything in it is not as its acts wrote
+    it.
+    """
+    book = known_book(election, arguments)
+    book.demand_whole()
     return book
 
 
-def demand_whole(book: Book) -> None:
-    """Stops if the book is not as its acts wrote it."""
-    broken = book.broken_act()
-    if broken is not None:
-        words = f"act {broken} does not match its digest: somebody has changed the book with another program"
-        cure = "restore an earlier copy made by debvote-election backup, and find out who did it"
-        raise Fault(book.path, words, cure)
+def whole_book(election: Election) -> Book:
+    """The book for reading. Stops if anything in it is not as its acts wrote it."""
+    election.book.demand_whole()
+    return election.book
 
 
-def tell_strangeness(book: Book) -> None:
-    """Says why this may not be the book that this machine worked on last."""
-    try:
-        why = book.strangeness()
-    except Fault as fault:
-        why = str(fault.reason)
-    if why is not None:
-        tell(f"Note: {book.path}: {why}.")
+def demand_writable(election: Election) -> None:
+    if election.opened.is_read_only:
+        cure = "make it writable for you, or copy the folder to where you can write"
+        raise Fault(election.folder, "the folder is not writable", cure, Status.BAD_OUTPUT)
+
+
+def known_book(election: Election, arguments: Arguments) -> Book:
+    book = election.opened
+    stop_at(book.doubts(is_accepted=arguments.moved))
+    if arguments.moved:
+        demand_writable(election)
+        book.accept(demand_reason(arguments.because, "--moved"))
+    # from now on nothing has to be said of it
+    election.book = book
+    return book
 
 
 def has_reason(because: str | None) -> bool:

@@ -11,7 +11,7 @@ from collections.abc import Sequence
 from debvote_tools import arguments, console
 from debvote_tools.book.book import Overtaken
 from debvote_tools.election.election import Election
-from debvote_tools.faults import Fault, Several, Status
+from debvote_tools.faults import Fault, Several, Status, acts_in_words
 from debvote_tools.files import Written
 
 PROGRAM = "debvote-election"
@@ -63,28 +63,41 @@ def main(program_folder: pathlib.Path, words: Sequence[str] | None = None) -> in
     words = sys.argv[1:] if words is None else words
     namespace = parser(words).parse_args(words)
     signal.signal(signal.SIGINT, signal.default_int_handler)
+    folder = getattr(namespace, "folder", None)
+    election = Election(None if folder is None else pathlib.Path(folder), program_folder)
     try:
-        folder = getattr(namespace, "folder", None)
-        election = Election(None if folder is None else pathlib.Path(folder), program_folder)
-        return int(namespace.run(election, arguments.arguments_of(namespace.arguments, namespace)) or Status.DONE)
+        try:
+            return run(election, namespace)
+        except Overtaken:
+            raise Fault(None, "another command changed the election meanwhile", "run the command again") from None
     except console.OutputFailed as fault:
         # a command that changes nothing ends quietly if nobody reads on
         is_quiet = fault.is_closed_pipe and namespace.command in QUIET
         return 128 + signal.SIGPIPE if is_quiet else console.failed(PROGRAM, fault.words, fault.status)
     except Fault as fault:
         for one in fault.faults if isinstance(fault, Several) else (fault,):
-            console.failed(PROGRAM, one.words, one.status)
+            console.failed(PROGRAM, one.after(election.own_acts).words, one.status)
         return fault.status
-    except Overtaken:
-        words = "another command changed the election meanwhile, and this one changed nothing; run it again"
-        return console.failed(PROGRAM, words, Status.DOUBT)
     except KeyboardInterrupt:
-        return console.failed(PROGRAM, "interrupted; what the command has reported is done, and nothing else", 128 + signal.SIGINT)
+        done = acts_in_words(election.own_acts) if election.own_acts else "what the command has reported is done"
+        return console.failed(PROGRAM, f"interrupted; {done}, and nothing else", 128 + signal.SIGINT)
     except OSError as error:
+        done = f"{acts_in_words(election.own_acts)}; " if election.own_acts else ""
         # a file that can't be read or written is named, but for standard input
         if error.filename is None:
-            words = f"{error.strerror}; what the command has reported is done: see debvote-election status"
+            words = f"{error.strerror}; {done}what the command has reported is done: see debvote-election status"
             return console.failed(PROGRAM, words, Status.BAD_OUTPUT)
         state = "it was written, but may not be on the disk yet" if isinstance(error, Written) else "it was not changed"
-        words = f"{error.filename}: {error.strerror}; {state}; put this right, then run the command again"
+        words = f"{error.filename}: {error.strerror}; {state}; {done}put this right, then run the command again"
         return console.failed(PROGRAM, words, Status.BAD_OUTPUT)
+
+
+def run(election: Election, namespace: argparse.Namespace) -> int:
+    """Runs a command. What it can't work with is the fault of the book if that is damaged."""
+    try:
+        return int(namespace.run(election, arguments.arguments_of(namespace.arguments, namespace)) or Status.DONE)
+    except (Fault, Overtaken, OSError):
+        raise
+    except Exception:
+        election.demand_undamaged()
+        raise

@@ -112,6 +112,6 @@ def decoded(data: bytes, file: object, bad_table: BadTable) -> str:
     except UnicodeDecodeError as error:
         if is_utf_16:
             raise bad_table(file, "it begins as text in UTF-16, but the rest is not", SAVE_AS) from None
-        ends = len(re.findall(rb"\r\n?|\n", error.object[: error.start]))
-        seen = shown_text(re.split(rb"\r\n?|\n", error.object)[ends].decode("cp1252", "replace"))
-        raise bad_table(f"{file}:{ends + 1}", f"it is not in UTF-8, but perhaps in Latin-1: {seen}", SAVE_AS) from None
+        lines, before = (re.split(rb"\r\n?|\n", part) for part in (error.object, error.object[: error.start]))
+        seen = shown_text(lines[len(before) - 1].decode("cp1252", "replace"))
+        raise bad_table(f"{file}:{len(before)}", f"it is not in UTF-8, but perhaps in Latin-1: {seen}", SAVE_AS) from None

@@ -1,7 +1,7 @@
 """The poll as the secretary writes it, `poll.toml` and a text for each option in `texts`, and the sealed poll that it becomes."""
 
 import dataclasses
-import difflib
+import json
 import math
 import pathlib
 import re
@@ -43,15 +43,12 @@ SET_ELSEWHERE = {
     "shown_options": "write `options` and `default` in any language",
     "explanations": "write the text of option 1 into texts/1.txt, and so on",
 }
-DRAFT_KEYS = tuple(key for key in KEYS if key not in SET_ELSEWHERE)
 
 # how `debvote explain` begins a line if it has read the poll as TOML
 IS_TOML = re.compile(r"(?m)^poll(?:: | ok)")
 
-RANK = "(?:-|[1-9][0-9]?)"
 # how accents may be taken off a name in a letter, and how long a real name may be, in characters
 FOLDINGS, LONGEST_REAL_NAME = ("en", "de"), 200
-BRACKETS = "([{<"
 
 
 @dataclasses.dataclass(frozen=True)
@@ -83,15 +80,9 @@ def draft_in(folder: pathlib.Path) -> DraftPoll:
 
 def parsed_toml(data: bytes, file: pathlib.Path) -> dict[str, Any]:
     try:
-        return tomllib.loads(data.removeprefix(b"\xef\xbb\xbf").decode("utf-8"))
-    except UnicodeDecodeError as error:
-        line = error.object.count(b"\n", 0, error.start) + 1
-        why = f"line {line} is not in UTF-8"
-    except RecursionError:
-        why = "lists are nested too deep"
-    except ValueError as error:
-        why = str(error)
-    raise bad_poll(file, f"it can't be read as TOML 1.0: {why}", "put it right with an editor")
+        return tomllib.loads(data.decode("utf-8-sig"))
+    except (ValueError, RecursionError) as error:
+        raise bad_poll(file, f"it can't be read as TOML 1.0: {error}", "put it right with an editor") from None
 
 
 def bad_poll(file: object, reason: str, cure: str) -> Fault:
@@ -100,23 +91,16 @@ def bad_poll(file: object, reason: str, cure: str) -> Fault:
 
 def faults_of_keys(values: Mapping[str, Any], file: object) -> list[Fault]:
     """Keys that are not the secretary's, and values that can't be written in plain form, so that debvote could not name them."""
-    faults = [bad_poll(file, *stranger(key, value)) for key, value in values.items() if key not in DRAFT_KEYS]
-    for key in DRAFT_KEYS:
-        if key in values and not has_plain_form(values[key]):
-            faults.append(bad_poll(file, f"`{key}` has a value of a wrong kind", "write a text, a whole number or a list of these"))
+    faults = []
+    for key, value in values.items():
+        if key in SET_ELSEWHERE:
+            faults.append(bad_poll(file, f"the key `{key}` is not written here: {SET_ELSEWHERE[key]}", "take it out"))
+        elif not has_plain_form(value):
+            cure = "write a text, a whole number or a list of these, or take it out"
+            faults.append(bad_poll(file, f"`{shown_text(key)}` has a value of a wrong kind", cure))
     if not isinstance(values.get("secret", False), bool):
         faults.append(bad_poll(file, "`secret` is neither true nor false", "write secret = true, or take the line out"))
     return faults
-
-
-def stranger(key: str, value: object) -> tuple[str, str]:
-    shown = shown_text(key)
-    if key in SET_ELSEWHERE:
-        return f"the key `{shown}` is not written here: {SET_ELSEWHERE[key]}", "take it out"
-    if any(isinstance(entry, dict) for entry in (value if isinstance(value, list) else [value])):
-        return f"it has a table `{shown}`, which no poll has", "take out the line that begins with [ or has braces"
-    near = difflib.get_close_matches(key, DRAFT_KEYS, 1)
-    return f"a poll has no key `{shown}`" + (f" (did you mean `{near[0]}`?)" if near else ""), "put it right, or take it out"
 
 
 def has_plain_form(value: object) -> bool:
@@ -175,22 +159,21 @@ def faults_when_sealed(draft: DraftPoll, names: Collection[str], language: str) 
 
 def ballots_in(text: str, names: Collection[str], option_count: int) -> list[str]:
     """One of these names with a rank for each option, after the repairs of a line, and wherever a line of the text is broken at a blank."""
-    ranks = re.compile(rf"(?<![^\s:])(?:{RANK} ?, ?){{{option_count - 1}}}{RANK}(?![0-9])")
+    rank = "(?:-|[1-9][0-9]?)"
+    ranks = re.compile(rf"(?<![^\s:])(?:{rank} ?, ?){{{option_count - 1}}}{rank}(?![0-9])")
     most_words = max((name.count(" ") + 1 for name in names), default=0)
     found: dict[str, None] = {}
     for repaired in {as_repaired(text, folding): None for folding in FOLDINGS}:
         for match in ranks.finditer(repaired):
             words = repaired[max(0, match.start() - LONGEST_REAL_NAME) : match.start()].rstrip(": ").split(" ")
-            before = [" ".join(words[-count:]) for count in range(1, most_words + 1)]
-            for name in (*before, *(words.lstrip(BRACKETS) for words in before)):
-                if name in names:
-                    found[f"{name} {match[0]}"] = None
+            before = (" ".join(words[-count:]) for count in range(1, most_words + 1))
+            found |= {f"{name} {match[0]}": None for name in before if name in names}
     return list(found)
 
 
 def as_repaired(text: str, language: str) -> str:
-    """A text on one line, in small letters without accents, and with what repairs take out or replace."""
-    plain = re.sub(r"[\"'*`]", "", without_accents(text, language)).lower().replace(";", ",")
+    """A text on one line, in small letters without accents and brackets, and with what repairs take out or replace."""
+    plain = re.sub(r"[\"'*`(\[{<]", "", without_accents(text, language)).lower().replace(";", ",")
     return " ".join(plain.split())
 
 
@@ -200,12 +183,7 @@ def sealed_form(
     """The poll in plain form as it would be sealed, for debvote to say what is wrong with it: what is missing stays missing."""
     names, plain_names, title = draft.names, plain_options(draft.names, language), plain_title(draft.title, language)
     texts = [draft.texts.get(number, "") for number in range(1, len(names))]
-    made = {key: value for key, value in draft.values.items() if key in DRAFT_KEYS and has_plain_form(value)}
-    # a value of another type stays
-    made |= {key: name for key, name in {"title": title, "default": plain_names[-1]}.items() if isinstance(made.get(key), str)}
-    if isinstance(made.get("options"), list):
-        made["options"] = [name if isinstance(value, str) else value for name, value in zip(plain_names, made["options"])]
-    further = {
+    further: dict[str, Any] = {
         "deadline": deadline,
         "address": address,
         "secret": draft.values.get("secret") is True,
@@ -213,8 +191,15 @@ def sealed_form(
         "shown_options": tuple(names) if names != plain_names else (),
         "explanations": tuple(texts) if any(texts) else (),
     }
-    made |= further | {"roll": list(roll)}
-    return plain_form({key: made[key] for key in KEYS if key in made and (key not in further or is_set(made[key]))})
+    made = {key: value for key, value in draft.values.items() if key not in {**SET_ELSEWHERE, **further} and has_plain_form(value)}
+    # a value of another type stays
+    made |= {key: name for key, name in {"title": title, "default": plain_names[-1]}.items() if isinstance(made.get(key), str)}
+    if isinstance(made.get("options"), list):
+        made["options"] = [name if isinstance(value, str) else value for name, value in zip(plain_names, made["options"])]
+    made |= {key: value for key, value in further.items() if is_set(value)} | {"roll": list(roll)}
+    # and so does a key that no poll has
+    others = {json.dumps(key): made[key] for key in made if key not in KEYS}
+    return plain_form({key: made[key] for key in KEYS if key in made} | others)
 
 
 # ---------------------------------------------------------------- asking debvote
@@ -231,8 +216,7 @@ def checked_poll(election: Election, *, deadline: str | None = None, address: st
         raise bad_poll(election.path(POLL_FILE), "it can't be read as TOML, as said above", "put it right with an editor") from None
     electors, language = queries.electors(election.book), election.language.code
     roll = [elector.name for elector in electors]
-    people = [*roll, *(elector.who for elector in electors if elector.who)]
-    faults = [*draft.faults, *faults_when_sealed(draft, people, language)]
+    faults = [*draft.faults, *faults_when_sealed(draft, [*roll, *(elector.who for elector in electors)], language)]
     if not roll:
         faults.append(Fault(None, "there are no electors yet", f"run {election.command('roll')} first", done=None))
     data = sealed_form(draft, roll or ["nobody"], language, deadline=deadline, address=address)
@@ -246,8 +230,7 @@ def faults_by_debvote(election: Election, poll_bytes: bytes) -> list[Fault]:
         words = answer.faults.strip().removeprefix("debvote: ") or f"debvote ended with status {answer.status}"
         return [Fault(file, words, f"run {election.command('check')} again", answer.status, None)]
     findings = [line.removeprefix("poll: ") for line in answer.text.splitlines() if line.startswith("poll: ")]
-    cure = f"put it right with an editor, then run {election.command('check')}"
-    return [Fault(file, finding, cure, Status.BAD_POLL, None) for finding in findings]
+    return [bad_poll(file, finding, "put it right with an editor") for finding in findings]
 
 
 def lacks_codes(election: Election, history: History, poll: SealedPoll) -> bool:
@@ -256,8 +239,8 @@ def lacks_codes(election: Election, history: History, poll: SealedPoll) -> bool:
 
 def tell_poll(poll: SealedPoll, sheet: Sheet) -> None:
     tell(f"Title: {poll.name}", *([f"  plain: {poll.title}"] if poll.name != poll.title else []), "Options:")
-    texts = poll.explanations or [""] * len(poll.options)
-    for number, (name, plain, text) in enumerate(zip(poll.names, poll.plain_names, [*texts, ""]), start=1):
+    texts = (*poll.explanations, *[""] * len(poll.names))
+    for number, (name, plain, text) in enumerate(zip(poll.names, poll.plain_names, texts), start=1):
         kind = f"majority ratio {sheet.ratios[number]}" if number in sheet.ratios else "the default option"
         tell(f"{number:3}  {name} ({kind})")
         if name != plain:

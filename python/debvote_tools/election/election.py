@@ -1,5 +1,6 @@
 """An election in its folder: the book, what its acts say of the election as a whole, and debvote."""
 
+import contextlib
 import dataclasses
 import datetime
 import enum
@@ -12,7 +13,8 @@ from typing import Any, NamedTuple
 
 from debvote_tools.book import queries
 from debvote_tools.book.acts import ActName
-from debvote_tools.book.book import NAME, Book, DoneAct, from_text, open_book
+from debvote_tools.book.book import NAME, Book, DoneAct, damaged, from_text, open_book
+from debvote_tools.console import tell_aside
 from debvote_tools.debvote import Debvote
 from debvote_tools.faults import Fault, Status
 from debvote_tools.language import Language, language_of
@@ -20,6 +22,9 @@ from debvote_tools.sealed_poll import SealedPoll, read_plain
 
 POLL_FILE, MEMBERS_FILE, TEXTS = "poll.toml", "members.csv", "texts"
 CALL, LETTERS, RESULT, PRIVATE = "call", "letters", "result", "private"
+
+# the letter of the result for all, in the folder of letters
+RESULT_LETTER = "result.txt"
 
 # the names under which the book has the sealed polls, that of the call, and in a secret vote the one that has names; and the keys of
 # those whose letters have to be signed
@@ -72,7 +77,13 @@ class History:
 
     @property
     def has_codes_on_roll(self) -> bool:
-        return any(act.detail.get("on_roll") for act in self.named("codes"))
+        acts = self.named("codes", "take back")
+        return bool(acts and acts[-1].detail.get("on_roll"))
+
+    @property
+    def has_lapsed_codes(self) -> bool:
+        """Whether codes were given out with a call that was taken back."""
+        return any(act.detail.get("codes") for act in self.named("take back"))
 
     @property
     def until(self) -> datetime.datetime | None:
@@ -138,12 +149,31 @@ class Election:
         return Debvote(self.folder, self.program_folder)
 
     @functools.cached_property
-    def book(self) -> Book:
+    def opened(self) -> Book:
+        """The book, of which nothing is said yet: commands use `book`, or one of the ways of `acting`."""
         if not self.path(NAME).is_file():
             raise no_book(self.folder)
         book = open_book(self.path(NAME))
         book.note_seen()
         return book
+
+    @functools.cached_property
+    def book(self) -> Book:
+        """The book for reading. It says on standard error why this may not be the book that this machine worked on last."""
+        tell_aside(*(f"Note: {doubt.file}: {doubt.reason}." for doubt in self.opened.doubts()))
+        return self.opened
+
+    @property
+    def own_acts(self) -> list[str]:
+        """The acts that this command has done, in words."""
+        return self.opened.own_acts if "opened" in vars(self) else []
+
+    def demand_undamaged(self) -> None:
+        """Stops if the book is damaged. It is opened anew: whoever asks can't work with what was read from it."""
+        if self.path(NAME).is_file():
+            book = open_book(self.path(NAME))
+            with contextlib.closing(book.connection):
+                book.demand_whole()
 
     @functools.cached_property
     def language(self) -> Language:
@@ -157,7 +187,10 @@ class Election:
         call = self.called(self.history())
         public = queries.sealed(self.book, POLL, call.number) or b""
         counted = queries.sealed(self.book, POLL_WITH_NAMES, call.number) or public
-        return Sealed(read_plain(public), read_plain(counted))
+        try:
+            return Sealed(read_plain(public), read_plain(counted))
+        except Fault:
+            raise damaged(self.path(NAME), "its sealed poll is not in plain form") from None
 
     def demand_private(self, target: pathlib.Path) -> None:
         """Stops if what is written there would be in a folder for electors or the web site."""

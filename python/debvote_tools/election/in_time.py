@@ -1,7 +1,6 @@
 """Whether what is entered now comes in time: whether the vote is open, until when, and what is asked after it was opened again."""
 
 import datetime
-import re
 
 from debvote_tools.arguments import option
 from debvote_tools.console import is_terminal, is_yes
@@ -9,14 +8,9 @@ from debvote_tools.election import acting
 from debvote_tools.election.election import Election, History
 from debvote_tools.election.reporting import act_time
 from debvote_tools.faults import Fault, Status
-from debvote_tools.times import minute_in_words, now, offset_in_words, time_in_words
+from debvote_tools.times import minute_in_words, now, time_in_words
 
 CAME_BEFORE_CLOSE = "--came-before-close"
-
-# what --until takes: a date, a time of day, and an offset if the zone is not given otherwise
-OFFSET = re.compile(r"Z|UTC|[+-]\d\d:?\d\d", re.ASCII)
-TIME = re.compile(rf"(\d{{4}}-\d\d-\d\d)[ T]+(\d\d:\d\d(?::\d\d)?)\s*({OFFSET.pattern})?", re.ASCII)
-HOW = 'write it as "2026-12-04 18:00", as "2026-12-04 18:00 +01:00", or with --zone Europe/Berlin'
 
 
 class Arguments(acting.Arguments):
@@ -57,26 +51,26 @@ def came_before_close(history: History, answer: str | None, not_done: str) -> bo
 
 
 def parse_until(text: str, zone: str | None, earlier_zone: str | None = None) -> tuple[datetime.datetime, str | None]:
-    """The time that `--until` names, and its zone as it was typed: its own offset, `--zone`, or the zone of the end before; None if it is
-    that of this computer.
+    """The time that `--until` names, and its zone: its own offset, `--zone`, or the zone of the end before; None if it is that of this
+    computer.
     """
-    parts = TIME.fullmatch(text.strip())
-    if parts is None:
-        raise bad_until("it is not a time", HOW)
-    date, clock, offset = parts.groups()
-    if offset is not None and zone is not None:
-        raise Fault("--zone", "the time has an offset already", "leave out one of the two", Status.BAD_WORDS)
-    named = next((place for place in (offset, zone, earlier_zone) if place is not None), None)
+    text, named = text.strip(), earlier_zone if zone is None else zone
     try:
-        plain = datetime.datetime.fromisoformat(f"{date} {clock}")
-        if zone is None and named is not None and OFFSET.fullmatch(named):
-            return (
-                plain.replace(tzinfo=datetime.UTC if named in ("Z", "UTC") else datetime.datetime.strptime(named, "%z").tzinfo),
-                named,
-            )
-        return in_zone(plain, named), named
+        time = datetime.datetime.fromisoformat(text)
+        if time.tzinfo is None and zone is None and named is not None and named[0] in "+-":
+            time = datetime.datetime.fromisoformat(text + named)
+        # a date alone is midnight to Python
+        if len(text) <= len("2026-12-04") or (time.utcoffset() or datetime.timedelta()) % datetime.timedelta(minutes=1):
+            raise ValueError
+        if time.tzinfo is None:
+            return in_zone(time, named), named
     except (ValueError, OverflowError):
-        raise bad_until("there is no such day or time of day (a day goes from 00:00 to 23:59)", HOW) from None
+        cure = 'write it as "2026-12-04 18:00", as "2026-12-04 18:00+01:00" or in another form of ISO 8601, or with --zone Europe/Berlin'
+        raise bad_until("it is not a date with a time of day, or there is no such day or time", cure) from None
+    if zone is not None:
+        raise Fault("--zone", "the time has an offset already", "leave out one of the two", Status.BAD_WORDS)
+    time = time.replace(microsecond=0)
+    return time, time.isoformat()[len("2026-12-04T18:00:00") :]
 
 
 def demand_future(time: datetime.datetime, by: datetime.datetime) -> None:
@@ -98,13 +92,11 @@ def in_zone(plain: datetime.datetime, name: str | None) -> datetime.datetime:
         raise Fault("--zone", "this computer knows no time zone of this name", cure, Status.BAD_WORDS) from None
     folded = [plain.replace(fold=fold) for fold in (0, 1)]
     first, second = (time.astimezone() if zone is None else time.replace(tzinfo=zone) for time in folded)
-    is_shown = any(time.astimezone(datetime.UTC).astimezone(zone).replace(tzinfo=None) == plain for time in (first, second))
     where = "where this computer is" if name is None else f"in {name}"
-    if not is_shown:
+    if not any(time.astimezone(datetime.UTC).astimezone(zone).replace(tzinfo=None) == plain for time in (first, second)):
         raise bad_until(f"{where} there is no such time: the clocks that are put forward on that day skip it", "write another time")
     if first.utcoffset() != second.utcoffset():
-        offsets = [offset_in_words(time).removeprefix("UTC") or "UTC" for time in (first, second)]
-        both = " or ".join(f'"{plain:%Y-%m-%d %H:%M} {offset}"' for offset in offsets)
+        both = " or ".join(f'"{time.isoformat(" ", "minutes")}"' for time in (first, second))
         raise bad_until(f"{where} this time comes twice, since clocks are put back on that day", f"write {both}")
     # a fixed offset in place of the zone: what is written down says the same on each computer
     return datetime.datetime.fromisoformat(first.isoformat(timespec="seconds"))

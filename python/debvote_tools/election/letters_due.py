@@ -19,10 +19,9 @@ from debvote_tools.letters.judge import JudgedLetter, Outcome
 from debvote_tools.letters_out.compose import Became, Came, Composer, Kind
 from debvote_tools.letters_out.message import new_message_id
 from debvote_tools.lines import ballot_file
-from debvote_tools.publish.done import told_acts
-from debvote_tools.publish.doubts import Doubt, sentences_of
+from debvote_tools.publish.doubts import Doubt
 from debvote_tools.publish.inputs import Publication
-from debvote_tools.publish.result_letter import outcome_in_words, told_if_it_decides
+from debvote_tools.publish.result_letter import letter_values
 from debvote_tools.secret.words import BY_PYTHON
 from debvote_tools.sheet import sheet_in
 from debvote_tools.times import now
@@ -43,7 +42,7 @@ class LettersDue:
         election.called(self.history)
         if self.history.has_codes_on_roll:
             words = "codes are on the roll, and nobody knows whose they are, so no letters can be written to electors"
-            cure = "with your mail program send call/call.txt, letters/closed.txt and result/letter.txt to all"
+            cure = "with your mail program send call/call.txt, letters/closed.txt and letters/result.txt to all"
             raise Fault("letters", words, cure, Status.DOUBT, "nothing was written")
         is_past = self.history.until is not None and self.time > self.history.until
         self.composer = Composer(current_data(election, self.history), is_over=is_past or bool(self.history.closes))
@@ -182,15 +181,17 @@ class LettersDue:
         sheet = sheet_in(self.election.debvote.answer("count", poll, ballots, *casting_words(words.casting)).text)
         standing = self.election.debvote.standing(poll, ballots)
         chronicle = chronicle_of(self.election.book, History(self.history.acts[: act.number]), is_secret=sealed.is_aliased)
-        publication = Publication(sealed.public, b"", language=language, casting=words.vote, chronicle=chronicle)
-        values: dict[str, object] = {
-            "ended": outcome_in_words(publication, sheet),
-            "casting": told_if_it_decides(publication, sheet),
-            "checksums": act.detail["checksums"],
-            "doubts": sentences_of(map(Doubt.from_data, act.detail["doubts"]), language, is_secret=sealed.is_aliased),
-            "because": words.because,
-            "acts": told_acts(publication, language),
-        }
+        publication = Publication(
+            sealed.public,
+            b"",
+            language,
+            casting=words.vote,
+            chronicle=chronicle,
+            closed=b"",
+            because=words.because,
+            at=self.composer.call.at,
+        )
+        values = letter_values(publication, sheet, map(Doubt.from_data, act.detail["doubts"]), act.detail["checksums"])
         return self.to_each(
             act.number,
             lambda elector, _: self.composer.text(self.kind, elector, has_ballot=elector.name in standing, **values),

@@ -14,7 +14,7 @@ from debvote_tools.book.book import NewAct, Overtaken
 from debvote_tools.book.letters import KeptLetter
 from debvote_tools.book.queries import NewEnvelope
 from debvote_tools.console import is_terminal, is_yes, tell
-from debvote_tools.election import acting, letter_words
+from debvote_tools.election import letter_words
 from debvote_tools.election.adding import Arguments
 from debvote_tools.election.came import NOTHING_ADDED, CameFile, safe
 from debvote_tools.election.election import KEYRING, Election, History
@@ -23,15 +23,13 @@ from debvote_tools.election.reporting import count_of
 from debvote_tools.election.vote import Vote
 from debvote_tools.faults import Fault, Status
 from debvote_tools.files import sha256_of
-from debvote_tools.letters.circumstances import Ballot, Circumstances, Decision
+from debvote_tools.letters.circumstances import Ballot, Circumstances, Decision, Names
 from debvote_tools.letters.judge import JudgedLetter, Outcome, judge_all
 from debvote_tools.letters.parse import ParsedLetter, as_json, from_json, parse
-from debvote_tools.letters.readings import BallotLine
+from debvote_tools.letters.readings import BallotLine, answers_in, read_all
 from debvote_tools.letters.reasons import Reason
 from debvote_tools.letters.signatures import find_gpgv, verified
 from debvote_tools.letters.sources import PassedOver, RawLetter, letters_of_file, letters_of_folder
-from debvote_tools.lines import CODE_WITHIN
-from debvote_tools.secret.codes import looks_like_code
 from debvote_tools.terminal_text import shown_text
 
 SLOW = Reason.SLOW_SIGNATURE()
@@ -43,12 +41,10 @@ def take_letters(election: Election, vote: Vote, files: Mapping[str, CameFile | 
         words = "only for lines and tables, and these are letters"
         raise Fault(", ".join(of_lines), words, "leave this out", Status.BAD_WORDS, NOTHING_ADDED)
     raws, passed_over = read(files)
-    if not arguments.look:
-        acting.book_for_act(election, arguments)
     new = new_of(election, raws)
-    found = parsed(election, new)
+    found = parsed(election, vote, new)
     if not arguments.look:
-        keep(election, new, found)
+        keep(election, vote, new, found)
     tell(*(f"{shown_text(one.where)}: {one.why.what}, and was passed over; {one.why.cure}" for one in passed_over))
     if not arguments.look:
         tell(f"{count_of(len(new), 'new letter')}; {len(raws) - len(new)} came before.")
@@ -93,10 +89,13 @@ def is_new(digest: str, is_parted_off: bool, known: Collection[tuple[str, bool]]
     return (digest, False) not in known and not (is_parted_off and (digest, True) in known)
 
 
-def keep(election: Election, raws: Sequence[RawLetter], found: Sequence[ParsedLetter]) -> None:
+def keep(election: Election, vote: Vote, raws: Sequence[RawLetter], found: Sequence[ParsedLetter]) -> None:
     if not raws:
         return
     with election.book.act("letters", {"letters": len(raws)}) as act:
+        # their lines were read by the poll of this call
+        if election.history().call != vote.call:
+            raise Fault(None, "the call for votes was made anew meanwhile", "run the command again", done=NOTHING_ADDED)
         known = letters.known_digests(election.book)
         for raw, letter in zip(raws, found):
             # another command may have kept it meanwhile
@@ -134,10 +133,10 @@ def enter_letters(election: Election, vote: Vote, *, is_agreed: bool) -> None:
                 tell(*letter_words.reply_words(vote, done, ballots))
                 tell(letter_words.counts(all_letters, len(going_in)))
             break
-    undo = f"{election.command('undo')} takes back what was entered last"
+    undo = "" if history.is_closed else f"; {election.command('undo')} takes back what was entered last"
     waiting = f"{election.command('held')}, which lists the letters that wait"
     is_waiting = any(letter.outcome is Outcome.WAITS for letter in all_letters)
-    tell(f"Next: {waiting if is_waiting else election.command('status')}; {undo}")
+    tell(f"Next: {waiting if is_waiting else election.command('status')}{undo}")
 
 
 def agreed(ballots: str) -> bool:
@@ -157,11 +156,21 @@ def tell_letters(vote: Vote, found: Sequence[JudgedLetter], *, is_late: bool) ->
 
 
 # ---------------------------------------------------------------- how they are judged
-def parsed(election: Election, raws: Sequence[RawLetter]) -> list[ParsedLetter]:
-    """What letters say, with their signatures if letters have to be signed."""
-    found = [parse(raw) for raw in raws]
-    keyring = keyring_of(election)
-    return found if keyring is None or not found else verified(raws, found, keyring, find_gpgv())
+def parsed(
+    election: Election, vote: Vote, raws: Sequence[RawLetter], known: Mapping[str, str | None] | None = None
+) -> list[ParsedLetter]:
+    """What letters say, with their signatures if letters have to be signed. Debvote is asked about lines of which it is not `known` yet
+    what it says.
+    """
+    found, keyring = [parse(raw) for raw in raws], keyring_of(election)
+    if keyring is not None and found:
+        found = verified(raws, found, keyring, find_gpgv())
+    return read_all(found, names_of(election), vote, known) if found else []
+
+
+def names_of(election: Election) -> Names:
+    real_names = {elector.name: elector.who for elector in queries.electors(election.book)}
+    return Names(frozenset(election.sealed().counted.roll), election.language.code, real_names)
 
 
 def keyring_of(election: Election) -> bytes | None:
@@ -173,63 +182,88 @@ def judged(
     election: Election, history: History, kept: Sequence[KeptLetter], looked_at: Sequence[ParsedLetter] = ()
 ) -> list[JudgedLetter]:
     """Letters that came, as they are judged now, in the order of their times; and others that are only looked at."""
-    found = kept_letters(election, kept)
-    by_key = {letter.key: kept_letter for letter, kept_letter in zip(found, kept)}
     if not kept and not looked_at:
         return []
     vote = Vote(election, history)
-    circumstances = circumstances_of(election, history, by_key)
+    found = kept_letters(election, vote, kept)
+    by_key = {letter.key: kept_letter for letter, kept_letter in zip(found, kept)}
+    all_letters = [*found, *looked_at]
+
+    def ballots_of(names: Collection[str]) -> dict[str, list[Ballot]]:
+        return ballots_in(election, vote, names, all_letters)
+
+    letters_now = judge_all(all_letters, circumstances_of(election, history, by_key), ballots_of)
     no_codes_expected = election.sealed().counted.secret and not vote.has_codes
-    letters_now = judge_all([*found, *looked_at], circumstances, vote)
     for letter in letters_now:
         if letter.parsed.key in by_key:
             letter.number, letter.source = by_key[letter.parsed.key].number, by_key[letter.parsed.key].source
         if no_codes_expected:
-            letter.code_lines = tuple(number for number, line in enumerate(letter.parsed.shown_lines, start=1) if has_code(line))
+            letter.code_lines = letter.parsed.readings.code_lines
     return letters_now
 
 
-def has_code(line: str) -> bool:
-    """Whether a line has what looks like a code or an alias."""
-    return looks_like_code(line) or CODE_WITHIN.search(line.lower().encode("utf-8", "replace")) is not None
-
-
-def kept_letters(election: Election, kept: Sequence[KeptLetter]) -> list[ParsedLetter]:
-    """What is known of the letters. Signatures are checked anew for letters that came before the present keyring, and for letters
-    for which gpgv was too slow, since their bytes do not decide that.
+def kept_letters(election: Election, vote: Vote, kept: Sequence[KeptLetter]) -> list[ParsedLetter]:
+    """What is known of the letters. Signatures are checked anew of letters that came before the present keyring, and of those for which gpgv
+    was too slow, since their bytes do not decide that: while a letter waits; and while a signed one does, of those that had no good
+    signature when an act decided of them. Only then a copy is known as one.
     """
     found = [from_json(letter.known) for letter in kept]
     sealed = queries.last_act_that_sealed(election.book, KEYRING)
-    old = [index for index, letter in enumerate(kept) if letter.act < sealed or found[index].why_unsigned == SLOW]
-    sources = {index: letters.source_of(election.book, kept[index].source) for index in old}
-    raws = [RawLetter(found[index].where, data, found[index].is_parted_off) for index, data in sources.items()]
-    for index, letter in zip(old, parsed(election, raws)):
-        found[index] = letter
+    old = [
+        index
+        for index, letter in enumerate(kept)
+        if (letter.act < sealed and not found[index].is_never_signed) or found[index].why_unsigned == SLOW
+    ]
+    check_again(election, vote, kept, found, [index for index in old if kept[index].is_undecided])
+    if any(letter.signature is not None and one.is_undecided for letter, one in zip(found, kept)):
+        unsigned = [index for index in old if found[index].signature is None and not kept[index].is_undecided]
+        check_again(election, vote, kept, found, unsigned)
     return found
+
+
+def check_again(
+    election: Election, vote: Vote, kept: Sequence[KeptLetter], found: list[ParsedLetter], indices: Sequence[int]
+) -> None:
+    """Reads some letters again, for their signatures. What debvote has said of lines it is not asked again."""
+    raws = [
+        RawLetter(found[index].where, letters.source_of(election.book, kept[index].source), found[index].is_parted_off)
+        for index in indices
+    ]
+    known = answers_in(found, vote.roll) if indices else {}
+    for index, letter in zip(indices, parsed(election, vote, raws, known)):
+        found[index] = letter
+
+
+def ballots_in(election: Election, vote: Vote, names: Collection[str], found: Sequence[ParsedLetter]) -> dict[str, list[Ballot]]:
+    """The ballots of some electors that are in and not struck. A line with an elector's name that debvote refuses is no ballot of theirs. What
+    it has said of the lines of letters it is not asked again.
+    """
+    by_number = {number: name for name, number in queries.elector_numbers(election.book, names).items()}
+    envelopes = queries.envelopes_of(election.book, by_number)
+    known = answers_in(found, vote.roll) if envelopes else {}
+    lines = {envelope.line: envelope.line.decode("utf-8", "replace") for envelope in envelopes}
+    new = [line for line, text in lines.items() if text not in known]
+    answers = {line: known[text] for line, text in lines.items() if text in known} | (vote.answers(new) if new else {})
+    ballots: dict[str, list[Ballot]] = {}
+    for envelope in envelopes:
+        if answers[envelope.line] is None and envelope.elector is not None:
+            ballots.setdefault(by_number[envelope.elector], []).append(Ballot(envelope.time, lines[envelope.line]))
+    return ballots
 
 
 def circumstances_of(election: Election, history: History, by_key: Mapping[str, KeptLetter]) -> Circumstances:
     call, sealed, electors = history.call, election.sealed(), queries.electors(election.book)
     assert call is not None
-    by_number = {elector.number: elector.name for elector in electors}
-    ballots: dict[str, list[Ballot]] = {}
-    for envelope in queries.envelopes(election.book, f"elector IS NOT NULL AND {queries.NOT_STRUCK}"):
-        if envelope.elector in by_number:
-            line = envelope.line.decode("ascii", "replace")
-            ballots.setdefault(by_number[envelope.elector], []).append(Ballot(envelope.time, line))
     ids = letters.our_message_ids(election.book)
     return Circumstances(
         mark=sealed.public.mark,
         roll=frozenset(sealed.counted.roll),
-        language=election.language.code,
         addresses={elector.name: elector.addresses for elector in electors},
-        real_names={elector.name: elector.who for elector in electors},
         called=call.time,
         end=history.until,
         first_close=history.closes[0].time if history.closes else None,
         now=times.now(),
         our_letters={elector.name: ids.get(elector.number, []) for elector in electors},
-        ballots=ballots,
         keys={elector.name: elector.key for elector in electors} if keyring_of(election) is not None else None,
         decisions={key: Decision(kept.state) for key, kept in by_key.items() if kept.state != letters.WAITS},
     )

@@ -1,29 +1,38 @@
 """The list of members, a table as spreadsheets save it, and the roll that it becomes. It is read, and never written."""
 
 import itertools
+import operator
 import pathlib
 import re
 import unicodedata
-from collections.abc import Callable, Hashable, Iterable, Iterator, Sequence
+from collections.abc import Callable, Hashable, Iterable, Iterator, Mapping, Sequence
 from typing import NamedTuple, TypeVar
 
 from debvote_tools.addresses import ADDRESS, address_key
 from debvote_tools.book.queries import Elector
 from debvote_tools.election.csv_tables import Row, read_table
-from debvote_tools.faults import Fault, Status, stop_at
-from debvote_tools.files import TABLE_LIMIT, read_at_most
-from debvote_tools.language import ENGLISH
+from debvote_tools.election.reporting import listed
+from debvote_tools.faults import Fault, stop_at
+from debvote_tools.files import TABLE_LIMIT, read_whole
 from debvote_tools.plain_names import ELECTOR_LIMIT, alike, elector_name, is_elector_name, made_different
 from debvote_tools.terminal_text import shown_text, steering
 
-REQUIRED, OPTIONAL = ("who", "mail"), ("name", "key")
-COLUMNS = (*REQUIRED, *OPTIONAL)
+# the heads of each column, the first that are there, without case, accents and what is no letter; some are of two columns
+HEADS = {
+    "who": (
+        *("who", "vorname nachname", "vorname name", "firstname lastname", "prenom nom", "nombre apellidos"),
+        *("name", "nom", "nombre"),
+    ),
+    "mail": ("mail", "email", "courriel", "correo"),
+    "name": ("name",),
+    "key": ("key",),
+}
+REQUIRED = ("who", "mail")
 
 # the file that `new` writes
 NEW_MEMBERS = "who,mail\n"
 
 AGAIN = "then run debvote-election roll again"
-BELONGS = "put the real names under `who` and the addresses under `mail`; a column `name`, with names on the roll, is optional"
 
 # the fingerprint of a key of OpenPGP
 FINGERPRINT = re.compile(r"[0-9A-F]{40}")
@@ -34,9 +43,6 @@ BETWEEN_ADDRESSES = re.compile(r"[\s,;]+")
 
 # the first cell of a row below the members, which a spreadsheet has summed up
 SUM = re.compile(r"(?:(?:grand |sub)?totale?s?|sum|(?:gesamt|zwischen)?summe|gesamt|insgesamt|anzahl|somme|suma)[ :=]*[\d.,]*")
-
-# `Eve & Dan`, `Eve und Dan`, `Eve/Dan`
-SEVERAL_PEOPLE = re.compile(r"\w ?[&+/] ?\w|\w (?:and|und|et) \w", re.IGNORECASE)
 
 # what programs write where they lost a character
 LOST = "\ufffd"
@@ -59,8 +65,8 @@ class Member(NamedTuple):
     key: str
     # the elector of the book who is the same person; None if there is none
     known: Elector | None = None
-    # whether the name was made
-    is_proposed: bool = False
+    # the whole name that was proposed; empty if none was
+    proposal: str = ""
 
     @property
     def is_new(self) -> bool:
@@ -93,31 +99,29 @@ class Members(NamedTuple):
 
 def members_in(file: pathlib.Path) -> Members:
     """Reads the list of members in a file. Raises `Fault` if it is no table with their columns."""
-    cure = f"the list of members is a CSV file, as a spreadsheet saves it: put it there, {AGAIN}"
-    try:
-        if file.exists() and not file.is_file():
-            raise Fault(file, "it is not a file", cure, Status.BAD_WORDS, None)
-        data = read_at_most(file, TABLE_LIMIT)
-    except OSError as error:
-        raise Fault(file, error.strerror, cure, Status.BAD_WORDS, None) from None
-    if len(data) > TABLE_LIMIT:
-        raise Fault(file, "it is too long for a list of members", cure, done=None)
-    return members_of(data, file)
+    unread = "the list of members is a CSV file, as a spreadsheet saves it: put it there"
+    return members_of(read_whole(file, TABLE_LIMIT, unread, f", {AGAIN}"), file)
 
 
 def members_of(data: bytes, file: object = "members.csv") -> Members:
-    table = read_table(data, COLUMNS, file, bad_list, skips_spaces=True)
-    head_faults = []
-    missing = [f"`{column}`" for column in REQUIRED if column not in table.heads]
-    if missing:
-        reason = f"the header line has no column {' and no column '.join(missing)}; it has {table.heads_in_words}; {BELONGS}"
-        head_faults.append((reason, "correct the header line"))
-    twice = [column for column in COLUMNS if table.heads.count(column) > 1]
-    head_faults += [(f"the header line has the column `{column}` twice", "rename one of them") for column in twice]
-    stop_at([bad_list(file, *fault, table.head.line) for fault in head_faults])
-    indices = {column: table.heads.index(column) for column in COLUMNS if column in table.heads}
+    table = read_table(data, " ".join(itertools.chain(*HEADS.values())).split(), file, bad_list, skips_spaces=True)
+    heads = [re.sub(r"[\W_]", "", alike(head)) for head in table.head.cells]
+    used: dict[str, list[str]] = {}
+    for column, choices in HEADS.items():
+        free = {*heads}.difference(*used.values())
+        for words in map(str.split, choices):
+            if free.issuperset(words):
+                used.setdefault(column, words)
+    twice = [head for head in itertools.chain(*used.values()) if heads.count(head) > 1]
+    wrong = [(f"the header line has the column `{head}` twice", "rename one of them") for head in twice]
+    if missing := [f"`{column}`" for column in REQUIRED if column not in used]:
+        reason = f"the header line has no column {' and no column '.join(missing)}; it has {table.heads_in_words}"
+        cure = "put the real names under `who` and the addresses under `mail`; a column `name`, with names on the roll, is optional"
+        wrong.append((reason, cure))
+    stop_at([bad_list(file, *fault, table.head.line) for fault in wrong])
+    indices = {column: [heads.index(head) for head in others] for column, others in used.items()}
     # up to the last column that has a head
-    width = max(index for index, head in enumerate(table.heads, start=1) if head)
+    width = max(index for index, head in enumerate(heads, start=1) if head)
     members, faults = [], []
     for row in table.rows:
         if not row.is_blank:
@@ -133,9 +137,10 @@ def bad_list(file: object, reason: str, cure: str, line: int | None = None) -> F
     return Fault(file if line is None else f"{file}:{line}", reason, f"{cure}, {AGAIN}", done=None)
 
 
-def member_of(row: Row, indices: dict[str, int]) -> Member:
-    """The member of a row, with each cell on one line."""
-    cells = {column: unicodedata.normalize("NFC", " ".join(row.cells[index].split())) for column, index in indices.items()}
+def member_of(row: Row, indices: Mapping[str, Sequence[int]]) -> Member:
+    """The member of a row, with what each column has on one line."""
+    joined = {column: " ".join(row.cells[index] for index in places) for column, places in indices.items()}
+    cells = {column: unicodedata.normalize("NFC", " ".join(text.split())) for column, text in joined.items()}
     addresses = IN_BRACKETS.findall(cells["mail"]) or BETWEEN_ADDRESSES.split(cells["mail"])
     each_once = dict.fromkeys(address.strip().removeprefix("mailto:") for address in addresses if address.strip())
     key = "".join(cells.get("key", "").split()).upper()
@@ -147,11 +152,10 @@ def faults_of_row(row: Row, member: Member, width: int, delimiter: str) -> Itera
     if SUM.fullmatch(first.casefold()) and not any(map(ADDRESS.fullmatch, member.addresses)):
         yield f"`{shown_text(first)}` is a sum and no member", "take the line out"
         return
-    for cell in (member.who, member.name, member.key):
+    for cell in (member.who, member.name, member.key, *member.addresses):
         if delimiter == "," and ";" in cell:
             reason = f"`{shown_text(cell)}` has a semicolon, and the header line has commas between its cells"
             yield reason, "put a comma between the cells of this line too, or take the semicolon out"
-    for cell in (member.who, member.name, *member.addresses):
         if LOST in cell:
             yield f"`{shown_text(cell)}` has lost a character when it was saved (U+FFFD)", "write the character again"
     if beyond := row.cells_after(width):
@@ -159,11 +163,8 @@ def faults_of_row(row: Row, member: Member, width: int, delimiter: str) -> Itera
         yield reason, "put quotation marks around a cell that contains the delimiter"
     if not member.who and not member.name:
         yield "it has no `who`", "write who it is, or take the line out"
-    if steering(member.who) is not None:
-        reason = (
-            f"`{shown_text(member.who)}` has the character {steering(member.who)}, which controls a terminal or turns text around"
-        )
-        yield reason, "take it out"
+    if odd := steering(member.who):
+        yield f"`{shown_text(member.who)}` has the character {odd}, which controls a terminal or turns text around", "take it out"
     if member.name and not is_elector_name(member.name):
         cure = f"write 1 to {ELECTOR_LIMIT} of a to z, 0 to 9, point and hyphen under `name`, or leave it empty"
         yield f"`{shown_text(member.name)}` cannot be a name on the roll", cure
@@ -177,13 +178,6 @@ def faults_of_row(row: Row, member: Member, width: int, delimiter: str) -> Itera
 
 Entry = TypeVar("Entry")
 
-# by what a member is the same person as an elector: first by the name, then by `who`
-SAME_PERSON: tuple[Callable[[Member | Elector], str], ...] = (
-    lambda person: person.name,
-    lambda person: person.who,
-    lambda person: alike(person.who),
-)
-
 
 class Roll(NamedTuple):
     """The electors in the order of the list, after the call in that of the sealed poll; and all that is wrong with them."""
@@ -192,22 +186,6 @@ class Roll(NamedTuple):
     # electors of the last list who are not on this one
     gone: tuple[Elector, ...]
     faults: tuple[Fault, ...]
-
-    @property
-    def shared_addresses(self) -> dict[str, list[Member]]:
-        """The electors of each address that several have."""
-        pairs = [(key, elector) for elector in self.electors for key in dict.fromkeys(map(address_key, elector.addresses))]
-        return {group[0][0]: [elector for _, elector in group] for group in several(pairs, lambda pair: pair[0])}
-
-    @property
-    def seeming_several(self) -> list[Member]:
-        """The electors whose real name seems to be those of several people."""
-        return [elector for elector in self.electors if SEVERAL_PEOPLE.search(elector.who)]
-
-    @property
-    def alike_people(self) -> list[list[Member]]:
-        """Groups of electors who look like one person, by case, accents and blanks."""
-        return several(self.electors, lambda elector: alike(elector.who))
 
 
 def roll_of(members: Members, known: Sequence[Elector], language: str, *, is_called: bool = False) -> Roll:
@@ -226,12 +204,13 @@ def roll_of(members: Members, known: Sequence[Elector], language: str, *, is_cal
 
 
 def with_known(rows: Sequence[Member], known: Sequence[Elector]) -> list[Member]:
-    """The members, each with the elector who is the same person, of the last list if possible, and with their name. If several would fit,
-    none of them does.
+    """The members, each with the elector of the same name, or else of the same `who`, of the last list if possible, and with their name. If
+    several would fit, none of them does.
     """
     found: dict[int, Elector] = {}
     last = [elector for elector in known if elector.position is not None]
-    for form, candidates in itertools.product(SAME_PERSON, (last, known)):
+    for what, candidates in itertools.product(("name", "who"), (last, known)):
+        form = operator.attrgetter(what)
         numbers = {elector.number for elector in found.values()}
         rows_by_form = grouped((row for row in rows if row.line not in found), form)
         for text, electors in grouped((elector for elector in candidates if elector.number not in numbers), form).items():
@@ -257,17 +236,15 @@ def several(entries: Iterable[Entry], form: Callable[[Entry], Hashable]) -> list
 
 def with_proposals(electors: Sequence[Member], known: Sequence[Elector], language: str) -> list[Member]:
     """The electors, each with a name, made of `who` or of an address if possible."""
-    bases = {}
+    wholes = {}
     for elector in electors:
-        mails = (address.partition("@")[0] for address in elector.addresses)
-        proposals = (elector_name(text, language) for text in (elector.who, *mails) if not elector.name)
-        if base := next(filter(None, proposals), None):
-            bases[elector.line] = base
+        texts = [elector.who, *(address.partition("@")[0] for address in elector.addresses)]
+        if not elector.name and (whole := next(filter(None, (elector_name(text, language) for text in texts)), "")):
+            wholes[elector.line] = whole
     taken = [*(elector.name for elector in electors if elector.name), *(elector.name for elector in known)]
-    names = dict(zip(bases, made_different(list(bases.values()), taken, ELECTOR_LIMIT, "-")))
-    return [
-        elector._replace(name=names[elector.line], is_proposed=True) if elector.line in names else elector for elector in electors
-    ]
+    bases = [whole[:ELECTOR_LIMIT].rstrip("-") for whole in wholes.values()]
+    names = dict(zip(wholes, made_different(bases, taken, ELECTOR_LIMIT, "-")))
+    return [one._replace(name=names.get(one.line, one.name), proposal=wholes.get(one.line, "")) for one in electors]
 
 
 # ---------------------------------------------------------------- what is wrong: the line, the reason and the cure
@@ -300,22 +277,16 @@ def faults_of_people(rows: Sequence[Member], electors: Sequence[Member]) -> Iter
 
 def faults_after_call(electors: Sequence[Member], gone: Sequence[Elector]) -> Iterator[tuple[int | None, str, str]]:
     """People who are not as the call has them."""
-    reasons = [("is missing", [f"{elector.name} ({shown_text(elector.who)})" for elector in gone])]
-    reasons.append(("is new", [f"{elector.label} on line {elector.line}" for elector in electors if elector.is_new]))
-    for elector in electors:
-        before = [shown_text(pair[0]) for what, pair in elector.changes.items() if what in ("name", "who")]
-        reasons += [(f"was {text}", [f"{elector.label} on line {elector.line}"]) for text in before]
-    for words, people in reasons:
+    cure = "put the list back as it was: after the call only addresses and keys may change"
+    others: dict[str, Sequence[Member | Elector]] = {"missing": gone, "new": [elector for elector in electors if elector.is_new]}
+    for words, people in others.items():
         if people:
-            cure = "put the list back as it was: after the call only addresses and keys may change"
-            yield None, f"{named_in_words(people)} {words}", cure
+            yield None, f"{words}: {listed([f'{one.name} ({shown_text(one.who)})' for one in people], NAMED_LIMIT)}", cure
+    for elector in electors:
+        for what, (before, _) in elector.changes.items():
+            if what in ("name", "who"):
+                yield elector.line, f"{elector.label} was {shown_text(before)}", cure
 
 
 def lines_in_words(electors: Sequence[Member]) -> str:
-    return f"lines {named_in_words([str(elector.line) for elector in electors])}"
-
-
-def named_in_words(names: Sequence[str]) -> str:
-    """Names as they are in a sentence; of many the first."""
-    more = [f"{len(names) - NAMED_LIMIT} more"] if len(names) > NAMED_LIMIT else []
-    return ENGLISH.joined([*names[:NAMED_LIMIT], *more])
+    return f"lines {listed([str(elector.line) for elector in electors], NAMED_LIMIT)}"

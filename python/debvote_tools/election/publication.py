@@ -19,7 +19,7 @@ from debvote_tools.language import Language, language_of
 from debvote_tools.lines import ballot_file
 from debvote_tools.publish.doubts import Doubt, Kind
 from debvote_tools.publish.inputs import Act, CastingVote, Chronicle, Closed, Done, Publication, SecretVote
-from debvote_tools.publish.names import BALLOTS, PAGE, POLL
+from debvote_tools.publish.names import BALLOTS, CHECKSUMS, PAGE, POLL
 from debvote_tools.rendering import render_letter
 from debvote_tools.sealed_poll import SealedPoll
 from debvote_tools.secret.aliases import aliased_ballots, sealed_checksum
@@ -65,6 +65,7 @@ def current_data(
         is_signed=bool(value_of("signed")),
         has_aliases=sealed.is_aliased,
         has_codes_on_roll=bool(value_of("codes_on_roll")),
+        has_lapsed_codes=now.has_lapsed_codes,
     )
 
 
@@ -115,14 +116,21 @@ def publication_of(election: Election, words: Words) -> Publication:
         doubts=tuple(doubts),
         secret=secret,
         has_codes=history.has_codes_on_roll,
+        at=history.announced("at"),
     )
+
+
+def early_end(history: History) -> datetime.datetime | None:
+    """Until when one should have been able to vote, if the first close came before; after it nobody could."""
+    return history.until if history.closes and history.closes[0].detail.get("early") else None
 
 
 def closing_letter(history: History, poll: SealedPoll, language: Language) -> bytes:
     """The letter of the last close; the poll is the public one. The time is in the zone in which the end was announced."""
     close, zone = history.closes[-1], history.until.tzinfo if history.until else datetime.UTC
     time = close.time.astimezone(zone)
-    return render_letter("debvote_tools.letters_out", "closing.txt", language, close=close, time=time, poll=poll).encode()
+    values = {"close": close, "time": time, "poll": poll, "early_end": early_end(history)}
+    return render_letter("debvote_tools.letters_out", "closing.txt", language, **values).encode()
 
 
 def demand_as_closed(history: History, ballots: bytes) -> None:
@@ -154,13 +162,17 @@ def detail_of(words: Words, checksums: Mapping[str, str], doubts: list[Doubt], *
     return {
         "words": dataclasses.asdict(words),
         "casting": words.casting if decides else None,
-        "checksums": {name: checksums[name] for name in (POLL, BALLOTS, PAGE)},
+        "checksums": {name: checksums[name] for name in (POLL, BALLOTS, PAGE, CHECKSUMS)},
         "doubts": [doubt.as_data() for doubt in doubts],
     }
 
 
 def doubts_of(book: Book, history: History, poll: SealedPoll, casting: str | None) -> list[Doubt]:
     found = [] if history.is_closed else [Doubt.of(Kind.NOT_CLOSED)]
+    if (until := early_end(history)) is not None:
+        closed = history.closes[0].time.astimezone(until.tzinfo)
+        # `close --early` has agreed to it
+        found.append(Doubt(Kind.CLOSED_EARLY, {"closed": closed.isoformat(), "until": until.isoformat()}, stops=False))
     found += late_letters_in_time(book, history)
     names = dict(zip(poll.plain_names, poll.names))
     earlier = dict.fromkeys(act.detail["casting"] for act in history.named("publish"))
@@ -196,7 +208,7 @@ def late_letters_in_time(book: Book, history: History) -> list[Doubt]:
 def chronicle_of(book: Book, history: History, *, is_secret: bool) -> Chronicle:
     acts: list[Act] = []
     for before, act in zip([None, *history.acts], history.acts):
-        if before is not None and act.time < before.time:
+        if before is not None and act.went_back(before):
             acts.append(Act(act.time, Done.CLOCK, {"before": before.time}))
         acts += acts_of_page(act, book, history, is_secret=is_secret)
     # lines, rows and ballots of desks that came after the end, and count; what came in after a close had come before it, as its act says
@@ -234,7 +246,7 @@ def acts_of_page(act: DoneAct, book: Book, history: History, *, is_secret: bool)
             yield Act(time, Done.REOPENED, because=reason)
         case "moved":
             noted, there = detail["noted"] and detail["noted"]["act"], detail["there"]["act"]
-            done = Done.MOVED if noted else Done.MOVED_UNKNOWN
+            done = Done.MOVED_UNKNOWN if noted is None else Done.RESTORED if noted == there else Done.MOVED
             yield Act(time, done, {"noted": noted, "there": there}, detail["because"])
     if detail.get("keyring"):
         yield Act(time, Done.KEYRING)

@@ -13,7 +13,7 @@ from debvote_tools.election.reporting import count_of
 from debvote_tools.faults import other_format
 from debvote_tools.files import BALLOTS_LIMIT, LINES_LIMIT
 from debvote_tools.language import ENGLISH
-from debvote_tools.lines import CODE_WITHIN, Line, ballot_file, differences
+from debvote_tools.lines import Line, ballot_file, differences, has_code
 from debvote_tools.terminal_text import shown_line
 
 IS_CODE = " (32 digits, as in a code or an alias: a ballot has only the elector's name, and nobody may see a code)"
@@ -21,8 +21,6 @@ IS_CODE = " (32 digits, as in a code or an alias: a ballot has only the elector'
 # the reply to a line that came after the close
 LATE_REPLY = "late"
 
-# what debvote adds to a finding if names on the roll are near
-OFFER = re.compile(r"; did you mean (.+)\?\Z")
 # the number that makes a name different from others
 NUMBER = re.compile(r"-\d+\Z")
 
@@ -96,11 +94,12 @@ class Vote:
 
     def answers(self, lines: Sequence[bytes]) -> dict[bytes, str | None]:
         """What debvote says of each line, such as `bad rank count: ..`; None for a valid ballot. It gets as many lines at once as
-        it takes.
+        it takes. What it remarks on other lines is left out.
         """
         answers: dict[bytes, str | None] = dict.fromkeys(lines)
         for part in parts_of(lines):
-            answers |= {line: f"{finding.word}: {finding.hint}" for line, finding in self.findings(part).items()}
+            found = {line: finding._replace(remark="") for line, finding in self.findings(part).items()}
+            answers |= {line: f"{finding.word}: {finding.hint}" for line, finding in found.items()}
         return answers
 
     def findings(self, lines: Sequence[bytes]) -> dict[bytes, Finding]:
@@ -109,15 +108,13 @@ class Vote:
             return {}
         found = {}
         for finding in self.debvote.findings(self.poll_bytes, ballot_file(lines)).refused:
-            offers_none = finding._replace(hint=OFFER.sub("", finding.hint))
-            found[lines[finding.envelope - 1]] = offers_none if self.has_codes else finding
+            found[lines[finding.envelope - 1]] = finding._replace(near=(), remark="") if self.has_codes else finding
         return found
 
     def other_names(self, finding: Finding) -> tuple[str, ...]:
-        """All names that fit as well as the one that debvote offers, as `anna-meier-2` beside `anna-meier`."""
-        offer = OFFER.search(finding.hint)
-        alike = [] if offer is None else self.names_by_bare_name[NUMBER.sub("", offer[1])]
-        return tuple(name for name in alike if offer and name != offer[1])
+        """All names that fit as well as those that debvote offers, as `anna-meier-2` beside `anna-meier`."""
+        alike = dict.fromkeys(name for near in finding.near for name in self.names_by_bare_name[NUMBER.sub("", near)])
+        return tuple(name for name in alike if name not in finding.near)
 
     @functools.cached_property
     def names_by_bare_name(self) -> dict[str, list[str]]:
@@ -166,7 +163,7 @@ class Vote:
         word = "" if line.finding.word == reply else f"{line.finding.word}: "
         # so that nobody takes one elector for another
         others = f" (or {ENGLISH.joined(list(line.other_names))})" if line.other_names else ""
-        code = IS_CODE if CODE_WITHIN.search(line.line.repaired) and not self.has_codes else ""
+        code = IS_CODE if has_code(line.line.repaired.decode("utf-8", "replace")) and not self.has_codes else ""
         return f"{shown_line(line.as_entered)}: {word}{line.finding.hint}{others}{code}"
 
     def ballot_in_words(self, ballot: str) -> str:

@@ -33,16 +33,40 @@ class Ballot:
 
 
 @dataclasses.dataclass(frozen=True)
+class Names:
+    """The names of the electors, which stay from the call on: those on the roll, and the real ones."""
+
+    roll: frozenset[str]
+    language: str
+    real_names: Mapping[str, str]
+
+    @functools.cached_property
+    def electors_by_real_name(self) -> dict[str, list[str]]:
+        """All electors by their real names, folded. Few letters ask for it, and with many electors it takes a while."""
+        found: dict[str, list[str]] = collections.defaultdict(list)
+        for elector, who in self.real_names.items():
+            for fold in self.folds(who):
+                found[fold].append(elector)
+        return dict(found)
+
+    def folds(self, name: str) -> set[str]:
+        """A name as one on a roll is made from it, but whole: there a long one is cut, and letters of other scripts are left out, so other words
+        may be where they were. The signs that are written as an apostrophe are no letters.
+        """
+        plain = (without_accents(name, language).lower() for language in (self.language, ""))
+        folds = {NO_NAME.sub("-", one).strip("-") for one in plain}
+        return {fold for fold in folds if LATIN.search(fold)}
+
+
+@dataclasses.dataclass(frozen=True)
 class Circumstances:
     """All that a letter is judged by, beside itself, as it is now. Times have a zone."""
 
-    # of the poll: the mark, the roll and the language
+    # of the poll: the mark and the roll
     mark: str
     roll: frozenset[str]
-    language: str
-    # of each elector: the addresses as the list has them, and the real name
+    # of each elector: the addresses as the list has them
     addresses: Mapping[str, Sequence[str]]
-    real_names: Mapping[str, str]
     # the first call that was not taken back; the end as it is now; the first close
     called: datetime.datetime
     end: datetime.datetime | None
@@ -50,8 +74,6 @@ class Circumstances:
     now: datetime.datetime
     # the Message-IDs of the letters that were written to each elector
     our_letters: Mapping[str, Collection[str]]
-    # the lines with each elector's name that are in and not struck
-    ballots: Mapping[str, Sequence[Ballot]]
     # the fingerprint of each elector's key; None where letters need no signature
     keys: Mapping[str, str] | None
     # what acts decided, by the keys of the letters
@@ -69,19 +91,6 @@ class Circumstances:
             for key in dict.fromkeys(filter(None, map(address_key, addresses))):
                 found[key].append(elector)
         return dict(found)
-
-    @functools.cached_property
-    def electors_by_real_name(self) -> dict[str, str]:
-        """All electors by their real names, folded. Few letters ask for it, and with many electors it takes a while."""
-        return {fold: elector for elector, who in self.real_names.items() for fold in self.folds(who)}
-
-    def folds(self, name: str) -> set[str]:
-        """A name as one on a roll is made from it, but whole: there a long one is cut, and letters of other scripts are left out, so other words
-        may be where they were. The signs that are written as an apostrophe are no letters.
-        """
-        plain = (without_accents(name, language).lower() for language in (self.language, ""))
-        folds = {NO_NAME.sub("-", one).strip("-") for one in plain}
-        return {fold for fold in folds if LATIN.search(fold)}
 
     def elector_of(self, letter: ParsedLetter) -> str | None:
         """The one elector whose address the sender of a letter has."""

@@ -105,6 +105,8 @@ class HtmlText:
         self.lines: list[str] = []
         self.pieces: list[str] = []
         self.first_other, self.plain_lines = "", 0
+        # whether each mark that came is plain: most letters have few, again and again
+        self.plain_marks: dict[tuple[str, str], bool] = {}
         # the first mark that may be nowhere in a letter
         self.odd = ""
         # the text of the line that is not ended yet
@@ -122,10 +124,10 @@ class HtmlText:
             self.odd = self.odd or name
 
     def begin(self, tag: str, given: str) -> None:
-        names = META_ATTRIBUTES if tag == "meta" else PLAIN_ATTRIBUTES
-        if tag not in PLAIN or not are_plain(given, names, PLAIN_STYLES):
-            is_known = tag in BELOW and are_plain(given, BELOW_ATTRIBUTES, BELOW_STYLES)
-            self.found_other(f"{tag}{given}", may_be_below=is_known)
+        if (tag, given) not in self.plain_marks:
+            self.plain_marks[tag, given] = is_plain_mark(tag, given)
+        if not self.plain_marks[tag, given]:
+            self.found_other(f"{tag}{given}", may_be_below=tag in BELOW and are_plain(given, BELOW_ATTRIBUTES, BELOW_STYLES))
         if tag == "title" and (self.lines or self.parts):
             self.found_other(tag, may_be_below=False)
         if tag in HOLDING:
@@ -195,7 +197,11 @@ class HtmlText:
 
 def unescaped(text: str) -> str:
     """A text with the characters that it names. Python reads no number of thousands of digits."""
-    return html.unescape(NUMBER.sub(r"&#\1", text))
+    return html.unescape(NUMBER.sub(r"&#\1", text)) if "&" in text else text
+
+
+def is_plain_mark(tag: str, given: str) -> bool:
+    return tag in PLAIN and are_plain(given, META_ATTRIBUTES if tag == "meta" else PLAIN_ATTRIBUTES, PLAIN_STYLES)
 
 
 def are_plain(given: str, names: Collection[str], styles: Mapping[str, re.Pattern[str]]) -> bool:

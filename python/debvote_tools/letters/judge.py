@@ -8,13 +8,13 @@ import collections
 import datetime
 import enum
 import functools
-from collections.abc import Callable, Sequence
+from collections.abc import Callable, Collection, Mapping, Sequence
 
 from debvote_tools.addresses import address_key
 from debvote_tools.letters.circumstances import Ballot, Circumstances, Decision
 from debvote_tools.letters.greeting import above_end, is_quoted, paragraphs_of, why_not_first
-from debvote_tools.letters.parse import Body, ParsedLetter, marks_of
-from debvote_tools.letters.readings import MAX_BALLOTS, BallotLine, LineReader, Near, Readings, readings_of
+from debvote_tools.letters.parse import Body, Near, ParsedLetter, marks_of
+from debvote_tools.letters.readings import MAX_BALLOTS, BallotLine, view_of
 from debvote_tools.letters.reasons import Because, Reason
 from debvote_tools.terminal_text import shown_text
 
@@ -53,27 +53,33 @@ class JudgedLetter:
     # the lines, from 1, with what looks like a code or an alias, in a secret vote with names on the roll
     code_lines: tuple[int, ...] = ()
 
-    def __init__(self, letter: ParsedLetter, readings: Readings, circumstances: Circumstances) -> None:
-        self.parsed, self.readings, self.circumstances = letter, readings, circumstances
+    def __init__(self, letter: ParsedLetter, circumstances: Circumstances) -> None:
+        self.parsed, self.circumstances = letter, circumstances
+        self.view = view_of(letter.readings, circumstances.elector_of(letter))
         # the time of its ballot: that of the signature where letters have to be signed, else that of the arrival
         self.time = letter.signature.time if circumstances.keys is not None and letter.signature is not None else letter.arrived
         self.decision = circumstances.decisions.get(letter.key)
-        above = readings.lines[: above_end(letter.body.lines)]
-        self.index = next((index for index, line in enumerate(above) if line is not None), None)
-        self.ballot = None if self.index is None else readings.lines[self.index]
+        end = above_end(letter.body.lines)
+        self.index = next((index for index in self.view.lines if index < end), None)
+        self.ballot = None if self.index is None else self.view.lines[self.index]
         self.elector = "" if self.ballot is None else self.ballot.elector
         # the lines that read as ballots, the one that may go in first, and ranks without a name; each may be entered by its number
-        self.ballots: tuple[BallotLine, ...] = tuple(dict.fromkeys((*filter(None, [self.ballot]), *readings.ballots())))
-        self.offered = readings.offered
+        self.ballots: tuple[BallotLine, ...] = tuple(
+            dict.fromkeys((*filter(None, [self.ballot]), *self.view.lines.values(), *self.view.others))
+        )
+        self.offered = self.view.offered
         # of a letter that a program wrote it says nothing, since that quotes others
-        self.near: tuple[Near, ...] = () if self.ballots or letter.is_automatic else readings.near
-        # without `why_not_latest`, by which a letter depends on others
-        self.why_by_itself = next(filter(None, (rule(self, circumstances) for rule in RULES)), None)
+        self.near: tuple[Near, ...] = () if self.ballots or letter.is_automatic else self.view.near
+
+    @functools.cached_property
+    def why_by_itself(self) -> Because | None:
+        """Why it waits, whatever other letters there are: all rules but `why_not_latest`."""
+        return next(filter(None, (rule(self, self.circumstances) for rule in RULES)), None)
 
     @property
     def hides(self) -> bool:
         """Whether its copies are passed over: it went in, or may go in by itself."""
-        return self.why_by_itself is None or self.decision in (Decision.ENTERED, Decision.TAKEN_BACK, Decision.STRUCK)
+        return self.decision in (Decision.ENTERED, Decision.TAKEN_BACK, Decision.STRUCK) or self.why_by_itself is None
 
     @property
     def waits(self) -> bool:
@@ -93,7 +99,7 @@ class JudgedLetter:
     def electors(self) -> tuple[str, ...]:
         """Whose it is: the electors on its ballots, or near to one; else the one who has the sender's address."""
         named = [line.elector for line in (*self.ballots, *self.offered)]
-        named += [name for near in self.readings.near if (name := near.ballot.partition(" ")[0]) in self.circumstances.roll]
+        named += [name for near in self.view.near if (name := near.ballot.partition(" ")[0]) in self.circumstances.roll]
         sender = self.circumstances.elector_of(self.parsed)
         return tuple(dict.fromkeys(named)) or (() if sender is None else (sender,))
 
@@ -106,9 +112,9 @@ class JudgedLetter:
     @property
     def other_words(self) -> str:
         """The beginning of the sender's own words beside their ballots."""
-        lines, view = self.parsed.body.lines, self.readings.lines
+        lines = self.parsed.body.lines
         own = (index for paragraph in paragraphs_of(self.parsed.body, self.circumstances.passed_over) for index in paragraph)
-        return shown_text(" ".join(lines[index] for index in own if view[index] is None and not is_quoted(lines[index])))
+        return shown_text(" ".join(lines[index] for index in own if index not in self.view.lines and not is_quoted(lines[index])))
 
 
 Rule = Callable[[JudgedLetter, Circumstances], Because | None]
@@ -123,8 +129,8 @@ def can_be_read(case: JudgedLetter, circumstances: Circumstances) -> Because | N
         return Reason.AUTOMATIC()
     if letter.body.trouble is not None:
         return letter.body.trouble
-    if case.readings.crowd:
-        return Reason.TOO_LONG(length=case.readings.crowd, what="lines that may be ballots", limit=MAX_BALLOTS)
+    if letter.readings.crowd:
+        return Reason.TOO_LONG(length=letter.readings.crowd, what="lines that may be ballots", limit=MAX_BALLOTS)
     is_odd = text.is_html and case.index is not None and case.index >= text.plain_lines
     return Reason.HTML(element=text.first_other) if is_odd else None
 
@@ -187,7 +193,7 @@ def ballot_is_first(case: JudgedLetter, circumstances: Circumstances) -> Because
     if case.index is None:
         if case.ballots:
             return Reason.JOINED() if body.flowing else Reason.ELSEWHERE(number=case.ballots[0].number)
-        return Reason.NO_NAME() if case.readings.offered else Reason.NO_BALLOT()
+        return Reason.NO_NAME() if case.offered else Reason.NO_BALLOT()
     if case.index in body.flowing:
         return Reason.JOINED()
     answered = case.parsed.in_reply_to
@@ -246,11 +252,13 @@ def set_outcomes(cases: Sequence[JudgedLetter], box: Box) -> None:
         groups[case.parsed.identity].append(case)
         if case.decision is not None:
             case.outcome, case.reason = DECIDED[case.decision]
+    # what an act decided is looked at again only beside a copy of which none did
+    groups = {identity: group for identity, group in groups.items() if any(case.decision is None for case in group)}
     # of copies that may go in the first, if no act decided of one
-    hidden = {case.parsed.identity for case in cases if case.decision is not None and case.hides}
+    hidden = {identity for identity, group in groups.items() if any(case.decision is not None and case.hides for case in group)}
     firsts: dict[str, JudgedLetter] = {}
     for case in cases:
-        if case.why_by_itself is None and case.parsed.identity not in hidden:
+        if case.decision is None and case.parsed.identity not in hidden and case.why_by_itself is None:
             firsts.setdefault(case.parsed.identity, case)
     at_once: dict[tuple[str, datetime.datetime | None], set[str]] = collections.defaultdict(set)
     for case in firsts.values():
@@ -305,20 +313,20 @@ def set_copy(case: JudgedLetter, first: JudgedLetter, box: Box) -> None:
                 return
 
 
-def judge_all(letters: Sequence[ParsedLetter], circumstances: Circumstances, reader: LineReader) -> list[JudgedLetter]:
-    """Judges letters in the order of their times; those without a time come last, in their order."""
-    found = [readings_of(letter, circumstances) for letter in letters]
-    asked = dict.fromkeys(line.encode() for readings in found for line in readings.asked())
-    asked |= dict.fromkeys(ballot.line.encode() for ballots in circumstances.ballots.values() for ballot in ballots)
-    answers = reader.answers(list(asked)) if asked else {}
-    cases = [JudgedLetter(letter, readings.answered(answers), circumstances) for letter, readings in zip(letters, found)]
+def judge_all(
+    letters: Sequence[ParsedLetter],
+    circumstances: Circumstances,
+    ballots_of: Callable[[Collection[str]], Mapping[str, Sequence[Ballot]]],
+) -> list[JudgedLetter]:
+    """Judges letters in the order of their times; those without a time come last, in their order. `ballots_of` says which ballots of some
+    electors are in and not struck.
+    """
+    cases = [JudgedLetter(letter, circumstances) for letter in letters]
     ordered = sorted(cases, key=lambda case: (case.time is None, case.time or circumstances.now))
-    # a line with an elector's name that debvote refuses is no ballot of theirs
     box = Box()
-    for elector, ballots in circumstances.ballots.items():
+    for elector, ballots in ballots_of({elector for case in cases for elector in case.electors}).items():
         for ballot in ballots:
-            if answers[ballot.line.encode()] is None:
-                box.add(elector, ballot)
+            box.add(elector, ballot)
     set_outcomes(ordered, box)
     for case in ordered:
         case.has_voted_since = any(box.has_later(elector, case.time) for elector in case.electors)

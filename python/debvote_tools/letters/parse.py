@@ -21,8 +21,11 @@ from debvote_tools.letters.sources import RawLetter
 MAX_TEXT, MAX_TEXTS = 262_144, 1_048_576
 # in characters; so much is read of a field of the head
 MAX_FIELD = 2_000
-# in characters; no longer line reads as a ballot, which has a number or a stroke. A letter has fewer lines with one; of more some are shown
-MAX_LINE, MAX_LINES, SHOWN_LINES = 500, 5_000, 200
+# in characters; no longer line reads as a ballot, which has a number or a stroke
+MAX_LINE = 500
+# all texts of a letter have fewer lines and marks of HTML; of one with more some lines are shown
+MAX_LINES, SHOWN_LINES = 10_000, 200
+LINE_OR_MARK = b"\n\r\v\f\x1c\x1d\x1e<"
 RANK = re.compile("[\\d\u2010-\u2014\u2212-]")
 
 CHARSETS = re.compile(r"utf-?8|us-ascii|ascii|iso-?8859-\d{1,2}|(?:windows-|cp)125\d", re.IGNORECASE)
@@ -85,6 +88,44 @@ class Signature:
 
 
 @dataclasses.dataclass(frozen=True)
+class Near:
+    """A line near to a ballot: its number in the letter, what of it may be a ballot, whether other words are around that, and what debvote
+    says of it; None if it is a valid ballot.
+    """
+
+    number: int
+    ballot: str
+    is_within: bool
+    answer: str | None = None
+
+
+@dataclasses.dataclass(frozen=True)
+class ReadLine:
+    """What a line of a letter may be, by its number in it, from 1."""
+
+    number: int
+    # whose ballot: the elector whose name on the roll it has; or those whose name on the roll, or real name, people write so
+    elector: str = ""
+    on_roll: tuple[str, ...] = ()
+    real: tuple[str, ...] = ()
+    # its ranks, and what debvote says of them; None if they are valid
+    ranks: str = ""
+    answer: str | None = None
+    near: Near | None = None
+
+
+@dataclasses.dataclass(frozen=True)
+class Readings:
+    """What the lines of a letter may be; or how many there are that may be ballots, if they are more than are read. The `code_lines` are the
+    numbers of those with what looks like a code of a secret vote or an alias.
+    """
+
+    lines: tuple[ReadLine, ...] = ()
+    crowd: int = 0
+    code_lines: tuple[int, ...] = ()
+
+
+@dataclasses.dataclass(frozen=True)
 class ParsedLetter:
     """What the bytes of a letter say and, where letters have to be signed, what gpgv says of its signature."""
 
@@ -110,6 +151,7 @@ class ParsedLetter:
     # where letters have to be signed: the good signature, or why there is none
     signature: Signature | None = None
     why_unsigned: Because | None = None
+    readings: Readings = Readings()
 
     @property
     def key(self) -> str:
@@ -117,6 +159,11 @@ class ParsedLetter:
         letters.
         """
         return f"{self.digest}, parted off" if self.is_parted_off else self.digest
+
+    @property
+    def is_never_signed(self) -> bool:
+        """Whether its bytes alone say that it has no good signature, whatever the keyring."""
+        return self.why_unsigned is not None and self.why_unsigned.reason in (Reason.NOT_SIGNED, Reason.NOT_WHOLE, Reason.ODD_LINES)
 
     @property
     def shown_lines(self) -> tuple[str, ...]:
@@ -225,6 +272,11 @@ def body_of(letter: Part) -> Body:
         if length > limit:
             letter.found(Reason.TOO_LONG(length=length, what=f"bytes in {what}", limit=limit))
             return Body(trouble=letter.trouble)
+    count = sum(len(part.payload) - len(part.payload.translate(None, LINE_OR_MARK)) for part, _ in texts)
+    if count > MAX_LINES:
+        letter.found(Reason.TOO_LONG(length=count, what="lines and marks", limit=MAX_LINES))
+        shown = decoded_bytes(texts[0][0].payload[: SHOWN_LINES * MAX_LINE], "utf-8").splitlines()
+        return Body(tuple(shown[:SHOWN_LINES]), trouble=letter.trouble)
     first, is_own = texts[0] if texts else (letter, False)
     if not is_own or (first.kind != "text/plain" and (first.kind != "text/html" or len(texts) > 1)):
         first.found(Reason.NO_PLAIN_TEXT())
@@ -237,10 +289,6 @@ def body_of(letter: Part) -> Body:
     lines = [line for other, _ in read[1:] for line in other.lines] + [line for _, pieces in read for line in pieces]
     own, others = ({" ".join(line.split()): None for line in some} for some in (text.lines, lines + outside))
     other_lines = [line for line in others if line not in own and may_be_ballot(line)]
-    count = len(other_lines) + sum(map(may_be_ballot, text.lines))
-    if count > MAX_LINES:
-        letter.found(Reason.TOO_LONG(length=count, what="lines with numbers", limit=MAX_LINES))
-        text, other_lines = Body(text.lines[:SHOWN_LINES]), []
     troubles = [Reason.PARTED_OFF()] if has_others else [part.trouble for part, _ in parts if part.trouble is not None]
     return dataclasses.replace(text, other_lines=tuple(other_lines), trouble=next(iter(troubles), None))
 
@@ -263,6 +311,8 @@ def text_of(part: Part, *, is_first: bool) -> tuple[Body, list[str]]:
         is_plain = False
     if not is_plain:
         part.found(Reason.CHARSET(charset=charset or "us-ascii"))
+    if is_first and part.is_cut:
+        part.found(Reason.CUT())
     text = decoded_bytes(part.payload, charset or "utf-8").removeprefix("\ufeff")
     if odd := CONTROL.search(text):
         part.found(Reason.CONTROL(character=f"U+{ord(odd[0]):04X}"))
@@ -323,8 +373,19 @@ def from_json(text: str) -> ParsedLetter:
         "body": Body(**values),
         "signature": signature and Signature(signature["fingerprint"], datetime.datetime.fromisoformat(signature["time"])),
         "why_unsigned": because_from(kept["why_unsigned"]),
+        "readings": readings_from(**kept["readings"]),
     }
     return ParsedLetter(**kept)
+
+
+def readings_from(lines: list[Any], crowd: int, code_lines: list[int]) -> Readings:
+    return Readings(tuple(map(read_line_from, lines)), crowd, tuple(code_lines))
+
+
+def read_line_from(kept: dict[str, Any]) -> ReadLine:
+    near = kept["near"] and Near(**kept["near"])
+    values: dict[str, Any] = kept | {"on_roll": tuple(kept["on_roll"]), "real": tuple(kept["real"]), "near": near}
+    return ReadLine(**values)
 
 
 def because_from(kept: Any) -> Because | None:

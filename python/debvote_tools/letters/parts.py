@@ -38,6 +38,7 @@ BOUNDARY = re.compile(r"[\w'()+,./:=? -]{0,69}[\w'()+,./:=?-]", re.ASCII)
 
 AS_IT_STANDS = ("", "7bit", "8bit", "binary")
 QUOTED_PRINTABLE = re.compile(rb"[^=]*+(?:=(?:[0-9A-Fa-f]{2}|\r?(?:\n|\Z))[^=]*+)*")
+SOFT_END = re.compile(rb"=(?:\r?\n)?\Z")
 LINE_END = re.compile(rb"(?<![ \t])[ \t]*+(?:\r?\n|\Z)")
 BASE64 = re.compile(rb"(?:[A-Za-z0-9+/]{4})*(?:[A-Za-z0-9+/]{2}==|[A-Za-z0-9+/]{3}=)?")
 
@@ -130,6 +131,11 @@ class Part:
         if depth < MAX_DEPTH:
             for part in self.inner:
                 yield from Part(part).walk(depth + 1, is_own=is_own and self.kind in CONTAINERS)
+
+    @property
+    def is_cut(self) -> bool:
+        """Whether its text ends in the middle of a line that its coding has in pieces."""
+        return self.coding == "quoted-printable" and SOFT_END.search(self.below) is not None
 
     @functools.cached_property
     def payload(self) -> bytes:

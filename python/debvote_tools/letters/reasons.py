@@ -38,6 +38,7 @@ class Reason(enum.Enum):
     ENCRYPTED = "it is encrypted"
     NO_PLAIN_TEXT = "it does not begin with plain text, and is not HTML alone"
     CHARSET = "its text is not plain text in the character set that it names: {charset}"
+    CUT = "its text ends in the middle of a line, so it may have been cut off"
     CONTROL = "it has a character that mail programs show in different ways: {character}"
     HTML = "it is HTML that may look different from its text: {element}"
     AUTOMATIC = "a program wrote it, as an out-of-office reply or a letter that came back"
@@ -119,6 +120,7 @@ FOR_ELECTOR = {
     Reason.ENCRYPTED: marked("The reason: it is encrypted, or packed so that it is not read."),
     Reason.NO_PLAIN_TEXT: marked("The reason: it does not begin with plain text, and attachments are not read."),
     Reason.CHARSET: marked("The reason: its charset is unknown. Send plain text in UTF-8."),
+    Reason.CUT: marked("The reason: the end of its text is missing. Send it again."),
     Reason.CONTROL: marked("The reason: nobody can tell where its lines end. Send plain text alone."),
     Reason.HTML: marked("The reason: it has formats (HTML) with which it may look different than it reads. Send plain text alone."),
     Reason.AUTOMATIC: marked("The reason: a program wrote it."),

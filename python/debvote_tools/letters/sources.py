@@ -7,6 +7,7 @@ import dataclasses
 import enum
 import pathlib
 import re
+from collections.abc import Sequence
 
 from debvote_tools.letters.parts import END_OF_HEAD, MAX_HEAD, MAX_LETTER, Part
 from debvote_tools.lines import MARK
@@ -29,8 +30,8 @@ START = re.compile(rb"(?:%b)?[\r\n]*(From [^\r\n]*\r?\n[\r\n]*)?" % MARK)
 FROM_LINE = re.compile(rb"(?im)^>?From [^\r\n]*(?:\r?\n|\Z)")
 DATED = re.compile(rb"From (?>[^\r\n]*?\b(?:Mon|Tue|Wed|Thu|Fri|Sat|Sun),* )(?:[^\r\n]* )?\d\d?:\d\d(?::\d\d)?\s")
 BARE = re.compile(rb"From (?:- ?)?\r?\n")
-# in bytes; of the empty line that ends a file so much may be missing
-MAX_MISSING = 2
+# in bytes; the longest empty line
+MAX_EMPTY = 2
 
 # how files begin that have no letters which this program reads, and what Outlook calls the parts of a letter
 OLE = b"\xd0\xcf\x11\xe0"
@@ -114,14 +115,15 @@ def letters_of_file(name: str, data: bytes) -> Source:
     """The letters of a file that was read whole.
 
     A letter is parted off if it has others in it, or may be text of the letter above it: no empty line is between, it is within the
-    Content-Length of a letter above, or the parts of that letter do not end. A Content-Length that goes beyond the end of the file
-    counts for no letter.
+    Content-Length of a letter above, or the parts of that letter do not end. Any sender can write a Content-Length, so one counts only
+    if it ends exactly where the file ends, or before a line with a date that parts letters.
     """
     kind = kind_not_read(data) or (None if are_letters(data) else NotRead.NO_LETTER)
     if kind is not None:
         return Source([], [PassedOver(name, kind)])
     found = Source([], [])
     parts = parts_of(data)
+    possible_ends = ends_of(parts)
     place, reach, is_ended = 0, 0, True
     for number, (above, letter, below) in enumerate(parts, start=1):
         where = f"{name}, message {number}" if len(parts) > 1 else name
@@ -132,11 +134,22 @@ def letters_of_file(name: str, data: bytes) -> Source:
         place += len(above + letter)
         read = Part(letter)
         lengths = [int(length[0]) for value in read.values("content-length") if (length := re.match(r"\d{1,15}", value))]
-        ends = [place - len(read.below) + length for length in lengths]
-        reach = max([reach, *(end for end in ends if end <= len(data) + MAX_MISSING)])
+        reach = max([reach, *possible_ends.intersection(place - len(read.below) + length for length in lengths)])
         is_ended = bool(below) and not read.is_open
         place += len(below)
     return found
+
+
+def ends_of(parts: Sequence[tuple[bytes, bytes, bytes]]) -> set[int]:
+    """Where the text of a letter may end in a file: before a line with a date, or where the file ends, each with the empty line or without
+    it. The last one may be missing.
+    """
+    place, ends = 0, set[int]()
+    for (above, letter, below), begins in zip(parts, [*(above for above, _, _ in parts[1:]), None]):
+        place += len(above) + len(letter) + len(below)
+        if begins is None or DATED.match(begins):
+            ends |= {place, place - len(below)}
+    return ends | {place + missing for missing in range(MAX_EMPTY + 1)}
 
 
 def letters_of_folder(folder: pathlib.Path) -> Source:

@@ -16,7 +16,8 @@ from debvote_tools.book.queries import Elector
 from debvote_tools.book.sent import About
 from debvote_tools.call.data import CallData
 from debvote_tools.language import Language, marked
-from debvote_tools.letters.readings import BALLOT, NAMED, Near, repaired
+from debvote_tools.letters.parse import Near
+from debvote_tools.letters.readings import BALLOT, NAMED, repaired
 from debvote_tools.letters.reasons import Because, for_elector
 from debvote_tools.letters_out.message import one_line
 from debvote_tools.rendering import render_letter

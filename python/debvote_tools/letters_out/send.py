@@ -19,6 +19,10 @@ SUBMISSION, ENCRYPTED, LOOPBACK = 587, 465, 25
 
 SERVER = re.compile(r"(?:\[(?P<bracketed>[0-9A-Fa-f:.]+)\]|(?P<host>[A-Za-z0-9._-]+))(?::(?P<port>\d{1,5}))?", re.ASCII)
 
+# what a server answers to what it has done, and to what it does not do, now or ever. After any other answer, or a line that is none,
+# nobody knows to which command it answers
+DONE, NOT_DONE, NEVER = range(200, 300), range(400, 600), range(500, 600)
+
 # what a server says before it closes the connection
 CLOSING = 421
 
@@ -134,7 +138,7 @@ class Mailer:
         try:
             smtp = self.connection()
             code, reply = smtp.mail(self.sender)
-            is_sender_refused = code >= 400
+            is_sender_refused = code not in DONE
             if not is_sender_refused:
                 code, reply = smtp.rcpt(letter.address)
         except Fault as fault:
@@ -143,24 +147,27 @@ class Mailer:
             raise NotNow(reply_of(error)) from None
         if is_sender_refused or code == CLOSING:
             raise NotNow(shown(code, reply))
+        is_taken = False
         try:
-            if code < 400:
+            if code in DONE:
                 code, reply = smtp.data(data.replace(b"\n", b"\r\n"))
+                is_taken = code in DONE
         except smtplib.SMTPDataError as error:
+            # it did not let the letter begin
             code, reply = error.smtp_code, error.smtp_error
         except LOST as error:
             self.close()
             words = f"the connection was lost during the letter to {letter.address}: {reply_of(error)}"
             raise self.server.stops(words, "run the command again; it says what to do about this letter") from None
-        if code < 400:
+        if is_taken:
             return dataclasses.replace(letter, state=TAKEN, reply="")
-        if code == CLOSING:
+        if code == CLOSING or code not in NOT_DONE:
             self.close()
         else:
             # if the connection is lost here, the next letter gets a new one
             with contextlib.suppress(*LOST):
                 smtp.rset()
-        return dataclasses.replace(letter, state=REFUSED if code >= 500 else POSTPONED, reply=shown(code, reply))
+        return dataclasses.replace(letter, state=REFUSED if code in NEVER else POSTPONED, reply=shown(code, reply))
 
 
 def connected(server: Server) -> smtplib.SMTP:

@@ -2,7 +2,6 @@
 
 import argparse
 import pathlib
-import re
 import signal
 import sys
 import tomllib
@@ -22,10 +21,6 @@ from debvote_tools.sealed_poll import KEYS, REQUIRED, SealedPoll, poll_of
 from debvote_tools.secret.codes import CODE
 
 PROGRAM = "debvote-publish"
-
-# a line that has the shape of a ballot, and the beginning of one of a poll
-BALLOT = re.compile(rb"(?m)^[a-z0-9.-]{1,32} (?:-|\d\d?)(?:,(?:-|\d\d?))*\s*$")
-KEY = re.compile(rb"(?m)^\s*(?:%s)\s*=" % b"|".join(key.encode() for key in REQUIRED))
 
 
 class Arguments(Options):
@@ -58,7 +53,8 @@ def main(program_folder: pathlib.Path, words: Sequence[str] | None = None) -> in
     target_folder = pathlib.Path(arguments.target)
     console.prepare()
     try:
-        result_folder.demand_free(target_folder, can_replace=False)
+        if not result_folder.is_free(target_folder):
+            raise result_folder.in_use(target_folder, "an empty folder", "name another folder")
         publication = publication_of(arguments, program_folder)
         with result_folder.made(publication, target_folder, program_folder) as made:
             made.take_place(target_folder)
@@ -79,7 +75,7 @@ def publication_of(arguments: Arguments, program_folder: pathlib.Path) -> Public
     """Each file is read once, so that all commands read the same bytes."""
     poll_bytes = input_in(arguments.poll, POLL_LIMIT, "poll", Status.BAD_POLL)
     ballots = input_in(arguments.ballots, BALLOTS_LIMIT, "ballots", Status.BAD_BALLOTS)
-    demand_in_order(poll_bytes, ballots, arguments, Debvote(pathlib.Path(), program_folder))
+    demand_in_order(poll_bytes, arguments, Debvote(pathlib.Path(), program_folder))
     poll = sealed_of(poll_bytes, arguments.poll)
     if poll.secret and not all(map(CODE.fullmatch, poll.roll)):
         cure = "publish it from its election, with debvote-election publish"
@@ -103,8 +99,8 @@ def input_in(file: str, limit: int, kind: str, status: int) -> bytes:
         raise Fault(file, f"it can't be read ({error.strerror})", cure, status, "nothing was published") from None
 
 
-def demand_in_order(poll_bytes: bytes, ballots: bytes, arguments: Arguments, debvote: Debvote) -> None:
-    """Stops if debvote refuses the poll, and says so if one file is in the place of the other."""
+def demand_in_order(poll_bytes: bytes, arguments: Arguments, debvote: Debvote) -> None:
+    """Stops if debvote refuses the poll."""
     answer = debvote.run("count", "--poll", "/dev/stdin", "--ballots", "/dev/null", given=poll_bytes)
     if answer.text:
         return
@@ -112,10 +108,6 @@ def demand_in_order(poll_bytes: bytes, ballots: bytes, arguments: Arguments, deb
         raise other_format("the sheet of this debvote")
     said = answer.faults.strip().removeprefix("debvote: ")
     cure = f"debvote explain --poll {arguments.poll} says what to correct"
-    if 2 * len(BALLOT.findall(poll_bytes)) > poll_bytes.count(b"\n"):
-        said += ", since it is a ballot file"
-        swapped = f"the two files are swapped: give --poll {arguments.ballots} --ballots {arguments.poll}"
-        cure = swapped if KEY.search(ballots) else "give the poll"
     raise Fault(arguments.poll, said, cure, answer.status, "nothing was published")
 
 

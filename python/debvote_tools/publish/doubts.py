@@ -1,4 +1,4 @@
-"""What stops a publication until it is forced with a reason: the page then names each of these doubts."""
+"""What is doubtful about a result. The page names each doubt, and most stop a publication until it is forced with a reason."""
 
 import dataclasses
 import datetime
@@ -15,7 +15,9 @@ class Kind(enum.StrEnum):
     NO_BALLOT = "no ballot"
     MOSTLY_REFUSED = "mostly refused"
     NOT_CLOSED = "not closed"
+    CLOSED_EARLY = "closed early"
     LATE_LETTER = "late letter"
+    LETTERS_LEFT = "letters left"
     OTHER_CASTING_VOTE = "other casting vote"
 
 
@@ -23,9 +25,14 @@ FOR_SECRETARY = {
     Kind.NO_BALLOT: "no elector has a ballot that counts; check that these are the ballots of this poll",
     Kind.MOSTLY_REFUSED: "more than half of the lines are refused, {refused} of {lines}; debvote explain says why",
     Kind.NOT_CLOSED: "the vote is not closed; close it first",
+    Kind.CLOSED_EARLY: "the vote was closed at {closed}, before its announced end, {until}",
     Kind.LATE_LETTER: (
         "the ballot of letter {letter} is late, but the letter arrived at {arrival}, before the end and the close; to count it run "
         "debvote-election reopen --in-time {envelopes} --because TEXT"
+    ),
+    Kind.LETTERS_LEFT: (
+        "these letters arrived in time, and wait: {letters}; set aside what is no ballot (debvote-election held NUMBER --set-aside); if "
+        "one is a ballot, run debvote-election reopen --because TEXT, and add the mailbox once more"
     ),
     Kind.OTHER_CASTING_VOTE: (
         "an earlier publication has a casting vote for {option}; only one can be right, so find out which was given"
@@ -35,8 +42,14 @@ FOR_READERS = {
     Kind.NO_BALLOT: marked("No elector has a ballot that counts: nobody's vote has decided this."),
     Kind.MOSTLY_REFUSED: marked("More than half of the lines of the ballot file are refused: {refused} of {lines}."),
     Kind.NOT_CLOSED: marked("The vote was not closed when this page was made: more ballots may come in."),
+    Kind.CLOSED_EARLY: marked(
+        "The vote was closed at {closed}, before its announced end: one should have been able to vote until {until}."
+    ),
     Kind.LATE_LETTER: marked(
         "A letter arrived at {arrival}, before the end and the close, and was entered late, so that its ballot does not count."
+    ),
+    Kind.LETTERS_LEFT: marked(
+        "Letters that arrived before the end and the close, and of which nobody has decided whether they are ballots: {number}."
     ),
     Kind.OTHER_CASTING_VOTE: marked("An earlier result of this vote was published with another casting vote, for {option}."),
 }
@@ -49,10 +62,16 @@ IN_SECRET = FOR_READERS | {
 }
 
 
+# the places of a doubt that are times
+TIMES = ("arrival", "closed", "until")
+
+
 @dataclasses.dataclass(frozen=True)
 class Doubt:
     kind: Kind
     places: Mapping[str, Any]
+    # not so where an earlier act was forced although there was this doubt
+    stops: bool = True
 
     @classmethod
     def of(cls, kind: Kind, **places: str | int) -> "Doubt":
@@ -80,11 +99,10 @@ def doubts_about(sheet: Sheet) -> list[Doubt]:
 
 
 def sentences_of(found: Iterable[Doubt], language: Language, *, is_secret: bool) -> list[str]:
-    """The doubts for the readers, in plain text, each sentence once."""
-    said: dict[str, None] = {}
+    """The doubts for the readers, in plain text."""
+    said = []
     for doubt in found:
-        places = dict(doubt.places)
-        if "arrival" in places:
-            places["arrival"] = time_in_words(datetime.datetime.fromisoformat(places["arrival"]), language)
-        said[language.say((IN_SECRET if is_secret else FOR_READERS)[doubt.kind], **places)] = None
-    return list(said)
+        times = {key: datetime.datetime.fromisoformat(doubt.places[key]) for key in TIMES if key in doubt.places}
+        places = dict(doubt.places) | {key: time_in_words(time, language) for key, time in times.items()}
+        said.append(language.say((IN_SECRET if is_secret else FOR_READERS)[doubt.kind], **places))
+    return said

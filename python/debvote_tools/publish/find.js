@@ -6,18 +6,19 @@
   const DIGITS = 32;
   const CODE = /^[0-9a-f]{32}$/;
 
+  // each id of the page itself has a capital letter, and no elector's name has one
   const byId = (id) => document.getElementById(id);
   // the sentences, in the language of the page, with their places in braces; and how letters are spelled in a name on the roll
-  const words = JSON.parse(byId("find").dataset.words);
-  const letters = JSON.parse(byId("find").dataset.letters);
+  const words = JSON.parse(byId("Find").dataset.words);
+  const letters = JSON.parse(byId("Find").dataset.letters);
   const sentence = (key, places = {}) => words[key].replace(/\{([a-z]+)\}/g, (all, place) => places[place]);
-  const nameInput = byId("name");
+  const nameInput = byId("Name");
   // only in a secret vote; where codes are on the roll, they are typed as the name
-  const codeInput = byId("code");
+  const codeInput = byId("Code");
   // what was typed last; an answer to what was typed before is not shown
   let asked = 0;
 
-  const say = (...nodes) => byId("answer").replaceChildren(...nodes);
+  const say = (...nodes) => byId("Answer").replaceChildren(...nodes);
 
   function paragraph(...said) {
     const node = document.createElement("p");
@@ -33,7 +34,7 @@
   function nameOnRoll(realName) {
     const plain = spelled(spelled(realName.normalize("NFC").toLowerCase()).normalize("NFKD").replace(/\p{M}/gu, ""));
     const bare = (name) => name.replace(/^-+|-+$/g, "");
-    return bare(bare(plain.replace(/[^a-z0-9.-]+/g, "-")).slice(0, DIGITS));
+    return bare(bare(plain.replace(/[^a-z0-9]+/g, "-")).slice(0, DIGITS));
   }
 
   // A code without the gaps that it may be written with.
@@ -143,8 +144,8 @@
       if (event.key === "Enter") show();
     });
   }
-  byId("show").addEventListener("click", show);
-  byId("find").hidden = false;
+  byId("Show").addEventListener("click", show);
+  byId("Find").hidden = false;
   addEventListener("hashchange", showNamed);
   showNamed();
 })();

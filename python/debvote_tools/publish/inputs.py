@@ -81,6 +81,9 @@ class Done(enum.Enum):
     MOVED_UNKNOWN = marked(
         "The secretary went on with the book of this election on a computer or in a folder that did not know it yet."
     )
+    RESTORED = marked(
+        "The secretary says that the book of this election was restored from a copy, in which act {there} was the last."
+    )
     CLOCK = marked("The clock of the secretary's computer went back: the act before has a later time, {before}.")
 
 
@@ -180,6 +183,8 @@ class Publication:
     secret: SecretVote | None = None
     # whether the names on the roll are codes, and nobody has a list of them
     has_codes: bool = False
+    # the web address of the result, if it is known
+    at: str | None = None
 
     @property
     def has_aliases(self) -> bool:

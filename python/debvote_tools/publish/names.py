@@ -7,10 +7,4 @@ CLOSED, SEAL, LETTER = "closed.txt", "seal.txt", "letter.txt"
 PAGE, CHECKSUMS = "index.html", "SHA256SUMS"
 RECOUNT, SCRIPT, GUIDE = "recount.py", "recount.js", "READING-A-SHEET.md"
 
-# all that a published folder may have
-ALL = {
-    *(POLL, BALLOTS, LATE, SHEET, STANDING, DATA, TABLE, PICTURE, CLOSED, SEAL, LETTER, PAGE, CHECKSUMS),
-    *(RECOUNT, SCRIPT, GUIDE),
-}
-
 FILES = ["--poll", POLL, "--ballots", BALLOTS]

@@ -82,7 +82,7 @@ def page_of(publication: Publication, counted: Counted, doubts: list[Doubt], che
         checksums=checksums,
         # in a secret vote that of the close has the line of the seal, too
         sealed_checksum=sealed_checksum(publication.seal, publication.ballots) if publication.seal else None,
-        files={*checksums, names.LETTER, names.CHECKSUMS},
+        files={*checksums, names.CHECKSUMS, *([names.LETTER] if publication.chronicle is None else [])},
         casting="".join(f" {word}" for word in map(shlex.quote, publication.casting_words)),
         example=next(iter(standing), "NAME"),
         find_words=scripts.find_words(publication),

@@ -5,9 +5,11 @@
    has no line of the program, nor of recount.py. It needs no other file, and sends nothing. The
    page of a result has it for its button "Count again here", and nodejs runs it at a terminal:
 
-     nodejs recount.js count --poll FILE --ballots FILE [--casting NAME]
-     nodejs recount.js standing --poll FILE --ballots FILE
-     nodejs recount.js verify --poll FILE --ballots FILE --sheet FILE
+     nodejs - count --poll FILE --ballots FILE [--casting NAME] < recount.js
+     nodejs - standing --poll FILE --ballots FILE < recount.js
+     nodejs - verify --poll FILE --ballots FILE --sheet FILE < recount.js
+
+   By its name it runs too, unless a file package.json beside it says what else it is.
 
    To read how it counts, begin at "The poll" and end before "At a terminal".
 
@@ -49,6 +51,19 @@ const KEYS = {
   shown_options: orNothing(areAll(isText)), explanations: orNothing(areAll(isText)),
 };
 
+// those that debvote reads, in the order of its faults
+const READ = [
+  "title", "options", "ratios", "default", "quorum", "roll", "last_envelope", "wording",
+];
+
+/** The value of a text of JSON. No TOML has half of a surrogate pair. */
+function valueOf(text) {
+  return JSON.parse(text, (_, value) => {
+    if (isText(value) && /\p{Surrogate}/u.test(value)) throw new SyntaxError(text);
+    return value;
+  });
+}
+
 /** A value as plain form writes it. */
 function written(value) {
   if (Array.isArray(value)) return `[${value.map(written).join(", ")}]`;
@@ -61,7 +76,7 @@ function readPlain(text) {
   try {
     for (const line of text.split("\n").slice(0, -1)) {
       const at = line.indexOf(" = ");
-      values.set(line.slice(0, at), JSON.parse(line.slice(at + 3)));
+      values.set(line.slice(0, at), valueOf(line.slice(at + 3)));
     }
   } catch (error) {
     return null;
@@ -87,7 +102,8 @@ function readPoll(bytes) {
   const right = (isRight, words) => ask(isRight, "poll refused: " + words);
   right(values !== null, "not in plain form, as the poll.toml of a result is");
   const found = Object.fromEntries(Object.keys(KEYS).map((key) => [key, values.get(key)]));
-  for (const key of Object.keys(KEYS)) right(KEYS[key](found[key]), "key " + key);
+  const askFor = (keys) => keys.forEach((key) => right(KEYS[key](found[key]), "key " + key));
+  askFor(READ);
 
   const { title, options, ratios, quorum, roll, last_envelope: last, wording } = found;
   const isWithin = (number, least, most) => least <= number && number <= most;
@@ -110,6 +126,7 @@ function readPoll(bytes) {
   });
   right(last === undefined || isWithin(last, 0, MOST_LINES), "last envelope");
   right([undefined, "at_least", "more_than"].includes(wording), "wording");
+  askFor(Object.keys(KEYS).filter((key) => !READ.includes(key)));
   return {
     title, names, electors, ratios, quorum, last: last === undefined ? null : last,
     isMoreThan: wording === "more_than", isSecret: found.secret === true,
@@ -331,9 +348,9 @@ const COMMANDS = {
   standing: ["--poll", "--ballots"],
   verify: ["--poll", "--ballots", "--sheet"],
 };
-const USAGE = `usage: nodejs recount.js count --poll FILE --ballots FILE [--casting NAME]
-       nodejs recount.js standing --poll FILE --ballots FILE
-       nodejs recount.js verify --poll FILE --ballots FILE --sheet FILE`;
+const USAGE = `usage: nodejs - count --poll FILE --ballots FILE [--casting NAME] < recount.js
+       nodejs - standing --poll FILE --ballots FILE < recount.js
+       nodejs - verify --poll FILE --ballots FILE --sheet FILE < recount.js`;
 
 function flagsOf(command, words) {
   const known = Object.hasOwn(COMMANDS, command || "") ? COMMANDS[command] : [];
@@ -411,7 +428,9 @@ function main() {
   }
 }
 
-// read from a file, or from standard input
+// read from a file, or from standard input; a module has no `this`
 if (typeof require === "function" && typeof module === "object") {
   if (require.main === module || require.main === undefined) main();
+} else if (this === undefined) {
+  throw new Error("a package.json makes this a module: run it as nodejs - .. < recount.js");
 }

@@ -11,13 +11,13 @@ from debvote_tools.console import tell_aside
 from debvote_tools.debvote import Debvote
 from debvote_tools.faults import Fault, Status
 from debvote_tools.files import sha256_of, sync_folder, temporary_folder, write_public
-from debvote_tools.lines import CODE_WITHIN
 from debvote_tools.publish import names
 from debvote_tools.publish.counting import KEEP_FILES, Counted, ask_the_rest, count_files, demand_same
 from debvote_tools.publish.doubts import Doubt, doubts_about
 from debvote_tools.publish.inputs import Publication
 from debvote_tools.publish.page import page_of
 from debvote_tools.publish.result_letter import letter_of
+from debvote_tools.secret.codes import demand_no_code
 from debvote_tools.sheet import Sheet, result_json, sheet_in, votes_csv
 
 # of the programs and the guide: where the package has them, and where a checkout has them
@@ -39,6 +39,8 @@ class Made:
     doubts: list[Doubt]
     # of each file by its name
     checksums: dict[str, str]
+    # the letter of the result
+    letter: bytes
 
     def take_place(self, target_folder: pathlib.Path) -> None:
         """Moves the folder to its place, and removes a published folder that is there."""
@@ -62,17 +64,26 @@ def real_place(target_folder: pathlib.Path) -> pathlib.Path:
     return pathlib.Path(os.path.realpath(target_folder))
 
 
-def demand_free(target_folder: pathlib.Path, *, can_replace: bool) -> None:
-    """Stops unless the place is free, or has an empty folder or, if it may be replaced, a published one."""
+def is_free(target_folder: pathlib.Path) -> bool:
+    """Whether nothing is there, or an empty folder."""
     place = real_place(target_folder)
-    if not os.path.lexists(place):
-        return
-    there = set(os.listdir(place)) if place.is_dir() else {""}
-    is_published = names.CHECKSUMS in there and there <= names.ALL
-    if there and not (can_replace and is_published):
-        kind = "a published folder" if can_replace else "an empty folder"
-        cure = "name another folder"
-        raise Fault(target_folder, f"it exists already, and is not {kind}", cure, Status.BAD_WORDS, "nothing was published")
+    return not os.path.lexists(place) or (place.is_dir() and not os.listdir(place))
+
+
+def is_publication(folder: pathlib.Path, checksum: str) -> bool:
+    """Whether a folder has the SHA256SUMS of this checksum, and beside it only files that are as they stand there."""
+    try:
+        files = {file.name: sha256_of(file.read_bytes()) for file in folder.iterdir()}
+        if files.pop(names.CHECKSUMS, None) != checksum:
+            return False
+        listed = (folder / names.CHECKSUMS).read_text()
+    except OSError:
+        return False
+    return files.items() <= {name: found for found, name in (line.split("  ") for line in listed.splitlines())}.items()
+
+
+def in_use(target_folder: pathlib.Path, words: str, cure: str) -> Fault:
+    return Fault(target_folder, f"it exists already, and is not {words}", cure, Status.BAD_WORDS, "nothing was published")
 
 
 @contextlib.contextmanager
@@ -97,7 +108,8 @@ def fill(folder: pathlib.Path, publication: Publication, program_folder: pathlib
 
     def write(files: dict[str, bytes]) -> None:
         for name, data in files.items():
-            demand_no_code(name, data, publication)
+            if publication.secret is not None:
+                demand_no_code(name, data, publication.secret.codes, "nothing was published")
             write_public(folder / name, data)
             checksums[name] = sha256_of(data)
 
@@ -111,10 +123,13 @@ def fill(folder: pathlib.Path, publication: Publication, program_folder: pathlib
     demand_same(folder, publication.casting_words, answer.text, counted.standing_text)
     # each of these has checksums of those above
     write({names.PAGE: page_of(publication, counted, doubts, checksums)})
-    write({names.LETTER: letter_of(publication, sheet, checksums)})
     lines = (f"{checksum}  {name}\n" for name, checksum in sorted(checksums.items()))
     write({names.CHECKSUMS: "".join(lines).encode()})
-    return Made(folder, counted, doubts, checksums)
+    letter = letter_of(publication, sheet, doubts, checksums)
+    if publication.chronicle is None:
+        # two files have no other folder for it
+        write({names.LETTER: letter})
+    return Made(folder, counted, doubts, checksums, letter)
 
 
 def demand_publishable(publication: Publication, sheet: Sheet, sheet_text: str) -> list[Doubt]:
@@ -134,9 +149,10 @@ def demand_publishable(publication: Publication, sheet: Sheet, sheet_text: str) 
             raise Fault(None, words, KEEP_FILES, Status.DOUBT, "nothing was published")
         sheet = publication.secret.sheet
     doubts = [*doubts_about(sheet), *publication.doubts]
-    if doubts and publication.chronicle is not None and not publication.is_forced:
+    stopping = [doubt.for_secretary() for doubt in doubts if doubt.stops]
+    if stopping and publication.chronicle is not None and not publication.is_forced:
         cure = 'put it right, or publish as it is with --force --because "TEXT" (the result page says so)'
-        raise Fault(None, "; ".join(doubt.for_secretary() for doubt in doubts), cure, Status.DOUBT, "nothing was published")
+        raise Fault(None, "; ".join(stopping), cure, Status.DOUBT, "nothing was published")
     tell_aside(*(f"Note: {doubt.for_secretary()}; the result page says so" for doubt in doubts))
     return doubts
 
@@ -164,11 +180,3 @@ def further_files(publication: Publication, counted: Counted) -> dict[str, bytes
             raise Fault(places[0], f"{what} is missing", "install the package debvote again", Status.NOT_FOUND, None)
         files[name] = file.read_bytes()
     return {name: data for name, data in files.items() if data is not None}
-
-
-def demand_no_code(name: str, data: bytes, publication: Publication) -> None:
-    """Stops if a file would have the code of an elector: somebody may have given the list of codes as a text."""
-    codes = publication.secret.codes if publication.secret else frozenset[str]()
-    if codes and not codes.isdisjoint(code.decode() for code in CODE_WITHIN.findall(data)):
-        words = f"{name} would have the code of an elector in it"
-        raise Fault(None, words, "check the texts that you gave", Status.DOUBT, "nothing was published")

@@ -1,9 +1,11 @@
 """The letter of the result: what an elector compares with the web site, sent by a way that does not lead over it."""
 
-from collections.abc import Mapping
+from collections.abc import Iterable, Mapping
 
 from debvote_tools.call.data import OPTION
 from debvote_tools.language import Language, marked
+from debvote_tools.publish.done import told_acts
+from debvote_tools.publish.doubts import Doubt, sentences_of
 from debvote_tools.publish.inputs import CastingVote, Publication
 from debvote_tools.rendering import render_letter
 from debvote_tools.sheet import Sheet
@@ -13,19 +15,29 @@ WHOSE = marked('The secretary says that the casting vote was that of "{name}", g
 NOBODYS = marked("Those who publish this page do not say whose casting vote it was, or when it was given.")
 
 
-def letter_of(publication: Publication, sheet: Sheet, checksums: Mapping[str, str]) -> bytes:
-    """The letter, in plain text, with checksums of the files by their names."""
-    text = render_letter(
-        __package__,
-        "letter.txt",
-        publication.language,
-        title=publication.poll.name,
-        ended=outcome_in_words(publication, sheet),
-        casting=told_if_it_decides(publication, sheet),
-        is_of_call=publication.given_checksum is None,
-        checksums=checksums,
-    )
-    return text.encode()
+def letter_of(publication: Publication, sheet: Sheet, doubts: Iterable[Doubt], checksums: Mapping[str, str]) -> bytes:
+    """The letter for all, in plain text, with checksums of the files by their names."""
+    values = letter_values(publication, sheet, doubts, checksums)
+    return render_letter(__package__, "letter.txt", publication.language, elector=None, **values).encode()
+
+
+def letter_values(
+    publication: Publication, sheet: Sheet, doubts: Iterable[Doubt], checksums: Mapping[str, str]
+) -> dict[str, object]:
+    """What the letter for all says, and that to each elector."""
+    language, poll = publication.language, publication.poll
+    return {
+        "poll": poll,
+        "ended": outcome_in_words(publication, sheet),
+        "casting": told_if_it_decides(publication, sheet),
+        "at": publication.at,
+        "doubts": sentences_of(doubts, language, is_secret=poll.secret),
+        "because": publication.because,
+        "acts": told_acts(publication, language),
+        "checksums": checksums,
+        "is_of_call": publication.given_checksum is None,
+        "is_closed": publication.closed is not None,
+    }
 
 
 def outcome_in_words(publication: Publication, sheet: Sheet) -> str:

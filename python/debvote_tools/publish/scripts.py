@@ -63,14 +63,14 @@ COUNT_AGAIN = {
     "the_ballot": marked("the ballot of {elector}"),
     "the_ballots": marked("the ballots, which are not as many"),
     "poll_sum": marked("The checksum of the poll, as your letter of the call has to have it, is {sum}."),
-    "ballots_sum": marked("The checksum of the ballots, as the letter of the result has to have it, is {sum}."),
+    "ballots_sum": marked("The checksum of the ballots, as SHA256SUMS has to have it, is {sum}."),
     "sealed_sum": marked("The checksum of seal.txt and the ballots, as the letter of the close has to have it, is {sum}."),
     "sum_named": marked("This page names it too."),
     "sum_not_named": marked("This page does not name it: the files are others than those from which it was made."),
     "letter_same": marked("Yours is the same."),
     "letter_other": marked(
         "None of these is the checksum that you typed. If it is that of the poll or of the ballots, and typed right, your letter speaks "
-        "of other files: ask for them. If it is that of this page: no page can make its own."
+        "of other files: ask for them. If it is that of this page or of SHA256SUMS: no page can make these."
     ),
     "letter_digits": marked("A checksum has 64 digits, 0 to 9 and a to f, and you have typed {number}."),
     "no_sums": marked("This browser makes no checksums of a page that did not come by https. Compare them by the commands below."),

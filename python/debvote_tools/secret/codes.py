@@ -4,9 +4,11 @@ import csv
 import io
 import re
 import secrets
-from collections.abc import Iterable
+from collections.abc import Collection, Iterable
 from typing import NamedTuple
 
+from debvote_tools.faults import Fault, Status
+from debvote_tools.lines import CODE_WITHIN
 from debvote_tools.secret.aliases import alias_of
 
 # what a code and an alias look like
@@ -40,9 +42,10 @@ def new_code(name: str = "") -> str:
             return code
 
 
-def looks_like_code(text: str) -> bool:
-    """Whether a text is a code or an alias, also if it is typed with the gaps of a slip or in capitals."""
-    return CODE.fullmatch(re.sub(r"[\s-]", "", text).lower()) is not None
+def demand_no_code(name: str, data: bytes, codes: Collection[str], done: str) -> None:
+    """Stops if a file for everybody would have the code of an elector: somebody may have given the list of codes as a text."""
+    if codes and not {code.decode() for code in CODE_WITHIN.findall(data)}.isdisjoint(codes):
+        raise Fault(None, f"{name} would have the code of an elector in it", "check the texts that you gave", Status.DOUBT, done)
 
 
 def codes_csv(rows: Iterable[CodeRow]) -> bytes:

@@ -20,16 +20,16 @@ REMAINS = (
         "beforehand of an unusual order of many options, that ballot can be found."
     ),
     marked(
-        "Two electors who each have a name of their own cannot take the same ballot for theirs: an alias is made of the name. "
-        "So check whether the name on your slip is yours alone: one that could be somebody else's may be on two slips."
+        "If two slips have the same name, two electors take the same ballot for theirs, since an alias is made of the name. So check "
+        "whether the name on your slip is yours alone. Two names of which each gives the same alias take some 2^64 tries to find."
     ),
     marked(
         "Ballots come without the codes, so a code does not show who sent a ballot. Whoever votes in the name of another is found "
         "out where that elector looks."
     ),
     marked(
-        "Whoever runs the web site can show each reader a different folder: compare the checksum of ballots.txt with other "
-        "electors, or with one that the secretary sends by letter."
+        "Whoever runs the web site can show each reader a different folder: compare the checksum of SHA256SUMS with your letter of the "
+        "result."
     ),
     marked(
         "You cannot see here whether there is a person behind each alias: compare the number of electors with the list of members."

@@ -17,6 +17,8 @@ from debvote_tools.sealed_poll import read_plain
 
 def run(election: Election, arguments: Arguments) -> None:
     demand_words(arguments)
+    if not arguments.look:
+        acting.book_for_act(election, arguments)
     vote = Vote(election, election.history())
     found = came.read_files(election, arguments.files, is_table=arguments.csv)
     if came.are_all_letters(found):
@@ -50,10 +52,9 @@ def take_lines(election: Election, vote: Vote, came_files: Sequence[CameFile], a
         columns = columns_of(arguments.name, arguments.ranks, poll, names, is_blank_unranked=blank)
     files = adding.read_lines(vote, came_files, columns, arguments)
     if arguments.look:
-        acting.tell_strangeness(election.book)
         adding.look(election, vote, files, arguments)
         return
-    plan = adding.add(election, acting.book_for_act(election, arguments), vote, files, arguments)
+    plan = adding.add(election, election.book, vote, files, arguments)
     if plan.openness.is_closed:
         tell(f"Next: {election.command('count')}")
         return

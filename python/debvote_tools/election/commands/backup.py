@@ -14,8 +14,7 @@ class Arguments(Options):
 
 
 def run(election: Election, arguments: Arguments) -> None:
-    book, target = election.book, pathlib.Path(arguments.file)
-    acting.tell_strangeness(book)
+    book, target = acting.whole_book(election), pathlib.Path(arguments.file)
     if target.exists():
         raise Fault(target, "it exists already", "name a new file", Status.BAD_WORDS, "nothing was written")
     election.demand_private(target)

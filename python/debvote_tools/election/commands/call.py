@@ -1,18 +1,21 @@
 """Make the call for votes, a page and a letter; from then on the poll cannot change."""
 
 import pathlib
+from collections.abc import Sequence
 
 from debvote_tools import times
 from debvote_tools.arguments import flag, option
 from debvote_tools.book import queries
+from debvote_tools.book.queries import Elector
 from debvote_tools.book.acts import Detail
 from debvote_tools.book.book import NewAct
 from debvote_tools.call.data import CallData, demand_mail_address, demand_web_address
 from debvote_tools.call.files import call_files, extension_letter
 from debvote_tools.console import tell
 from debvote_tools.election import acting
+from debvote_tools.election.agreed_texts import agreed_texts, texts_of_poll
 from debvote_tools.election.publication import current_data, until_of
-from debvote_tools.election.commands.codes import SLIPS, write_slips
+from debvote_tools.election.commands.codes import CODES, SLIPS, write_slips
 from debvote_tools.election.commands.roll import demand_read
 from debvote_tools.election.election import CALL, KEYRING, LETTERS, POLL, POLL_WITH_NAMES, PRIVATE, Election, History, Sealed
 from debvote_tools.election.made_files import OWN, PUBLIC, write_made
@@ -23,6 +26,7 @@ from debvote_tools.faults import Fault, Status, stop_at
 from debvote_tools.files import read_at_most
 from debvote_tools.letters.signatures import read_keyring
 from debvote_tools.secret.aliases import aliased_poll
+from debvote_tools.secret.codes import demand_no_code
 
 EXTENSION = "extension.txt"
 
@@ -48,11 +52,13 @@ class Arguments(acting.Arguments):
         "FILE", "Say in the call that letters must be signed, each with its elector's key in members.csv; this file has the keys"
     )
     take_back: bool = flag("Take the call back; possible until a ballot or a letter has come")
+    yes: bool = flag("In a secret vote: answer yes when asked whether everybody may read the texts of the options")
 
 
 def run(election: Election, arguments: Arguments) -> None:
+    acting.book_for_act(election, arguments)
     if arguments.take_back:
-        take_back(election, arguments)
+        take_back(election)
         return
     if election.history().call is None:
         call(election, arguments)
@@ -64,8 +70,7 @@ def run(election: Election, arguments: Arguments) -> None:
 
 # ---------------------------------------------------------------- the acts
 def call(election: Election, arguments: Arguments) -> None:
-    said = announced(arguments, None)
-    book = acting.book_for_act(election, arguments)
+    said, book = announced(arguments, None), election.book
     history = election.history()
     demand_read(election, history)
     poll, sheet = checked_poll(election, deadline=said.get("until"), address=arguments.to)
@@ -83,12 +88,22 @@ def call(election: Election, arguments: Arguments) -> None:
     said.update({"quorum_votes": sheet.quorum, "signed": arguments.keyring is not None})
     keyring = keyring_in(election, arguments.keyring)
     data = current_data(election, history, said, Sealed(public, poll))
+    if poll.secret:
+        demand_no_codes(data, queries.electors(book))
+        said["agreed"] = agreed_texts(history, texts_of_poll(poll), is_agreed=arguments.yes, done="nothing was changed")
     with book.act("call", said, seen=history.last.number) as act:
         act.insert("sealed", name=POLL, data=public.as_bytes())
         if public != poll:
             act.insert("sealed", name=POLL_WITH_NAMES, data=poll.as_bytes())
         seal(act, data, keyring)
     tell_poll(poll, sheet)
+
+
+def demand_no_codes(data: CallData, electors: Sequence[Elector]) -> None:
+    """Stops if a text of the call has a code, of its elector or of the roll."""
+    codes = {elector.code or elector.name for elector in electors}
+    for name, content in call_files(data).items():
+        demand_no_code(name, content, codes, "nothing was changed")
 
 
 def call_again(election: Election, arguments: Arguments) -> None:
@@ -98,8 +113,7 @@ def call_again(election: Election, arguments: Arguments) -> None:
     history = election.history()
     said = announced(arguments, history.announced("zone"))
     is_act = bool(said) or arguments.keyring is not None
-    book = acting.book_for_act(election, arguments) if is_act else election.book
-    history = election.history()
+    book = election.book
     demand_no_change(election, history, arguments)
     if not is_act:
         return
@@ -122,9 +136,8 @@ def call_again(election: Election, arguments: Arguments) -> None:
             act.insert("sealed", name=f"{LETTERS}/{EXTENSION}", data=extension_letter(data).encode())
 
 
-def take_back(election: Election, arguments: Arguments) -> None:
-    book = acting.book_for_act(election, arguments)
-    history = election.history()
+def take_back(election: Election) -> None:
+    book, history = election.book, election.history()
     call_act = election.called(history)
     if history.closes:
         words = f"the vote was closed at {act_time(history.closes[0].time)}, and electors rely on the close"
@@ -132,12 +145,21 @@ def take_back(election: Election, arguments: Arguments) -> None:
     if queries.has_come(election.book, call_act.number):
         words = "ballots or letters have come, and electors rely on the call"
         raise Fault(None, words, "finish this vote, or hold it anew in another folder")
-    with book.act("take back", {"call": call_act.number}, seen=history.last.number):
-        pass
+    coded = queries.electors(book) if election.sealed().counted.secret else []
+    with book.act("take back", {"call": call_act.number, "codes": len(coded)}, seen=history.last.number) as act:
+        # whoever compares the roll of this call with that of the next would see the alias of each elector who is new
+        is_on_roll = history.has_codes_on_roll
+        lapsed = (one._replace(position=None) if is_on_roll else one._replace(code="", alias="") for one in coded)
+        queries.put_electors(act, lapsed)
     write_made(election.path(CALL), {}, PUBLIC, FILES)
     (election.path(LETTERS) / EXTENSION).unlink(missing_ok=True)
     tell("Took the call back. If anybody has seen it, tell them that it is void.")
-    tell(f"Next: put right what was wrong, then run {election.command('call')}")
+    first = "call"
+    if coded:
+        write_made(election.path(PRIVATE), {}, OWN, (SLIPS, CODES))
+        tell(f"All {len(coded)} codes are void, and their slips and table are removed: destroy what is printed.")
+        first = "roll" if history.has_codes_on_roll else "codes"
+    tell(f"Next: put right what was wrong, then run {election.command(first)}")
 
 
 def seal(act: NewAct, data: CallData, keyring: bytes | None) -> None:

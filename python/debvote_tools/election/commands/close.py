@@ -1,17 +1,20 @@
 """Close the vote; lines that are entered later are late, and do not count."""
 
 import collections
+import contextlib
+from collections.abc import Sequence
 
 from debvote_tools import times
 from debvote_tools.arguments import flag
 from debvote_tools.book import queries
 from debvote_tools.book.acts import Detail
-from debvote_tools.console import tell
+from debvote_tools.book.book import DoneAct, Overtaken
+from debvote_tools.console import is_terminal, is_yes, tell
 from debvote_tools.election import acting
-from debvote_tools.election.election import LETTERS, Election, Sealed
+from debvote_tools.election.election import LETTERS, Election, History, Sealed
 from debvote_tools.election.made_files import OWN, write_made
 from debvote_tools.election.reporting import act_time, count_of
-from debvote_tools.election.waiting import Arrived, waiting_letters
+from debvote_tools.election.waiting import Arrived, in_time, stopping, waiting_letters, why_they_stop
 from debvote_tools.election.publication import closing_letter
 from debvote_tools.faults import Fault, stop_at
 from debvote_tools.files import sha256_of
@@ -20,12 +23,20 @@ from debvote_tools.publish.names import CLOSED
 from debvote_tools.secret.aliases import aliased_ballots, seal_line, sealed_checksum
 
 
+# the question before the close, and how often it is tried if others enter ballots meanwhile
+ALL = "Is that all? It is if the mailbox was added just now, all paper is entered, and no desk is open."
+TRIES = 50
+
+
 class Arguments(acting.Arguments):
     early: bool = flag("Close before the end of the vote; the result page says so")
     force: bool = flag("With --because: close although letters wait that arrived in time; the result page says how many")
+    yes: bool = flag("Close without asking whether all ballots are in")
 
 
 def run(election: Election, arguments: Arguments) -> None:
+    acting.demand_writable(election)
+    acting.book_for_count(election, arguments)
     sealed = election.sealed()
     is_new = not election.history().is_closed
     if is_new:
@@ -55,12 +66,36 @@ def run(election: Election, arguments: Arguments) -> None:
 
 
 def close(election: Election, sealed: Sealed, arguments: Arguments) -> None:
-    book = acting.book_for_act(election, arguments)
-    acting.demand_whole(book)
+    """The act that closes the vote. It is asked once whether all is in; what busy desks enter meanwhile is closed, too."""
+    is_asked = is_terminal() and not arguments.yes
+    for tried in range(TRIES):
+        detail, history = what_is_closed(election, sealed, arguments)
+        if tried == 0:
+            tell(came_last(history, detail["lines"]))
+            if is_asked and not is_yes(ALL):
+                raise Fault(None, "you did not say that this is all", "enter what is missing, then run the command again")
+        with contextlib.suppress(Overtaken):
+            with election.book.act("close", detail, seen=history.last.number):
+                pass
+            return
+    raise Overtaken
+
+
+def came_last(history: History, lines: int) -> str:
+    """How many lines there are, and when the last ones came: who has put back a disk sees here what is missing."""
+    added, at_desks = last_time(history.named("letters", "add", "enter")), last_time(history.named("desk"))
+    return f"Until now {count_of(lines, 'line')} came in time. Added last: {added}. Entered last at a desk: {at_desks}."
+
+
+def last_time(acts: Sequence[DoneAct]) -> str:
+    return act_time(acts[-1].time) if acts else "never"
+
+
+def what_is_closed(election: Election, sealed: Sealed, arguments: Arguments) -> tuple[Detail, History]:
+    """What the act of the close keeps, and the acts that this was decided by. Stops at what stands against it."""
     history, now = election.history(), times.now()
     letters = waiting_letters(election, history)
-    in_time = [number for number, arrived in letters.items() if arrived is Arrived.IN_TIME]
-    counts = collections.Counter(letters.values())
+    left, stops, counts = in_time(letters), stopping(letters, history), collections.Counter(letters.values())
     faults, until = [], history.until
     is_early = until is not None and now < until
     if until is not None and is_early and not arguments.early:
@@ -68,19 +103,19 @@ def close(election: Election, sealed: Sealed, arguments: Arguments) -> None:
         words = f"the vote ends {times.time_in_words(until)}, and by the clock of this computer it is {here}"
         how = f"{election.command('close', '--early')} (the result page says so)"
         faults.append(Fault(None, words, f"close after that time, or now with {how}"))
-    if in_time and not (arguments.force and acting.has_reason(arguments.because)):
-        words = f"these letters arrived in time, and wait: {', '.join(map(str, in_time))}"
+    if stops and not (arguments.force and acting.has_reason(arguments.because)):
         look = f"look at them with {election.command('held')}"
         force = "or close anyway with --force --because TEXT (the result page says so)"
-        faults.append(Fault(None, words, f"add the mailbox once more, then {look}; {force}"))
+        faults.append(Fault(None, why_they_stop(stops), f"add the mailbox once more, then {look}; {force}"))
     stop_at(faults)
     detail = fixed(election, sealed)
-    detail.update({"waiting": len(in_time), "after_end": counts[Arrived.LATE], "before_call": counts[Arrived.BEFORE_THE_CALL]})
-    if in_time:
+    detail.update({"waiting": len(left), "after_end": counts[Arrived.LATE], "before_call": counts[Arrived.BEFORE_THE_CALL]})
+    if left:
+        detail["left"] = left
+    if stops:
         detail["because"] = acting.demand_reason(arguments.because, "--force")
     detail["early"] = is_early
-    with book.act("close", detail, seen=history.last.number):
-        pass
+    return detail, history
 
 
 def fixed(election: Election, sealed: Sealed) -> Detail:

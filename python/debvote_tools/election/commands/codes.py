@@ -28,6 +28,7 @@ class Arguments(acting.Arguments):
 
 
 def run(election: Election, arguments: Arguments) -> None:
+    acting.book_for_act(election, arguments)
     if election.history().call is None:
         poll, number = make_codes(election, arguments)
         tell(f"Made {count_of(number, 'code')}.")
@@ -54,8 +55,7 @@ def make_codes(election: Election, arguments: Arguments) -> tuple[SealedPoll, in
 
     Returns the poll as it would be sealed, and how many codes were made.
     """
-    book = acting.book_for_act(election, arguments)
-    history = election.history()
+    book, history = election.book, election.history()
     demand_read(election, history)
     poll, _ = checked_poll(election)
     if not poll.secret:
@@ -83,7 +83,8 @@ def make_codes(election: Election, arguments: Arguments) -> tuple[SealedPoll, in
 def write_slips(election: Election, history: History, poll: SealedPoll) -> None:
     """Makes the folder `private`, with what the call says if there is one. With codes on the roll the names are the codes."""
     is_on_roll = history.has_codes_on_roll
-    call = current_data(election, history) if history.call else CallData(election.language, poll, 0, has_codes_on_roll=is_on_roll)
+    unsaid = CallData(election.language, poll, 0, has_codes_on_roll=is_on_roll, has_lapsed_codes=history.has_lapsed_codes)
+    call = current_data(election, history) if history.call else unsaid
     rows = [
         CodeRow(name, who, " ".join(addresses), name if is_on_roll else code, alias)
         for _, name, _, who, addresses, _, code, alias in queries.electors(election.book)

@@ -3,11 +3,13 @@
 import shlex
 from collections.abc import Iterable
 
-from debvote_tools.arguments import Options, option
+from debvote_tools.arguments import flag, option
 from debvote_tools.book import queries
 from debvote_tools.console import tell_as_it_is, tell_aside
 from debvote_tools.debvote import casting_words
+from debvote_tools.election import acting
 from debvote_tools.election.election import Election, History, Sealed
+from debvote_tools.election.waiting import how_to_go_on, stopping, waiting_letters, why_they_stop
 from debvote_tools.faults import Fault, Status
 from debvote_tools.lines import ballot_file
 from debvote_tools.sealed_poll import SealedPoll
@@ -19,18 +21,25 @@ CASTING = (
 )
 
 
-class Arguments(Options):
+class Arguments(acting.Arguments):
     casting: str | None = option(*CASTING)
+    force: bool = flag("Count although letters wait that arrived in time")
 
 
 def run(election: Election, arguments: Arguments) -> int:
+    book = acting.book_for_count(election, arguments)
     sealed, history = election.sealed(), election.history()
     demand_countable(election, history, sealed)
     demand_option(sealed.counted, arguments.casting)
-    ballots = ballot_file(queries.lines_in_time(election.book))
+    stops = stopping(waiting_letters(election, history), history) if history.is_closed else []
+    if stops and not arguments.force:
+        cure = f"{how_to_go_on(election)}; or count without them with --force"
+        raise Fault(None, why_they_stop(stops), cure, done="nothing was counted")
+    ballots = ballot_file(queries.lines_in_time(book))
     answer = election.debvote.answer("count", sealed.counted.as_bytes(), ballots, *casting_words(arguments.casting))
     # the sheet alone, so that it can go into a file
     tell_as_it_is(answer.text)
+    tell_aside(*([f"Note: {why_they_stop(stops)}; they are in no count."] if stops else []))
     tell_aside(f"Next: {what_next(election, history, sheet_in(answer.text), arguments.casting)}")
     return answer.status
 

@@ -1,7 +1,9 @@
 """Enter ballots by hand, and print the reply to each; several desks can run at once, each in its own terminal."""
 
 import contextlib
+import functools
 import os
+import re
 import sys
 from collections.abc import Iterator
 from typing import NamedTuple
@@ -14,18 +16,21 @@ from debvote_tools.election import acting, in_time
 from debvote_tools.election.vote import JudgedLine, Vote, change_words, summary, would_words
 from debvote_tools.election.election import Election, History
 from debvote_tools.election.entering import electors_of, entered, too_long
-from debvote_tools.election.reporting import listed
 from debvote_tools.faults import Fault, Status
 from debvote_tools.files import BALLOTS_LIMIT
-from debvote_tools.lines import Line, lines_in, name_in
+from debvote_tools.lines import Line, lines_in
+from debvote_tools.plain_names import alike
+from debvote_tools.terminal_text import shown_text
 
 QUIT = b"q"
 NOTHING_CAST = "nothing was entered"
 
 # in bytes; what one read of a pipe brings at most
 READ = 65_536
-# how many names are listed that a typed name may begin
-MAX_NAMES = 5
+# a name as people type it, and ranks
+TYPED = re.compile(r"(.+?)\s+([\d-].*)")
+# how many names are listed to choose from
+MAX_NAMES = 9
 
 Arguments = in_time.Arguments
 
@@ -51,6 +56,11 @@ class Desk:
         self.replies: list[str] = []
         # the number of the next line that comes
         self.next_line = 1
+
+    @functools.cached_property
+    def texts(self) -> list[tuple[queries.Elector, str]]:
+        """The electors, each with what a part of a name is looked for in."""
+        return [(elector, f"{alike(elector.name)}\n{alike(elector.who)}") for elector in queries.electors(self.book)]
 
     def now(self, elector: int | None = None) -> Shown:
         """The state of the book by which a ballot of an elector is shown now."""
@@ -172,7 +182,11 @@ def ask_and_cast(desk: Desk, line: Line) -> bool:
     """Shows a ballot, and casts it on a yes. If another act changed what was shown, it asks again. Returns False at the end of the
     input.
     """
-    [read] = desk.vote.read([completed(desk.vote, line)])
+    meant = completed(desk, line)
+    if meant is None:
+        tell("It was not entered.")
+        return True
+    [read] = desk.vote.read([meant])
     [elector] = electors_of(desk.book, desk.vote, [read.as_entered])
     while True:
         # first what is in the book: if an envelope comes after this, it is found when the ballot is cast
@@ -191,24 +205,30 @@ def ask_and_cast(desk: Desk, line: Line) -> bool:
             tell("It was not entered: another command changed the election meanwhile. Now it looks like this:")
 
 
-def completed(vote: Vote, line: Line) -> Line:
-    """A line whose name was typed in part is completed if one name on the roll begins so; if several do, they are listed.
-
-    Codes are never completed, nor is the first word of several: the others would be left in the line.
+def completed(desk: Desk, line: Line) -> Line | None:
+    """A line with the name on the roll that was meant, if the typed words are parts of it or of the real name; of several electors one is
+    chosen by a number, or none. Codes are never looked for.
     """
-    name = name_in(line.repaired).decode("ascii")
-    if vote.has_codes or not name or name in vote.names_on_roll or not line.repaired.startswith(f"{name} ".encode()):
+    typed_line = TYPED.fullmatch(line.repaired.decode("utf-8", "replace"))
+    if desk.vote.has_codes or typed_line is None or typed_line[1] in desk.vote.names_on_roll:
         return line
-    words = line.repaired.split()
-    if len(words) > 2 and not words[1][:1].isdigit():
+    name, ranks = typed_line.groups()
+    words = [alike(word) for word in name.split()]
+    found = [elector for elector, text in desk.texts if all(word in text for word in words)]
+    if not found:
         return line
-    names = [other for other in vote.roll if other.startswith(name)]
-    if len(names) > 1:
-        tell(f"Several names begin with `{name}`: {listed(names, MAX_NAMES)}")
-    if len(names) != 1:
-        return line
-    tell(f"`{name}` was completed to `{names[0]}`")
-    full = names[0].encode() + line.repaired[len(name) :]
+    chosen = found[:MAX_NAMES]
+    if len(found) == 1:
+        tell(f"`{shown_text(name)}` was completed to `{found[0].name}`")
+    else:
+        tell(f"`{shown_text(name)}` is part of {len(found)} names:")
+        tell(*(f"  {place} {elector.name} ({shown_text(elector.who)})" for place, elector in enumerate(chosen, start=1)))
+        answer = typed("Type the number of one, or n for none: ") or b""
+        number = int(answer) if answer.strip().isdigit() else 0
+        chosen = chosen[number - 1 : number]
+        if not chosen:
+            return None
+    full = f"{chosen[0].name} {ranks}".encode()
     return Line(line.source, line.place, full, full, full)
 
 

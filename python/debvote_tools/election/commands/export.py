@@ -23,9 +23,7 @@ class Arguments(Options):
 
 
 def run(election: Election, arguments: Arguments) -> None:
-    book, target_folder = election.book, pathlib.Path(arguments.target_folder)
-    acting.tell_strangeness(book)
-    acting.demand_whole(book)
+    book, target_folder = acting.whole_book(election), pathlib.Path(arguments.target_folder)
     if os.path.lexists(target_folder):
         raise Fault(target_folder, "it exists already", "name a new folder", Status.BAD_WORDS, "nothing was written")
     election.demand_private(target_folder)

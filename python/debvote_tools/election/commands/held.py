@@ -30,6 +30,8 @@ class Arguments(acting.Arguments):
 
 def run(election: Election, arguments: Arguments) -> None:
     chosen = demand_words(arguments)
+    if chosen:
+        acting.book_for_act(election, arguments)
     # stops before the call
     vote = Vote(election, election.history())
     if arguments.enter is not None:
@@ -83,7 +85,7 @@ def chosen_letters(found: Sequence[JudgedLetter], numbers: Sequence[int]) -> lis
 
 def decide(election: Election, arguments: Arguments) -> None:
     """The act that sets letters aside, or has them wait again."""
-    book = acting.book_for_act(election, arguments)
+    book = election.book
     decided_at = book.last_number()
     chosen = chosen_letters(all_letters(election), arguments.numbers)
     if entered_before := [letter.number for letter in chosen if letter.outcome is Outcome.ENTERED]:
@@ -97,7 +99,7 @@ def decide(election: Election, arguments: Arguments) -> None:
 
 def enter(election: Election, vote: Vote, arguments: Arguments, lines: str) -> None:
     """The act that enters lines of a letter. The letter waits no longer once each elector who has a ballot in it has one entered."""
-    book = acting.book_for_act(election, arguments)
+    book = election.book
     history = election.history()
     [letter] = chosen_letters(all_letters(election), arguments.numbers)
     ballots, name = chosen_ballots(letter, lines), f"letter {letter.number}"

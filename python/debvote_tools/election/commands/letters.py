@@ -16,7 +16,7 @@ from debvote_tools.console import tell
 from debvote_tools.election import acting, letter_files
 from debvote_tools.election.election import LETTERS, Election
 from debvote_tools.election.letters_due import LettersDue
-from debvote_tools.election.reporting import count_of, listed
+from debvote_tools.election.reporting import act_time, count_of, listed
 from debvote_tools.faults import Fault, Status
 from debvote_tools.files import locked, uninterrupted
 from debvote_tools.letters_out import send
@@ -87,24 +87,27 @@ def report_printed(due: LettersDue, placed: Mapping[pathlib.Path, Sequence[SentL
 
 
 def report_sent(election: Election, due: LettersDue, tried: Sequence[SentLetter], cut_off: Sequence[SentLetter]) -> Status:
-    """Says what the server took, what it did not, and in which letters a run was cut off."""
+    """Says what the server took, what it did not, in which letters a run was cut off, and who is not reached since a server refused them."""
     if not tried and not cut_off:
         refused = ", ".join(due.elector(letter).name for letter in due.written if letter.state == REFUSED)
         but = f", except those that it has refused: {refused}" if refused else ""
         tell(f"There is no letter to send: the server has taken all that are due{but}.")
-        return Status.DONE
-    by_state = {state: [letter for letter in tried if letter.state == state] for state in (TAKEN, REFUSED, POSTPONED)}
-    tell(f"Sent {len(by_state[TAKEN])} of {count_of(len(tried), 'letter')}.")
-    for letter in (*by_state[REFUSED], *by_state[POSTPONED]):
-        tell(f"{letter.state.title()}: {due.elector(letter).name}, {letter.address}: {shown_text(letter.reply)}")
+    else:
+        tell(f"Sent {sum(letter.state == TAKEN for letter in tried)} of {count_of(len(tried), 'letter')}.")
+    refused_now = [letter for letter in tried if letter.state == REFUSED]
+    earlier = [letter for _, letter in sent.refused(election.book) if letter not in refused_now]
+    postponed = [letter for letter in tried if letter.state == POSTPONED]
+    for letter in (*refused_now, *earlier, *postponed):
+        when = "" if letter in tried else f", {letter.kind.removesuffix('s')} of {act_time(letter.time)}"
+        tell(f"{letter.state.title()}: {due.elector(letter).name}, {letter.address}: {shown_text(letter.reply)}{when}")
     send_again = ["letters", due.kind, "--send", "--server", "HOST"]
-    if by_state[POSTPONED]:
+    if postponed:
         tell(f"Next: in a quarter of an hour, send what was postponed: {election.command(*send_again)}")
     for letter in cut_off:
         name = due.elector(letter).name
         tell(f"A run was cut off in the letter to {name}, {letter.address}: the server may have it.")
         tell(f"Next: ask whether it came, or send it again: {election.command(*send_again, '--again', name)}")
-    return Status.DOUBT if cut_off or len(by_state[TAKEN]) < len(tried) else Status.DONE
+    return Status.DOUBT if cut_off or any(letter.state != TAKEN for letter in tried) else Status.DONE
 
 
 # ---------------------------------------------------------------- the words of the command line

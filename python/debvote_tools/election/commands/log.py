@@ -15,9 +15,8 @@ class Arguments(Options):
 
 
 def run(election: Election, arguments: Arguments) -> None:
-    acting.tell_strangeness(election.book)
     if arguments.check:
-        acting.demand_whole(election.book)
+        acting.whole_book(election)
     acts = election.history().acts
     if arguments.check:
         tell(f"The chain is whole: {count_of(len(acts), 'act')}, the last digest is {acts[-1].digest}")
@@ -26,7 +25,10 @@ def run(election: Election, arguments: Arguments) -> None:
     for before, act in itertools.pairwise([acts[0], *acts]):
         # the random line of a close stays in the book: with it few ballots can be guessed from the checksum
         detail = {key: value for key, value in act.detail.items() if key != "seal"}
-        lines += [f"{act.number} {act_time(act.time)} {act.name} {json.dumps(detail, ensure_ascii=False)}", f"  {act.digest}"]
-        if act.time < before.time:
+        lines += [
+            f"{act.number} {act_time(act.time)} {act.name} {json.dumps(detail, ensure_ascii=False)}",
+            f"  {act.digest} on {act.machine}",
+        ]
+        if act.went_back(before):
             lines.append("  the clock went back: the previous act has a later time")
     tell(*lines)

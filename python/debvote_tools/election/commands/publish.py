@@ -1,25 +1,35 @@
 """Make the folder of the result for a web site; without options, make the last one again."""
 
 import contextlib
+import dataclasses
+import itertools
+import os
 import pathlib
-from collections.abc import Iterator
+from collections.abc import Iterator, Sequence
 
 from debvote_tools import times
 from debvote_tools.arguments import flag, option, positional
-from debvote_tools.book.book import Overtaken
-from debvote_tools.console import is_terminal, is_yes, tell, tell_aside
+from debvote_tools.book.book import DoneAct, Overtaken
+from debvote_tools.console import tell
 from debvote_tools.debvote import casting_words
 from debvote_tools.election import acting
+from debvote_tools.election.agreed_texts import agreed_texts, demand_yes, texts_of_poll
 from debvote_tools.election.commands import count
-from debvote_tools.election.election import RESULT, Election
+from debvote_tools.election.election import LETTERS, RESULT, RESULT_LETTER, Election, History
+from debvote_tools.election.made_files import OWN, write_made
 from debvote_tools.election.publication import Words, detail_of, last_publication, publication_of
 from debvote_tools.election.reporting import act_time
+from debvote_tools.election.waiting import in_time, left, waiting_letters
 from debvote_tools.faults import Fault, Status
 from debvote_tools.files import locked
 from debvote_tools.language import LANGUAGES
 from debvote_tools.publish import result_folder
 from debvote_tools.publish.counting import Counted
+from debvote_tools.publish.doubts import Doubt, Kind
 from debvote_tools.publish.inputs import Publication, casting_vote_of, text_in
+from debvote_tools.publish.names import CHECKSUMS
+
+NOTHING_DONE = "nothing was published"
 
 
 class Arguments(acting.Arguments):
@@ -32,7 +42,10 @@ class Arguments(acting.Arguments):
         "The language of page and letter: de, en, es or fr (default: that of the election)",
         choices=sorted(LANGUAGES),
     )
-    force: bool = flag("With --because: publish although there are doubts; the page gives the doubts and the reason")
+    force: bool = flag(
+        "With --because: publish although there are doubts; the page gives the doubts and the reason. "
+        "Without other options: publish it once more although it differs from the last time"
+    )
     yes: bool = flag("In a secret vote: answer yes when asked whether the texts, or a comparison of two results, may be published")
     target: str | None = positional(
         "FOLDER", "The folder to make, in place of an earlier one (default: the folder result of the election)", nargs="?"
@@ -45,7 +58,9 @@ def run(election: Election, arguments: Arguments) -> int:
     as_before = "" if is_new else ", as it was published before; nothing was changed in the book"
     tell(counted.sheet.last_line, counted.verified, f"Made the folder {folder}{as_before}.")
     if counted.sheet.winner is not None:
-        tell(f"Next: put the folder {folder} on the web site as it is, then {election.command('letters', 'result')}")
+        letter = election.path(LETTERS) / RESULT_LETTER
+        send = f"send {letter} to all electors" if election.history().has_codes_on_roll else election.command("letters", "result")
+        tell(f"Next: put the folder {folder} on the web site as it is, then {send}")
     else:
         chosen = election.command("publish", *casting_words("NAME"), "--cast-by", "WHO", "--cast-on", "DATE")
         tell(f"Next: it is a tie: ask for the casting vote, and then give its option, its holder and its day: {chosen}")
@@ -58,21 +73,30 @@ def publish(election: Election, arguments: Arguments, target_folder: pathlib.Pat
     The folder is whole and counted before the act, and takes its place after the act. So a kill leaves no folder that the book does
     not know, and `publish` without options makes the folder of the last act again.
     """
-    result_folder.demand_free(target_folder, can_replace=True)
-    book = acting.book_for_act(election, arguments)
-    acting.demand_whole(book)
+    acting.demand_writable(election)
+    book = acting.book_for_count(election, arguments)
     history, sealed = election.history(), election.sealed()
     count.demand_countable(election, history, sealed)
     before, given = last_publication(history), words_of(arguments)
-    again = before if given == Words() else None
+    demand_place(target_folder, before)
+    again = before if given == Words(is_forced=arguments.force) else None
     words = given if again is None else Words(**again.detail["words"])
     count.demand_option(sealed.public, words.casting)
-    publication = publication_of(election, words)
-    if not arguments.yes:
-        demand_agreed(publication, is_again=again is not None)
+    waiting = in_time(waiting_letters(election, history)) if history.is_closed else []
+    publication = with_letters_left(publication_of(election, words), waiting, history)
+    if again is not None and any(doubt.stops and doubt.as_data() not in again.detail["doubts"] for doubt in publication.doubts):
+        # the reason of then is not one for what came since
+        publication = dataclasses.replace(publication, is_forced=False)
+    agreed = [] if publication.secret is None else agreed_in_secret(history, publication, is_agreed=arguments.yes)
     with result_folder.made(publication, target_folder, election.program_folder) as made:
         detail = detail_of(words, made.checksums, made.doubts, decides=made.counted.sheet.is_by_casting)
-        is_new = before is None or before.detail != detail
+        if waiting:
+            detail["left"] = waiting
+        is_new = before is None or dict(before.detail, agreed=agreed) != dict(detail, agreed=agreed)
+        if again is not None and is_new and not arguments.force:
+            raise would_differ(again)
+        if agreed:
+            detail["agreed"] = agreed
         with alone(election):
             if is_new:
                 with book.act("publish", detail, seen=history.last.number):
@@ -80,7 +104,39 @@ def publish(election: Election, arguments: Arguments, target_folder: pathlib.Pat
             elif book.last_number() != history.last.number:
                 raise Overtaken
             made.take_place(target_folder)
+            write_made(election.path(LETTERS), {RESULT_LETTER: made.letter}, OWN)
         return made.counted, is_new
+
+
+def demand_place(target_folder: pathlib.Path, last: DoneAct | None) -> None:
+    """Stops unless the place is free, or has what was published last: an earlier result, or that of another election, stays."""
+    place = result_folder.real_place(target_folder)
+    if result_folder.is_free(place) or (last and result_folder.is_publication(place, last.detail["checksums"][CHECKSUMS])):
+        return
+    named = next(one for one in (target_folder, place, pathlib.Path(RESULT)) if one.name not in ("", ".."))
+    others = (named.with_name(f"{named.name}-{number}") for number in itertools.count(2))
+    other = next(other for other in others if not os.path.lexists(other))
+    words = "what this election has published last, since its last close"
+    raise result_folder.in_use(target_folder, words, f"name another folder, as {other}: no result is replaced by a later one")
+
+
+def would_differ(last: DoneAct) -> Fault:
+    words = f"made again, the result would differ from the one that was published (act {last.number})"
+    why = "another version of a program makes it, or more was done since that the page tells"
+    cure = "leave it as it is; or publish it once more, with a letter of its own: --force"
+    return Fault(None, f"{words}: {why}", cure, Status.DOUBT, "nothing was published")
+
+
+def with_letters_left(publication: Publication, numbers: Sequence[int], history: History) -> Publication:
+    """The publication with a doubt about the letters that arrived in time and wait, but for those that the close tells. It stops unless
+    an earlier publication had it.
+    """
+    told = set(history.closes[-1].detail.get("left", [])) if history.closes else set[int]()
+    if not (found := [number for number in numbers if number not in told]):
+        return publication
+    places = {"number": len(found), "letters": ", ".join(map(str, found))}
+    doubt = Doubt(Kind.LETTERS_LEFT, places, stops=not left(history).issuperset(found))
+    return dataclasses.replace(publication, doubts=(*publication.doubts, doubt))
 
 
 @contextlib.contextmanager
@@ -114,34 +170,19 @@ def words_of(arguments: Arguments) -> Words:
     )
 
 
-def demand_agreed(publication: Publication, *, is_again: bool) -> None:
-    """Asks before a secret vote is published: about texts, unless they are those of last time, and what two results would show."""
-    if publication.secret is None:
-        return
-    texts = {} if is_again else texts_of(publication)
-    for where, text in texts.items():
-        tell_aside(f"{where}:", *(f"  {line}" for line in text.strip().split("\n")))
-    if texts:
-        demand_yes("May everybody read this?", "texts for the page may tell who voted what")
-    if publication.secret.compared:
+def agreed_in_secret(history: History, publication: Publication, *, is_agreed: bool) -> list[str]:
+    """Asks before a secret vote is published: about texts that are new, and about what two results would show."""
+    agreed = agreed_texts(history, texts_of(publication), is_agreed=is_agreed, done=NOTHING_DONE)
+    if publication.secret and publication.secret.compared and not is_agreed:
         words = f"a comparison with the earlier result shows how these voted: {', '.join(publication.secret.compared)}"
-        demand_yes(f"Publish it, although {words}?", words)
+        demand_yes(f"Publish it, although {words}?", words, NOTHING_DONE)
+    return agreed
 
 
 def texts_of(publication: Publication) -> dict[str, str]:
     """The texts that would be published, by where they are from."""
+    acts = publication.chronicle.acts if publication.chronicle else ()
     texts = {"--about": publication.about, "--because": publication.because}
     texts["--cast-by"] = publication.casting.by if publication.casting else None
-    acts = publication.chronicle.acts if publication.chronicle else ()
     texts |= {f"the reason for the act of {act_time(act.time)}": act.because for act in acts}
-    texts |= {f"texts/{number}.txt": text for number, text in enumerate(publication.poll.explanations, start=1)}
-    return {where: text for where, text in texts.items() if text is not None and text.strip()}
-
-
-def demand_yes(question: str, why: str) -> None:
-    """Asks at a terminal, and stops unless the answer is yes; elsewhere it stops."""
-    if not is_terminal():
-        cure = "check that this is all right, then repeat the command with --yes"
-        raise Fault(None, f"the vote is secret, and {why}", cure, done="nothing was published")
-    if not is_yes(f"The vote is secret. {question}"):
-        raise Fault(None, "you did not say yes", "put it right, then publish", done="nothing was published")
+    return texts_of_poll(publication.poll) | {where: text for where, text in texts.items() if text is not None}

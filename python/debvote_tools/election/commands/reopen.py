@@ -36,8 +36,8 @@ class Arguments(acting.Arguments):
 
 def run(election: Election, arguments: Arguments) -> None:
     because = acting.demand_reason(arguments.because, "reopen")
-    election.sealed()
     book = acting.book_for_act(election, arguments)
+    election.sealed()
     history = election.history()
     if not history.is_closed:
         raise Fault(None, "the vote is not closed", f"see {election.command('status')}")

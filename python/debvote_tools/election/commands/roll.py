@@ -1,7 +1,9 @@
 """Read the list of members, and give each elector a name on the roll."""
 
-from collections.abc import Sequence
+import operator
+import re
 
+from debvote_tools.addresses import address_key
 from debvote_tools.arguments import flag
 from debvote_tools.book import queries
 from debvote_tools.book.book import Book
@@ -9,11 +11,14 @@ from debvote_tools.call.data import is_mail_address
 from debvote_tools.console import is_terminal, is_yes, tell
 from debvote_tools.election import acting
 from debvote_tools.election.election import MEMBERS_FILE, Election, History
-from debvote_tools.election.members import Member, Roll, members_in, roll_of
+from debvote_tools.election.members import Member, Roll, members_in, roll_of, several
 from debvote_tools.election.reporting import count_of, listed
 from debvote_tools.faults import Fault, stop_at
-from debvote_tools.plain_names import alike
+from debvote_tools.plain_names import ELECTOR_LIMIT, alike, similar_names
 from debvote_tools.terminal_text import shown_text
+
+# `Eve & Dan`, `Eve und Dan`, `Eve/Dan`
+SEVERAL_PEOPLE = re.compile(r"\w ?[&+/] ?\w|\w (?:and|und|et) \w", re.IGNORECASE)
 
 # how many electors are printed: of more the list itself is easier to read
 MAX_SHOWN = 200
@@ -60,8 +65,8 @@ def demand_read(election: Election, history: History) -> None:
 
 def is_kept(book: Book, roll: Roll) -> bool:
     """Whether the book has these electors already, in this order."""
-    now = [(elector.name, elector.who, elector.addresses, elector.key) for elector in roll.electors]
-    return now == [(elector.name, elector.who, elector.addresses, elector.key) for elector in queries.electors(book)]
+    facts = operator.attrgetter("name", "who", "addresses", "key")
+    return list(map(facts, roll.electors)) == list(map(facts, queries.electors(book)))
 
 
 def keep_electors(book: Book, roll: Roll, seen: int) -> None:
@@ -87,30 +92,34 @@ def report(roll: Roll, *, has_all: bool) -> None:
     tell(*(f"  {elector.name}: {shown_text(elector.who)} {', '.join(elector.addresses)}".rstrip() for elector in shown))
     if len(shown) < len(electors):
         tell(f"  and {len(electors) - len(shown)} more (--all prints them)")
-    if proposed := sum(elector.is_proposed for elector in electors):
+    if proposed := [elector for elector in electors if elector.proposal]:
         how = f"To change a name, write it into a column `name` of {MEMBERS_FILE}, and run this again."
-        tell(f"{count_of(proposed, 'name was', 'names were')} proposed. {how}")
-    for address, sharing in roll.shared_addresses.items():
-        tell(f"Note: several electors have the address {address}: {names_of(sharing)}. Is that one person?")
-    for group in roll.alike_people:
-        tell(f"Note: these real names look alike: {names_of(group)}. Is that one person?")
-    if couples := roll.seeming_several:
-        tell(
-            f"Note: these look like several people, who have one ballot together: {named(couples)}. Give each a line of their own."
-        )
-    if without := [elector for elector in electors if not elector.addresses]:
-        tell(f"Without an address (letters in their names wait, letters to them are printed): {names_of(without)}")
-    if unusual := [elector for elector in electors if elector.addresses and not any(map(is_mail_address, elector.addresses))]:
-        tell(f"Without an address that every mail server takes (letters to them are printed): {names_of(unusual)}")
+        tell(f"{count_of(len(proposed), 'name was', 'names were')} proposed. {how}")
+    pairs = [(key, elector) for elector in electors for key in dict.fromkeys(map(address_key, elector.addresses))]
+    for sharing in several(pairs, lambda pair: pair[0]):
+        names = listed([elector.name for _, elector in sharing], MAX_SHOWN)
+        tell(f"Note: several electors have the address {sharing[0][0]}: {names}. Is that one person?")
+    for group in several(electors, lambda elector: alike(elector.who)):
+        names = listed([elector.name for elector in group], MAX_SHOWN)
+        tell(f"Note: these real names look alike: {names}. Is that one person?")
+    couples = "Note: these look like several people, who have one ballot together: {}. Give each a line of their own."
+    notes = {
+        f"Note: a name has at most {ELECTOR_LIMIT} characters, so these were cut: {{}}": [
+            elector.label for elector in proposed if not elector.name.startswith(elector.proposal)
+        ],
+        "Note: these names are easily mistaken for each other: {}": [
+            " and ".join(pair) for pair in similar_names(elector.name for elector in electors)
+        ],
+        couples: [elector.label for elector in electors if SEVERAL_PEOPLE.search(elector.who)],
+        "Without an address (letters in their names wait, letters to them are printed): {}": [
+            elector.name for elector in electors if not elector.addresses
+        ],
+        "Without an address that every mail server takes (letters to them are printed): {}": [
+            elector.name for elector in electors if elector.addresses and not any(map(is_mail_address, elector.addresses))
+        ],
+    }
+    tell(*(sentence.format(listed(names, MAX_SHOWN)) for sentence, names in notes.items() if names))
     tell(*(f"No longer on the list: {gone.name} ({shown_text(gone.who)})" for gone in roll.gone))
-
-
-def named(electors: Sequence[Member]) -> str:
-    return listed([elector.label for elector in electors], MAX_SHOWN)
-
-
-def names_of(electors: Sequence[Member]) -> str:
-    return listed([elector.name for elector in electors], MAX_SHOWN)
 
 
 def change_addresses(book: Book, roll: Roll, seen: int, *, is_agreed: bool) -> bool:

@@ -3,7 +3,7 @@
 from debvote_tools.arguments import Options, positional
 from debvote_tools.book import letters, queries, sent
 from debvote_tools.console import tell
-from debvote_tools.election import acting, letter_words, letters_in
+from debvote_tools.election import letter_words, letters_in
 from debvote_tools.election.vote import JudgedLine, Vote
 from debvote_tools.election.election import Election, History
 from debvote_tools.election.reporting import act_time
@@ -20,7 +20,6 @@ class Arguments(Options):
 def run(election: Election, arguments: Arguments) -> None:
     history = election.history()
     vote = Vote(election, history)
-    acting.tell_strangeness(election.book)
     elector = elector_named(election, vote, arguments.name)
     who = f": {shown_text(elector.who)} {', '.join(map(shown_text, elector.addresses))}".rstrip(": ")
     # nobody knows whose code it is

@@ -6,13 +6,12 @@ from typing import NamedTuple
 
 from debvote_tools import times
 from debvote_tools.arguments import Options, flag
-from debvote_tools.book import queries
+from debvote_tools.book import queries, sent
 from debvote_tools.console import shows, tell
 from debvote_tools.debvote import Finding, Findings, Totals
-from debvote_tools.election import acting
-from debvote_tools.election.election import Election, History, Stage
+from debvote_tools.election.election import LETTERS, RESULT_LETTER, Election, History, Stage
 from debvote_tools.election.reporting import act_time, count_of, quorum_words, wrapped
-from debvote_tools.election.waiting import waiting_letters
+from debvote_tools.election.waiting import Arrived, stopping, waiting_letters
 from debvote_tools.lines import ballot_file
 from debvote_tools.terminal_text import shown_line
 
@@ -40,9 +39,12 @@ class State(NamedTuple):
     refused: int
     late: int
     voters: int
-    # letters that wait for the secretary
+    # letters that wait for the secretary, and the numbers of those that stop `close`, `count` and `publish`
     waiting: int
+    stopping: list[int]
     without_ballot: list[str] | None
+    # the electors whose letters a mail server refused, and has taken none since
+    refused_letters: list[str]
     # the last one of the book
     act: int
     digest: str
@@ -67,7 +69,6 @@ def run(election: Election, arguments: Arguments) -> None:
     if arguments.json:
         tell(json.dumps(state._asdict(), ensure_ascii=False))
         return
-    acting.tell_strangeness(election.book)
     tell_stage(election, history)
     tell(f"Lines: {state.lines} ({state.valid} valid, {state.refused} refused)")
     if state.late:
@@ -81,6 +82,11 @@ def run(election: Election, arguments: Arguments) -> None:
     if state.waiting:
         wait = count_of(state.waiting, "letter waits", "letters wait")
         tell(f"{wait} until you have looked at them: {election.command('held')}")
+    if state.stopping:
+        stops = "count and publish stop" if history.is_closed else "close stops"
+        tell(f"These arrived in time, and {stops} while they wait: {', '.join(map(str, state.stopping))}")
+    if state.refused_letters:
+        tell(f"Refused by the mail server, and reached by no letter since: {', '.join(state.refused_letters)}")
     tell(f"Last act: {state.act}, digest {state.digest}", f"Next: {what_next(election, state)}")
 
 
@@ -90,13 +96,13 @@ def state_of(election: Election, history: History) -> tuple[State, list[Refused]
     With codes on the roll these are all refused lines.
     """
     lines: list[tuple[int, bytes]] = []
-    findings, waiting = NO_FINDINGS, 0
+    findings, waiting = NO_FINDINGS, dict[int, Arrived]()
     if history.call is None:
         roll = tuple(elector.name for elector in queries.electors(election.book))
     else:
         poll, lines = election.sealed().counted, queries.numbered_lines_in_time(election.book)
         findings, roll = election.debvote.findings(poll.as_bytes(), ballot_file(line for _, line in lines)), poll.roll
-        waiting = len(waiting_letters(election, history))
+        waiting = waiting_letters(election, history)
     refused = [Refused(*lines[finding.envelope - 1], finding) for finding in findings.refused]
     refused_numbers = {line.envelope for line in refused}
     # who has a line that debvote does not refuse has a ballot
@@ -111,8 +117,10 @@ def state_of(election: Election, history: History) -> tuple[State, list[Refused]
         refused=totals.refused,
         late=len(queries.late_lines(election.book)),
         voters=totals.voters,
-        waiting=waiting,
+        waiting=len(waiting),
+        stopping=stopping(waiting, history),
         without_ballot=None if has_codes else [name for name in roll if name not in voters],
+        refused_letters=[elector.name for elector, _ in sent.refused(election.book)],
         act=history.last.number,
         digest=history.last.digest,
     )
@@ -144,6 +152,13 @@ def what_next(election: Election, state: State) -> str:
     if state.stage is Stage.CALLED:
         add = f"{election.command('add', 'FILE')}, or {election.command('desk')}"
         return f"add the ballots as they come: {add}; when the vote is over: {election.command('close')}"
+    if state.stage is Stage.PUBLISHED and not state.stopping:
+        # where nobody knows whose each code is, no letter can be written to an elector
+        has_codes = state.without_ballot is None
+        send = (
+            f"send {election.path(LETTERS) / RESULT_LETTER} to all electors" if has_codes else election.command("letters", "result")
+        )
+        return f"put the published folder on the web site as it is, then {send}"
     return f"{election.command('count')}, then {election.command('publish')}"
 
 

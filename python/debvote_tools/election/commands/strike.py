@@ -25,8 +25,8 @@ class Arguments(acting.Arguments):
 
 def run(election: Election, arguments: Arguments) -> None:
     because = acting.demand_reason(arguments.because, "strike")
-    vote = Vote(election, election.history())
     book = acting.book_for_act(election, arguments)
+    vote = Vote(election, election.history())
     with book.act("strike", {"envelope": arguments.number, "because": because}) as act:
         envelope = demand_envelope(election, book, arguments.number)
         queries.strike_envelopes(act, [envelope.number])

@@ -47,8 +47,8 @@ class UndoPlan(NamedTuple):
 
 
 def run(election: Election, arguments: Arguments) -> None:
-    vote = Vote(election, election.history())
     book = acting.book_for_act(election, arguments)
+    vote = Vote(election, election.history())
     is_asked = is_terminal() and not arguments.yes
     undone = undo(election, book, vote, is_asked=is_asked)
     tell(f"Took back {undone.what}.", *consequences(vote, undone, None if is_asked else "no ballot is left"))
