@@ -74,6 +74,9 @@ class Read(MembersTest):
             "NOMBRE,apellidos,correo\nAda,L M,a@x": "Ada L M",
             "Nom;Mail\nAda L;a@x": "Ada L",
             "Nombre;Mail\nAda L;a@x": "Ada L",
+            "Name;E-Mail-Adresse\nAda L;a@x": "Ada L",
+            "Name,Email Address\nAda L,a@x": "Ada L",
+            "Nombre,Correo electrónico\nAda L,a@x": "Ada L",
         }.items():
             self.assert_rows(f"{text}\n", (2, "", who, "a@x"))
         # `name` has the names on the roll where something else has the real ones
@@ -205,25 +208,44 @@ class Rows(MembersTest):
         self.assert_faults(f"who,mail,name\nAda,,{'a' * 33}\n", (":2: ", "cannot be a name"))
 
     def test_a_row_with_semicolons_below_a_head_with_commas(self) -> None:
-        wanted = (":2: `Ada;ada@x` has a semicolon, and the header line has commas", "put a comma between the cells of this line too")
+        wanted = (
+            ":2: `Ada;ada@x` has a semicolon, and the header line has commas",
+            "put a comma between the cells of this line too",
+        )
         self.assert_faults("who,mail\nAda;ada@x\nBen,ben@x\n", wanted)
         self.assert_faults("who,mail,name\nAda,ada@x,ada;b\n", ("`ada;b` has a semicolon",), ("`ada;b` cannot be a name",))
         # several addresses
         self.assert_rows("who,mail\nAda,ada@x;a@x\n", (2, "", "Ada", "ada@x a@x"))
-        self.assert_rows("who;mail\n\"Ada; the first\";ada@x\n", (2, "", "Ada; the first", "ada@x"))
+        self.assert_rows('who;mail\n"Ada; the first";ada@x\n', (2, "", "Ada; the first", "ada@x"))
 
     def test_a_sum_below_the_members(self) -> None:
-        for row in ("Total,", "TOTAL: 3,", "Summe,3", ",Insgesamt", "Gesamtsumme = 3,", "Somme : 3,", "Suma 3,", "Subtotal,", "Anzahl: 1.000,"):
+        for row in (
+            "Total,",
+            "TOTAL: 3,",
+            "Summe,3",
+            ",Insgesamt",
+            "Gesamtsumme = 3,",
+            "Somme : 3,",
+            "Suma 3,",
+            "Subtotal,",
+            "Anzahl: 1.000,",
+        ):
             with self.subTest(row=row):
                 first = next(filter(None, row.split(",")))
                 self.assert_faults(f"who,mail\nAda,ada@x\n{row}\n", (f":3: `{first}` is a sum and no member; take the line out",))
         self.assert_faults("nr,who,mail\n1,Ada,a@x\nTotal,1,\n", (":3: `Total` is a sum",))
-        self.assert_rows("who,mail\nAnna Total,\nSumm,\nSuma,s@x\n", (2, "", "Anna Total", ""), (3, "", "Summ", ""), (4, "", "Suma", "s@x"))
+        self.assert_rows(
+            "who,mail\nAnna Total,\nSumm,\nSuma,s@x\n", (2, "", "Anna Total", ""), (3, "", "Summ", ""), (4, "", "Suma", "s@x")
+        )
 
     def test_characters_that_were_lost(self) -> None:
-        self.assert_faults("who,mail\nZo\ufffd,z@x\n", (":2: `Zo\ufffd` has lost a character when it was saved (U+FFFD); write the ",))
+        self.assert_faults(
+            "who,mail\nZo\ufffd,z@x\n", (":2: `Zo\ufffd` has lost a character when it was saved (U+FFFD); write the ",)
+        )
         for end in (b"\n", b"\r\n", b"\r"):
-            self.assert_faults(b"who,mail%bAda,%bZo\xeb,z@x%b" % (end, end, end), ("members.csv:3: it is not in UTF-8", "Zo\u00eb,z@x"))
+            self.assert_faults(
+                b"who,mail%bAda,%bZo\xeb,z@x%b" % (end, end, end), ("members.csv:3: it is not in UTF-8", "Zo\u00eb,z@x")
+            )
             self.assert_faults(b"who,mail%bAda,%bZo\x81,z@x%b" % (end, end, end), ("members.csv:3: it is not in UTF-8",))
 
     def test_a_cell_that_is_cut_by_its_comma(self) -> None:

@@ -23,7 +23,7 @@ HEADS = {
         *("who", "vorname nachname", "vorname name", "firstname lastname", "prenom nom", "nombre apellidos"),
         *("name", "nom", "nombre"),
     ),
-    "mail": ("mail", "email", "courriel", "correo"),
+    "mail": ("mail", "email", "emailadresse", "emailaddress", "courriel", "correo", "correoelectronico"),
     "name": ("name",),
     "key": ("key",),
 }
