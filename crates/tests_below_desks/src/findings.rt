@@ -4,8 +4,8 @@
 use crate::same::assert_same;
 use std::alloc::{AllocError, Global};
 use std::test::Fail;
-use vote_poll::{PollFault, PollKey};
 use vote_explain_poll::explain_poll;
+use vote_poll::{PollFault, PollKey};
 
 /// A poll with faults, and with keys that are not read.
 const FAULTY: &str =
