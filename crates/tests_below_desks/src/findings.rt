@@ -4,8 +4,8 @@
 use crate::same::assert_same;
 use std::alloc::{AllocError, Global};
 use std::test::Fail;
-use vote_poll::{PollFault, PollKey};
 use vote_explain_poll::explain_poll;
+use vote_poll::{PollFault, PollKey};
 
 /// A poll with faults, and with keys that are not read.
 const FAULTY: &str =
@@ -14,8 +14,8 @@ const FAULTY: &str =
 /// The findings in it.
 const FINDINGS: &str = "poll: key title: an integer; a text is wanted\n\
     poll: key roll: it is missing above all tables, and is in [more]; a list of texts is wanted\n\
-    poll: name of option 2: \"B \" ends with a space; an option's name has 1 to 40 characters of ASCII, no space at either end, and no other option has it\n\
-    poll: name of option 3: \"A\" is option 1 too; an option's name has 1 to 40 characters of ASCII, no space at either end, and no other option has it\n\
+    poll: name of option 2: \"B \" ends with a space; an option's name has 1 to 40 printable characters of ASCII, no space at either end, and no other option has it\n\
+    poll: name of option 3: \"A\" is option 1 too; an option's name has 1 to 40 printable characters of ASCII, no space at either end, and no other option has it\n\
     poll: ratios: 12 for option 2; a ratio is a whole number from 1 to 10\n\
     poll: quorum: 11 found; a quorum is a whole number from 0 to 10: how many times Q is needed, half the square root of the number of electors\n\
     poll: wording: \"most\" found; a wording is at_least or more_than\n\

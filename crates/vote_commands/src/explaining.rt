@@ -11,9 +11,9 @@ use crate::output::{RunText, write_run};
 use crate::reading::lines_of_file;
 use std::alloc::{AllocError, Global};
 use vote_explain_ballots::{Explained, explain_ballots};
+use vote_explain_poll::{ExplainedPoll, explain_poll};
 use vote_files::Sink;
 use vote_poll::{Lines, Poll};
-use vote_explain_poll::{ExplainedPoll, explain_poll};
 use vote_sheet::check_text;
 
 /// How a run ends with these findings and this number of refused lines.

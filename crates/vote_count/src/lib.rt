@@ -52,6 +52,8 @@ pub use laws::{
 pub use options::{OptionSet, Word};
 pub use pairs::{Defeats, reach};
 pub use rounds::{Cause, Decision, Round, Verdict, decide, outcome};
-pub use rules::{meets_majority, meets_quorum, quorum_votes, schwartz, standing_options, times_q, weakest};
+pub use rules::{
+    meets_majority, meets_quorum, quorum_votes, schwartz, standing_options, times_q, weakest,
+};
 pub use running_matrix::RunningMatrix;
 pub use tally::{Matrix, recount};

@@ -32,6 +32,7 @@ fn character_name(character: char) -> &'static str {
         '\u{201C}' => "left curly quote",
         '\u{201D}' => "right curly quote",
         '\u{201A}' | '\u{201E}' => "low curly quote",
+        '\u{201B}' | '\u{201F}' => "reversed curly quote",
         '\u{AB}' | '\u{BB}' | '\u{2039}' | '\u{203A}' => "angle quote",
         '\u{B4}' | '\u{2032}' | '\u{2033}' => "acute accent or prime",
         '\u{2026}' => "ellipsis",
@@ -76,10 +77,10 @@ fn push_number(text: &mut String, number: u32) -> Result<(), AllocError>
     let (a, b) = (digit(number, 0x10_0000), digit(number, 0x1_0000));
     let (c, d) = (digit(number, 0x1000), digit(number, 0x100));
     let (e, f) = (digit(number, 0x10), digit(number, 1));
-    if number > 0xFFFF {
-        push_hint(text, &[b'U', b'+', a, b, c, d, e, f])
-    } else {
-        push_hint(text, &[b'U', b'+', c, d, e, f])
+    match number {
+        0..=0xFFFF => push_hint(text, &[b'U', b'+', c, d, e, f]),
+        0x1_0000..=0xF_FFFF => push_hint(text, &[b'U', b'+', b, c, d, e, f]),
+        _ => push_hint(text, &[b'U', b'+', a, b, c, d, e, f]),
     }
 }
 

@@ -246,7 +246,10 @@ impl<'f> Hints<'f> {
             PollFault::Key(key) => self.push_key(words, key),
             PollFault::Title => {
                 push_shape(words, keys.title.unwrap_or(""), MAX_TITLE, false)?;
-                write!(words, "; a title has 1 to {MAX_TITLE} characters of ASCII")
+                write!(
+                    words,
+                    "; a title has 1 to {MAX_TITLE} printable characters of ASCII"
+                )
             }
             PollFault::OptionCount => write!(
                 words,
@@ -285,7 +288,7 @@ impl<'f> Hints<'f> {
         }
         write!(
             words,
-            "; an option's name has 1 to {MAX_OPTION_NAME} characters of ASCII, no space at either end, and no other option has it"
+            "; an option's name has 1 to {MAX_OPTION_NAME} printable characters of ASCII, no space at either end, and no other option has it"
         )
     }
 

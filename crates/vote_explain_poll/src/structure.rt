@@ -2,11 +2,15 @@
 
 use crate::syntax::first_line;
 
-/// What a line defines: the key before its `=`, or the name of a table in its brackets.
+/// What a line defines: the key before its `=`, without quotation marks, or the name of a table in its brackets.
 pub(crate) fn definition(line: &[u8]) -> &[u8] {
     let end = if line.starts_with(b"[") { b'#' } else { b'=' };
     let definition = line.split(|byte| *byte == end).next();
-    definition.unwrap_or(line).trim_ascii()
+    let definition = definition.unwrap_or(line).trim_ascii();
+    let unquoted = definition.strip_prefix(b"\"");
+    unquoted
+        .and_then(|key| key.strip_suffix(b"\""))
+        .unwrap_or(definition)
 }
 
 /// The marks around the text that begins here.
