@@ -381,7 +381,7 @@ fn memory_of_perform_on_explain(rt: HostRuntime) -> Result<(), Fail> {
         poll_name: None,
     };
     let findings =
-        "the ballot file comes from Windows: carriage returns end its lines of bad shape; take them out with tr -d '\\r' < 'my ballots' > 'my ballots'.new\nballots:1: bad rank count: 2 ranks, the poll has 4 options; 2 are missing: ask the elector\nballots:2: bad shape: column 11: carriage return; the line ends with the last rank\na ballot line of this poll: v0 1,2,3,4\n2 lines: 0 valid, 2 refused, 0 of them late; 0 of 9 electors have a ballot\n";
+        "the ballot file has carriage returns at the ends of its lines of bad shape, as on Windows: this can be mended with tr -d '\\r' < 'my ballots' > 'my ballots'.new\nballots:1: bad rank count: 2 ranks, the poll has 4 options\nballots:2: bad shape: column 11: carriage return; a ballot has a comma or its end there, or a second digit of the rank\na ballot line of this poll: v0 1,2,3,4\n2 lines: 0 valid, 2 refused, 0 of them late; 0 of 9 electors have a ballot\n";
     walk(&rt, rt.alloc(), &request, findings, Ended::Found)
 }
 
