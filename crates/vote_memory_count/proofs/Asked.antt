@@ -59,7 +59,7 @@ asked = request.Count (named (codes "poll")) (named (codes "ballots")) 1 None pu
 makes_request : AreArgsOf count_words asked
 makes_request = (no_fault, (rows, is_count, (has_poll, has_ballots, (omega arith, omega arith, (codes "1", has_desks, is_number, refl)), no_casting)))
 
-ask_for_sheet : (files : FilesInMemory) → AskForSheet (bytes_named files) count_words files.poll files.ballots None
+abbrev ask_for_sheet : (files : FilesInMemory) → AskForSheet (bytes_named files) count_words files.poll files.ballots None
 ask_for_sheet files = record {
   poll_name = named (codes "poll");
   ballots_name = named (codes "ballots");
