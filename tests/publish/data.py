@@ -414,7 +414,8 @@ def try_refused(page, count):
             demand(text == line_shown(count.lines[number - 1]), f"the text of line {number}: {text}")
         # a remark about the line is open
         found += [reference_checks.promised(count.poll, f"ballots:{number}: {cause}") for number in range(int(first), int(last or first) + 1)]
-    wanted = list(reference_checks.refusals(count.poll, count.lines, count.replies))
+    is_other = reference_checks.is_other_file(b"\n".join(count.lines))
+    wanted = list(reference_checks.refusals(count.poll, count.lines, count.replies, is_other))
     demand(found == wanted, f"refused lines {found[:3]} in place of {wanted[:3]}")
     demand(("No line was refused" in part) == (not wanted), "that no line was refused")
 
