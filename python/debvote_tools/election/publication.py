@@ -182,13 +182,11 @@ def doubts_of(book: Book, history: History, poll: SealedPoll, casting: str | Non
 
 def late_letters_in_time(book: Book, history: History) -> list[Doubt]:
     """A doubt for each letter that arrived before the end and the first close, and whose ballot is late and was not entered again."""
-    counting = {envelope.line: envelope.number for envelope in queries.envelopes(book, queries.IN_TIME)}
-    late = [
-        envelope
-        for envelope in queries.envelopes(book, f"{queries.LATE} AND letter IS NOT NULL")
-        if counting.get(envelope.line, 0) < envelope.number
-    ]
-    if not late or not history.closes:
+    late = queries.envelopes(book, f"{queries.LATE} AND letter IS NOT NULL") if history.closes else []
+    if late:
+        counting = {line: number for number, line in queries.numbered_lines_in_time(book)}
+        late = [envelope for envelope in late if counting.get(envelope.line, 0) < envelope.number]
+    if not late:
         return []
     last = min(time for time in (history.closes[0].time, history.until) if time is not None)
     # the zone in which the end was announced
