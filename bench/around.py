@@ -83,7 +83,7 @@ def large_election(folder: pathlib.Path, path: str) -> Iterator[tuple[str, float
     ranks = ",".join(str(option + 1) for option in range(OPTIONS))
     first, second, *others = (f"{name} {ranks}\n" for name in names[:DESK_BALLOTS])
     # each act computes the digest of the act before it anew, and this one had all these lines
-    yield "the first desk after it", command([ELECTION, "desk"], room, path, given=first), 1
+    yield "the first desk after it", command([ELECTION, "desk"], room, path, given=first), 0.5
     one = command([ELECTION, "desk"], room, path, given=second)
     yield "a desk with one ballot", one, 0.5
     all_others = command([ELECTION, "desk"], room, path, given="".join(others))
