@@ -7,7 +7,7 @@ import shutil
 import subprocess
 from typing import NamedTuple
 
-from debvote_tools.faults import Fault, Status, other_format
+from debvote_tools.cli.faults import Fault, Status, other_format
 from debvote_tools.files import BALLOTS_LIMIT, LINES_LIMIT, OWN_FILES, POLL_LIMIT, in_memory
 
 
@@ -20,8 +20,9 @@ class Answer(NamedTuple):
 
 
 class Finding(NamedTuple):
-    """What `explain` says of a line: the number of its envelope, the word of `steps`, and what is wrong; the names on the roll that may have
-    been meant, and a remark on their ballots in other lines.
+    """What `explain` says of a line: the number of its envelope, the word of `steps`, and what is
+    wrong; the names on the roll that may have been meant, and a remark on their ballots in other
+    lines.
     """
 
     envelope: int
@@ -53,12 +54,14 @@ class Findings(NamedTuple):
 
 
 class Debvote:
-    """Runs debvote in a folder; the names of its files are relative to this folder. debvote may be in `program_folder`, beside the
-    program that runs it.
+    """Runs debvote in a folder; the names of its files are relative to this folder. debvote may be
+    in `program_folder`, beside the program that runs it.
     """
 
     def __init__(self, folder: pathlib.Path, program_folder: pathlib.Path | None = None) -> None:
-        path = (shutil.which("debvote", path=str(program_folder)) if program_folder else None) or shutil.which("debvote")
+        path = (
+            shutil.which("debvote", path=str(program_folder)) if program_folder else None
+        ) or shutil.which("debvote")
         if path is None:
             words = "the program is neither beside this one nor in the PATH"
             raise Fault("debvote", words, "install the package debvote", Status.NOT_FOUND, None)
@@ -72,25 +75,40 @@ class Debvote:
             cure = "mount /proc, then run the command again"
             raise Fault(OWN_FILES, reason, cure, Status.BAD_OUTPUT, "nothing was counted")
         try:
-            ended = subprocess.run([self.path, *words], cwd=self.folder, capture_output=True, input=given or b"")
+            ended = subprocess.run(
+                [self.path, *words], cwd=self.folder, capture_output=True, input=given or b""
+            )
         except OSError as error:
             done = "nothing was counted, and no file was changed"
             reason = f"it can't be started ({error.strerror})"
-            raise Fault(self.path, reason, "run the command again", Status.BAD_OUTPUT, done) from None
+            raise Fault(
+                self.path, reason, "run the command again", Status.BAD_OUTPUT, done
+            ) from None
         status = ended.returncode if ended.returncode >= 0 else 128 - ended.returncode
-        return Answer(ended.stdout.decode("ascii", "replace"), ended.stderr.decode("utf-8", "replace"), status)
+        return Answer(
+            ended.stdout.decode("ascii", "replace"), ended.stderr.decode("utf-8", "replace"), status
+        )
 
-    def answer(self, task: str, poll_bytes: bytes, ballots_bytes: bytes = b"", *words: str) -> Answer:
-        """What debvote writes about a poll and ballots in memory. Stops if it refuses them as a whole."""
+    def answer(
+        self, task: str, poll_bytes: bytes, ballots_bytes: bytes = b"", *words: str
+    ) -> Answer:
+        """What debvote writes about a poll and ballots in memory. Stops if it refuses them as a
+        whole.
+        """
         with in_memory(poll_bytes) as poll_path:
-            answer = self.run(task, "--poll", poll_path, "--ballots", "/dev/stdin", *words, given=ballots_bytes)
+            answer = self.run(
+                task, "--poll", poll_path, "--ballots", "/dev/stdin", *words, given=ballots_bytes
+            )
         if answer.text or not answer.faults:
             return answer
         raise refusal(answer)
 
     def replies(self, poll_bytes: bytes, ballots_bytes: bytes) -> list[str]:
         """The reply of the box to each line, that to line i at index i - 1."""
-        return [line.partition(" ")[2] for line in self.answer("steps", poll_bytes, ballots_bytes).text.splitlines()]
+        return [
+            line.partition(" ")[2]
+            for line in self.answer("steps", poll_bytes, ballots_bytes).text.splitlines()
+        ]
 
     def findings(self, poll_bytes: bytes, ballots_bytes: bytes) -> Findings:
         return findings_in(self.answer("explain", poll_bytes, ballots_bytes).text)
@@ -104,7 +122,9 @@ class Debvote:
 
 
 def refusal(answer: Answer) -> Fault:
-    said = answer.faults.strip().removeprefix("debvote: ") or f"it ended with status {answer.status}"
+    said = (
+        answer.faults.strip().removeprefix("debvote: ") or f"it ended with status {answer.status}"
+    )
     cures: dict[int, str] = {
         Status.BAD_POLL: f"a poll has at most {POLL_LIMIT} bytes; debvote-election check says what is wrong with it",
         Status.BAD_BALLOTS: f"debvote takes at most {LINES_LIMIT} lines and {BALLOTS_LIMIT} bytes of ballots: add fewer",
@@ -113,8 +133,8 @@ def refusal(answer: Answer) -> Fault:
 
 
 def casting_words(name: str | None) -> list[str]:
-    """The arguments for a casting vote. As an argument of its own, a name that begins with a hyphen would be read as another
-    option.
+    """The arguments for a casting vote. As an argument of its own, a name that begins with a hyphen
+    would be read as another option.
     """
     if name is None:
         return []
@@ -122,8 +142,12 @@ def casting_words(name: str | None) -> list[str]:
 
 
 FINDING = re.compile(r"ballots:(\d+): (late|bad shape|bad rank count|bad not on roll): (.*)")
-NEAR = re.compile(r"(?P<said>\S+ is not on the roll); did you mean (?P<near>\S+(?: or \S+)*)\?(?P<remark>.*)")
-TOTALS = re.compile(r"(\d+) lines: (\d+) valid, (\d+) refused, (\d+) of them late; (\d+) of (\d+) electors have a ballot")
+NEAR = re.compile(
+    r"(?P<said>\S+ is not on the roll); did you mean (?P<near>\S+(?: or \S+)*)\?(?P<remark>.*)"
+)
+TOTALS = re.compile(
+    r"(\d+) lines: (\d+) valid, (\d+) refused, (\d+) of them late; (\d+) of (\d+) electors have a ballot"
+)
 
 
 def findings_in(text: str) -> Findings:
@@ -131,14 +155,20 @@ def findings_in(text: str) -> Findings:
     totals = TOTALS.fullmatch(lines[-1]) if lines else None
     if totals is None:
         raise other_format("the list of findings of this debvote")
-    refused = [finding_in(int(parts[1]), parts[2], parts[3]) for parts in map(FINDING.fullmatch, lines) if parts]
+    refused = [
+        finding_in(int(parts[1]), parts[2], parts[3])
+        for parts in map(FINDING.fullmatch, lines)
+        if parts
+    ]
     return Findings(refused, Totals(*map(int, totals.groups())))
 
 
 def finding_in(envelope: int, word: str, hint: str) -> Finding:
     near = NEAR.fullmatch(hint)
     return (
-        Finding(envelope, word, hint) if near is None else Finding(envelope, word, near[1], tuple(near[2].split(" or ")), near[3])
+        Finding(envelope, word, hint)
+        if near is None
+        else Finding(envelope, word, near[1], tuple(near[2].split(" or ")), near[3])
     )
 
 

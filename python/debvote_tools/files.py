@@ -11,10 +11,11 @@ import tempfile
 from collections.abc import Iterator
 from typing import BinaryIO
 
-from debvote_tools.faults import Fault, Status
-from debvote_tools.terminal_text import number_of, odd_sign
+from debvote_tools.cli.faults import Fault, Status
+from debvote_tools.cli.terminal_text import number_of, odd_sign
 
-# in bytes and in lines; of a longer file a byte more is read, so that debvote says that it is too long
+# in bytes and in lines; of a longer file a byte more is read, so that debvote says that it is too
+# long
 POLL_LIMIT, BALLOTS_LIMIT, LINES_LIMIT = 1_048_576, 33_554_432, 100_000
 
 # in bytes; ten thousand members or electors, with a letter about each, are shorter
@@ -23,7 +24,8 @@ TABLE_LIMIT = 33_554_432
 # where a process has its open files by their numbers
 OWN_FILES = "/proc/self/fd"
 
-# how each temporary begins, and no file of anybody else: an editor puts its own beside a file, as `.poll.toml.swp`
+# how each temporary begins, and no file of anybody else: an editor puts its own beside a file, as
+# `.poll.toml.swp`
 TEMPORARY = ".debvote-"
 
 
@@ -48,14 +50,20 @@ def read_whole(file: pathlib.Path | str, limit: int, unread: str, then: str = ""
     except OSError as error:
         raise Fault(file, error.strerror, unread + then, Status.BAD_WORDS, None) from None
     if len(data) > limit:
-        raise Fault(file, f"it is longer than {limit} bytes", f"shorten it{then}", Status.BAD_WORDS, None)
+        raise Fault(
+            file, f"it is longer than {limit} bytes", f"shorten it{then}", Status.BAD_WORDS, None
+        )
     return data
 
 
-def file_text(data: bytes, file: pathlib.Path | str, empty: str, then: str = "", refused: str = "") -> str:
-    """The text of a file in UTF-8, without its byte-order mark and with a line feed at the end of each line.
+def file_text(
+    data: bytes, file: pathlib.Path | str, empty: str, then: str = "", refused: str = ""
+) -> str:
+    """The text of a file in UTF-8, without its byte-order mark and with a line feed at the end of
+    each line.
 
-    `empty` is the cure of an empty one; `then` follows each cure. Refused are characters that no plain text has, and these.
+    `empty` is the cure of an empty one; `then` follows each cure. Refused are characters that no
+    plain text has, and these.
     """
     try:
         text = data.decode().removeprefix("\ufeff").replace("\r\n", "\n")
@@ -83,7 +91,8 @@ def sync_folder(folder: pathlib.Path) -> None:
 
 
 def write_whole(file: pathlib.Path, data: bytes, mode: int) -> None:
-    """Writes a file with this mode, whole or not at all: a temporary beside it is brought to the disk, and takes its place.
+    """Writes a file with this mode, whole or not at all: a temporary beside it is brought to the
+    disk, and takes its place.
 
     Raises OSError, and then the file is as it was, unless the error is `Written`.
     """
@@ -105,13 +114,17 @@ def write_whole(file: pathlib.Path, data: bytes, mode: int) -> None:
 
 
 def temporary_folder(place: pathlib.Path) -> pathlib.Path:
-    """Makes a folder for files that are moved to this place once they are whole, or were moved away from it. Raises OSError."""
+    """Makes a folder for files that are moved to this place once they are whole, or were moved away
+    from it. Raises OSError.
+    """
     return pathlib.Path(tempfile.mkdtemp(prefix=TEMPORARY, dir=place))
 
 
 @contextlib.contextmanager
 def whole_folder(place: pathlib.Path) -> Iterator[pathlib.Path]:
-    """A new folder, which takes its place when all is in it; if that fails, nothing of it is left. Raises OSError."""
+    """A new folder, which takes its place when all is in it; if that fails, nothing of it is left.
+    Raises OSError.
+    """
     parent = place.absolute().parent
     made = temporary_folder(parent)
     try:
@@ -124,7 +137,9 @@ def whole_folder(place: pathlib.Path) -> Iterator[pathlib.Path]:
 
 
 def write_public(file: pathlib.Path, data: bytes) -> None:
-    """Writes a new file that everybody may read, whatever the umask, and brings it to the disk. Raises OSError."""
+    """Writes a new file that everybody may read, whatever the umask, and brings it to the disk.
+    Raises OSError.
+    """
     with open(file, "xb") as target:
         write_through(target, data, 0o644)
 
@@ -138,11 +153,16 @@ def write_through(target: BinaryIO, data: bytes, mode: int) -> None:
 
 @contextlib.contextmanager
 def locked(place: pathlib.Path, *, is_directory: bool = False) -> Iterator[None]:
-    """Holds the lock of a file, and waits for it; or of a folder, and raises BlockingIOError if another process has it.
+    """Holds the lock of a file, and waits for it; or of a folder, and raises BlockingIOError if
+    another process has it.
 
     The lock of a process that is killed is free.
     """
-    flags, how = (os.O_DIRECTORY, fcntl.LOCK_EX | fcntl.LOCK_NB) if is_directory else (os.O_RDWR | os.O_CREAT, fcntl.LOCK_EX)
+    flags, how = (
+        (os.O_DIRECTORY, fcntl.LOCK_EX | fcntl.LOCK_NB)
+        if is_directory
+        else (os.O_RDWR | os.O_CREAT, fcntl.LOCK_EX)
+    )
     handle = os.open(place, flags | os.O_CLOEXEC, 0o644)
     try:
         fcntl.flock(handle, how)
@@ -153,7 +173,9 @@ def locked(place: pathlib.Path, *, is_directory: bool = False) -> Iterator[None]
 
 @contextlib.contextmanager
 def in_memory(data: bytes) -> Iterator[str]:
-    """A file in memory, which other programs can read by this path while it lasts; a kill leaves nothing of it."""
+    """A file in memory, which other programs can read by this path while it lasts; a kill leaves
+    nothing of it.
+    """
     if not os.path.isdir(OWN_FILES):
         words = "it is missing, and programs get their input through it"
         raise Fault(OWN_FILES, words, "mount /proc, then run the command again", Status.BAD_OUTPUT)
@@ -171,7 +193,9 @@ def in_memory(data: bytes) -> Iterator[str]:
 @contextlib.contextmanager
 def uninterrupted() -> Iterator[None]:
     """Interrupts wait until this is done, so that whatever is done is also reported."""
-    before = signal.pthread_sigmask(signal.SIG_BLOCK, {signal.SIGINT, signal.SIGTERM, signal.SIGHUP})
+    before = signal.pthread_sigmask(
+        signal.SIG_BLOCK, {signal.SIGINT, signal.SIGTERM, signal.SIGHUP}
+    )
     try:
         yield
     finally:

@@ -19,7 +19,7 @@ import support
 
 from debvote_tools.book import chain, machine_note, queries
 from debvote_tools.book.book import open_book
-from debvote_tools.faults import Fault
+from debvote_tools.cli.faults import Fault
 
 FORMATS = support.ROOT / "docs" / "FORMATS.md"
 

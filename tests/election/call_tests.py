@@ -11,8 +11,8 @@ import support
 
 sys.path.insert(0, str(support.ROOT / "python"))
 
-from debvote_tools.sealed_poll import read_plain  # noqa: E402
-from debvote_tools.secret.aliases import alias_of  # noqa: E402
+from debvote_tools.poll.sealed_poll import read_plain  # noqa: E402
+from debvote_tools.poll.aliases import alias_of  # noqa: E402
 
 UNTIL = ("--until", "2026-12-04 18:00", "--zone", "Europe/Berlin")
 FIRST = "Friday, 4 December 2026, 18:00 (UTC+01:00)"

@@ -9,9 +9,9 @@ import support
 
 sys.path.insert(0, str(support.ROOT / "python"))
 
-from debvote_tools.election.csv_ballots import columns_of, lines_of_table  # noqa: E402
-from debvote_tools.faults import Fault, Status  # noqa: E402
-from debvote_tools.sealed_poll import SealedPoll  # noqa: E402
+from debvote_tools.inbox.csv_ballots import columns_of, lines_of_table  # noqa: E402
+from debvote_tools.cli.faults import Fault, Status  # noqa: E402
+from debvote_tools.poll.sealed_poll import SealedPoll  # noqa: E402
 
 ROLL = ["ada", "ben", "1"]
 SHOWN = ("Am See", "Im Rathaus Süd", "Keins")

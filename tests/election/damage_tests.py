@@ -13,7 +13,7 @@ import support
 
 from debvote_tools.book import letters, queries
 from debvote_tools.book.book import open_book
-from debvote_tools.faults import Fault
+from debvote_tools.cli.faults import Fault
 
 DAMAGES = int(os.environ.get("DEBVOTE_DAMAGES", "400"))
 # of each so many one is shown to the commands, too

@@ -13,10 +13,10 @@ import support
 
 sys.path.insert(0, str(support.ROOT / "python"))
 
-from debvote_tools.election import draft_poll  # noqa: E402
-from debvote_tools.election.draft_poll import DraftPoll, faults_when_sealed, sealed_form  # noqa: E402
-from debvote_tools.faults import Fault, Status  # noqa: E402
-from debvote_tools.sealed_poll import SealedPoll, read_plain  # noqa: E402
+from debvote_tools.poll import draft_poll  # noqa: E402
+from debvote_tools.poll.draft_poll import DraftPoll, faults_when_sealed, sealed_form  # noqa: E402
+from debvote_tools.cli.faults import Fault, Status  # noqa: E402
+from debvote_tools.poll.sealed_poll import SealedPoll, read_plain  # noqa: E402
 
 GERMAN = """title = "Wo wir uns im Frühling treffen"
 options = ["Am See", "Über der Brücke", "李"]

@@ -9,7 +9,7 @@ import support
 sys.path.insert(0, str(support.ROOT / "python"))
 
 from debvote_tools.book.queries import Elector  # noqa: E402
-from debvote_tools.election.members import Member, Roll, members_of, roll_of  # noqa: E402
+from debvote_tools.poll.members import Member, Roll, members_of, roll_of  # noqa: E402
 
 KEY = "0123456789ABCDEF0123456789ABCDEF01234567"
 KNOWN = [Elector(1, "ada", 1, "Ada L", ("a@x",)), Elector(2, "ben", 2, "Ben", ("b@x",), KEY), Elector(3, "zoe", 3, "Zoë", ())]

@@ -10,8 +10,8 @@ import support
 
 sys.path.insert(0, str(support.ROOT / "python"))
 
-from debvote_tools.election import members  # noqa: E402
-from debvote_tools.faults import Fault, Several, Status  # noqa: E402
+from debvote_tools.poll import members  # noqa: E402
+from debvote_tools.cli.faults import Fault, Several, Status  # noqa: E402
 from debvote_tools.files import TABLE_LIMIT  # noqa: E402
 
 KEY = "0123456789ABCDEF0123456789ABCDEF01234567"

@@ -8,8 +8,8 @@ import support
 
 sys.path.insert(0, str(support.ROOT / "python"))
 
-from debvote_tools import plain_names  # noqa: E402
-from debvote_tools.plain_names import (  # noqa: E402
+from debvote_tools.poll import plain_names  # noqa: E402
+from debvote_tools.poll.plain_names import (  # noqa: E402
     alike,
     bad_options,
     bad_title,

@@ -10,10 +10,10 @@ import unittest.mock
 
 sys.path.insert(0, str(pathlib.Path(__file__).resolve().parents[2] / "python"))
 
-from debvote_tools.election.in_time import demand_future, parse_until  # noqa: E402
-from debvote_tools.faults import Fault, Status  # noqa: E402
-from debvote_tools.language import language_of  # noqa: E402
-from debvote_tools.times import date_in_words, minute_in_words, now, time_in_words  # noqa: E402
+from debvote_tools.inbox.in_time import demand_future, parse_until  # noqa: E402
+from debvote_tools.cli.faults import Fault, Status  # noqa: E402
+from debvote_tools.text.language import language_of  # noqa: E402
+from debvote_tools.text.times import date_in_words, minute_in_words, now, time_in_words  # noqa: E402
 
 EXAMPLE = 'write it as "2026-12-04 18:00", as "2026-12-04 18:00\\+01:00" or in another form of ISO 8601, or with --zone Europe/Berlin'
 

@@ -11,7 +11,7 @@ import unittest
 
 from tests.support import forks, sentences
 
-from debvote_tools.language import catalog_of, language_of
+from debvote_tools.text.language import catalog_of, language_of
 
 ROOT = pathlib.Path(__file__).resolve().parents[2]
 PROGRAM = pathlib.Path(os.environ.get("DEBVOTE", ROOT / "crates" / "debvote" / "out" / "debvote"))

@@ -14,9 +14,9 @@ from tests.support import sentences
 
 sys.path.insert(0, str(support.ROOT / "python"))
 
-from debvote_tools.times import time_in_words  # noqa: E402
-from debvote_tools.language import LANGUAGES, catalog_of, language_of  # noqa: E402
-from debvote_tools.publish.page import share  # noqa: E402
+from debvote_tools.text.times import time_in_words  # noqa: E402
+from debvote_tools.text.language import LANGUAGES, catalog_of, language_of  # noqa: E402
+from debvote_tools.result.page import share  # noqa: E402
 
 MSGFMT = shutil.which("msgfmt")
 TAG = re.compile(r"<[^>]*>")

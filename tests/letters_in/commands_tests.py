@@ -19,9 +19,10 @@ import support  # noqa: E402
 from terminal import Terminal  # noqa: E402
 
 from debvote_tools.book.book import open_book  # noqa: E402
-from debvote_tools.election import command_line, letter_files  # noqa: E402
-from debvote_tools.election.commands import held  # noqa: E402
-from debvote_tools.letters import signatures  # noqa: E402
+from debvote_tools.cli import command_line  # noqa: E402
+from debvote_tools.outbox import letter_files  # noqa: E402
+from debvote_tools.commands import held  # noqa: E402
+from debvote_tools.inbox import signatures  # noqa: E402
 
 RANKS, OTHER = "1,2,4,3", "2,1,4,3"
 LAKE = "At the lake, then In the town hall, then Further discussion, then Sell the house and meet there"

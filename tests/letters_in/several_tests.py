@@ -4,9 +4,9 @@ import unittest
 
 from letters_support import OTHER_RANKS, RANKS, alternatives, at, judged, letter, lines_in, outcome, outcomes, parsed
 
-from debvote_tools.letters.circumstances import Ballot, Decision
-from debvote_tools.letters.judge import JudgedLetter, Outcome
-from debvote_tools.letters.parse import ParsedLetter
+from debvote_tools.inbox.circumstances import Ballot, Decision
+from debvote_tools.inbox.judge import JudgedLetter, Outcome
+from debvote_tools.inbox.parse import ParsedLetter
 
 BALLOT, OTHER = f"ada {RANKS}", f"ada {OTHER_RANKS}"
 

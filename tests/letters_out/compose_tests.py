@@ -8,15 +8,15 @@ from out_support import one_line, parsed
 
 from debvote_tools.book.queries import Elector
 from debvote_tools.book.sent import SentLetter
-from debvote_tools.call.data import CallData, is_mail_address
-from debvote_tools.language import LANGUAGES, language_of
-from debvote_tools.letters.parse import Near
-from debvote_tools.letters.reasons import Reason
-from debvote_tools.letters_out.compose import Became, Came, Composer, Kind, without_ballots
-from debvote_tools.letters_out.message import message_of, new_message_id, one_line as on_one_line
-from debvote_tools.publish import result_letter
-from debvote_tools.publish.inputs import CastingVote
-from debvote_tools.sealed_poll import SealedPoll
+from debvote_tools.poll.call_data import CallData, is_mail_address
+from debvote_tools.text.language import LANGUAGES, language_of
+from debvote_tools.inbox.parse import Near
+from debvote_tools.inbox.reasons import Reason
+from debvote_tools.outbox.compose import Became, Came, Composer, Kind, without_ballots
+from debvote_tools.outbox.message import message_of, new_message_id, one_line as on_one_line
+from debvote_tools.result import result_letter
+from debvote_tools.result.inputs import CastingVote
+from debvote_tools.poll.sealed_poll import SealedPoll
 
 TIME = datetime.datetime(2026, 11, 23, 10, tzinfo=datetime.UTC)
 POLL = SealedPoll("Spring", ("Lake", "Hall"), (1, 1), "None", 1, ("ada", "ben"))

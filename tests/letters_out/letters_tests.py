@@ -14,7 +14,7 @@ import support
 from letters_support import letter
 from out_support import AT, OTHER_RANKS, RANKS, TITLE, OutTest, one_line, parsed
 
-from debvote_tools.lines import changed
+from debvote_tools.inbox.lines import changed
 
 LAKE = "At the lake, then In the town hall, then Further discussion, then Sell the house and meet there"
 FORM = f"The page of the vote, which writes the line of your ballot for you, and on which the result will be: {AT} "

@@ -17,8 +17,8 @@ from letters_support import letter
 from out_support import OTHER_RANKS, RANKS, MailServer, PlainServer, SendTest, one_line, parsed
 
 from debvote_tools.book.sent import POSTPONED, REFUSED, TAKEN, SentLetter
-from debvote_tools.faults import Fault
-from debvote_tools.letters_out import send
+from debvote_tools.cli.faults import Fault
+from debvote_tools.outbox import send
 
 ALL = [f"{name}@club.example" for name in support.NAMES]
 

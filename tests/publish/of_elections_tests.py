@@ -22,14 +22,14 @@ sys.path.append(str(support.ROOT / "python"))
 
 from debvote_tools.book import letters, queries  # noqa: E402
 from debvote_tools.book.book import open_book  # noqa: E402
-from debvote_tools.election.commands import publish as command  # noqa: E402
-from debvote_tools.election.election import Election  # noqa: E402
-from debvote_tools.letters import parse  # noqa: E402
-from debvote_tools.letters.sources import RawLetter  # noqa: E402
-from debvote_tools.language import ENGLISH  # noqa: E402
-from debvote_tools.publish.done import told_acts  # noqa: E402
-from debvote_tools.publish.inputs import Act, Chronicle, Done, Publication  # noqa: E402
-from debvote_tools.publish.result_folder import Made  # noqa: E402
+from debvote_tools.commands import publish as command  # noqa: E402
+from debvote_tools.book.election import Election  # noqa: E402
+from debvote_tools.inbox import parse  # noqa: E402
+from debvote_tools.inbox.sources import RawLetter  # noqa: E402
+from debvote_tools.text.language import ENGLISH  # noqa: E402
+from debvote_tools.result.done import told_acts  # noqa: E402
+from debvote_tools.result.inputs import Act, Chronicle, Done, Publication  # noqa: E402
+from debvote_tools.result.result_folder import Made  # noqa: E402
 
 ELECTION = support.ROOT / "bin" / "debvote-election"
 

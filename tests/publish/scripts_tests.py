@@ -16,8 +16,8 @@ from tests.support import at_browser
 
 sys.path.append(str(support.ROOT / "python"))
 
-from debvote_tools.publish import command_line, result_folder  # noqa: E402
-from debvote_tools.publish.inputs import SecretVote  # noqa: E402
+from debvote_tools.result import command_line, result_folder  # noqa: E402
+from debvote_tools.result.inputs import SecretVote  # noqa: E402
 
 NEEDS_BROWSER = unittest.skipUnless(at_browser.BROWSER, "chromium is not installed")
 

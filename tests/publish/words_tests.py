@@ -9,9 +9,9 @@ from tests.support import expecting
 
 sys.path.append(str(support.ROOT / "python"))
 
-from debvote_tools.ballots import ranks_in_words  # noqa: E402
-from debvote_tools.publish.inputs import Closed  # noqa: E402
-from debvote_tools.publish.page import share  # noqa: E402
+from debvote_tools.text.ballots import ranks_in_words  # noqa: E402
+from debvote_tools.result.inputs import Closed  # noqa: E402
+from debvote_tools.result.page import share  # noqa: E402
 
 
 def try_ballots_in_words(expect):

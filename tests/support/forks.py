@@ -26,13 +26,13 @@ sys.path[:0] = [str(ROOT / "python"), CLOCK]
 import debvote_tools  # noqa: E402
 import jinja2  # noqa: E402
 from clock import set_clock  # noqa: E402
-from debvote_tools.language import LANGUAGES, language_of  # noqa: E402
-from debvote_tools.rendering import templates_of  # noqa: E402
+from debvote_tools.text.language import LANGUAGES, language_of  # noqa: E402
+from debvote_tools.text.rendering import templates_of  # noqa: E402
 
 # the modules that the launchers call
 LAUNCHERS = {
-    str(ROOT / "bin" / "debvote-election"): "debvote_tools.election.command_line",
-    str(ROOT / "bin" / "debvote-publish"): "debvote_tools.publish.command_line",
+    str(ROOT / "bin" / "debvote-election"): "debvote_tools.cli.command_line",
+    str(ROOT / "bin" / "debvote-publish"): "debvote_tools.result.command_line",
 }
 
 # the settings that a fork can give to a run

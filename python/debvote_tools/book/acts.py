@@ -1,4 +1,5 @@
-"""The names of acts, and what the detail of each has: no other module makes up one of these words."""
+"""The names of acts, and what the detail of each has: no other module makes up one of these words.
+"""
 
 from typing import Any, Literal, TypedDict
 
@@ -17,11 +18,13 @@ class Detail(TypedDict, total=False):
     because: str
     # new
     language: str
-    # roll and addresses: how many electors there are, or were changed; codes: how many, and whether they replace the names on the roll
+    # roll and addresses: how many electors there are, or were changed; codes: how many, and whether
+    # they replace the names on the roll
     electors: int
     codes: int
     on_roll: bool
-    # call, extend and announce; times, the zone of --until and addresses as the command line names them
+    # call, extend and announce; times, the zone of --until and addresses as the command line names
+    # them
     until: str
     zone: str
     to: str
@@ -32,7 +35,8 @@ class Detail(TypedDict, total=False):
     quorum_votes: int
     signed: bool
     keyring: bool
-    # call and publish, in a secret vote: the checksums of the texts that somebody agreed to make public
+    # call and publish, in a secret vote: the checksums of the texts that somebody agreed to make
+    # public
     agreed: list[str]
     # take back: the act of the call; its `codes` have lapsed
     call: int
@@ -59,7 +63,8 @@ class Detail(TypedDict, total=False):
     waiting: int
     after_end: int
     before_call: int
-    # reopen: the late envelopes that were entered anew, and whether although there are later ballots
+    # reopen: the late envelopes that were entered anew, and whether although there are later
+    # ballots
     in_time: list[int]
     force: bool
     # publish

@@ -1,6 +1,8 @@
-"""The book: one SQLite database that has everything an election knows. This package alone knows SQL, but for conditions on envelopes.
+"""The book: one SQLite database that has everything an election knows. This package alone knows
+SQL, but for conditions on envelopes.
 
-An act adds rows, in one transaction, and is reported only after its commit. Triggers refuse whatever would change or remove a row.
+An act adds rows, in one transaction, and is reported only after its commit. Triggers refuse
+whatever would change or remove a row.
 """
 
 import contextlib
@@ -15,33 +17,42 @@ import sqlite3
 from collections.abc import Iterable, Iterator, Sequence
 from typing import Any, Final, NamedTuple
 
-from debvote_tools import times
+from debvote_tools.text import times
 from debvote_tools.book import chain, schema
 from debvote_tools.book.acts import ActName, Detail
 from debvote_tools.book.machine_note import MachineNote, Note, machine_of
-from debvote_tools.faults import Fault, Status
+from debvote_tools.cli.faults import Fault, Status
 from debvote_tools.files import read_at_most, uninterrupted
 
 NAME = "election.db"
 
-# the act that takes another book than that of the note, and why it is there if this machine knew the book
+# the act that takes another book than that of the note, and why it is there if this machine knew
+# the book
 MOVED: Final = "moved"
 RESTORED = "it was restored, as the secretary says"
 
-# "dbvt": what tells a book from other databases of SQLite; and the version of its schema, and of what it keeps of letters as JSON
+# "dbvt": what tells a book from other databases of SQLite; and the version of its schema, and of
+# what it keeps of letters as JSON
 APPLICATION_ID, VERSION = 0x64627674, 4
 
 # the program that wrote the books of an earlier version
 PROGRAMS = {3: "debvote-election 2.0.0"}
 
-# a database of SQLite begins with these bytes; and where its head has the application id and the version
+# a database of SQLite begins with these bytes; and where its head has the application id and the
+# version
 SQLITE, HEAD = b"SQLite format 3\0", 72
 ID_AT, VERSION_AT = slice(68, 72), slice(60, 64)
 
 # how many seconds an act waits for those of others
 PATIENCE = 120
 
-SETTINGS = ("foreign_keys = ON", "recursive_triggers = ON", "journal_mode = DELETE", "synchronous = EXTRA", "trusted_schema = OFF")
+SETTINGS = (
+    "foreign_keys = ON",
+    "recursive_triggers = ON",
+    "journal_mode = DELETE",
+    "synchronous = EXTRA",
+    "trusted_schema = OFF",
+)
 
 # how many rows one statement adds: one for each row takes twice the time
 ROWS_AT_ONCE = 100
@@ -49,7 +60,8 @@ ROWS_AT_ONCE = 100
 # the byte of the file that SQLite locks for an act
 RESERVED_BYTE = 0x40000001
 
-# an act that is more seconds earlier than the one before it shows that the clock was put back; clocks are set by some seconds
+# an act that is more seconds earlier than the one before it shows that the clock was put back;
+# clocks are set by some seconds
 SECONDS_BACK = 60
 
 
@@ -84,7 +96,9 @@ class NewAct(NamedTuple):
     name: ActName
     detail: Detail
 
-    def insert_all(self, table: str, columns: Sequence[str], rows: Iterable[Sequence[object]]) -> None:
+    def insert_all(
+        self, table: str, columns: Sequence[str], rows: Iterable[Sequence[object]]
+    ) -> None:
         """Adds many rows of this act, each with its values in these columns."""
         words = f"INSERT INTO {table} (act, {', '.join(columns)}) VALUES "
         row_words, waiting = f"({self.number}{', ?' * len(columns)})", iter(rows)
@@ -102,7 +116,9 @@ class NewAct(NamedTuple):
 class Book:
     """An open book. `path` names the database file."""
 
-    def __init__(self, path: pathlib.Path, connection: sqlite3.Connection, *, is_read_only: bool = False) -> None:
+    def __init__(
+        self, path: pathlib.Path, connection: sqlite3.Connection, *, is_read_only: bool = False
+    ) -> None:
         self.path, self.connection, self.is_read_only = path, connection, is_read_only
         self.file = file_at(path)
         self.read_acts: list[DoneAct] = []
@@ -121,8 +137,12 @@ class Book:
 
     def read_new_acts(self) -> None:
         """An act never changes, so only those are read that came since the last call."""
-        words = "SELECT act, time, name, machine, detail, digest FROM act WHERE act > ? ORDER BY act"
-        for number, time, *others in self.rows(words, self.read_acts[-1].number if self.read_acts else 0):
+        words = (
+            "SELECT act, time, name, machine, detail, digest FROM act WHERE act > ? ORDER BY act"
+        )
+        for number, time, *others in self.rows(
+            words, self.read_acts[-1].number if self.read_acts else 0
+        ):
             try:
                 self.read_acts.append(DoneAct(number, from_text(time), *others))
             except (ValueError, TypeError):
@@ -138,7 +158,9 @@ class Book:
 
     def size(self) -> int:
         """How many bytes its file has."""
-        [(pages, size)] = self.rows("SELECT page_count, page_size FROM pragma_page_count, pragma_page_size")
+        [(pages, size)] = self.rows(
+            "SELECT page_count, page_size FROM pragma_page_count, pragma_page_size"
+        )
         return int(pages) * int(size)
 
     def digest_at(self, act: int) -> str | None:
@@ -169,11 +191,14 @@ class Book:
 
     # ------------------------------------------------------------ acts
     @contextlib.contextmanager
-    def act(self, name: ActName, detail: Detail | None = None, *, seen: int | None = None) -> Iterator[NewAct]:
+    def act(
+        self, name: ActName, detail: Detail | None = None, *, seen: int | None = None
+    ) -> Iterator[NewAct]:
         """One act: its rows are committed at the end, and an exception leaves the book as it was.
 
-        `seen` is the last act that was known when this act was decided. If others came since, `Overtaken` is raised. Within the act
-        nobody is asked and no program runs. The act `moved` makes this book the one that the machine knows.
+        `seen` is the last act that was known when this act was decided. If others came since,
+        `Overtaken` is raised. Within the act nobody is asked and no program runs. The act `moved`
+        makes this book the one that the machine knows.
         """
         note = self.note()
         note.make_ready()
@@ -198,7 +223,14 @@ class Book:
         """Adds the row of the act, with its digest, and commits."""
         salt = os.urandom(16)
         machine = machine_of(salt) if act.number == 1 else self.machine
-        row = (act.number, as_text(act.time), act.name, machine, json.dumps(act.detail, ensure_ascii=False), salt)
+        row = (
+            act.number,
+            as_text(act.time),
+            act.name,
+            machine,
+            json.dumps(act.detail, ensure_ascii=False),
+            salt,
+        )
         digest = chain.digest_of(self.connection, digest_before, row)
         self.connection.execute("INSERT INTO act VALUES (?, ?, ?, ?, ?, ?, ?)", (*row, digest))
         self.commit(act)
@@ -206,20 +238,35 @@ class Book:
         return digest
 
     def commit(self, act: NewAct) -> None:
-        """Commits an act. If SQLite says that it failed, and the act is there nevertheless, nobody knows whether it stays."""
+        """Commits an act. If SQLite says that it failed, and the act is there nevertheless, nobody
+        knows whether it stays.
+        """
         try:
             self.connection.execute("COMMIT")
         except sqlite3.Error as error:
             try:
                 self.connection.rollback()
-                is_there = bool(self.connection.execute("SELECT 1 FROM act WHERE act = ?", (act.number,)).fetchall())
+                is_there = bool(
+                    self.connection.execute(
+                        "SELECT 1 FROM act WHERE act = ?", (act.number,)
+                    ).fetchall()
+                )
             except sqlite3.Error:
                 # by the journal, the next command that can write takes the act back
                 is_there = not self.path.with_name(f"{self.path.name}-journal").exists()
             if not is_there:
                 raise
-            words, cure = f"the commit failed ({error})", "see debvote-election status, which tells the last act"
-            raise Fault(self.path, words, cure, Status.BAD_OUTPUT, f"nobody knows whether act {act.number} was done") from None
+            words, cure = (
+                f"the commit failed ({error})",
+                "see debvote-election status, which tells the last act",
+            )
+            raise Fault(
+                self.path,
+                words,
+                cure,
+                Status.BAD_OUTPUT,
+                f"nobody knows whether act {act.number} was done",
+            ) from None
 
     # ------------------------------------------------------------ this machine's note
     @functools.cached_property
@@ -232,7 +279,9 @@ class Book:
         return MachineNote(self.machine, self.path.resolve())
 
     def note_seen(self) -> None:
-        """Notes the last act, if this is the book that this machine knows. Then nobody can remove this act unnoticed."""
+        """Notes the last act, if this is the book that this machine knows. Then nobody can remove
+        this act unnoticed.
+        """
         with contextlib.suppress(Fault, OSError):
             if self.strangeness() is None:
                 last = self.last_act()
@@ -257,25 +306,26 @@ class Book:
         why = self.strangeness()
         if why is not None:
             right = "if it is the right book, as after a move to this computer or folder"
-            cure = (
-                f"find out how that came about; {right}, repeat the command with --moved --because TEXT (the result page says so)"
-            )
+            cure = f"find out how that came about; {right}, repeat the command with --moved --because TEXT (the result page says so)"
             raise Fault(self.path, why, cure)
 
     def accept(self, because: str) -> None:
-        """The act `moved`: from now on this machine takes this book for the right one. If a whole disk was put back, with what this
-        machine noted, only who did it knows.
+        """The act `moved`: from now on this machine takes this book for the right one. If a whole
+        disk was put back, with what this machine noted, only who did it knows.
         """
         noted, last, why = self.note().read(), self.last_act(), self.strangeness() or RESTORED
         self.demand_locks()
         there = {"act": last.number, "digest": last.digest}
-        with self.act(MOVED, {"why": why, "noted": noted and noted._asdict(), "there": there, "because": because}):
+        with self.act(
+            MOVED,
+            {"why": why, "noted": noted and noted._asdict(), "there": there, "because": because},
+        ):
             pass
 
     # ------------------------------------------------------------ the file
     def doubts(self, *, is_accepted: bool = False) -> list[Fault]:
-        """Why this may not be the book to work on: this machine knows another one, unless this one is accepted now, or a copy lies beside
-        it.
+        """Why this may not be the book to work on: this machine knows another one, unless this one
+        is accepted now, or a copy lies beside it.
         """
         found = [other_book(file) for file in self.other_books()]
         try:
@@ -286,10 +336,14 @@ class Book:
         return found
 
     def demand_in_place(self) -> None:
-        """Stops if another file took the place of the one that is open: what is written into that one, nobody finds again."""
+        """Stops if another file took the place of the one that is open: what is written into that
+        one, nobody finds again.
+        """
         if file_at(self.path) != self.file:
             words = "another file took its place while this command was running"
-            raise Fault(self.path, words, "find out which of both is right, then run the command again")
+            raise Fault(
+                self.path, words, "find out which of both is right, then run the command again"
+            )
 
     def demand_locks(self) -> None:
         """Stops if a second process gets the lock that this one holds."""
@@ -299,18 +353,27 @@ class Book:
                 raise Fault(self.path, words, "move the folder to a disk of this computer")
 
     def other_books(self) -> Iterator[pathlib.Path]:
-        """The books in the folder with acts that this book lacks, such as a copy that a sync tool leaves."""
+        """The books in the folder with acts that this book lacks, such as a copy that a sync tool
+        leaves.
+        """
         for file in sorted(self.path.parent.iterdir()):
             # a file that is gone by now was the journal of another command
             with contextlib.suppress(OSError):
-                if file.is_file() and not file.samefile(self.path) and has_our_id(head_of(file)) and not self.begins_with(file):
+                if (
+                    file.is_file()
+                    and not file.samefile(self.path)
+                    and has_our_id(head_of(file))
+                    and not self.begins_with(file)
+                ):
                     yield file
 
     def begins_with(self, file: pathlib.Path) -> bool:
         """Whether this book has all acts of another book. False if the other book can't be read."""
         try:
             with contextlib.closing(connected(file, "ro")) as other:
-                [(number, digest)] = other.execute("SELECT act, digest FROM act ORDER BY act DESC LIMIT 1")
+                [(number, digest)] = other.execute(
+                    "SELECT act, digest FROM act ORDER BY act DESC LIMIT 1"
+                )
         except (sqlite3.Error, ValueError):
             return False
         return bool(self.digest_at(number) == digest)
@@ -326,7 +389,8 @@ def is_locked_for_others(path: pathlib.Path) -> bool:
     """Whether a second process is refused the lock of SQLite that an act holds."""
     second = os.fork()
     if second == 0:
-        # only the second process may open the file: a process that closes it loses all its locks on it
+        # only the second process may open the file: a process that closes it loses all its locks on
+        # it
         status = 1
         try:
             handle = os.open(path, os.O_RDWR)
@@ -341,7 +405,9 @@ def is_locked_for_others(path: pathlib.Path) -> bool:
 
 # ---------------------------------------------------------------- making and opening
 def create(path: pathlib.Path, detail: Detail, final_path: pathlib.Path) -> None:
-    """Makes a new book with the act `new`. The folder is moved afterwards: `final_path` is where the book will lie."""
+    """Makes a new book with the act `new`. The folder is moved afterwards: `final_path` is where
+    the book will lie.
+    """
     os.close(os.open(path, os.O_RDWR | os.O_CREAT | os.O_EXCL, 0o600))
     connection = connected(path, "rw")
     book = Book(path, connection)
@@ -357,7 +423,9 @@ def create(path: pathlib.Path, detail: Detail, final_path: pathlib.Path) -> None
 
 
 def open_book(path: pathlib.Path) -> Book:
-    """Opens the book of an election. If the file is no book of this version, or its schema is another one, the fault says so."""
+    """Opens the book of an election. If the file is no book of this version, or its schema is
+    another one, the fault says so.
+    """
     demand_version(path)
     is_read_only = not os.access(path, os.W_OK) or not os.access(path.parent, os.W_OK)
     with sqlite_faults(path):
@@ -382,7 +450,9 @@ def open_book(path: pathlib.Path) -> Book:
 
 
 def demand_version(path: pathlib.Path) -> None:
-    """Stops at a file that is no book of this version. It is not opened as a database, so nothing in it changes."""
+    """Stops at a file that is no book of this version. It is not opened as a database, so nothing
+    in it changes.
+    """
     head = head_of(path)
     if not head.startswith(SQLITE):
         raise damaged(path, "it is no database of SQLite")
@@ -392,8 +462,12 @@ def demand_version(path: pathlib.Path) -> None:
     version = int.from_bytes(head[VERSION_AT], "big")
     if version != VERSION:
         whose = f" of {PROGRAMS[version]}" if version in PROGRAMS else ""
-        words = f"it is a book{whose} (version {version}), and this program writes version {VERSION}"
-        raise Fault(path, words, "use the debvote-election that began this election", Status.BAD_WORDS)
+        words = (
+            f"it is a book{whose} (version {version}), and this program writes version {VERSION}"
+        )
+        raise Fault(
+            path, words, "use the debvote-election that began this election", Status.BAD_WORDS
+        )
 
 
 def connected(path: pathlib.Path, mode: str) -> sqlite3.Connection:
@@ -407,10 +481,19 @@ def connected(path: pathlib.Path, mode: str) -> sqlite3.Connection:
 
 # what SQLite says if not the book is at fault, but its place: the words, and the cure
 PLACES = {
-    ("BUSY", "LOCKED"): ("other commands have worked on it for two minutes", "wait until they are done"),
+    ("BUSY", "LOCKED"): (
+        "other commands have worked on it for two minutes",
+        "wait until they are done",
+    ),
     ("IOERR_READ", "IOERR_SHORT_READ"): ("it can't be read", "check that the disk is in order"),
-    ("FULL", "IOERR"): ("it can't be written", "make room on the disk, or check that the disk is in order"),
-    ("READONLY", "CANTOPEN", "PERM", "AUTH"): ("it can't be written", "make the file and its folder writable for you"),
+    ("FULL", "IOERR"): (
+        "it can't be written",
+        "make room on the disk, or check that the disk is in order",
+    ),
+    ("READONLY", "CANTOPEN", "PERM", "AUTH"): (
+        "it can't be written",
+        "make the file and its folder writable for you",
+    ),
     ("NOMEM", "INTERRUPT"): ("SQLite gave up", "make room in memory"),
 }
 
@@ -426,7 +509,9 @@ def sqlite_faults(path: pathlib.Path) -> Iterator[None]:
         if found is None:
             raise damaged(path, str(error)) from None
         words, cure = found
-        raise Fault(path, f"{words} ({error})", f"{cure}, then run the command again", Status.BAD_OUTPUT) from None
+        raise Fault(
+            path, f"{words} ({error})", f"{cure}, then run the command again", Status.BAD_OUTPUT
+        ) from None
 
 
 def damaged(path: pathlib.Path, how: str) -> Fault:

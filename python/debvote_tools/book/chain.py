@@ -1,7 +1,8 @@
-"""The chain of digests: each act's digest is over the digest before it and all rows that the act wrote.
+"""The chain of digests: each act's digest is over the digest before it and all rows that the act
+wrote.
 
-The SHA-256 is over lines: the digest before, then a JSON array for the act and for each of its rows in the order of the schema: the
-table's name and the columns, bytes by their SHA-256.
+The SHA-256 is over lines: the digest before, then a JSON array for the act and for each of its rows
+in the order of the schema: the table's name and the columns, bytes by their SHA-256.
 """
 
 import functools
@@ -31,7 +32,8 @@ class Queries:
         self.rows = [(table, row_as_json(table, columns)) for table, columns in tables.items()]
 
     def of_all_acts(self) -> Iterator[str]:
-        """For each table one query of all its rows: act, place of the table, JSON, and the digest if the row is that of the act.
+        """For each table one query of all its rows: act, place of the table, JSON, and the digest
+        if the row is that of the act.
 
         They read the tables, once, and no index in place of a table.
         """
@@ -41,7 +43,9 @@ class Queries:
 
     def of_one_act(self) -> Iterator[str]:
         """For each table one query of the rows of an act."""
-        return (f"SELECT {json} FROM {table} WHERE act = ? ORDER BY rowid" for table, json in self.rows)
+        return (
+            f"SELECT {json} FROM {table} WHERE act = ? ORDER BY rowid" for table, json in self.rows
+        )
 
 
 @functools.cache
@@ -56,7 +60,9 @@ def row_as_json(table: str, columns: Iterable[tuple[str, str]]) -> str:
 
 def prepare(connection: sqlite3.Connection) -> None:
     """Gives the connection the function that the queries here use."""
-    connection.create_function("sha256", 1, lambda data: hashlib.sha256(data).hexdigest(), deterministic=True)
+    connection.create_function(
+        "sha256", 1, lambda data: hashlib.sha256(data).hexdigest(), deterministic=True
+    )
 
 
 def digest_of(connection: sqlite3.Connection, before: str, act: tuple[object, ...]) -> str:
@@ -64,7 +70,9 @@ def digest_of(connection: sqlite3.Connection, before: str, act: tuple[object, ..
     columns = ", ".join(f"? AS {name}" for name, _ in new_schema().tables[ACT][:-1])
     line = connection.execute(f"SELECT {queries().act} FROM (SELECT {columns})", act).fetchone()
     found = (connection.execute(words, act[:1]) for words in queries().of_one_act())
-    return digest_of_lines(before, itertools.chain(line, (json for rows in found for json, in rows)))
+    return digest_of_lines(
+        before, itertools.chain(line, (json for rows in found for json, in rows))
+    )
 
 
 def digest_of_lines(before: str, lines: Iterable[str]) -> str:
@@ -76,7 +84,9 @@ def digest_of_lines(before: str, lines: Iterable[str]) -> str:
 
 def is_whole(connection: sqlite3.Connection, number: int) -> bool:
     """Whether an act is as its digest and the act before say; its rows are found by an index."""
-    [(before,)] = connection.execute(f"SELECT coalesce(max(digest), '{BEGINNING}') FROM {ACT} WHERE act = ?", (number - 1,))
+    [(before,)] = connection.execute(
+        f"SELECT coalesce(max(digest), '{BEGINNING}') FROM {ACT} WHERE act = ?", (number - 1,)
+    )
     [(*act, digest)] = connection.execute(f"SELECT * FROM {ACT} WHERE act = ?", (number,))
     return bool(digest_of(connection, before, tuple(act)) == digest)
 
@@ -107,7 +117,9 @@ def break_in(connection: sqlite3.Connection) -> str | None:
         _, place, line, digest = next(rows)
         if place != 0:
             return f"it has rows of act {act}, and no such act"
-        if digest != digest_of_lines(before, itertools.chain([line], (line for _, _, line, _ in rows))):
+        if digest != digest_of_lines(
+            before, itertools.chain([line], (line for _, _, line, _ in rows))
+        ):
             return broken(act)
         before = digest
     return None

@@ -1,4 +1,6 @@
-"""What is asked of the book about letters: what came, what acts decided of it, and what was written to electors."""
+"""What is asked of the book about letters: what came, what acts decided of it, and what was written
+to electors.
+"""
 
 from typing import Final, NamedTuple
 
@@ -12,7 +14,9 @@ PUT_BACK: Final = "put back"
 
 
 class KeptLetter(NamedTuple):
-    """A letter that came. Its number is its own, which it keeps; `state` is what the last act decided."""
+    """A letter that came. Its number is its own, which it keeps; `state` is what the last act
+    decided.
+    """
 
     number: int
     act: int
@@ -41,7 +45,9 @@ def letters(book: Book) -> list[KeptLetter]:
 
 def known_digests(book: Book) -> set[tuple[str, bool]]:
     """The digests of the letters that came, each with whether it was parted off."""
-    words = "SELECT json_extract(known, '$.digest'), json_extract(known, '$.is_parted_off') FROM letter"
+    words = (
+        "SELECT json_extract(known, '$.digest'), json_extract(known, '$.is_parted_off') FROM letter"
+    )
     return {(str(digest), bool(is_parted_off)) for digest, is_parted_off in book.rows(words)}
 
 
@@ -57,7 +63,9 @@ def undecided(kept: list[KeptLetter]) -> list[KeptLetter]:
 
 def keep_letter(act: NewAct, where: str, data: bytes, identity: str, known: str) -> int:
     """Keeps a letter, byte for byte, and returns its number."""
-    return act.insert("letter", source=queries.keep_source(act, where, data), identity=identity, known=known)
+    return act.insert(
+        "letter", source=queries.keep_source(act, where, data), identity=identity, known=known
+    )
 
 
 def decide(act: NewAct, letter: int, state: str) -> None:

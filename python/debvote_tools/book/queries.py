@@ -1,4 +1,5 @@
-"""What is asked of the book about electors, what is sealed, envelopes and their lines, and sources."""
+"""What is asked of the book about electors, what is sealed, envelopes and their lines, and sources.
+"""
 
 import collections
 import datetime
@@ -11,7 +12,9 @@ from debvote_tools.book.book import Book, NewAct, as_text, from_text
 
 # ---------------------------------------------------------------- electors
 class Elector(NamedTuple):
-    """An elector as the book has them now. `position` is that in the list of members; None if they are no longer on it."""
+    """An elector as the book has them now. `position` is that in the list of members; None if they
+    are no longer on it.
+    """
 
     number: int
     name: str
@@ -21,10 +24,11 @@ class Elector(NamedTuple):
     key: str = ""
     code: str = ""
     alias: str = ""
+    mark: str = ""
 
 
 ELECTORS = """
-SELECT elector, name, position, who, mail, key, code, alias
+SELECT elector, name, position, who, mail, key, code, alias, mark
 FROM elector JOIN elector_state USING (elector)
 WHERE elector_state.act = (SELECT max(act) FROM elector_state AS later WHERE later.elector = elector.elector)
 ORDER BY position
@@ -33,7 +37,9 @@ ORDER BY position
 
 def all_electors(book: Book) -> list[Elector]:
     """All electors that the book knows, those who are no longer on the list first."""
-    return [Elector(*row)._replace(addresses=tuple(json.loads(row[4]))) for row in book.rows(ELECTORS)]
+    return [
+        Elector(*row)._replace(addresses=tuple(json.loads(row[4]))) for row in book.rows(ELECTORS)
+    ]
 
 
 def electors(book: Book) -> list[Elector]:
@@ -42,7 +48,9 @@ def electors(book: Book) -> list[Elector]:
 
 
 def public_names(electors: Iterable[Elector]) -> dict[str, str]:
-    """What the public of a secret vote sees in place of each name: the alias, or the name itself if it is a code of the roll."""
+    """What the public of a secret vote sees in place of each name: the alias, or the name itself if
+    it is a code of the roll.
+    """
     return {elector.name: elector.alias or elector.name for elector in electors}
 
 
@@ -53,16 +61,21 @@ def new_elector(act: NewAct, name: str) -> Elector:
 
 def put_electors(act: NewAct, electors: Iterable[Elector]) -> None:
     rows = (
-        (number, position, who, json.dumps(addresses, ensure_ascii=False), key, code, alias)
-        for number, _, position, who, addresses, key, code, alias in electors
+        (number, position, who, json.dumps(addresses, ensure_ascii=False), key, code, alias, mark)
+        for number, _, position, who, addresses, key, code, alias, mark in electors
     )
-    act.insert_all("elector_state", ["elector", "position", "who", "mail", "key", "code", "alias"], rows)
+    columns = ["elector", "position", "who", "mail", "key", "code", "alias", "mark"]
+    act.insert_all("elector_state", columns, rows)
 
 
 # ---------------------------------------------------------------- what is sealed
 def sealed(book: Book, name: str, act: int | None = None) -> bytes | None:
     """What was sealed under a name by the last act that did so."""
-    rows = book.rows("SELECT data FROM sealed WHERE name = ?1 AND act = coalesce(?2, act) ORDER BY act DESC LIMIT 1", name, act)
+    rows = book.rows(
+        "SELECT data FROM sealed WHERE name = ?1 AND act = coalesce(?2, act) ORDER BY act DESC LIMIT 1",
+        name,
+        act,
+    )
     return rows[0][0] if rows else None
 
 
@@ -98,22 +111,33 @@ ENVELOPES = "envelope LEFT JOIN struck USING (envelope)"
 NOT_STRUCK = "struck.act IS NULL"
 IN_TIME, LATE = f"late = 0 AND {NOT_STRUCK}", f"late = 1 AND {NOT_STRUCK}"
 
-ENVELOPE_COLUMNS = "envelope, envelope.act, elector, line, source, letter, place, time, late, struck.act"
+ENVELOPE_COLUMNS = (
+    "envelope, envelope.act, elector, line, source, letter, place, time, late, struck.act"
+)
 
 
 def envelopes(book: Book, condition: str = "1", *values: object) -> list[Envelope]:
     """The envelopes that meet a condition, in their order."""
-    rows = book.rows(f"SELECT {ENVELOPE_COLUMNS} FROM {ENVELOPES} WHERE {condition} ORDER BY envelope", *values)
+    rows = book.rows(
+        f"SELECT {ENVELOPE_COLUMNS} FROM {ENVELOPES} WHERE {condition} ORDER BY envelope", *values
+    )
     return [Envelope._make([*row[:7], from_text(row[7]), bool(row[8]), row[9]]) for row in rows]
 
 
 def lines(book: Book, condition: str, *values: object) -> list[bytes]:
     """The line of each envelope that meets a condition, in their order."""
-    return [line for line, in book.rows(f"SELECT line FROM {ENVELOPES} WHERE {condition} ORDER BY envelope", *values)]
+    return [
+        line
+        for line, in book.rows(
+            f"SELECT line FROM {ENVELOPES} WHERE {condition} ORDER BY envelope", *values
+        )
+    ]
 
 
 def lines_in_time(book: Book) -> list[bytes]:
-    """The line of each envelope that came in time and is not struck: the ballots that are counted, in their order."""
+    """The line of each envelope that came in time and is not struck: the ballots that are counted,
+    in their order.
+    """
     return lines(book, IN_TIME)
 
 
@@ -128,7 +152,12 @@ def late_lines(book: Book) -> list[bytes]:
 
 
 def has_come(book: Book, since: int) -> bool:
-    return bool(book.rows("SELECT 1 FROM (SELECT act FROM envelope UNION ALL SELECT act FROM letter) WHERE act > ? LIMIT 1", since))
+    return bool(
+        book.rows(
+            "SELECT 1 FROM (SELECT act FROM envelope UNION ALL SELECT act FROM letter) WHERE act > ? LIMIT 1",
+            since,
+        )
+    )
 
 
 def strike_envelopes(act: NewAct, numbers: Iterable[int]) -> None:
@@ -145,14 +174,18 @@ class NewEnvelope(NamedTuple):
     time: datetime.datetime | None = None
 
 
-def add_envelopes(act: NewAct, new: Iterable[NewEnvelope], electors: Iterable[int | None], *, is_late: bool) -> None:
+def add_envelopes(
+    act: NewAct, new: Iterable[NewEnvelope], electors: Iterable[int | None], *, is_late: bool
+) -> None:
     """Enters lines, each with the elector with whose name it begins."""
     now = as_text(act.time)
     rows = (
         (elector, line, place, source, letter, as_text(time) if time else now, int(is_late))
         for elector, (line, place, source, letter, time) in zip(electors, new)
     )
-    act.insert_all("envelope", ["elector", "line", "place", "source", "letter", "time", "late"], rows)
+    act.insert_all(
+        "envelope", ["elector", "line", "place", "source", "letter", "time", "late"], rows
+    )
 
 
 def last_envelope(book: Book) -> int:
@@ -169,14 +202,14 @@ def elector_numbers(book: Book, names: Collection[str]) -> dict[str, int]:
 # the acts that no `undo` took back
 NOT_UNDONE = "act NOT IN (SELECT json_extract(detail, '$.act') FROM act WHERE name = 'undo')"
 
-# the late envelopes that a `reopen` entered anew as in time, and those that `add --again` entered anew, if no `undo` took that back
+# the late envelopes that a `reopen` entered anew as in time, and those that `add --again` entered
+# anew, if no `undo` took that back
 ANEW_IN_TIME = f"SELECT value FROM act, json_each(act.detail, '$.in_time') WHERE act.name = 'reopen' AND act.{NOT_UNDONE}"
 ANEW_BY_ADD = f"SELECT value FROM act, json_each(act.detail, '$.again') WHERE act.name = 'add' AND act.{NOT_UNDONE}"
 
-# the envelopes that came in files of lines and tables; a line that was entered anew came once, and is known by its new envelope
-CAME_IN_FILES = (
-    f"source IS NOT NULL AND letter IS NULL AND envelope.{NOT_UNDONE} AND envelope NOT IN ({ANEW_IN_TIME} UNION {ANEW_BY_ADD})"
-)
+# the envelopes that came in files of lines and tables; a line that was entered anew came once, and
+# is known by its new envelope
+CAME_IN_FILES = f"source IS NOT NULL AND letter IS NULL AND envelope.{NOT_UNDONE} AND envelope NOT IN ({ANEW_IN_TIME} UNION {ANEW_BY_ADD})"
 
 
 # the lines of more electors are not looked for one by one
@@ -189,19 +222,24 @@ def last_entering_act(book: Book) -> int | None:
     return None if number is None else int(number)
 
 
-def lines_after(book: Book, act: int, electors: Collection[int] | None = None, *, without: int = 0) -> list[bytes]:
-    """The line of each envelope that was in time and not struck when an act was done, in their order, without those of one act: of all
-    electors, or of some.
+def lines_after(
+    book: Book, act: int, electors: Collection[int] | None = None, *, without: int = 0
+) -> list[bytes]:
+    """The line of each envelope that was in time and not struck when an act was done, in their
+    order, without those of one act: of all electors, or of some.
     """
     condition = "late = 0 AND (struck.act IS NULL OR struck.act > ?1) AND envelope.act <= ?1 AND envelope.act <> ?2"
     if electors is None:
         return lines(book, condition, act, without)
-    return lines(book, f"{condition} AND {of_electors(electors)}", act, without, json.dumps(list(electors)))
+    return lines(
+        book, f"{condition} AND {of_electors(electors)}", act, without, json.dumps(list(electors))
+    )
 
 
 def of_electors(electors: Collection[int]) -> str:
     """The condition that an envelope is of one of these electors, who are the last value, as JSON."""
-    # with the sign SQLite uses no index: to look for the lines of each of many takes longer than to look at all lines
+    # with the sign SQLite uses no index: to look for the lines of each of many takes longer than to
+    # look at all lines
     return f"{'+' if len(electors) > MOST_LOOKED_FOR else ''}elector IN (SELECT value FROM json_each(?))"
 
 
@@ -222,13 +260,19 @@ def entered_anew(book: Book) -> set[int]:
 
 def lines_that_came(book: Book) -> collections.Counter[bytes]:
     """How often each line came in a file of lines or a table that no `undo` took back."""
-    return collections.Counter(dict(book.rows(f"SELECT line, count(*) FROM envelope WHERE {CAME_IN_FILES} GROUP BY line")))
+    return collections.Counter(
+        dict(book.rows(f"SELECT line, count(*) FROM envelope WHERE {CAME_IN_FILES} GROUP BY line"))
+    )
 
 
 def came_in_files(book: Book) -> dict[bytes, list[Envelope]]:
-    """The envelopes that came in files and that no `undo` took back, by their line; those that are struck or late come last."""
+    """The envelopes that came in files and that no `undo` took back, by their line; those that are
+    struck or late come last.
+    """
     by_line: dict[bytes, list[Envelope]] = {}
-    for envelope in sorted(envelopes(book, CAME_IN_FILES), key=lambda envelope: envelope.is_late or envelope.is_struck):
+    for envelope in sorted(
+        envelopes(book, CAME_IN_FILES), key=lambda envelope: envelope.is_late or envelope.is_struck
+    ):
         by_line.setdefault(envelope.line, []).append(envelope)
     return by_line
 
@@ -241,7 +285,9 @@ def last_numbers(book: Book) -> dict[int, tuple[int, bytes]]:
 
 def size_in_time(book: Book) -> tuple[int, int]:
     """How many lines and bytes the ballots have that are counted."""
-    [(count, size)] = book.rows(f"SELECT count(*), coalesce(sum(length(line) + 1), 0) FROM {ENVELOPES} WHERE {IN_TIME}")
+    [(count, size)] = book.rows(
+        f"SELECT count(*), coalesce(sum(length(line) + 1), 0) FROM {ENVELOPES} WHERE {IN_TIME}"
+    )
     return int(count), int(size)
 
 

@@ -1,4 +1,6 @@
-"""The schema of a book: the tables, indexes and triggers that `new` writes, and that each opening compares."""
+"""The schema of a book: the tables, indexes and triggers that `new` writes, and that each opening
+compares.
+"""
 
 import contextlib
 import functools
@@ -29,13 +31,21 @@ def write(connection: sqlite3.Connection) -> None:
 
 
 def tables_of(connection: sqlite3.Connection) -> list[str]:
-    return [name for name, in connection.execute("SELECT name FROM sqlite_schema WHERE type = 'table' ORDER BY rowid")]
+    return [
+        name
+        for name, in connection.execute(
+            "SELECT name FROM sqlite_schema WHERE type = 'table' ORDER BY rowid"
+        )
+    ]
 
 
 def schema_of(connection: sqlite3.Connection) -> Schema:
     entries = frozenset(connection.execute("SELECT type, name, tbl_name, sql FROM sqlite_schema"))
     words = "SELECT name, type FROM pragma_table_info(?)"
-    return Schema(entries, {table: connection.execute(words, (table,)).fetchall() for table in tables_of(connection)})
+    return Schema(
+        entries,
+        {table: connection.execute(words, (table,)).fetchall() for table in tables_of(connection)},
+    )
 
 
 @functools.cache

@@ -28,12 +28,13 @@ CREATE TABLE elector_state (
   key TEXT NOT NULL,                    -- the fingerprint of the key that signs, or empty
   code TEXT NOT NULL,                   -- of a secret vote, or empty
   alias TEXT NOT NULL,
+  mark TEXT NOT NULL,                   -- the own mark, which the call makes; empty without one
   PRIMARY KEY (elector, act)
 ) STRICT;
 
 CREATE TABLE sealed (
   act INTEGER NOT NULL REFERENCES act DEFERRABLE INITIALLY DEFERRED,
-  name TEXT NOT NULL,                   -- poll, poll with names, keyring, or a file of the folders call and letters
+  name TEXT NOT NULL,                   -- poll, poll with names, keyring, letter.txt, or a file of the folders call and letters
   data BLOB NOT NULL,
   PRIMARY KEY (name, act)
 ) STRICT;

@@ -1,0 +1,274 @@
+"""An election in its folder: the book, what its acts say of the election as a whole, and debvote.
+"""
+
+import contextlib
+import dataclasses
+import datetime
+import enum
+import functools
+import os
+import pathlib
+import shlex
+from collections.abc import Sequence
+from typing import Any, NamedTuple
+
+from debvote_tools.book import queries
+from debvote_tools.book.acts import ActName
+from debvote_tools.book.book import NAME, Book, DoneAct, damaged, from_text, open_book
+from debvote_tools.cli.console import tell_aside
+from debvote_tools.debvote import Debvote
+from debvote_tools.cli.faults import Fault, Status
+from debvote_tools.text.language import Language, language_of
+from debvote_tools.poll.sealed_poll import SealedPoll, read_plain
+
+POLL_FILE, MEMBERS_FILE, TEXTS = "poll.toml", "members.csv", "texts"
+CALL, LETTERS, RESULT, PRIVATE = "call", "letters", "result", "private"
+
+# the letter of the result for all, in the folder of letters
+RESULT_LETTER = "result.txt"
+
+# the names under which the book has the sealed polls, that of the call, and in a secret vote the
+# one that has names; and the keys of those whose letters have to be signed
+POLL, POLL_WITH_NAMES, KEYRING = "poll", "poll with names", "keyring"
+
+# what the secretary writes at the head of letters to electors: a file of the folder, and the name under
+# which each call seals it
+LETTER_TEXT = "letter.txt"
+
+# what an election of version 1 has in its folder
+OF_VERSION_1 = ("journal", "ballots", "received")
+
+
+class Stage(enum.StrEnum):
+    """How far the election is. After `reopen` it is called again."""
+
+    NEW = "new"
+    CALLED = "called"
+    CLOSED = "closed"
+    PUBLISHED = "published"
+
+
+@dataclasses.dataclass(frozen=True)
+class History:
+    """The acts of a book, in their order."""
+
+    acts: Sequence[DoneAct]
+
+    def named(self, *names: ActName) -> list[DoneAct]:
+        return [act for act in self.acts if act.name in names]
+
+    def since_call(self, *names: ActName) -> list[DoneAct]:
+        """The acts of these names from the call that holds on, with this call itself; empty before
+        a call.
+        """
+        call = self.call
+        return (
+            [] if call is None else [act for act in self.named(*names) if act.number >= call.number]
+        )
+
+    def act(self, number: int) -> DoneAct:
+        return self.acts[number - 1]
+
+    @property
+    def last(self) -> DoneAct:
+        return self.acts[-1]
+
+    @property
+    def call(self) -> DoneAct | None:
+        """The first call that was not taken back."""
+        taken_back = max((act.number for act in self.named("take back")), default=0)
+        return next((act for act in self.named("call") if act.number > taken_back), None)
+
+    def announced(self, key: str) -> Any:
+        """What the call, or a later act that adds to it, says last of something, as `address`; None
+        if it does not say it.
+        """
+        said = (
+            act.detail.get(key) for act in reversed(self.since_call("call", "extend", "announce"))
+        )
+        return next((value for value in said if value is not None), None)
+
+    @property
+    def has_codes_on_roll(self) -> bool:
+        acts = self.named("codes", "take back")
+        return bool(acts and acts[-1].detail.get("on_roll"))
+
+    @property
+    def has_lapsed_codes(self) -> bool:
+        """Whether codes were given out with a call that was taken back."""
+        return any(act.detail.get("codes") for act in self.named("take back"))
+
+    @property
+    def until(self) -> datetime.datetime | None:
+        """Until when one can vote, with the offset in which it was announced; None if no time was."""
+        until = self.announced("until")
+        return None if until is None else from_text(until)
+
+    @property
+    def closes(self) -> list[DoneAct]:
+        """The closes since the call that holds: those of a call that was taken back are over."""
+        return self.since_call("close")
+
+    @property
+    def is_closed(self) -> bool:
+        acts = self.since_call("close", "reopen")
+        return bool(acts) and acts[-1].name == "close"
+
+    @property
+    def is_reopened(self) -> bool:
+        """Whether the vote was closed once and is open again: then only what came before the first
+        close is in time.
+        """
+        return bool(self.closes) and not self.is_closed
+
+    def is_late(self, came_before_close: bool | None) -> bool:
+        """Whether lines that are entered now are late, by the answer of whoever enters them."""
+        return self.is_closed or (self.is_reopened and not came_before_close)
+
+    def openness(self) -> "History":
+        """The acts on which it depends whether the vote is open, and until when."""
+        return History(self.named("call", "take back", "extend", "close", "reopen"))
+
+    @property
+    def stage(self) -> Stage:
+        if self.call is None:
+            return Stage.NEW
+        if not self.is_closed:
+            return Stage.CALLED
+        return (
+            Stage.PUBLISHED
+            if any(act.number > self.closes[-1].number for act in self.since_call("publish"))
+            else Stage.CLOSED
+        )
+
+
+class Sealed(NamedTuple):
+    """The poll as it was called: what everybody sees, and what ballots are counted by. They differ
+    if the public sees aliases.
+    """
+
+    public: SealedPoll
+    counted: SealedPoll
+
+    @property
+    def is_aliased(self) -> bool:
+        return self.public != self.counted
+
+
+class Election:
+    """An election in a folder. What it says of the book is read anew each time, since others may
+    work on it.
+    """
+
+    def __init__(self, folder: pathlib.Path | None, program_folder: pathlib.Path | None) -> None:
+        """Without a folder, the one in which the command is run."""
+        self.is_named, self.folder, self.program_folder = (
+            folder is not None,
+            folder or pathlib.Path(),
+            program_folder,
+        )
+
+    def path(self, name: str) -> pathlib.Path:
+        return self.folder / name
+
+    @functools.cached_property
+    def debvote(self) -> Debvote:
+        return Debvote(self.folder, self.program_folder)
+
+    @functools.cached_property
+    def opened(self) -> Book:
+        """The book, of which nothing is said yet: commands use `book`, or one of the ways of
+        `acting`.
+        """
+        if not self.path(NAME).is_file():
+            raise no_book(self.folder)
+        book = open_book(self.path(NAME))
+        book.note_seen()
+        return book
+
+    @functools.cached_property
+    def book(self) -> Book:
+        """The book for reading. It says on standard error why this may not be the book that this
+        machine worked on last.
+        """
+        tell_aside(*(f"Note: {doubt.file}: {doubt.reason}." for doubt in self.opened.doubts()))
+        return self.opened
+
+    @property
+    def own_acts(self) -> list[str]:
+        """The acts that this command has done, in words."""
+        return self.opened.own_acts if "opened" in vars(self) else []
+
+    def demand_undamaged(self) -> None:
+        """Stops if the book is damaged. It is opened anew: whoever asks can't work with what was
+        read from it.
+        """
+        if self.path(NAME).is_file():
+            book = open_book(self.path(NAME))
+            with contextlib.closing(book.connection):
+                book.demand_whole()
+
+    @functools.cached_property
+    def language(self) -> Language:
+        return language_of(self.book.acts()[0].detail["language"])
+
+    def history(self) -> History:
+        return History(self.book.acts())
+
+    def sealed(self) -> Sealed:
+        """The poll as it was called. Stops before the call."""
+        call = self.called(self.history())
+        public = queries.sealed(self.book, POLL, call.number) or b""
+        counted = queries.sealed(self.book, POLL_WITH_NAMES, call.number) or public
+        try:
+            return Sealed(read_plain(public), read_plain(counted))
+        except Fault:
+            raise damaged(self.path(NAME), "its sealed poll is not in plain form") from None
+
+    def demand_private(self, target: pathlib.Path) -> None:
+        """Stops if what is written there would be in a folder for electors or the web site."""
+        place = target.absolute().resolve()
+        for name in (CALL, LETTERS, RESULT, PRIVATE):
+            if place.is_relative_to(self.path(name).absolute().resolve()):
+                words = f"it would be in the folder {name}, whose files go to others"
+                raise Fault(
+                    target,
+                    words,
+                    "name a place outside that folder",
+                    Status.BAD_WORDS,
+                    "nothing was written",
+                )
+
+    def called(self, history: History) -> DoneAct:
+        """The act of the call. Stops before it."""
+        if history.call is None:
+            raise Fault(None, "there is no call for votes yet", f"run {self.command('call')} first")
+        return history.call
+
+    def command(self, *words: str) -> str:
+        folder = [] if self.folder == pathlib.Path() else ["--folder", str(self.folder)]
+        return shlex.join(["debvote-election", *words[:1], *folder, *words[1:]])
+
+
+def no_book(folder: pathlib.Path) -> Fault:
+    """The fault of a folder without a book: what it is instead, as far as that can be seen."""
+    if not folder.is_dir():
+        words, cure = "there is no such folder", "name the folder of the election with --folder"
+    elif (folder.absolute().parent / NAME).is_file() and folder.absolute().name in (
+        CALL,
+        LETTERS,
+        RESULT,
+        PRIVATE,
+        TEXTS,
+    ):
+        words, cure = (
+            "the election is one folder up",
+            "go there with cd .., then run the command again",
+        )
+    elif any(os.path.lexists(folder / name) for name in OF_VERSION_1):
+        words = "it is an election of debvote-election 1.x, which only 1.x can finish"
+        cure = "install the version that began it, or begin anew in another folder"
+    else:
+        words = f"there is no {NAME} in it, so it is not an election"
+        cure = "go to the folder of the election, or name it with --folder; new makes one"
+    return Fault(folder, words, cure, Status.BAD_WORDS, None)

@@ -1,0 +1,1 @@
+"""The command line: options, what is told and asked, and faults."""

@@ -1,0 +1,290 @@
+"""Enter ballots by hand, and print the reply to each; several desks can run at once, each in its
+own terminal.
+"""
+
+import contextlib
+import functools
+import os
+import re
+import sys
+from collections.abc import Iterator
+from typing import NamedTuple
+
+from debvote_tools.book import queries
+from debvote_tools.book.acts import Detail
+from debvote_tools.book.book import Book, Overtaken
+from debvote_tools.cli.console import is_yes, tell, typed
+from debvote_tools.book import acting
+from debvote_tools.inbox import in_time
+from debvote_tools.inbox.vote import JudgedLine, Vote, change_words, summary, would_words
+from debvote_tools.book.election import Election, History
+from debvote_tools.inbox.entering import electors_of, entered, too_long
+from debvote_tools.cli.faults import Fault, Status
+from debvote_tools.files import BALLOTS_LIMIT
+from debvote_tools.inbox.lines import Line, lines_in
+from debvote_tools.poll.plain_names import alike
+from debvote_tools.cli.terminal_text import shown_text
+
+QUIT = b"q"
+NOTHING_CAST = "nothing was entered"
+
+# in bytes; what one read of a pipe brings at most
+READ = 65_536
+# a name as people type it, and ranks
+TYPED = re.compile(r"(.+?)\s+([\d-].*)")
+# how many names are listed to choose from
+MAX_NAMES = 9
+
+Arguments = in_time.Arguments
+
+
+class Shown(NamedTuple):
+    """The state of the book by which a ballot was shown before the question, or at a pipe before it
+    is cast.
+    """
+
+    decided_at: int
+    openness: History
+    # those of the elector
+    envelopes: list[queries.Envelope]
+
+
+class Desk:
+    """A desk, and the replies to what was cast there."""
+
+    def __init__(self, election: Election, book: Book, answer: str | None) -> None:
+        self.election, self.book = election, book
+        self.vote = Vote(election, election.history())
+        # what --came-before-close says, and what was said of the ballots of this desk
+        self.answer = answer
+        self.came_before_close: bool | None = None
+        self.replies: list[str] = []
+        # the number of the next line that comes
+        self.next_line = 1
+
+    @functools.cached_property
+    def texts(self) -> list[tuple[queries.Elector, str]]:
+        """The electors, each with what a part of a name is looked for in."""
+        return [
+            (elector, f"{alike(elector.name)}\n{alike(elector.who)}")
+            for elector in queries.electors(self.book)
+        ]
+
+    def now(self, elector: int | None = None) -> Shown:
+        """The state of the book by which a ballot of an elector is shown now."""
+        history = History(self.book.acts())
+        openness = history.openness()
+        if openness.call != self.vote.call:
+            raise Fault(
+                None,
+                "the call for votes was made anew meanwhile",
+                "start the desk again",
+                Status.DOUBT,
+                NOTHING_CAST,
+            )
+        return Shown(
+            history.last.number, openness, queries.envelopes(self.book, "elector = ?", elector)
+        )
+
+    def ask_if_reopened(self, elector: int | None = None) -> Shown:
+        """Returns the same. If the vote was opened again, it asks once whether what is cast came
+        before the first close.
+        """
+        shown = self.now(elector)
+        if shown.openness.is_reopened and self.came_before_close is None:
+            done = "the ballots reported so far were entered, and nothing else"
+            self.came_before_close = in_time.came_before_close(shown.openness, self.answer, done)
+        return shown
+
+    def lines_of(self, data: bytes) -> list[Line]:
+        lines = lines_in(data, "desk", self.next_line)
+        self.next_line += len(lines)
+        return lines
+
+    def cast(self, lines: list[JudgedLine], shown: Shown, elector: int | None = None) -> None:
+        """The act, and the replies to it. Raises `Overtaken` if the state is not the one that was
+        shown.
+        """
+        detail: Detail = {"lines": len(lines)}
+        if shown.openness.is_reopened:
+            detail["came_before_close"] = self.came_before_close
+        with entered(
+            self.book,
+            self.vote,
+            "desk",
+            detail,
+            lambda _: [queries.NewEnvelope(line.as_entered, line.line.place) for line in lines],
+            decided_at=shown.decided_at,
+            is_late=shown.openness.is_late(self.came_before_close),
+            is_same=lambda: self.now(elector)[1:] == shown[1:],
+            done="the ballots to be reported were entered",
+        ) as now:
+            replies = now.replies()
+            self.replies += replies
+            tell(*self.vote.report(lines, now.numbers, replies, is_entered=True))
+
+
+def run(election: Election, arguments: Arguments) -> None:
+    if sys.stdin is None:
+        raise Fault(
+            "standard input",
+            "it is closed",
+            "run it at a terminal",
+            Status.BAD_BALLOTS,
+            NOTHING_CAST,
+        )
+    desk = Desk(election, acting.book_for_act(election, arguments), arguments.came_before_close)
+    openness = desk.now().openness
+    tell(*in_time.notes(election, openness, "what is entered"))
+    if desk.vote.is_signed:
+        words = "in this vote letters must be signed, and a desk checks no signature"
+        tell(f"Note: {words}: enter only ballots on paper or by word of mouth.")
+    try:
+        desk.came_before_close = in_time.came_before_close(openness, desk.answer, NOTHING_CAST)
+        if sys.stdin.isatty():
+            at_terminal(desk)
+        else:
+            from_pipe(desk)
+    except KeyboardInterrupt:
+        tell("")
+    tell(f"This desk has entered {summary(desk.replies)}.", f"Next: {election.command('status')}")
+
+
+# ---------------------------------------------------------------- from a pipe
+def from_pipe(desk: Desk) -> None:
+    """Casts without asking what comes: the whole lines that each read brings."""
+    for data in whole_lines():
+        lines = []
+        for line in desk.lines_of(data):
+            if line.is_empty:
+                tell(f"{line.where}: it is empty, and was left out")
+            elif why := too_long(line):
+                add = desk.election.command("add", "--force", "FILE")
+                tell(f"{line.where}: {why}; it was not entered.", f"  To add it from a file: {add}")
+            else:
+                lines.append(line)
+        read = desk.vote.read(lines)
+        while read:
+            with contextlib.suppress(Overtaken):
+                desk.cast(read, desk.ask_if_reopened())
+                break
+
+
+def whole_lines() -> Iterator[bytes]:
+    """The lines that each read of standard input completes. A carriage return and a line feed are
+    one line end, even if they come in two reads.
+    """
+    waiting, ended_with_return = bytearray(), False
+    while data := os.read(sys.stdin.fileno(), READ):
+        waiting += data.removeprefix(b"\n") if ended_with_return else data
+        ended_with_return = data.endswith(b"\r")
+        end = max(waiting.rfind(b"\n"), waiting.rfind(b"\r")) + 1
+        # a line that is too long for debvote ends here
+        if len(waiting) - end > BALLOTS_LIMIT:
+            end = len(waiting)
+        if end:
+            yield bytes(waiting[:end])
+            del waiting[:end]
+    if waiting:
+        yield bytes(waiting)
+
+
+# ---------------------------------------------------------------- at a terminal
+def at_terminal(desk: Desk) -> None:
+    tell(*(f"  {number} {name}" for number, name in enumerate(desk.vote.option_names, start=1)))
+    who = "the code" if desk.vote.has_codes else "the elector"
+    tell(
+        f"Type a ballot as {desk.vote.right_line} ({who}, then a rank for each option in this order); q ends."
+    )
+    while (came := typed("Ballot: ")) is not None:
+        line = next(iter(desk.lines_of(came)), None)
+        if line is None or line.is_empty:
+            tell("Type a ballot, or q to end.")
+        elif line.repaired.lower() == QUIT:
+            return
+        elif not ask_and_cast(desk, line):
+            return
+
+
+def ask_and_cast(desk: Desk, line: Line) -> bool:
+    """Shows a ballot, and casts it on a yes. If another act changed what was shown, it asks again.
+    Returns False at the end of the input.
+    """
+    meant = completed(desk, line)
+    if meant is None:
+        tell("It was not entered.")
+        return True
+    [read] = desk.vote.read([meant])
+    [elector] = electors_of(desk.book, desk.vote, [read.as_entered])
+    while True:
+        # first what is in the book: if an envelope comes after this, it is found when the ballot is
+        # cast
+        shown = desk.ask_if_reopened(elector)
+        question = show(desk, read, shown, elector)
+        answer = is_yes(question, "Type y to enter it, or n to drop it.")
+        if answer is None:
+            return False
+        if not answer:
+            tell("It was not entered.")
+            return True
+        try:
+            desk.cast([read], shown, elector)
+            return True
+        except Overtaken:
+            tell(
+                "It was not entered: another command changed the election meanwhile. Now it looks like this:"
+            )
+
+
+def completed(desk: Desk, line: Line) -> Line | None:
+    """A line with the name on the roll that was meant, if the typed words are parts of it or of the
+    real name; of several electors one is chosen by a number, or none. Codes are never looked for.
+    """
+    typed_line = TYPED.fullmatch(line.repaired.decode("utf-8", "replace"))
+    if desk.vote.has_codes or typed_line is None or typed_line[1] in desk.vote.names_on_roll:
+        return line
+    name, ranks = typed_line.groups()
+    words = [alike(word) for word in name.split()]
+    found = [elector for elector, text in desk.texts if all(word in text for word in words)]
+    if not found:
+        return line
+    chosen = found[:MAX_NAMES]
+    if len(found) == 1:
+        tell(f"`{shown_text(name)}` was completed to `{found[0].name}`")
+    else:
+        tell(f"`{shown_text(name)}` is part of {len(found)} names:")
+        tell(
+            *(
+                f"  {place} {elector.name} ({shown_text(elector.who)})"
+                for place, elector in enumerate(chosen, start=1)
+            )
+        )
+        answer = typed("Type the number of one, or n for none: ") or b""
+        number = int(answer) if answer.strip().isdigit() else 0
+        chosen = chosen[number - 1 : number]
+        if not chosen:
+            return None
+    full = f"{chosen[0].name} {ranks}".encode()
+    return Line(line.source, line.place, full, full, full)
+
+
+def show(desk: Desk, line: JudgedLine, shown: Shown, elector: int | None) -> str:
+    """Shows what a ballot would be, in words, or why debvote would refuse it. Returns the question
+    whether to cast it.
+    """
+    tell(*change_words(line))
+    if not line.is_ballot:
+        tell(f"It would be refused: {would_words(line)}", desk.vote.right_words())
+        return "It would not count. Enter it anyway?"
+    tell(desk.vote.in_words(line))
+    if shown.openness.is_late(desk.came_before_close):
+        tell("It is late, and will not count.")
+    elif elector is not None:
+        earlier = desk.vote.standing(queries.lines_of_electors(desk.book, {elector})).get(
+            line.voter
+        )
+        if earlier is not None:
+            tell(
+                f"{line.voter} has a ballot: {desk.vote.ranks_in_words(earlier)}. It will be replaced."
+            )
+    return "Enter it?"

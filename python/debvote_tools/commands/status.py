@@ -1,0 +1,215 @@
+"""Show how far the election is: lines, ballots, electors without a ballot, refused lines."""
+
+import json
+import re
+from typing import NamedTuple
+
+from debvote_tools.text import times
+from debvote_tools.cli.arguments import Options, flag
+from debvote_tools.book import queries, sent
+from debvote_tools.cli.console import shows, tell
+from debvote_tools.debvote import Finding, Findings, Totals
+from debvote_tools.book.election import LETTERS, RESULT_LETTER, Election, History, Stage
+from debvote_tools.book.reporting import act_time, count_of, quorum_words, wrapped
+from debvote_tools.inbox.waiting import Arrived, stopping, waiting_letters
+from debvote_tools.inbox.lines import ballot_file
+from debvote_tools.cli.terminal_text import shown_line
+
+# how many characters the bar of those who have voted has
+BAR = 50
+
+# the word with which a line begins, if it can be a name; a byte-order mark, spaces and quotation
+# marks may precede it
+FIRST_WORD = re.compile(rb"(?:\xef\xbb\xbf)?[\s\"']*([A-Za-z0-9.-]{1,32})(?=[\s\"',;:]|$)")
+
+NO_FINDINGS = Findings([], Totals(lines=0, valid=0, refused=0, late=0, voters=0, electors=0))
+
+
+class Arguments(Options):
+    json: bool = flag("Print the numbers as JSON, for programs")
+
+
+class State(NamedTuple):
+    """How an election is, in numbers. In a vote whose roll has codes nobody is named."""
+
+    stage: Stage
+    electors: int
+    # the lines in time that are not struck, and of them the valid and the refused ones; those that
+    # are late
+    lines: int
+    valid: int
+    refused: int
+    late: int
+    voters: int
+    # letters that wait for the secretary, and the numbers of those that stop `close`, `count` and
+    # `publish`
+    waiting: int
+    stopping: list[int]
+    without_ballot: list[str] | None
+    # the electors whose letters a mail server refused, and has taken none since
+    refused_letters: list[str]
+    # the last one of the book
+    act: int
+    digest: str
+
+
+class Refused(NamedTuple):
+    envelope: int
+    line: bytes
+    finding: Finding
+
+    @property
+    def name(self) -> str | None:
+        """Whose it may be: the first word in small letters."""
+        word = FIRST_WORD.match(self.line)
+        return word[1].decode("ascii").lower() if word else None
+
+
+def run(election: Election, arguments: Arguments) -> None:
+    with election.book.snapshot():
+        history = election.history()
+        state, refused = state_of(election, history)
+    if arguments.json:
+        tell(json.dumps(state._asdict(), ensure_ascii=False))
+        return
+    tell_stage(election, history)
+    tell(f"Lines: {state.lines} ({state.valid} valid, {state.refused} refused)")
+    if state.late:
+        tell(f"Late, and not counted: {state.late}")
+    tell(f"Electors with a valid ballot: {state.voters} of {state.electors}")
+    if shows() and state.electors:
+        tell(f"  {bar_of(state.voters, state.electors)}")
+    if state.without_ballot:
+        tell(
+            f"Electors without a ballot ({len(state.without_ballot)}):",
+            wrapped(state.without_ballot),
+        )
+    tell_refused(refused, state.without_ballot)
+    if state.waiting:
+        wait = count_of(state.waiting, "letter waits", "letters wait")
+        tell(f"{wait} until you have looked at them: {election.command('held')}")
+    if state.stopping:
+        stops = "count and publish stop" if history.is_closed else "close stops"
+        tell(
+            f"These arrived in time, and {stops} while they wait: {', '.join(map(str, state.stopping))}"
+        )
+    if state.refused_letters:
+        tell(
+            f"Refused by the mail server, and reached by no letter since: {', '.join(state.refused_letters)}"
+        )
+    tell(f"Last act: {state.act}, digest {state.digest}", f"Next: {what_next(election, state)}")
+
+
+def state_of(election: Election, history: History) -> tuple[State, list[Refused]]:
+    """The numbers of an election, and the lines that debvote refuses, but for those of electors who
+    have a ballot.
+
+    With codes on the roll these are all refused lines.
+    """
+    lines: list[tuple[int, bytes]] = []
+    findings, waiting = NO_FINDINGS, dict[int, Arrived]()
+    if history.call is None:
+        roll = tuple(elector.name for elector in queries.electors(election.book))
+    else:
+        poll, lines = election.sealed().counted, queries.numbered_lines_in_time(election.book)
+        findings, roll = (
+            election.debvote.findings(poll.as_bytes(), ballot_file(line for _, line in lines)),
+            poll.roll,
+        )
+        waiting = waiting_letters(election, history)
+    refused = [Refused(*lines[finding.envelope - 1], finding) for finding in findings.refused]
+    refused_numbers = {line.envelope for line in refused}
+    # who has a line that debvote does not refuse has a ballot
+    names = {line.partition(b" ")[0] for number, line in lines if number not in refused_numbers}
+    voters = {name.decode("ascii") for name in names}
+    totals, has_codes = findings.totals, history.has_codes_on_roll
+    state = State(
+        stage=history.stage,
+        electors=len(roll),
+        lines=totals.lines,
+        valid=totals.valid,
+        refused=totals.refused,
+        late=len(queries.late_lines(election.book)),
+        voters=totals.voters,
+        waiting=len(waiting),
+        stopping=stopping(waiting, history),
+        without_ballot=None if has_codes else [name for name in roll if name not in voters],
+        refused_letters=[elector.name for elector, _ in sent.refused(election.book)],
+        act=history.last.number,
+        digest=history.last.digest,
+    )
+    return state, refused if has_codes else [line for line in refused if line.name not in voters]
+
+
+def tell_stage(election: Election, history: History) -> None:
+    if history.call is None:
+        tell("Call for votes: not made yet", "Closed: not yet")
+        return
+    poll = election.sealed().counted
+    tell(f"Title: {poll.name}")
+    if poll.secret:
+        under = "codes" if history.has_codes_on_roll else "aliases"
+        tell(
+            f"The vote is secret: ballots are published under {under}. Keep the output of this command to yourself."
+        )
+    if history.until is not None:
+        over = "; that time has passed" if times.now() >= history.until else ""
+        tell(f"End of the vote: {times.time_in_words(history.until)}{over}")
+    tell(f"Call for votes: made at {act_time(history.call.time)}")
+    tell(
+        f"Closed: at {act_time(history.closes[-1].time)}"
+        if history.is_closed
+        else "Closed: not yet"
+    )
+    if history.is_reopened:
+        tell(f"Reopened: at {act_time(history.named('reopen')[-1].time)}")
+    tell(quorum_words(poll.quorum, history.call.detail["quorum_votes"]))
+
+
+def what_next(election: Election, state: State) -> str:
+    if state.stage is Stage.NEW:
+        return f"{election.command('roll')}, then {election.command('check')}, then {election.command('call')}"
+    if state.stage is Stage.CALLED:
+        add = f"{election.command('add', 'FILE')}, or {election.command('desk')}"
+        return f"add the ballots as they come: {add}; when the vote is over: {election.command('close')}"
+    if state.stage is Stage.PUBLISHED and not state.stopping:
+        # where nobody knows whose each code is, no letter can be written to an elector
+        has_codes = state.without_ballot is None
+        send = (
+            f"send {election.path(LETTERS) / RESULT_LETTER} to all electors"
+            if has_codes
+            else election.command("letters", "result")
+        )
+        return f"put the published folder on the web site as it is, then {send}"
+    return f"{election.command('count')}, then {election.command('publish')}"
+
+
+def bar_of(part: int, whole: int) -> str:
+    """How many of all have voted, as a bar: it is full only if all have, and empty only if nobody
+    has.
+    """
+    full = part * BAR // whole if part in (0, whole) else min(max(part * BAR // whole, 1), BAR - 1)
+    return f"[{'#' * full}{'.' * (BAR - full)}] {part * 100 // whole} %"
+
+
+def tell_refused(refused: list[Refused], without_ballot: list[str] | None) -> None:
+    """Prints lines, each with its envelope and what debvote says of it. With codes on the roll a
+    line would tell a code.
+    """
+    if without_ballot is None:
+        if refused:
+            tell(f"Refused: envelopes {', '.join(str(line.envelope) for line in refused)}")
+        return
+    known = set(without_ballot)
+    for whose, is_known in (
+        ("of electors without a ballot", True),
+        ("with no known elector", False),
+    ):
+        found = [line for line in refused if (line.name in known) == is_known]
+        if found:
+            tell(f"Refused lines {whose} ({len(found)}):")
+        for envelope, line, finding in found:
+            tell(
+                f"  envelope {envelope}: {shown_line(line) or '(empty)'}",
+                f"    {finding.word}: {finding.hint}",
+            )

@@ -1,1 +1,0 @@
-"""An election in one folder, from the list of members to the published result."""

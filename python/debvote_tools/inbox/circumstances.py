@@ -1,0 +1,105 @@
+"""All that letters are judged by, beside themselves: the vote, the list of members and the book, as
+they are now.
+"""
+
+import collections
+import dataclasses
+import datetime
+import enum
+import functools
+import re
+from collections.abc import Collection, Mapping, Sequence
+
+from debvote_tools.inbox.addresses import address_key
+from debvote_tools.inbox.parse import ParsedLetter
+from debvote_tools.poll.plain_names import without_accents
+
+# what parts the words of a name, and what each name on a roll has
+NO_NAME, LATIN = re.compile(r"(?:[^\w.-]|[_\u02b0-\u02ff])+"), re.compile("[a-z0-9]")
+
+
+class Decision(enum.Enum):
+    ENTERED = "entered"
+    TAKEN_BACK = "taken back"
+    PUT_BACK = "put back"
+    SET_ASIDE = "set aside"
+    STRUCK = "struck"
+
+
+@dataclasses.dataclass(frozen=True)
+class Ballot:
+    """A ballot that is in and not struck: its time, in whole seconds, and its line."""
+
+    time: datetime.datetime
+    line: str
+
+
+@dataclasses.dataclass(frozen=True)
+class Names:
+    """The names of the electors, which stay from the call on: those on the roll, and the real ones."""
+
+    roll: frozenset[str]
+    language: str
+    real_names: Mapping[str, str]
+
+    @functools.cached_property
+    def electors_by_real_name(self) -> dict[str, list[str]]:
+        """All electors by their real names, folded. Few letters ask for it, and with many electors
+        it takes a while.
+        """
+        found: dict[str, list[str]] = collections.defaultdict(list)
+        for elector, who in self.real_names.items():
+            for fold in self.folds(who):
+                found[fold].append(elector)
+        return dict(found)
+
+    def folds(self, name: str) -> set[str]:
+        """A name as one on a roll is made from it, but whole: there a long one is cut, and letters
+        of other scripts are left out, so other words may be where they were. The signs that are
+        written as an apostrophe are no letters.
+        """
+        plain = (without_accents(name, language).lower() for language in (self.language, ""))
+        folds = {NO_NAME.sub("-", one).strip("-") for one in plain}
+        return {fold for fold in folds if LATIN.search(fold)}
+
+
+@dataclasses.dataclass(frozen=True)
+class Circumstances:
+    """All that a letter is judged by, beside itself, as it is now. Times have a zone."""
+
+    # of the poll: the mark and the roll
+    mark: str
+    roll: frozenset[str]
+    # of each elector: the addresses as the list has them
+    addresses: Mapping[str, Sequence[str]]
+    # the first call that was not taken back; the end as it is now; the first close
+    called: datetime.datetime
+    end: datetime.datetime | None
+    first_close: datetime.datetime | None
+    now: datetime.datetime
+    # the Message-IDs of the letters that were written to each elector
+    our_letters: Mapping[str, Collection[str]]
+    # the fingerprint of each elector's key; None where letters need no signature
+    keys: Mapping[str, str] | None
+    # what acts decided, by the keys of the letters
+    decisions: Mapping[str, Decision]
+
+    @property
+    def passed_over(self) -> tuple[str, ...]:
+        """The lines that may be anywhere in a letter: where letters have to be signed, the mark of
+        the poll.
+        """
+        return () if self.keys is None else (f"[{self.mark}]",)
+
+    @functools.cached_property
+    def electors_by_address(self) -> dict[str, list[str]]:
+        found: dict[str, list[str]] = collections.defaultdict(list)
+        for elector, addresses in self.addresses.items():
+            for key in dict.fromkeys(filter(None, map(address_key, addresses))):
+                found[key].append(elector)
+        return dict(found)
+
+    def elector_of(self, letter: ParsedLetter) -> str | None:
+        """The one elector whose address the sender of a letter has."""
+        electors = self.electors_by_address.get(letter.sender, [])
+        return electors[0] if len(electors) == 1 else None

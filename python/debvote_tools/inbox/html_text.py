@@ -1,0 +1,254 @@
+"""The text of a letter in HTML, line by line as browsers show it, and down to where its marks are
+plain: so plain that no mail program shows another text.
+
+Python's own reader of HTML takes a time that grows with the square of the length where marks have
+no end, and anybody may send such a letter. Here one expression parts the marks, and reads each
+character once.
+"""
+
+import collections
+import html
+import re
+import unicodedata
+from collections.abc import Collection, Mapping
+
+# a comment or declaration, a mark with its attributes, or a text; what has no end ends with the
+# text
+BLANKS = r" \t\n\r\f"
+NAME = rf"[^{BLANKS}/>][^{BLANKS}/>=]*+"
+VALUE = rf"""[{BLANKS}]*+=[{BLANKS}]*+(?:"[^"]*+"|'[^']*+'|[^{BLANKS}>"'][^{BLANKS}>]*+)?+"""
+TOKEN = re.compile(
+    r"(?P<other><!--(?:-?>|.*?(?:--!?>|\Z))|<(?:[!?]|/(?![a-zA-Z]))[^>]*+(?:>|\Z))"
+    rf"|<(?P<end>/?)(?P<tag>[a-zA-Z][^{BLANKS}/>]*+)(?P<given>(?:[{BLANKS}/]++|{NAME}(?:{VALUE})?+)*+)(?:>|\Z)|(?P<text>[^<]++|<)",
+    re.DOTALL,
+)
+DOCTYPE = re.compile(r"<!doctype\s[^<>\[\]]*>", re.IGNORECASE)
+ATTRIBUTE = re.compile(
+    r"""(?<!\s)\s++([a-zA-Z-]++)(?:\s*+=\s*+(?:"([^"]*+)"|'([^']*+)'|([^\s"'>=]++)))?"""
+)
+
+# the elements, attributes and styles of plain marks
+PLAIN = frozenset(
+    "html head meta title body div p br span font b strong i em u center blockquote".split()
+)
+PLAIN_ATTRIBUTES = frozenset("class id lang dir style".split())
+META_ATTRIBUTES = frozenset("charset content http-equiv name".split())
+# from right to left numbers are in another order
+DIRECTIONS = ("ltr", "auto")
+RIGHT_TO_LEFT = ("R", "AL", "RLE", "RLO", "RLI", "LRE", "LRO", "LRI", "FSI", "PDF", "PDI")
+LENGTH = r"(?:0|auto|(?:\d{1,2}(?:\.\d+)?|\.\d+)(?:px|pt|em|ex|rem|cm|mm|%))"
+PLAIN_STYLES = {
+    "font-family": re.compile(r"[\w\s,'\"-]+"),
+    "font-size": re.compile(r"(?:[89]|[12]\d|30)(?:\.\d+)?(?:px|pt)"),
+    "line-height": re.compile(
+        r"normal|1(?:\.\d+)?|2(?:\.0+)?|1\d\d(?:\.\d+)?%|[1-4]\d(?:\.\d+)?(?:px|pt)"
+    ),
+    "text-align": re.compile(r"left|right|center|justify|start|end"),
+}
+PLAIN_STYLES |= {
+    f"{name}{side}": re.compile(rf"{LENGTH}(?:\s+{LENGTH}){{0,3}}")
+    for name in ("margin", "padding")
+    for side in ("", "-top", "-right", "-bottom", "-left")
+}
+# what else may be below a ballot, since it changes nothing above it; with any other mark nothing of
+# a letter is plain
+BELOW = PLAIN - {"html", "head", "meta", "title", "body"} | frozenset(
+    "a img hr ul ol li pre h1 h2 h3 h4 h5 h6 s small code table thead tbody tfoot tr td th".split()
+)
+BELOW_ATTRIBUTES = PLAIN_ATTRIBUTES | frozenset(
+    "name href src alt title target rel width height border cellpadding cellspacing colspan rowspan valign bgcolor color face size "
+    "type cite".split()
+)
+BELOW_STYLES = PLAIN_STYLES | {
+    name: re.compile(r"[\w\s#%.,()'\"-]*")
+    for name in "color background background-color border border-top border-right border-bottom border-left border-collapse border-color "
+    "border-style border-width font-weight font-style text-decoration white-space word-wrap word-break overflow-wrap vertical-align "
+    "width max-width".split()
+}
+# where lines wrap, as GMX and web.de say of a quotation
+BELOW_STYLES |= {
+    "-webkit-nbsp-mode": re.compile("space"),
+    "-webkit-line-break": re.compile("after-white-space"),
+}
+
+# what they hold is no text of the letter
+HOLDING = frozenset(("title", "style", "script"))
+# they begin a line, and after their end a line begins too
+BLOCKS = frozenset(
+    "address article aside blockquote center dd div dl dt fieldset figure footer form h1 h2 h3 h4 h5 h6 header li main nav ol p pre "
+    "section table tbody tfoot thead tr ul".split()
+)
+CELLS = ("td", "th")
+# a text in a table but in none of its cells is shown above the table
+TABLE = ("table", "thead", "tbody", "tfoot", "tr")
+# the number of a character: leading zeros, up to eight digits, and any further digits, which make
+# it too great
+NUMBER = re.compile("&#0*([0-9]{1,8})[0-9]*+")
+# what end a line in some programs, or are left out
+ODD_CHARACTERS = re.compile("[\0-\x08\v\x0e-\x1f\x7f\x85\u2028\u2029]")
+
+
+def read_html(text: str) -> "HtmlText":
+    reader = HtmlText()
+    for token in TOKEN.finditer(text):
+        if token["text"] is not None:
+            reader.read_text(token["text"])
+        elif reader.holder and not (token["end"] and token["tag"].lower() == reader.holder):
+            reader.read_declaration(token[0])
+        elif token["other"] is not None:
+            reader.read_declaration(token["other"])
+        elif token["end"]:
+            reader.end(token["tag"].lower())
+        else:
+            reader.begin(token["tag"].lower(), token["given"])
+    reader.end_line()
+    if not reader.first_other:
+        reader.plain_lines = len(reader.lines)
+    if reader.odd:
+        reader.plain_lines, reader.first_other = 0, reader.odd
+    return reader
+
+
+class HtmlText:
+    """The lines of a text in HTML, those of `blockquote` with > before them; how many of the first
+    ones have plain marks alone, and what the first other mark is. The `pieces` are what a style may
+    make lines of their own, or nobody sees: the lines between two marks.
+    """
+
+    def __init__(self) -> None:
+        self.lines: list[str] = []
+        self.pieces: list[str] = []
+        self.first_other, self.plain_lines = "", 0
+        # whether each mark that came is plain: most letters have few, again and again
+        self.plain_marks: dict[tuple[str, str], bool] = {}
+        # the first mark that may be nowhere in a letter
+        self.odd = ""
+        # the text of the line that is not ended yet
+        self.parts: list[str] = []
+        # the blocks that are open, and how many of each
+        self.open: list[str] = []
+        self.open_count: collections.Counter[str] = collections.Counter()
+        # the element whose text nobody sees, while it is open
+        self.holder = ""
+
+    def found_other(self, name: str, *, may_be_below: bool) -> None:
+        if not self.first_other:
+            self.first_other, self.plain_lines = name, len(self.lines)
+        if not may_be_below:
+            self.odd = self.odd or name
+
+    def begin(self, tag: str, given: str) -> None:
+        if (tag, given) not in self.plain_marks:
+            self.plain_marks[tag, given] = is_plain_mark(tag, given)
+        if not self.plain_marks[tag, given]:
+            self.found_other(
+                f"{tag}{given}",
+                may_be_below=tag in BELOW and are_plain(given, BELOW_ATTRIBUTES, BELOW_STYLES),
+            )
+        if tag == "title" and (self.lines or self.parts):
+            self.found_other(tag, may_be_below=False)
+        if tag in HOLDING:
+            self.holder = tag
+        if tag in ("br", "hr"):
+            self.end_line(keeps_empty=tag == "br")
+        elif tag in CELLS:
+            self.parts.append(" ")
+        elif tag in BLOCKS:
+            self.end_line()
+            if self.open[-1:] == ["p"]:
+                self.close("p")
+        if tag in CELLS or tag in BLOCKS:
+            self.open.append(tag)
+            self.open_count[tag] += 1
+
+    def close(self, tag: str) -> None:
+        """Closes a block that is open, and those within it."""
+        closed = ""
+        while closed != tag:
+            closed = self.open.pop()
+            self.open_count[closed] -= 1
+
+    def end(self, tag: str) -> None:
+        """An element ends. The end of one that is not open begins a line in browsers if it is `br`
+        or `p`, and is no plain mark.
+        """
+        is_open = self.open_count[tag] > 0
+        if tag not in PLAIN or tag == "br" or (tag in BLOCKS and not is_open):
+            self.found_other(f"/{tag}", may_be_below=tag in PLAIN or tag in BELOW)
+        if tag in ("br", "p") or (is_open and tag not in CELLS):
+            self.end_line()
+        if is_open:
+            self.close(tag)
+        if tag == self.holder:
+            self.holder = ""
+
+    def read_declaration(self, text: str) -> None:
+        """Reads a comment, a declaration, or what looks like a mark within a title. Some programs
+        show a comment, and what looks like a mark may end the title.
+        """
+        if not DOCTYPE.fullmatch(text) or self.lines or self.parts:
+            self.found_other(text, may_be_below=False)
+        self.pieces += re.split(r"(?:[\n\r<>]|!?--|!)+", unescaped(text))
+
+    def read_text(self, text: str) -> None:
+        """A text comes. A sign < that begins no mark is not plain."""
+        shown = unescaped(text)
+        is_turned = not shown.isascii() and any(
+            unicodedata.bidirectional(character) in RIGHT_TO_LEFT for character in shown
+        )
+        if text == "<" or ODD_CHARACTERS.search(shown) or is_turned:
+            self.found_other(text, may_be_below=True)
+        if self.open and self.open[-1] in TABLE and shown.strip():
+            self.found_other(text, may_be_below=False)
+        self.pieces += [f"{self.quotation}{line}" for line in shown.splitlines()]
+        if not self.holder:
+            self.parts.append(re.sub(r"[ \t\r\n\f]+", " ", shown))
+
+    @property
+    def quotation(self) -> str:
+        return "> " if self.open_count["blockquote"] else ""
+
+    def end_line(self, *, keeps_empty: bool = False) -> None:
+        """Ends the line. One without text is kept as an empty one where a `br` or a no-break space
+        makes it seen.
+        """
+        text = "".join(self.parts)
+        self.parts.clear()
+        if text.strip(" ") or keeps_empty:
+            self.lines.append(self.quotation + text.strip())
+
+
+def unescaped(text: str) -> str:
+    """A text with the characters that it names. Python reads no number of thousands of digits."""
+    return html.unescape(NUMBER.sub(r"&#\1", text)) if "&" in text else text
+
+
+def is_plain_mark(tag: str, given: str) -> bool:
+    return tag in PLAIN and are_plain(
+        given, META_ATTRIBUTES if tag == "meta" else PLAIN_ATTRIBUTES, PLAIN_STYLES
+    )
+
+
+def are_plain(given: str, names: Collection[str], styles: Mapping[str, re.Pattern[str]]) -> bool:
+    """Whether the attributes of a mark are among these, and its style among those."""
+    bare = given.rstrip().removesuffix("/").rstrip()
+    if ATTRIBUTE.sub("", bare):
+        return False
+    for name, *values in ATTRIBUTE.findall(bare.lower()):
+        value = unescaped("".join(values))
+        if (
+            name not in names
+            or (name == "dir" and value not in DIRECTIONS)
+            or (name == "style" and not is_plain_style(value, styles))
+        ):
+            return False
+    return True
+
+
+def is_plain_style(style: str, styles: Mapping[str, re.Pattern[str]]) -> bool:
+    """Whether each declaration of a style is among these."""
+    for declaration in filter(str.strip, style.split(";")):
+        name, _, value = (part.strip() for part in declaration.partition(":"))
+        if name not in styles or not styles[name].fullmatch(value):
+            return False
+    return True

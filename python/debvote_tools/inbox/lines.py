@@ -1,0 +1,197 @@
+"""The lines that come, and what may be changed of one before it is entered.
+
+A change is made only if the line can mean one thing: the byte-order mark at the start, carriage
+returns at line ends, spaces and tabs at either end, around commas and between name and ranks,
+capital letters of the name; and what mail programs and word processors put there: quotation marks
+around the line, asterisks for bold letters, a full stop at its end, semicolons between all ranks in
+place of commas, a colon after the name, no-break spaces, and a dash in place of a hyphen. Of the
+cells of a table `csv_ballots.py` changes less: blanks at either end of each, line feeds within it,
+capital letters of the name and, if the call says so, an empty cell to a hyphen. Nothing else is
+changed, and nothing is guessed: no rank, no name, no order.
+"""
+
+import codecs
+import re
+from collections.abc import Iterable
+from typing import NamedTuple
+
+MARK = codecs.BOM_UTF8
+BLANKS = b" \t"
+
+# in bytes; a longer line is no ballot, and nothing of it is repaired
+LONGEST_REPAIRED = 1_000
+NOTHING_TO_REPAIR = re.compile(rb"[a-z0-9.-]+ [0-9-][0-9,-]*")
+
+# what can be a name on a roll, at the start of a line
+NAME = re.compile(rb"[a-z0-9.-]+")
+
+# the code or the alias of a secret vote, within other text
+CODE_WITHIN = re.compile(rb"(?<![0-9a-f])[0-9a-f]{32}(?![0-9a-f])")
+# the same as people type it, with the gaps of a slip
+TYPED_CODE = re.compile(r"(?<![0-9a-f])(?:[0-9a-f][ \t-]?+){31}[0-9a-f](?![0-9a-f])", re.IGNORECASE)
+
+NO_BREAK = "\u00a0\u202f"
+DASHES = "\u2010\u2011\u2012\u2013\u2014\u2212"
+# pairs of quotation marks: the one before a line, and the one after it
+QUOTES = (
+    *('""', "''", "``"),
+    *"\u201c\u201d \u201e\u201c \u201e\u201d \u201d\u201d \u2018\u2019 \u201a\u2018 \u00ab\u00bb \u00bb\u00ab".split(),
+)
+
+# whole words between asterisks are bold letters of a mail program
+BOLD = re.compile(r"(?:^|(?<=[ ,;:]))(\*{1,3})(?=[^ *])([^*]*)(?<=[^ *])\1(?=[ ,;:.]|$)")
+COLON = re.compile(r"([A-Za-z0-9.-]+) *: *(?=[\d%s-])" % DASHES)
+FULL_STOP = re.compile(r"(?<=[\d%s-]) *\.$" % (DASHES + "".join(pair[1] for pair in QUOTES)))
+
+# the characters that are removed or replaced, by their names
+REPAIRED = {
+    "byte-order mark": (MARK,),
+    "carriage return": (b"\r",),
+    "line feeds": (b"\n",),
+    "tabs": (b"\t",),
+    "spaces": (b" ",),
+    "no-break spaces": tuple(character.encode() for character in NO_BREAK),
+    "quotation marks": tuple(character.encode() for character in sorted(set("".join(QUOTES)))),
+    "asterisks": (b"*",),
+    "full stop": (b".",),
+    "semicolons": (b";",),
+    "colon": (b":",),
+    "dashes": tuple(character.encode() for character in DASHES),
+}
+
+
+class Line(NamedTuple):
+    """A line that came. `source` names the file, as `more.txt`, and `place` the line in it, as
+    `:3`, or of a table as `: row 3`.
+    """
+
+    source: str
+    place: str
+    # with its byte-order mark and its carriage return, or with the line feeds in the cells of its
+    # row
+    came: bytes
+    # without them: so it is entered if debvote refuses it
+    unframed: bytes
+    repaired: bytes
+
+    @property
+    def where(self) -> str:
+        return f"{self.source}{self.place}"
+
+    @property
+    def is_empty(self) -> bool:
+        return not self.repaired
+
+    @property
+    def had_mark(self) -> bool:
+        """Whether the line lost only a byte-order mark, and perhaps a carriage return."""
+        return (
+            not self.unframed.startswith(MARK)
+            and self.came.removesuffix(b"\r") == MARK + self.unframed
+        )
+
+    @property
+    def had_return(self) -> bool:
+        """Whether the line lost only a carriage return, and perhaps a byte-order mark."""
+        return self.came == self.unframed + b"\r" or (self.had_mark and self.came.endswith(b"\r"))
+
+    @property
+    def without_frame(self) -> bytes:
+        """The line as it came, without such a byte-order mark and carriage return: they are
+        mentioned once for the whole file.
+        """
+        return self.unframed if self.had_mark or self.had_return else self.came
+
+
+def lines_in(data: bytes, name: str, first: int = 1) -> list[Line]:
+    """The lines of a file, numbered from `first`; a carriage return alone ends one, too. Line 1
+    loses its byte-order mark.
+    """
+    lines = []
+    for number, line in enumerate(data.splitlines(keepends=True), start=first):
+        came = line.removesuffix(b"\n")
+        unframed = came.removesuffix(b"\r").removeprefix(MARK if number == 1 else b"")
+        lines.append(Line(name, f":{number}", came, unframed, changed(unframed)))
+    return lines
+
+
+def ballot_lines(ballots_bytes: bytes) -> list[bytes]:
+    """The lines of a ballot file; the last one may lack its line feed."""
+    return ballots_bytes.removesuffix(b"\n").split(b"\n") if ballots_bytes else []
+
+
+def ballot_file(lines: Iterable[bytes]) -> bytes:
+    return b"\n".join([*lines, b""])
+
+
+def name_in(line: bytes) -> bytes:
+    """The name with which a line begins; empty if it begins with none."""
+    found = NAME.match(line)
+    return found[0] if found else b""
+
+
+def has_code(text: str) -> bool:
+    """Whether a text has what looks like a code or an alias within it."""
+    return TYPED_CODE.search(text) is not None
+
+
+def changed(line: bytes) -> bytes:
+    if NOTHING_TO_REPAIR.fullmatch(line):
+        return line
+    if len(line) > LONGEST_REPAIRED or b"\r" in line or b"\n" in line:
+        return spaced(line)
+    try:
+        text = line.decode("utf-8")
+    except UnicodeDecodeError:
+        return spaced(line)
+    return spaced(repaired(text).encode("utf-8"))
+
+
+def spaced(line: bytes) -> bytes:
+    """The line with one space between name and ranks and none elsewhere, and without capital
+    letters in the name.
+    """
+    joined = b",".join(part.strip(BLANKS) for part in line.split(b","))
+    between = re.search(rb"[ \t]+", joined)
+    if between is None:
+        return joined
+    return joined[: between.start()].lower() + b" " + joined[between.end() :]
+
+
+def repaired(text: str) -> str:
+    """A line without what mail programs and word processors put there."""
+    bare = text.translate({ord(character): " " for character in NO_BREAK}).strip(" \t")
+    # quotation marks may enclose a full stop, or precede it
+    for _ in range(2):
+        bare = FULL_STOP.sub("", unquoted(BOLD.sub(r"\2", bare)))
+    bare = COLON.sub(r"\1 ", bare, count=1) if COLON.match(bare) else bare
+    name, blank, ranks = bare.partition(" ")
+    # with both a comma may be that of a decimal
+    delimiter = "," if "," in ranks else ";"
+    cells = [cell.strip(" \t") for cell in ranks.split(delimiter)]
+    if delimiter == "," and not any(cell in DASHES for cell in cells if cell):
+        return bare
+    return name + blank + ",".join("-" if cell and cell in DASHES else cell for cell in cells)
+
+
+def unquoted(text: str) -> str:
+    """A line without the quotation marks around the whole of it."""
+    is_quoted = (
+        len(text) > 2
+        and text[0] + text[-1] in QUOTES
+        and not any(mark in text[1:-1] for mark in (text[0], text[-1]))
+    )
+    return text[1:-1].strip(" \t") if is_quoted else text
+
+
+def differences(before: bytes, after: bytes) -> list[str]:
+    names = [
+        name
+        for name, parts in REPAIRED.items()
+        if any(before.count(part) > after.count(part) for part in parts)
+    ]
+    if before.count(b"-") < after.count(b"-") and "dashes" not in names:
+        names.append("empty cells")
+    if len(re.findall(rb"[A-Z]", before)) > len(re.findall(rb"[A-Z]", after)):
+        names.append("capital letters")
+    return names

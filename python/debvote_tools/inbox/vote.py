@@ -1,0 +1,284 @@
+"""The vote, as debvote is asked about its lines, and what is printed about them."""
+
+import collections
+import functools
+import re
+from collections.abc import Iterable, Iterator, Sequence
+from typing import NamedTuple
+
+from debvote_tools.text.ballots import BallotWords
+from debvote_tools.debvote import Finding
+from debvote_tools.book.election import Election, History
+from debvote_tools.book.reporting import count_of
+from debvote_tools.cli.faults import other_format
+from debvote_tools.files import BALLOTS_LIMIT, LINES_LIMIT
+from debvote_tools.text.language import ENGLISH
+from debvote_tools.inbox.lines import Line, ballot_file, differences, has_code
+from debvote_tools.cli.terminal_text import shown_line
+
+IS_CODE = " (32 digits, as in a code or an alias: a ballot has only the elector's name, and nobody may see a code)"
+
+# the reply to a line that came after the close
+LATE_REPLY = "late"
+
+# the number that makes a name different from others
+NUMBER = re.compile(r"-\d+\Z")
+
+
+class JudgedLine(NamedTuple):
+    """A line that came, how it is entered, and what debvote says of it, whenever it comes."""
+
+    line: Line
+    # with the changes that are allowed if debvote takes it so, and otherwise without them
+    as_entered: bytes
+    # why debvote refuses the line as it is entered, and why it refuses the repaired one; None if it
+    # is a ballot
+    finding: Finding | None = None
+    finding_of_repaired: Finding | None = None
+    # names on the roll that fit as well as the one that debvote offers
+    other_names: tuple[str, ...] = ()
+
+    @property
+    def is_ballot(self) -> bool:
+        return self.finding is None
+
+    @property
+    def voter(self) -> str:
+        return self.as_entered.partition(b" ")[0].decode("ascii")
+
+    @property
+    def ranks(self) -> str:
+        return self.as_entered.partition(b" ")[2].decode("ascii")
+
+
+class Vote:
+    """The vote that lines are entered for, as it was called. Stops before the call."""
+
+    def __init__(self, election: Election, history: History) -> None:
+        self.call, poll, self.debvote = (
+            election.called(history),
+            election.sealed().counted,
+            election.debvote,
+        )
+        # the names of all options as people read them, the default last
+        self.poll_bytes, self.option_names, self.roll = poll.as_bytes(), poll.names, poll.roll
+        # the roll has codes: none is printed that was not typed
+        self.has_codes = bool(history.announced("codes_on_roll"))
+        self.is_signed = bool(history.announced("signed"))
+        # the call says that an empty cell of a web form is a hyphen
+        self.has_form = bool(history.announced("form"))
+        # most ballots have one of a few orders
+        self.ranks_in_words = functools.lru_cache(4096)(BallotWords(self.option_names).of)
+
+    @functools.cached_property
+    def names_on_roll(self) -> frozenset[str]:
+        return frozenset(self.roll)
+
+    @property
+    def right_line(self) -> str:
+        return f"{'CODE' if self.has_codes else self.roll[0]} {','.join(str(rank + 1) for rank in range(len(self.option_names)))}"
+
+    def read(self, lines: Sequence[Line]) -> list[JudgedLine]:
+        """What debvote says of lines, none of them empty. It is started twice at most.
+
+        The lines are the only input, so what is said of one depends on no other. If the changed
+        line is refused, the line goes in as it came, and is refused too, since the changes leave a
+        right line as it is; the reason may be another one.
+        """
+        refused = self.findings([line.repaired for line in lines])
+        changed = [
+            line.unframed
+            for line in lines
+            if line.repaired in refused and line.unframed != line.repaired
+        ]
+        refused_as_they_came = self.findings(changed)
+        read = []
+        for line in lines:
+            finding = refused.get(line.repaired)
+            if finding is None:
+                read.append(JudgedLine(line, line.repaired))
+            else:
+                entered = refused_as_they_came.get(line.unframed, finding)
+                read.append(
+                    JudgedLine(line, line.unframed, entered, finding, self.other_names(entered))
+                )
+        return read
+
+    def answers(self, lines: Sequence[bytes]) -> dict[bytes, str | None]:
+        """What debvote says of each line, such as `bad rank count: ..`; None for a valid ballot. It
+        gets as many lines at once as it takes. What it remarks on other lines is left out.
+        """
+        answers: dict[bytes, str | None] = dict.fromkeys(lines)
+        for part in parts_of(lines):
+            found = {
+                line: finding._replace(remark="") for line, finding in self.findings(part).items()
+            }
+            answers |= {line: f"{finding.word}: {finding.hint}" for line, finding in found.items()}
+        return answers
+
+    def findings(self, lines: Sequence[bytes]) -> dict[bytes, Finding]:
+        """Why debvote refuses some of these lines. If the roll has codes, none is offered. Without
+        lines debvote is not asked.
+        """
+        if not lines:
+            return {}
+        found = {}
+        for finding in self.debvote.findings(self.poll_bytes, ballot_file(lines)).refused:
+            found[lines[finding.envelope - 1]] = (
+                finding._replace(near=(), remark="") if self.has_codes else finding
+            )
+        return found
+
+    def other_names(self, finding: Finding) -> tuple[str, ...]:
+        """All names that fit as well as those that debvote offers, as `anna-meier-2` beside
+        `anna-meier`.
+        """
+        alike = dict.fromkeys(
+            name for near in finding.near for name in self.names_by_bare_name[NUMBER.sub("", near)]
+        )
+        return tuple(name for name in alike if name not in finding.near)
+
+    @functools.cached_property
+    def names_by_bare_name(self) -> dict[str, list[str]]:
+        """The names of the roll by what they are without their number."""
+        by_bare_name: dict[str, list[str]] = collections.defaultdict(list)
+        for name in self.roll:
+            by_bare_name[NUMBER.sub("", name)].append(name)
+        return by_bare_name
+
+    def replies(self, before: Sequence[bytes], new: Sequence[bytes]) -> list[str]:
+        """The reply to each new line, after the lines before. Without new ones debvote is not
+        asked.
+        """
+        if not new:
+            return []
+        replies = self.debvote.replies(self.poll_bytes, ballot_file([*before, *new]))
+        if len(replies) != len(before) + len(new):
+            raise other_format("the list of replies of this debvote")
+        return replies[len(before) :]
+
+    def standing(self, lines: Sequence[bytes]) -> dict[str, str]:
+        """The ranks of the ballots that stand if these lines are all, by elector. Without lines
+        debvote is not asked.
+        """
+        return self.debvote.standing(self.poll_bytes, ballot_file(lines)) if lines else {}
+
+    # ------------------------------------------------------------ words
+    def report(
+        self,
+        lines: Sequence[JudgedLine],
+        numbers: Iterable[int],
+        replies: Sequence[str],
+        *,
+        is_entered: bool,
+    ) -> Iterator[str]:
+        yield from frame_words(line.line for line in lines)
+        for number, reply, line in zip(numbers, replies, lines):
+            if line.line.came != line.as_entered:
+                yield from change_words(line)
+            yield f"{number} {reply}  {self.in_words(line, reply)}"
+            finding, other = line.finding, line.finding_of_repaired
+            if finding and other and (other.word, other.hint) != (finding.word, finding.hint):
+                goes = "it went in" if is_entered else "it would go in"
+                written = f"written as `{shown_line(line.line.repaired)}` it is refused too"
+                yield f"  {goes} as it came; {written}: {other.word}: {other.hint}"
+        if not all(line.is_ballot for line in lines):
+            yield self.right_words()
+        if LATE_REPLY in replies:
+            yield f"{count_of(replies.count(LATE_REPLY), 'line')} came after the close, and late lines do not count."
+
+    def in_words(self, line: JudgedLine, reply: str = "") -> str:
+        """A ballot in words, or the line and why debvote refuses it."""
+        if line.finding is None:
+            return self.ballot_in_words(line.as_entered.decode("ascii"))
+        word = "" if line.finding.word == reply else f"{line.finding.word}: "
+        # so that nobody takes one elector for another
+        others = f" (or {ENGLISH.joined(list(line.other_names))})" if line.other_names else ""
+        code = (
+            IS_CODE
+            if has_code(line.line.repaired.decode("utf-8", "replace")) and not self.has_codes
+            else ""
+        )
+        return f"{shown_line(line.as_entered)}: {word}{line.finding.hint}{others}{code}"
+
+    def ballot_in_words(self, ballot: str) -> str:
+        voter, _, ranks = ballot.partition(" ")
+        return f"{voter}: {self.ranks_in_words(ranks)}"
+
+    def right_words(self) -> str:
+        name = "a code of the roll" if self.has_codes else "an elector of the roll"
+        ranks = f"{len(self.option_names)} ranks with commas between, a rank or a hyphen for each option"
+        return f"A valid line in this poll: {self.right_line} ({name}, a space, and {ranks})"
+
+
+def parts_of(lines: Sequence[bytes]) -> Iterator[list[bytes]]:
+    """Lines in parts, each of as many as debvote takes at once."""
+    part: list[bytes] = []
+    size = 0
+    for line in lines:
+        if len(part) == LINES_LIMIT or size + len(line) + 1 > BALLOTS_LIMIT:
+            yield part
+            part, size = [], 0
+        part.append(line)
+        size += len(line) + 1
+    yield part
+
+
+def frame_words(lines: Iterable[Line]) -> Iterator[str]:
+    """The byte-order marks and the line ends of Windows that were removed, once a file."""
+    by_source: dict[str, list[Line]] = {}
+    for line in lines:
+        if line.came != line.repaired:
+            by_source.setdefault(line.source, []).append(line)
+    for name, repaired_lines in by_source.items():
+        return_count = sum(line.had_return for line in repaired_lines)
+        if any(line.had_mark for line in repaired_lines):
+            yield f"{name}: it begins with a mark that Windows writes (byte-order mark); it was removed"
+        if return_count:
+            verb, they = ("ends", "it") if return_count == 1 else ("end", "them")
+            yield f"{name}: {count_of(return_count, 'line')} {verb} as Windows ends {they} (carriage return); that was removed"
+
+
+def change_words(line: JudgedLine) -> Iterator[str]:
+    before = line.line.without_frame
+    if before != line.as_entered:
+        how = ", ".join(differences(before, line.as_entered))
+        yield f"{line.line.where}: `{shown_line(before)}` was changed to `{shown_line(line.as_entered)}` ({how})"
+
+
+def would_words(line: JudgedLine) -> str:
+    """A line that is not entered yet, and the one reason that stays after the changes that are
+    allowed.
+    """
+    finding = line.finding_of_repaired
+    why = "" if finding is None else f": {finding.word}: {finding.hint}"
+    return f"{shown_line(line.as_entered)}{why}"
+
+
+def summary(replies: Sequence[str]) -> str:
+    counts = collections.Counter(replies)
+    listed = ", ".join(f"{number} {reply}" for reply, number in counts.items())
+    return count_of(len(replies), "line") + (f" ({listed})" if listed else "")
+
+
+def standing_words(
+    vote: Vote, before: dict[str, str], after: dict[str, str], none: str
+) -> list[str]:
+    """Whose ballot is another one afterwards, or is gone; `none` says that. In a vote with codes
+    only how many.
+    """
+    changed = {name: after.get(name) for name, ranks in before.items() if after.get(name) != ranks}
+    if vote.has_codes:
+        gone = sum(ranks is None for ranks in changed.values())
+        earlier = len(changed) - gone
+        return (
+            [
+                f"  {count_of(gone, 'elector')}: {none}; {count_of(earlier, 'elector')}: an earlier ballot"
+            ]
+            if changed
+            else []
+        )
+    return [
+        f"  {name}: {none if ranks is None else vote.ranks_in_words(ranks) + ', as before'}"
+        for name, ranks in changed.items()
+    ]

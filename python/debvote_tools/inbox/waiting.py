@@ -1,0 +1,75 @@
+"""The letters that wait, for commands that read none of them. What judges letters takes a while to
+be imported, so it is only if some came.
+
+What arrived in time and waits may decide the vote, whenever it was added: it stops `close`, and
+after the close `count` and `publish`.
+"""
+
+import enum
+
+from collections.abc import Collection, Mapping
+
+from debvote_tools.book import letters
+from debvote_tools.book.election import Election, History
+
+
+class Arrived(enum.Enum):
+    """When a letter arrived, as far as that is known, whatever it waits for."""
+
+    BEFORE_THE_CALL = enum.auto()
+    IN_TIME = enum.auto()
+    # after the end or the first close
+    LATE = enum.auto()
+
+
+def waiting_letters(election: Election, history: History) -> dict[int, Arrived]:
+    """The letters that wait for the secretary, by their numbers: when each arrived."""
+    kept = letters.letters(election.book)
+    if not kept:
+        return {}
+    from debvote_tools.inbox.letters_in import judged
+
+    # where letters have to be signed, what was signed says which are copies, which the book may not
+    # have known when they came
+    if not history.announced("signed"):
+        kept = letters.undecided(kept)
+    waiting = {letter.number: letter for letter in judged(election, history, kept) if letter.waits}
+    arrived = {
+        number: Arrived.LATE if letter.arrived_late else Arrived.IN_TIME
+        for number, letter in waiting.items()
+    }
+    return arrived | {
+        number: Arrived.BEFORE_THE_CALL
+        for number, letter in waiting.items()
+        if letter.arrived_before_call
+    }
+
+
+def in_time(waiting: Mapping[int, Arrived]) -> list[int]:
+    return [number for number, arrived in waiting.items() if arrived is Arrived.IN_TIME]
+
+
+def left(history: History) -> set[int]:
+    """The letters that a close or a publication left waiting, with a reason: they stop nothing
+    again.
+    """
+    return {
+        number
+        for act in history.since_call("close", "publish")
+        for number in act.detail.get("left", [])
+    }
+
+
+def stopping(waiting: Mapping[int, Arrived], history: History) -> list[int]:
+    """The letters that arrived in time and wait, but for those that were left so before."""
+    return [number for number in in_time(waiting) if number not in left(history)]
+
+
+def why_they_stop(numbers: Collection[int]) -> str:
+    return f"these letters arrived in time, and wait: {', '.join(map(str, numbers))}"
+
+
+def how_to_go_on(election: Election) -> str:
+    """What is done, after the close, with letters that arrived in time."""
+    aside = f"set aside what is no ballot: {election.command('held', 'NUMBER', '--set-aside')}"
+    return f"{aside}; if one is a ballot, run {election.command('reopen', '--because', 'TEXT')}, and add the mailbox once more"

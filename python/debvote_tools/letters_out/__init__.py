@@ -1,1 +1,0 @@
-"""Letters that go out: what they say, their bytes, how they are sent, and what the book has of them."""

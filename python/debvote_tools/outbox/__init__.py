@@ -1,0 +1,1 @@
+"""The letters that go out: which are due, their texts, files and sending."""

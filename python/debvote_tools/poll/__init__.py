@@ -1,0 +1,1 @@
+"""The poll, its electors and the call for votes."""

@@ -1,0 +1,166 @@
+"""What a call says, as one value, and which addresses it can say."""
+
+import dataclasses
+import datetime
+import functools
+import re
+import urllib.parse
+from collections.abc import Mapping
+
+from debvote_tools.text.ballots import UNRANKED, ranks_in_words
+from debvote_tools.cli.faults import Fault, Status
+from debvote_tools.text.language import Language, marked
+from debvote_tools.poll.sealed_poll import SealedPoll
+
+MAIL = re.compile(r"[A-Za-z0-9_][A-Za-z0-9._+=-]*@[A-Za-z0-9-]+(\.[A-Za-z0-9-]+)*")
+MAIL_LIMIT = 254
+
+# printable ASCII without blanks, without what ends an address in a letter, and without the # that
+# an own ballot's link adds
+WEB = re.compile(r"[!$-;=?-_a-z~]+")
+WEB_LIMIT = 500
+
+# an option in a sentence: its number and its name do not run into each other
+OPTION = marked("Option {number}: {name}")
+SUBJECT = marked("Ballot: {title}")
+
+
+@dataclasses.dataclass(frozen=True)
+class CallData:
+    """What a call says. The same value makes the same files."""
+
+    language: Language
+    # the poll that is public: in a secret vote the one under aliases
+    poll: SealedPoll
+    # how many electors have to prefer an option to the default option
+    quorum_votes: int
+    # the end as it is now
+    until: datetime.datetime | None = None
+    # the mail address for ballots, and the web address of this page, where the result will be
+    to: str | None = None
+    at: str | None = None
+    # the real names by the names on the roll; None if they will not be published
+    real_names: Mapping[str, str] | None = None
+    has_form: bool = False
+    is_signed: bool = False
+    # in a secret vote with names on the roll: ballots are published under aliases
+    has_aliases: bool = False
+    # the roll has codes in place of names, so the poll is published with the result alone
+    has_codes_on_roll: bool = False
+    # codes were given out with a call that was taken back
+    has_lapsed_codes: bool = False
+
+    @property
+    def is_open(self) -> bool:
+        return not (self.has_aliases or self.has_codes_on_roll)
+
+    @property
+    def is_extended(self) -> bool:
+        """Whether the end is not the one that the poll was sealed with, which the call said at
+        first.
+        """
+        return self.until is not None and self.until != self.poll.deadline_time
+
+    @property
+    def roll(self) -> tuple[str, ...]:
+        return self.poll.roll if self.is_open else ()
+
+    @functools.cached_property
+    def mark(self) -> str:
+        return f"[{self.poll.mark}]"
+
+    @property
+    def mail_to(self) -> str:
+        """The address of a letter with a ballot, as a link without its subject; empty if ballots
+        are sent otherwise.
+        """
+        return "" if self.to is None else f"mailto:{urllib.parse.quote(self.to, safe='@')}"
+
+    @property
+    def mail_to_with_subject(self) -> str:
+        subject = f"{self.language.say(SUBJECT, title=self.poll.name)} {self.mark}"
+        return f"{self.mail_to}?subject={urllib.parse.quote(subject)}"
+
+    @functools.cached_property
+    def option_names(self) -> list[str]:
+        """The options in plain text, each with its number."""
+        return [
+            self.language.say(OPTION, number=number, name=name)
+            for number, name in enumerate(self.poll.names, start=1)
+        ]
+
+    @property
+    def explanations(self) -> list[tuple[int, list[str]]]:
+        return explanations_of(self.poll)
+
+    @property
+    def example(self) -> str:
+        """Ranks that show the order, and with four options or more one that is not ranked."""
+        count = len(self.poll.names)
+        return "1,2" if count == 2 else ",".join(["2", "1", *[UNRANKED] * (count - 3), "3"])
+
+    @property
+    def example_in_words(self) -> str:
+        return ranks_in_words(self.example, self.option_names, self.language)
+
+    @property
+    def name_gap(self) -> str:
+        """What the page of a secret vote has in place of the name, which an elector writes into the
+        letter alone.
+        """
+        return "CODE" if self.has_codes_on_roll else "NAME"
+
+    @property
+    def gaps(self) -> str:
+        """The text in place of the ranks, where an elector is to write them."""
+        return ",".join("_" * len(self.poll.names))
+
+
+def explanations_of(poll: SealedPoll) -> list[tuple[int, list[str]]]:
+    """The texts of the options, in paragraphs, each with the number of its option. They are not the
+    program's words.
+    """
+    return [
+        (number, paragraphs_of(text))
+        for number, text in enumerate(poll.explanations, start=1)
+        if text.strip()
+    ]
+
+
+def paragraphs_of(text: str) -> list[str]:
+    return [lines for lines in re.split(r"\n(?:[ \t]*\n)+", text.strip("\n")) if lines.strip()]
+
+
+def demand_mail_address(text: str, option: str = "--to") -> None:
+    if not is_mail_address(text):
+        reason = "it must be one mail address, as secretary@example.org"
+        raise Fault(option, reason, "write it again", Status.BAD_WORDS)
+
+
+def is_mail_address(text: str) -> bool:
+    """Whether a text is one plain mail address, in characters that every mail server takes."""
+    return len(text) <= MAIL_LIMIT and MAIL.fullmatch(text) is not None
+
+
+def demand_web_address(text: str) -> None:
+    if not is_web_address(text):
+        reason = (
+            "it must be the address of a page, as https://example.org/vote/, without a part after #"
+        )
+        raise Fault("--at", reason, "write it as a browser shows it", Status.BAD_WORDS)
+
+
+def is_web_address(text: str) -> bool:
+    """Whether a text is a web address by http or https, without user, password and fragment."""
+    if len(text) > WEB_LIMIT or not WEB.fullmatch(text):
+        return False
+    try:
+        parts = urllib.parse.urlsplit(text)
+        is_port = parts.port != 0
+    except ValueError:
+        return False
+    is_host = re.fullmatch(
+        r"[A-Za-z0-9.-]*[A-Za-z0-9]|\[[0-9A-Fa-f:.]+\]",
+        parts.netloc.rpartition(":")[0] or parts.netloc,
+    )
+    return parts.scheme in ("http", "https") and is_port and is_host is not None

@@ -1,0 +1,77 @@
+"""What is made from a call: the letters in plain text, the page, and the files of the folder
+`call`.
+"""
+
+from debvote_tools.poll.call_data import OPTION, SUBJECT, CallData
+from debvote_tools.files import sha256_of
+from debvote_tools.text.language import marked
+from debvote_tools.text.rendering import render_letter, render_page, resources
+
+PACKAGE = "debvote_tools.poll"
+
+# the sentences of the script on the page
+SENTENCES = {
+    "option": OPTION,
+    "subject": SUBJECT,
+    "type_name": marked("Type your name as it is on the roll."),
+    "spaces": marked("Spaces before or after the name are left out."),
+    "capitals": marked("Capital letters of the name are made small."),
+    "did_you_mean": marked("Did you mean {name}?"),
+    "did_you_mean_one_of": marked("Did you mean {names} or {last}?"),
+    "not_on_roll": marked(
+        "{name} is not on the roll of this poll; the names on the roll are below."
+    ),
+    "has_space": marked(
+        "The name has a space. Names on the roll have only small letters without accents, digits, points and hyphens."
+    ),
+    "has_sign": marked(
+        "The name has “{sign}”. Names on the roll have only small letters without accents, digits, points and hyphens."
+    ),
+    "too_long": marked("The name has {number} characters. Names on the roll have at most {most}."),
+    "prefer": marked("You prefer {upper} to {lower}."),
+    "prefer_to_all": marked("You prefer {upper} to all others."),
+    "equal": marked("You rank {options} equally: none of them is preferred to another."),
+    "unranked": marked("You rank {options} not at all, so it is behind all others."),
+    "unranked_options": marked("You rank {options} not at all, so they are behind all others."),
+    "and": marked("{entries} and {last}"),
+    "name_missing": marked("The name has to be put right."),
+    "rank_missing": marked("Give at least one option a rank."),
+    "selected": marked("The line is selected. Copy it with Ctrl+C, or Cmd+C on a Mac."),
+    "copied": marked("The line is copied."),
+}
+
+
+def call_letter(call: CallData) -> str:
+    return render_letter(PACKAGE, "call.txt", call.language, call=call)
+
+
+def extension_letter(call: CallData) -> str:
+    """The letter about a later end: the old one, the new one, and that all else is as it was."""
+    return render_letter(PACKAGE, "extension.txt", call.language, call=call)
+
+
+def call_page(call: CallData) -> bytes:
+    style, script = resources(PACKAGE, "fields.css", "given.css", "ballot.css"), resources(
+        PACKAGE, "ballot.js"
+    )
+    script_words = call.language.words(SENTENCES)
+    return render_page(
+        PACKAGE,
+        "page.html",
+        call.language,
+        style=style,
+        script=script,
+        call=call,
+        script_words=script_words,
+    )
+
+
+def call_files(call: CallData) -> dict[str, bytes]:
+    """The files of a call by name, the checksums last. The poll is the sealed one, byte for byte;
+    if it has codes, it stays out.
+    """
+    files = {"index.html": call_page(call), "call.txt": call_letter(call).encode()}
+    if not call.has_codes_on_roll:
+        files["poll.toml"] = call.poll.as_bytes()
+    checksums = "".join(f"{sha256_of(files[name])}  {name}\n" for name in sorted(files))
+    return files | {"SHA256SUMS": checksums.encode()}

@@ -1,0 +1,378 @@
+"""The poll as the secretary writes it, `poll.toml` and a text for each option in `texts`, and the
+sealed poll that it becomes.
+"""
+
+import dataclasses
+import json
+import math
+import pathlib
+import re
+import tomllib
+from collections.abc import Collection, Mapping, Sequence
+from typing import Any
+
+from debvote_tools.book import queries
+from debvote_tools.cli.console import tell, tell_as_it_is
+from debvote_tools.book.election import POLL_FILE, TEXTS, Election, History
+from debvote_tools.book.reporting import count_of
+from debvote_tools.cli.faults import Fault, Status, stop_at
+from debvote_tools.files import POLL_LIMIT, file_text, read_whole
+from debvote_tools.poll.plain_names import (
+    bad_options,
+    bad_title,
+    plain_options,
+    plain_title,
+    without_accents,
+)
+from debvote_tools.poll.sealed_poll import KEYS, SealedPoll, is_set, plain_form, read_plain
+from debvote_tools.result.sheet import Sheet, sheet_in
+from debvote_tools.cli.terminal_text import LINE_ENDS, shown_text
+
+# the file that `new` writes, with its explanations
+NEW_POLL = pathlib.Path(__file__).with_name("new_poll.toml")
+
+# in bytes, of all texts together
+TEXTS_LIMIT = 524_288
+
+TEXT_NAME = re.compile(r"([1-9][0-9]?)\.txt")
+# a file that an editor leaves beside another
+OF_EDITORS = re.compile(r"\..*|.*~|#.*#")
+
+# what follows each cure
+THEN = ", then run debvote-election check"
+
+# how a key of a sealed poll is set that is not the secretary's; all others are
+SET_ELSEWHERE = {
+    "roll": "roll reads the electors from members.csv",
+    "last_envelope": "close ends the vote",
+    "deadline": "call --until sets the end of the vote",
+    "address": "call --to sets the address for ballots",
+    "shown_title": "write `title` in any language",
+    "shown_options": "write `options` and `default` in any language",
+    "explanations": "write the text of option 1 into texts/1.txt, and so on",
+}
+
+# how `debvote explain` begins a line if it has read the poll as TOML
+IS_TOML = re.compile(r"(?m)^poll(?:: | ok)")
+
+# how accents may be taken off a name in a letter, and how long a real name may be, in characters
+FOLDINGS, LONGEST_REAL_NAME = ("en", "de"), 200
+
+
+@dataclasses.dataclass(frozen=True)
+class DraftPoll:
+    """The poll as it is written: the values of its keys, of whatever type, and the texts of options
+    by their numbers. `faults` has what is wrong with each by itself.
+    """
+
+    values: Mapping[str, Any]
+    # title and options as people read them, the default last; empty where it is no text
+    title: str
+    names: Sequence[str]
+    texts: Mapping[int, str]
+    faults: Sequence[Fault]
+    folder: pathlib.Path
+
+
+def draft_in(folder: pathlib.Path) -> DraftPoll:
+    """Reads the poll of a folder, and the texts beside it. Raises `Fault` if the poll can't be read
+    at all.
+    """
+    file = folder / POLL_FILE
+    values = parsed_toml(read_whole(file, POLL_LIMIT, "write it", THEN), file)
+    options = values["options"] if isinstance(values.get("options"), list) else []
+    title, *names = (
+        name.strip() if isinstance(name, str) else ""
+        for name in (values.get("title"), *options, values.get("default"))
+    )
+    texts, faults = texts_in(folder / TEXTS, len(options))
+    return DraftPoll(values, title, names, texts, (*faults_of_keys(values, file), *faults), folder)
+
+
+def parsed_toml(data: bytes, file: pathlib.Path) -> dict[str, Any]:
+    try:
+        return tomllib.loads(data.decode("utf-8-sig"))
+    except (ValueError, RecursionError) as error:
+        raise bad_poll(
+            file, f"it can't be read as TOML 1.0: {error}", "put it right with an editor"
+        ) from None
+
+
+def bad_poll(file: object, reason: str, cure: str) -> Fault:
+    return Fault(file, reason, cure + THEN, Status.BAD_POLL, None)
+
+
+def faults_of_keys(values: Mapping[str, Any], file: object) -> list[Fault]:
+    """Keys that are not the secretary's, and values that can't be written in plain form, so that
+    debvote could not name them.
+    """
+    faults = []
+    for key, value in values.items():
+        if key in SET_ELSEWHERE:
+            faults.append(
+                bad_poll(
+                    file,
+                    f"the key `{key}` is not written here: {SET_ELSEWHERE[key]}",
+                    "take it out",
+                )
+            )
+        elif not has_plain_form(value):
+            cure = "write a text, a whole number or a list of these, or take it out"
+            faults.append(bad_poll(file, f"`{shown_text(key)}` has a value of a wrong kind", cure))
+    if not isinstance(values.get("secret", False), bool):
+        faults.append(
+            bad_poll(
+                file,
+                "`secret` is neither true nor false",
+                "write secret = true, or take the line out",
+            )
+        )
+    return faults
+
+
+def has_plain_form(value: object) -> bool:
+    """Whether JSON writes a value so that TOML reads it."""
+    if isinstance(value, list):
+        return all(map(has_plain_form, value))
+    if isinstance(value, int):
+        return -(2**63) <= value < 2**63
+    return isinstance(value, str) or (isinstance(value, float) and math.isfinite(value))
+
+
+def texts_in(folder: pathlib.Path, option_count: int) -> tuple[dict[int, str], list[Fault]]:
+    """The texts of a folder by the numbers of their options, and all that is wrong with them. None,
+    if there is no folder.
+    """
+    texts: dict[int, str] = {}
+    faults, size = [], 0
+    try:
+        files = sorted(file for file in folder.iterdir() if not OF_EDITORS.fullmatch(file.name))
+    except FileNotFoundError:
+        return {}, []
+    except OSError as error:
+        return {}, [
+            Fault(
+                folder,
+                error.strerror,
+                "put a folder there with a text for each option",
+                Status.BAD_WORDS,
+                None,
+            )
+        ]
+    for file in files:
+        number = TEXT_NAME.fullmatch(file.name)
+        try:
+            if number is None or int(number[1]) > option_count:
+                most = f"1.txt to {option_count}.txt" if option_count else "1.txt and so on"
+                cure = f"name it by the number of an option that is not the default, {most}, or move it out of there"
+                raise Fault(
+                    file,
+                    "it is not the text of an option of this poll",
+                    cure,
+                    Status.BAD_WORDS,
+                    None,
+                )
+            data = read_whole(file, TEXTS_LIMIT, "put a readable file there", THEN)
+            size += len(data)
+            texts[int(number[1])] = file_text(
+                data, file, "write it, or remove the file", THEN, refused=LINE_ENDS
+            )
+        except Fault as fault:
+            faults.append(fault)
+    if size > TEXTS_LIMIT:
+        reason = f"the texts have {size} bytes together; at most {TEXTS_LIMIT} are allowed"
+        faults.append(Fault(folder, reason, f"shorten them{THEN}", Status.BAD_WORDS, None))
+    return dict(sorted(texts.items())), faults
+
+
+# ---------------------------------------------------------------- what is wrong with it as a whole
+def faults_when_sealed(draft: DraftPoll, names: Collection[str], language: str) -> list[Fault]:
+    """What electors could not read rightly: names that look alike, and lines that read as a ballot
+    of one of these names.
+    """
+    file, faults = draft.folder / POLL_FILE, []
+    for bad in (
+        *bad_title(draft.title),
+        *bad_options(draft.names, plain_options(draft.names, language)),
+    ):
+        which = f"option {bad.number}" if bad.number else "the title"
+        faults.append(
+            bad_poll(
+                file, f"{which}, `{shown_text(bad.name)}`: {bad.reason}", "write it in another way"
+            )
+        )
+    texts = {draft.folder / TEXTS / f"{number}.txt": text for number, text in draft.texts.items()}
+    texts[file] = " | ".join([draft.title, *draft.names])
+    plain = {as_repaired(name, folding) for folding in FOLDINGS for name in names} - {""}
+    for source, text in texts.items():
+        for ballot in ballots_in(text, plain, len(draft.names)):
+            reason = f"`{shown_text(ballot)}` in it would be read as a ballot if a letter quotes it"
+            faults.append(bad_poll(source, reason, "write it in another way"))
+    return faults
+
+
+def ballots_in(text: str, names: Collection[str], option_count: int) -> list[str]:
+    """One of these names with a rank for each option, after the repairs of a line, and wherever a
+    line of the text is broken at a blank.
+    """
+    rank = "(?:-|[1-9][0-9]?)"
+    ranks = re.compile(rf"(?<![^\s:])(?:{rank} ?, ?){{{option_count - 1}}}{rank}(?![0-9])")
+    most_words = max((name.count(" ") + 1 for name in names), default=0)
+    found: dict[str, None] = {}
+    for repaired in {as_repaired(text, folding): None for folding in FOLDINGS}:
+        for match in ranks.finditer(repaired):
+            words = (
+                repaired[max(0, match.start() - LONGEST_REAL_NAME) : match.start()]
+                .rstrip(": ")
+                .split(" ")
+            )
+            before = (" ".join(words[-count:]) for count in range(1, most_words + 1))
+            found |= {f"{name} {match[0]}": None for name in before if name in names}
+    return list(found)
+
+
+def as_repaired(text: str, language: str) -> str:
+    """A text on one line, in small letters without accents and brackets, and with what repairs take
+    out or replace.
+    """
+    plain = re.sub(r"[\"'*`(\[{<]", "", without_accents(text, language)).lower().replace(";", ",")
+    return " ".join(plain.split())
+
+
+def sealed_form(
+    draft: DraftPoll,
+    roll: Sequence[str],
+    language: str,
+    *,
+    deadline: str | None = None,
+    address: str | None = None,
+) -> bytes:
+    """The poll in plain form as it would be sealed, for debvote to say what is wrong with it: what
+    is missing stays missing.
+    """
+    names, plain_names, title = (
+        draft.names,
+        plain_options(draft.names, language),
+        plain_title(draft.title, language),
+    )
+    texts = [draft.texts.get(number, "") for number in range(1, len(names))]
+    further: dict[str, Any] = {
+        "deadline": deadline,
+        "address": address,
+        "secret": draft.values.get("secret") is True,
+        "shown_title": draft.title if draft.title != title else None,
+        "shown_options": tuple(names) if names != plain_names else (),
+        "explanations": tuple(texts) if any(texts) else (),
+    }
+    made = {
+        key: value
+        for key, value in draft.values.items()
+        if key not in {**SET_ELSEWHERE, **further} and has_plain_form(value)
+    }
+    # a value of another type stays
+    made |= {
+        key: name
+        for key, name in {"title": title, "default": plain_names[-1]}.items()
+        if isinstance(made.get(key), str)
+    }
+    if isinstance(made.get("options"), list):
+        made["options"] = [
+            name if isinstance(value, str) else value
+            for name, value in zip(plain_names, made["options"])
+        ]
+    made |= {key: value for key, value in further.items() if is_set(value)} | {"roll": list(roll)}
+    # and so does a key that no poll has
+    others = {json.dumps(key): made[key] for key in made if key not in KEYS}
+    return plain_form({key: made[key] for key in KEYS if key in made} | others)
+
+
+# ---------------------------------------------------------------- asking debvote
+def checked_poll(
+    election: Election, *, deadline: str | None = None, address: str | None = None
+) -> tuple[SealedPoll, Sheet]:
+    """The poll as it would be sealed, and its sheet without ballots. All that is wrong with it is
+    said at once.
+    """
+    try:
+        draft = draft_in(election.folder)
+    except Fault as fault:
+        said = (
+            election.debvote.run("explain", "--poll", POLL_FILE).text
+            if fault.status == Status.BAD_POLL
+            else ""
+        )
+        # debvote reads a newer TOML than Python does
+        if not said or IS_TOML.search(said):
+            raise
+        tell_as_it_is(said)
+        raise bad_poll(
+            election.path(POLL_FILE),
+            "it can't be read as TOML, as said above",
+            "put it right with an editor",
+        ) from None
+    electors, language = queries.electors(election.book), election.language.code
+    roll = [elector.name for elector in electors]
+    faults = [
+        *draft.faults,
+        *faults_when_sealed(draft, [*roll, *(elector.who for elector in electors)], language),
+    ]
+    if not roll:
+        faults.append(
+            Fault(
+                None,
+                "there are no electors yet",
+                f"run {election.command('roll')} first",
+                done=None,
+            )
+        )
+    data = sealed_form(draft, roll or ["nobody"], language, deadline=deadline, address=address)
+    stop_at([*faults, *faults_by_debvote(election, data)])
+    return read_plain(data), sheet_in(election.debvote.answer("count", data).text)
+
+
+def faults_by_debvote(election: Election, poll_bytes: bytes) -> list[Fault]:
+    answer, file = election.debvote.run(
+        "explain", "--poll", "/dev/stdin", given=poll_bytes
+    ), election.path(POLL_FILE)
+    if not answer.text:
+        words = (
+            answer.faults.strip().removeprefix("debvote: ")
+            or f"debvote ended with status {answer.status}"
+        )
+        return [Fault(file, words, f"run {election.command('check')} again", answer.status, None)]
+    findings = [
+        line.removeprefix("poll: ")
+        for line in answer.text.splitlines()
+        if line.startswith("poll: ")
+    ]
+    return [bad_poll(file, finding, "put it right with an editor") for finding in findings]
+
+
+def lacks_codes(election: Election, history: History, poll: SealedPoll) -> bool:
+    return (
+        poll.secret
+        and not history.has_codes_on_roll
+        and not all(elector.code for elector in queries.electors(election.book))
+    )
+
+
+def tell_poll(poll: SealedPoll, sheet: Sheet) -> None:
+    tell(
+        f"Title: {poll.name}",
+        *([f"  plain: {poll.title}"] if poll.name != poll.title else []),
+        "Options:",
+    )
+    texts = (*poll.explanations, *[""] * len(poll.names))
+    for number, (name, plain, text) in enumerate(zip(poll.names, poll.plain_names, texts), start=1):
+        kind = (
+            f"majority ratio {sheet.ratios[number]}"
+            if number in sheet.ratios
+            else "the default option"
+        )
+        tell(f"{number:3}  {name} ({kind})")
+        if name != plain:
+            tell(f"     plain: {plain}")
+        if text:
+            tell(f"     text: {count_of(len(text.split()), 'word')} from texts/{number}.txt")
+    if sheet.is_more_than:
+        tell("Majority: more than the ratio (Debian's rule is at least the ratio)")

@@ -1,0 +1,264 @@
+"""Plain names, by which debvote counts: made from names in any language. And which names people
+can't tell apart.
+"""
+
+import collections
+import itertools
+import re
+import unicodedata
+from collections.abc import Collection, Iterable, Mapping, Sequence
+from typing import NamedTuple
+
+from debvote_tools.cli.terminal_text import LINE_ENDS, number_of, odd_sign, shown_text
+
+# how long a plain name may be, in bytes, and a name as people read it, in characters
+TITLE_LIMIT, OPTION_LIMIT, ELECTOR_LIMIT = 80, 40, 32
+SHOWN_LIMIT = 200
+
+PLAIN_NAME = re.compile(r"[!-~](?:[ -~]*[!-~])?")
+
+# a title, and what belongs to it: `Dr. rer. nat.`, `Univ.-Prof.`, `Dipl.-Ing. (FH)`; some are words
+# or names without their point
+TITLE = re.compile(
+    r"(?<!\w)(?i:(?:Dr|Prof)\b\.?|(?:Mag|Ing|Univ|Dipl)\.(?:-\w+\.?)?|Ph\.? ?D\b\.?|[BM]\.? ?Sc\b\.?|MBA\b|LL\. ?M\.)"
+    r"(?:(?:in|a)\b)?(?:\s*(?:[a-z]{2,6}\.|h\. ?c\.|\(\w{2,5}\.?\)))*"
+)
+# what follows a comma and is no first name
+JUNIOR = ("jr", "jun", "sr", "sen")
+
+# how each language spells letters that it has no accents on
+SPELLINGS: Mapping[str, Mapping[str, str]] = {"de": {"ä": "ae", "ö": "oe", "ü": "ue"}}
+
+# letters that Unicode does not take apart into a letter and its accent
+PLAIN_LETTERS = {
+    "ß": "ss",
+    "ø": "o",
+    "ł": "l",
+    "đ": "d",
+    "ð": "d",
+    "þ": "th",
+    "æ": "ae",
+    "œ": "oe",
+    "ı": "i",
+    "ħ": "h",
+    "ŧ": "t",
+}
+
+# punctuation that ASCII has in another form
+PUNCTUATION = {
+    **dict.fromkeys("\u201c\u201d\u201e\u00ab\u00bb", '"'),
+    **dict.fromkeys("\u2018\u2019\u201a\u2039\u203a\u02bc\u00b4", "'"),
+    **dict.fromkeys("\u2010\u2011\u2012\u2013\u2014\u2212", "-"),
+    **{"\u00d7": "x", "\u2044": "/", "\u20ac": "EUR"},
+}
+
+# what nobody sees, beside format characters (Cf): fillers, joiners and the marks that choose the
+# form of a character
+UNSEEN = {"\u034f", "\u115f", "\u1160", "\u17b4", "\u17b5", "\u2800", "\u3164", "\uffa0"}
+UNSEEN |= {chr(number) for number in (*range(0xFE00, 0xFE10), *range(0xE0100, 0xE01F0))}
+
+# these make another letter in Japanese, and are no accents
+VOICED = "\u3099\u309a"
+
+# what turns the text around it, beside the characters that no plain text has
+REFUSED_IN_NAMES = f"{LINE_ENDS}\ufff9\ufffa\ufffb"
+
+
+# ---------------------------------------------------------------- plain text
+def without_accents(text: str, language: str) -> str:
+    """The text with plain letters for those with accents, as the language spells them. Letters of
+    other scripts stay.
+
+    The page of the result does the same with the real name that an elector types.
+    """
+    if text.isascii():
+        return text
+    table = {**PUNCTUATION, **PLAIN_LETTERS, **SPELLINGS.get(language, {})}
+    parts = unicodedata.normalize("NFKD", spelled_by(table, unicodedata.normalize("NFC", text)))
+    return spelled_by(
+        table, "".join(part for part in parts if not unicodedata.category(part).startswith("M"))
+    )
+
+
+def spelled_by(table: Mapping[str, str], text: str) -> str:
+    """The text with the letters of the table spelled as it says: Ä is Ae, and AE within capital
+    letters.
+    """
+    parts = []
+    for before, letter, after in zip(f" {text}", text, f"{text[1:]} "):
+        spelled = table.get(letter.lower(), letter)
+        if letter.isupper() and letter.lower() in table:
+            is_in_capitals = after.isupper() or (before.isupper() and not after.isalpha())
+            spelled = spelled.upper() if is_in_capitals else spelled.capitalize()
+        parts.append(spelled)
+    return "".join(parts)
+
+
+def is_plain(text: str, limit: int) -> bool:
+    """Whether debvote accepts a text as a name of at most this many bytes."""
+    return len(text) <= limit and PLAIN_NAME.fullmatch(text) is not None
+
+
+def plain_text(text: str, language: str, limit: int) -> str:
+    """The text as it is where it is plain already, or its plain form; empty if no letter and no
+    digit is left.
+    """
+    if is_plain(text, limit):
+        return text
+    words = re.sub(r"[^!-~]+", " ", without_accents(text, language)).strip()
+    return words[:limit].strip() if re.search(r"[A-Za-z0-9]", words[:limit]) else ""
+
+
+def made_different(
+    bases: Sequence[str], taken: Collection[str], limit: int, joint: str
+) -> list[str]:
+    """A name for each base. No name looks like another, or like a name that is taken.
+
+    Equal bases all get a number, since a ballot for the bare name could be meant for any of them.
+    """
+    used = {alike(name) for name in taken}
+    several = {form for form, count in collections.Counter(map(alike, bases)).items() if count > 1}
+    # next to one who has the bare name already comes the second
+    numbers = {form: itertools.count(2 if form in used else 1) for form in {*map(alike, bases)}}
+    names = []
+    for base in bases:
+        name, form = base, alike(base)
+        while alike(name) in used or (name == base and form in several):
+            end = f"{joint}{next(numbers[form])}"
+            name = base[: limit - len(end)].rstrip(" -") + end
+        used.add(alike(name))
+        names.append(name)
+    return names
+
+
+# ---------------------------------------------------------------- the poll
+def plain_title(title: str, language: str) -> str:
+    """An empty title stays empty, so that it is refused."""
+    return plain_text(title, language, TITLE_LIMIT) or ("Vote" if title else "")
+
+
+def plain_options(names: Sequence[str], language: str) -> list[str]:
+    """The plain names of all options, the default last. An empty name stays empty, so that it is
+    refused.
+    """
+    bases = {
+        number: plain_text(name, language, OPTION_LIMIT) or f"Option {number}"
+        for number, name in enumerate(names, start=1)
+        if name and not is_plain(name, OPTION_LIMIT)
+    }
+    kept = [name for number, name in enumerate(names, start=1) if number not in bases]
+    made = dict(zip(bases, made_different(list(bases.values()), kept, OPTION_LIMIT, " ")))
+    return [made.get(number, name) for number, name in enumerate(names, start=1)]
+
+
+# ---------------------------------------------------------------- electors
+def elector_name(who: str, language: str) -> str:
+    """The name on the roll to propose for a real name, in the words that people would type; empty
+    where nothing is left. It may be too long.
+
+    `Meier, Dr. Anna` is anna-meier.
+    """
+    for text in (TITLE.sub(" ", who), who):
+        parts = [
+            re.sub(r"[^a-z0-9]+", "-", part).strip("-")
+            for part in without_accents(text, language).lower().split(",")
+        ]
+        if names := list(filter(None, parts)):
+            # the family name comes first
+            is_turned = len(names) == 2 and names[1] not in JUNIOR
+            return "-".join(reversed(names) if is_turned else names)
+    return ""
+
+
+def is_elector_name(name: str) -> bool:
+    return len(name) <= ELECTOR_LIMIT and re.fullmatch(r"[a-z0-9.-]+", name) is not None
+
+
+def similar_names(names: Iterable[str]) -> Iterable[tuple[str, str]]:
+    """Pairs of names that are the same if one sign of each is left out, or but for the order of
+    their words. Numbers make no difference.
+    """
+    bare: dict[str, str] = {}
+    for name in names:
+        bare.setdefault(re.sub("-?[0-9]+", "", name), name)
+    pairs, first = {}, {**bare}
+    for form, name in bare.items():
+        ordered = "-".join(sorted(re.split("[.-]", form)))
+        for key in (ordered, *[form[:at] + form[at + 1 :] for at in range(len(form))]):
+            other = first.setdefault(key, name)
+            if other != name:
+                pairs[other, name] = True
+    return pairs
+
+
+# ---------------------------------------------------------------- names that people read
+class BadName(NamedTuple):
+    """Why a name is refused as people would read it. Options are numbered from 1; the title is 0."""
+
+    number: int
+    name: str
+    reason: str
+
+
+def alike(text: str) -> str:
+    """The text without case, accents, blanks and unseen characters: names with one such form look
+    alike.
+    """
+    if text.isascii():
+        return "".join(text.split()).lower()
+
+    def is_told_apart(character: str) -> bool:
+        if character.isspace() or unicodedata.category(character) == "Cf" or character in UNSEEN:
+            return False
+        return not unicodedata.combining(character) or character in VOICED
+
+    characters = unicodedata.normalize("NFKD", text.casefold())
+    return "".join(filter(is_told_apart, characters)).casefold()
+
+
+def bad_title(title: str) -> list[BadName]:
+    return [BadName(0, title, reason) for reason in bad_characters(title)]
+
+
+def bad_options(names: Sequence[str], plain_names: Sequence[str]) -> list[BadName]:
+    """Which names of options people can't read or tell apart. That two plain names are equal
+    debvote says itself.
+    """
+    found = [
+        BadName(number, name, reason)
+        for number, name in enumerate(names, start=1)
+        for reason in bad_characters(name)
+    ]
+    options = [(number, *pair) for number, pair in enumerate(zip(names, plain_names), start=1)]
+    for (first, first_name, first_plain), (
+        second,
+        second_name,
+        second_plain,
+    ) in itertools.combinations(options, 2):
+        like = {alike(first_plain): "the plain name of ", alike(first_name): ""}.get(
+            alike(second_name)
+        )
+        if like is not None and alike(second_name) and first_plain != second_plain:
+            reason = f"it looks like {like}option {first}, `{shown_text(first_name)}`"
+            found.append(
+                BadName(
+                    second,
+                    second_name,
+                    f"{reason}, except for case, accents, blanks or invisible characters",
+                )
+            )
+    return found
+
+
+def bad_characters(name: str) -> list[str]:
+    reasons = []
+    odd = odd_sign(name, refused=REFUSED_IN_NAMES)
+    if odd is not None:
+        reasons.append(
+            f"it has the character {number_of(odd)}, which controls a terminal or turns text around"
+        )
+    if len(name) > SHOWN_LIMIT:
+        reasons.append(f"it has {len(name)} characters; at most {SHOWN_LIMIT} are allowed")
+    if name and not alike(name):
+        reasons.append("it has no visible character")
+    return reasons

@@ -1,0 +1,1 @@
+"""The result: counting anew, the page, and the folder that is published."""

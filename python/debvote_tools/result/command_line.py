@@ -1,0 +1,172 @@
+"""The program debvote-publish: it publishes two files, a poll in any TOML and ballots."""
+
+import argparse
+import pathlib
+import signal
+import sys
+import tomllib
+from collections.abc import Sequence
+from typing import Any
+
+from debvote_tools.cli import console
+from debvote_tools.cli.arguments import Options, add_arguments, arguments_of, option, positional
+from debvote_tools.debvote import Debvote
+from debvote_tools.cli.faults import Fault, Status, other_format
+from debvote_tools.files import BALLOTS_LIMIT, POLL_LIMIT, read_at_most, sha256_of
+from debvote_tools.text.language import ENGLISH, LANGUAGES, language_of
+from debvote_tools.poll.plain_names import bad_options, bad_title
+from debvote_tools.result import result_folder
+from debvote_tools.result.inputs import CastingVote, Publication
+from debvote_tools.poll.sealed_poll import KEYS, REQUIRED, SealedPoll, poll_of
+from debvote_tools.poll.codes import CODE
+
+PROGRAM = "debvote-publish"
+
+
+class Arguments(Options):
+    poll: str = option("FILE", "The poll file, in TOML", required=True)
+    ballots: str = option(
+        "FILE", "The ballot file, with one ballot on each line: name 1,2,3", required=True
+    )
+    casting: str | None = option(
+        "NAME", "The exact name of the option that the casting vote chooses in a tie"
+    )
+    desks: int = option(
+        "K", "How many desks enter the ballots, 1 to 8", type=int, choices=range(1, 9), default=1
+    )
+    language: str = option(
+        "CODE",
+        "The language of page and letter: de, en, es or fr (default: en)",
+        choices=sorted(LANGUAGES),
+        default=ENGLISH.code,
+    )
+    target: str = positional("FOLDER", "The folder to make; an existing folder must be empty")
+
+
+def parser() -> argparse.ArgumentParser:
+    description = "Makes the folder of an election for a web site, with debvote."
+    options = argparse.ArgumentParser(prog=PROGRAM, allow_abbrev=False, description=description)
+    add_arguments(options, Arguments)
+    return options
+
+
+def main(program_folder: pathlib.Path, words: Sequence[str] | None = None) -> int:
+    """Publishes, and returns the exit status. `program_folder` is that of the program."""
+    # if it is asked to end, it takes away what it has made
+    for number in (signal.SIGHUP, signal.SIGINT, signal.SIGTERM):
+        signal.signal(number, lambda number, _: sys.exit(128 + number))
+    arguments = arguments_of(Arguments, parser().parse_args(words))
+    target_folder = pathlib.Path(arguments.target)
+    console.prepare()
+    try:
+        if not result_folder.is_free(target_folder):
+            raise result_folder.in_use(target_folder, "an empty folder", "name another folder")
+        publication = publication_of(arguments, program_folder)
+        with result_folder.made(publication, target_folder, program_folder) as made:
+            made.take_place(target_folder)
+    except Fault as fault:
+        return console.failed(PROGRAM, fault.words, fault.status)
+    except OSError as error:
+        return console.failed(
+            PROGRAM,
+            f"the folder can't be made ({error}): name a place where you can write",
+            Status.BAD_OUTPUT,
+        )
+    try:
+        console.tell_as_it_is(f"{made.counted.sheet.last_line}\n{made.counted.verified}\n")
+    except console.OutputFailed as fault:
+        words = f"the output failed; the folder {arguments.target} was made nevertheless: look at its page index.html"
+        return console.failed(PROGRAM, words, fault.status)
+    return made.counted.status
+
+
+# ---------------------------------------------------------------- the publication of two files
+def publication_of(arguments: Arguments, program_folder: pathlib.Path) -> Publication:
+    """Each file is read once, so that all commands read the same bytes."""
+    poll_bytes = input_in(arguments.poll, POLL_LIMIT, "poll", Status.BAD_POLL)
+    ballots = input_in(arguments.ballots, BALLOTS_LIMIT, "ballots", Status.BAD_BALLOTS)
+    demand_in_order(poll_bytes, arguments, Debvote(pathlib.Path(), program_folder))
+    poll = sealed_of(poll_bytes, arguments.poll)
+    if poll.secret and not all(map(CODE.fullmatch, poll.roll)):
+        cure = "publish it from its election, with debvote-election publish"
+        words = "the vote is secret, and this would publish each name with its vote"
+        raise Fault(arguments.poll, words, cure, Status.DOUBT, None)
+    return Publication(
+        poll,
+        ballots,
+        language_of(arguments.language),
+        casting=None if arguments.casting is None else CastingVote(arguments.casting),
+        desks=arguments.desks,
+        given_checksum=sha256_of(poll_bytes),
+    )
+
+
+def input_in(file: str, limit: int, kind: str, status: int) -> bytes:
+    try:
+        return read_at_most(file, limit)
+    except OSError as error:
+        cure = f"give a file with --{kind} that you may read"
+        raise Fault(
+            file, f"it can't be read ({error.strerror})", cure, status, "nothing was published"
+        ) from None
+
+
+def demand_in_order(poll_bytes: bytes, arguments: Arguments, debvote: Debvote) -> None:
+    """Stops if debvote refuses the poll."""
+    answer = debvote.run(
+        "count", "--poll", "/dev/stdin", "--ballots", "/dev/null", given=poll_bytes
+    )
+    if answer.text:
+        return
+    if answer.status == Status.DONE:
+        raise other_format("the sheet of this debvote")
+    said = answer.faults.strip().removeprefix("debvote: ")
+    cure = f"debvote explain --poll {arguments.poll} says what to correct"
+    raise Fault(arguments.poll, said, cure, answer.status, "nothing was published")
+
+
+def sealed_of(poll_bytes: bytes, file: str) -> SealedPoll:
+    """A poll that debvote takes, for its plain form: the keys of a sealed poll, and no other.
+
+    Stops at shown names that people can't read or tell apart, or that are another option's.
+    """
+    try:
+        document = tomllib.loads(poll_bytes.decode("utf-8-sig"))
+    except (ValueError, RecursionError) as error:
+        cure = "write the poll as TOML 1.0"
+        raise Fault(
+            file, f"it can't be read ({error})", cure, Status.BAD_POLL, "nothing was published"
+        ) from None
+    values = {key: document[key] for key in KEYS if key in document}
+    strange = [key for key in values if not is_right(key, values[key], len(document["options"]))]
+    cure = "give the poll.toml of a call, or take the key out"
+    if strange:
+        words = f"a sealed poll cannot have such a value of {', '.join(strange)}"
+        raise Fault(file, words, cure, Status.BAD_POLL, "nothing was published")
+    poll = poll_of(values)
+    bad = bad_title(poll.name) if poll.name != poll.title else []
+    bad += [
+        name
+        for name in bad_options(poll.names, poll.plain_names)
+        if name.name != poll.plain_names[name.number - 1]
+    ]
+    if bad:
+        words = f"a shown name can't be published: {bad[0].reason}"
+        raise Fault(file, words, cure, Status.BAD_POLL, "nothing was published")
+    return poll
+
+
+def is_right(key: str, value: Any, options: int) -> bool:
+    """Whether a sealed poll of this number of options may have such a value. The keys that debvote
+    reads it has looked at itself.
+    """
+    if key in (*REQUIRED, "wording", "last_envelope"):
+        return True
+    if key == "secret":
+        return value is True
+    if key in ("shown_options", "explanations"):
+        is_list_of_texts = isinstance(value, list) and all(isinstance(text, str) for text in value)
+        return is_list_of_texts and len(value) == (
+            options + 1 if key == "shown_options" else options
+        )
+    return isinstance(value, str) and value != ""

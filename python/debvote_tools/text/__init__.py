@@ -1,0 +1,1 @@
+"""Languages, templates, times, and ballots in words."""

@@ -1,0 +1,92 @@
+"""A ballot in words, from its ranks as `standing` and the ballot file spell them, such as
+`1,2,-,3`.
+"""
+
+import functools
+from collections.abc import Sequence
+from typing import NamedTuple
+
+from debvote_tools.text.language import ENGLISH, Language, marked
+
+UNRANKED = "-"
+
+# what can be in the place of an option, in the order of preference
+NUMBERS = {str(rank): rank for rank in range(1, 100)} | {UNRANKED: 100}
+
+
+class Phrases(NamedTuple):
+    """The sentences that describe a ballot in words."""
+
+    then: str
+    equally: str
+    unranked: str
+    nothing: str
+
+
+IN_A_TEXT = Phrases(
+    then=marked("{before}, then {step}"),
+    equally=marked("{options} equally"),
+    unranked=marked("{ranked}; not ranked, and so behind all others: {unranked}"),
+    nothing=marked("no option is ranked, so nothing is preferred"),
+)
+IN_A_LIST = Phrases(
+    then=marked("{before}; then {step}"),
+    equally=marked("equally {options}"),
+    unranked=marked("{ranked}; not ranked: {unranked}"),
+    nothing=marked("nothing is preferred"),
+)
+
+
+def in_normal_form(ranks: str) -> str:
+    """The same order with ranks 1, 2 and so on: equal ranks stay equal, and options that are not
+    ranked stay so.
+    """
+    given = ranks.split(",")
+    in_order = enumerate(sorted({*given} - {UNRANKED}, key=int), start=1)
+    normal = {UNRANKED: UNRANKED} | {rank: str(number) for number, rank in in_order}
+    return ",".join(normal[rank] for rank in given)
+
+
+def ranks_in_words(ranks: str, names: Sequence[str], language: Language = ENGLISH) -> str:
+    """A valid ballot in words without markup: "At the lake, then Further discussion, then ..".
+
+    The names are those of the options in the order of their numbers, the default option last.
+    """
+    return BallotWords(names, language).of(ranks)
+
+
+class BallotWords:
+    """The same for many ballots: `add` prints 100,000."""
+
+    def __init__(
+        self, names: Sequence[str], language: Language = ENGLISH, phrases: Phrases = IN_A_TEXT
+    ) -> None:
+        self.language, self.phrases = language, phrases
+        self.names = [(name,) for name in names]
+        self.then = language.between(phrases.then)
+        # many ballots have few groups of options that are equal
+        self.step = functools.cache(self.step_in_words)
+
+    def of(self, ranks: str) -> str:
+        steps: dict[str, tuple[str, ...]] = {}
+        for rank, name in zip(ranks.split(","), self.names):
+            steps[rank] = steps[rank] + name if rank in steps else name
+        unranked = steps.pop(UNRANKED, ())
+        if not steps:
+            return self.language.say(self.phrases.nothing)
+        said = self.then.join(
+            map(self.step, map(steps.__getitem__, sorted(steps, key=NUMBERS.__getitem__)))
+        )
+        if not unranked:
+            return said
+        return self.language.say(
+            self.phrases.unranked, ranked=said, unranked=self.language.joined(unranked)
+        )
+
+    def step_in_words(self, names: tuple[str, ...]) -> str:
+        """The options that share one rank, in words."""
+        return (
+            names[0]
+            if len(names) == 1
+            else self.language.say(self.phrases.equally, options=self.language.joined(names))
+        )

@@ -1,0 +1,132 @@
+"""The language of what electors read: English, or one that has its translations in `locale`.
+
+Each sentence is in the code or in a template once, whole and in English, with its places by name in
+braces. A language is handed on to whatever makes a page or a letter. What the secretary reads at
+the terminal is always English.
+"""
+
+import dataclasses
+import functools
+import gettext
+import importlib.resources
+import io
+import json
+from collections.abc import Iterable, Mapping
+
+# each by the code that the pages have for it, with its name in English
+LANGUAGES = {"en": "English", "de": "German", "fr": "French", "es": "Spanish"}
+
+
+def marked(text: str) -> str:
+    """Returns the text as it is. It marks a sentence that has translations, and is said elsewhere."""
+    return text
+
+
+def numbered(one: str, many: str) -> tuple[str, str]:
+    """Does the same for a sentence with a singular and a plural."""
+    return one, many
+
+
+@dataclasses.dataclass(frozen=True)
+class Language:
+    """A language, by its code. It says sentences in plain text; `rendering.InHtml` says them in
+    HTML.
+    """
+
+    # how a text is written that is not the program's, that a reader has to see or compares
+    # character by character, and a link
+    GIVEN = STRONG = EXACT = "{}"
+    LINK = "{1}"
+
+    code: str
+    catalog: gettext.NullTranslations
+
+    def made(self, text: str) -> str:
+        """A text of ours, into which others are put."""
+        return text
+
+    def say(self, text: str, /, **places: object) -> str:
+        return self.made(self.catalog.gettext(text)).format(**places)
+
+    def say_number(self, one: str, many: str, number: int, /, **places: object) -> str:
+        """A sentence in its form for a number, whose place is `{number}`."""
+        return self.made(self.catalog.ngettext(one, many, number)).format(number=number, **places)
+
+    def in_a_row(self, said: Iterable[str]) -> str:
+        """Sentences one after another, with semicolons."""
+        return self.between("{before}; {after}").join(said)
+
+    def joined(self, entries: Iterable[str]) -> str:
+        """The entries as part of a sentence; there is at least one."""
+        *before, last = entries
+        return (
+            self.made(", ").join(before) + self.and_last + last
+            if before
+            else self.made("{}").format(last)
+        )
+
+    @functools.cached_property
+    def and_last(self) -> str:
+        return self.between("{entries} and {last}")
+
+    def between(self, text: str) -> str:
+        """The words between the two places with which a sentence begins and ends: they join any
+        number of parts.
+        """
+        return self.made(
+            self.catalog.gettext(text)[text.index("}") + 1 : -len(text[text.rindex("{") :])]
+        )
+
+    def words(self, sentences: Mapping[str, str], **more: str) -> str:
+        """Sentences by their names, as JSON for a script, which fills their places."""
+        return json.dumps(
+            {name: self.catalog.gettext(text) for name, text in sentences.items()} | more,
+            ensure_ascii=False,
+        )
+
+    # ------------------------------------------------------------ texts within a sentence
+    def given(self, text: str) -> str:
+        """A text that may be written from right to left, and turns nothing around it."""
+        return self.made(self.GIVEN).format(text)
+
+    def quoted(self, text: str) -> str:
+        """Words of another person. In brackets none of them reads as a ballot: no repair of a line
+        takes these away.
+        """
+        return f"({text})"
+
+    def strong(self, text: str) -> str:
+        return self.made(self.STRONG).format(text)
+
+    def exact(self, text: str) -> str:
+        return self.made(self.EXACT).format(text)
+
+    def link(self, address: str, text: str) -> str:
+        return self.made(self.LINK).format(address, text)
+
+
+ENGLISH = Language("en", gettext.NullTranslations())
+
+
+@functools.cache
+def language_of(code: str) -> Language:
+    """The language of a code of `LANGUAGES`."""
+    if code == ENGLISH.code:
+        return ENGLISH
+    folder = importlib.resources.files("debvote_tools").joinpath("locale")
+    compiled = folder.joinpath(f"{code}.mo")
+    if compiled.is_file():
+        return Language(code, gettext.GNUTranslations(io.BytesIO(compiled.read_bytes())))
+    return Language(code, catalog_of(folder.joinpath(f"{code}.po").read_bytes()))
+
+
+def catalog_of(po: bytes) -> gettext.GNUTranslations:
+    """The translations of a `.po` file, which a checkout has; the package has them compiled. Babel
+    is read only here: it takes a while.
+    """
+    from babel.messages import mofile, pofile
+
+    compiled = io.BytesIO()
+    mofile.write_mo(compiled, pofile.read_po(io.BytesIO(po)))
+    compiled.seek(0)
+    return gettext.GNUTranslations(compiled)

@@ -1,0 +1,160 @@
+"""Pages and letters are made from templates of jinja2. A page escapes what it is given, a letter
+does not; an unknown name is an error.
+
+A template says its sentences itself, by `say` and `say_number`. One that pages and letters share
+uses what both have, as the filters `paragraph` and `given`. The templates of a package are in its
+folder `templates`; those that all packages share are in that of debvote_tools.
+"""
+
+import base64
+import functools
+import hashlib
+import importlib.resources
+import re
+import textwrap
+from collections.abc import Callable
+
+import jinja2
+from markupsafe import Markup
+
+from debvote_tools.text.ballots import ranks_in_words
+from debvote_tools.text.language import ENGLISH, Language
+from debvote_tools.text.times import time_in_words
+
+# mail programs leave lines of this length as they are
+COLUMNS = 72
+
+
+class InHtml(Language):
+    """A language that says sentences in HTML, and escapes what is put into them."""
+
+    GIVEN, STRONG, EXACT = "<bdi>{}</bdi>", "<b>{}</b>", "<code>{}</code>"
+    LINK = '<a href="{}">{}</a>'
+
+    def made(self, text: str) -> Markup:
+        return Markup(text)
+
+    def quoted(self, text: str) -> Markup:
+        # the browser adds the quotation marks of the language
+        return Markup("<q><bdi>{}</bdi></q>").format(text)
+
+
+# ---------------------------------------------------------------- templates
+# most letters of a run have the same paragraphs
+@functools.lru_cache(maxsize=1_000)
+def line(text: str, first: str = "", then: str = "") -> str:
+    """A paragraph of a letter without the end of its last line. A word that is longer than a line,
+    as an address, stays whole.
+    """
+    return textwrap.fill(
+        text,
+        COLUMNS,
+        initial_indent=first,
+        subsequent_indent=then,
+        break_long_words=False,
+        break_on_hyphens=False,
+    )
+
+
+# a paragraph, one of several lines in a row, and a line to be copied
+PAGE_FILTERS: dict[str, Callable[..., str]] = {
+    "paragraph": Markup("<p>{}</p>").format,
+    "line": Markup("<p>{}</p>").format,
+    "copied": Markup("<pre><code>{}</code></pre>").format,
+}
+LETTER_FILTERS: dict[str, Callable[..., str]] = {
+    "paragraph": lambda text, first="", then="": f"{line(text, first, then)}\n",
+    "line": line,
+    "copied": "  {}\n".format,
+    "heading": lambda text: f"{text.upper()}\n",
+}
+
+
+@functools.cache
+def templates_of(package: str, language: Language, *, is_page: bool) -> jinja2.Environment:
+    """The templates of a package, and those that all share. They say their sentences in the
+    language.
+    """
+    speaker = InHtml(language.code, language.catalog) if is_page else language
+    environment = jinja2.Environment(
+        loader=jinja2.ChoiceLoader(
+            [jinja2.PackageLoader(package), jinja2.PackageLoader("debvote_tools")]
+        ),
+        autoescape=is_page,
+        undefined=jinja2.StrictUndefined,
+        trim_blocks=True,
+        lstrip_blocks=True,
+        keep_trailing_newline=True,
+        # a run compiles each template, and this would take longer than it saves
+        optimized=False,
+    )
+    environment.filters |= PAGE_FILTERS if is_page else LETTER_FILTERS
+    environment.filters |= {
+        "given": speaker.given,
+        "strong": speaker.strong,
+        "exact": speaker.exact,
+    }
+    environment.globals |= {
+        name: getattr(speaker, name) for name in ("say", "say_number", "link", "joined")
+    }
+    environment.globals |= {
+        "is_page": is_page,
+        "time_in_words": functools.partial(time_in_words, language=language),
+        "ranks_in_words": functools.partial(ranks_in_words, language=language),
+    }
+    return environment
+
+
+def render_letter(package: str, template: str, language: Language, **values: object) -> str:
+    """A letter, in plain text, with one empty line between paragraphs however many the template
+    has.
+    """
+    text = templates_of(package, language, is_page=False).get_template(template).render(values)
+    return re.sub(r"\n\n\n+", "\n\n", text).strip("\n") + "\n"
+
+
+# ---------------------------------------------------------------- pages
+def resources(package: str, *names: str) -> str:
+    """Styles or scripts, one after another: files of a package, or else of debvote_tools."""
+    places = [importlib.resources.files(folder) for folder in (package, "debvote_tools")]
+    found = (
+        next(file for place in places if (file := place.joinpath(name)).is_file()) for name in names
+    )
+    return "".join(file.read_text(encoding="utf-8") for file in found)
+
+
+def render_page(
+    package: str,
+    template: str,
+    language: Language,
+    *,
+    style: str,
+    script: str = "",
+    **values: object,
+) -> bytes:
+    """A page. It loads nothing, and runs its own script alone; its policy names style and script by
+    their checksums.
+    """
+    style = resources("debvote_tools", "page.css") + style
+    if language != ENGLISH:
+        # words may be longer than a narrow window
+        style += resources("debvote_tools", "long_words.css")
+    allowed = f"style-src {checksum_source(style)}; base-uri 'none'; form-action 'none'"
+    policy = f"default-src 'none'; {f'script-src {checksum_source(script)}; ' if script else ''}{allowed}"
+    made = {
+        "style": Markup(style),
+        "script": Markup(script),
+        "policy": Markup(policy),
+        "language": language.code,
+    }
+    return (
+        templates_of(package, language, is_page=True)
+        .get_template(template)
+        .render(values | made)
+        .encode()
+    )
+
+
+def checksum_source(text: str) -> str:
+    """How the policy of a page allows a script or a style that is in it."""
+    return f"'sha256-{base64.b64encode(hashlib.sha256(text.encode()).digest()).decode()}'"

@@ -1,0 +1,60 @@
+"""The time by the clock, and times and dates in words."""
+
+import datetime
+
+from debvote_tools.text.language import ENGLISH, Language, marked
+
+DAYS = (
+    *(marked("Monday"), marked("Tuesday"), marked("Wednesday"), marked("Thursday")),
+    *(marked("Friday"), marked("Saturday"), marked("Sunday")),
+)
+MONTHS = (
+    *(
+        marked("January"),
+        marked("February"),
+        marked("March"),
+        marked("April"),
+        marked("May"),
+        marked("June"),
+    ),
+    *(
+        marked("July"),
+        marked("August"),
+        marked("September"),
+        marked("October"),
+        marked("November"),
+        marked("December"),
+    ),
+)
+
+
+def now() -> datetime.datetime:
+    """The time by the clock of this computer, in whole seconds."""
+    return datetime.datetime.now(datetime.UTC).replace(microsecond=0)
+
+
+def time_in_words(time: datetime.datetime, language: Language = ENGLISH) -> str:
+    """A time with its offset, as `Friday, 4 December 2026, 18:00 (UTC+01:00)`. The seconds are left
+    out if they are 0.
+    """
+    offset = time.strftime("%z")
+    return language.say(
+        "{weekday}, {date}, {clock} ({offset})",
+        weekday=language.say(DAYS[time.weekday()]),
+        date=date_in_words(time, language),
+        clock=time.strftime("%H:%M:%S" if time.second else "%H:%M"),
+        offset=f"UTC{offset[:3]}:{offset[3:5]}" if time.utcoffset() else "UTC",
+    )
+
+
+def minute_in_words(time: datetime.datetime, zone: datetime.tzinfo | None) -> str:
+    """A time to the minute, as the clock of a zone shows it, beside another time of that zone."""
+    return time_in_words(time.astimezone(zone).replace(second=0))
+
+
+def date_in_words(date: datetime.date, language: Language = ENGLISH) -> str:
+    """A day, as `4 December 2026`. Some languages have another form for the first of a month."""
+    month = language.say(MONTHS[date.month - 1])
+    if date.day == 1:
+        return language.say("1 {month} {year}", month=month, year=date.year)
+    return language.say("{day} {month} {year}", day=date.day, month=month, year=date.year)
