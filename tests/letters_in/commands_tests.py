@@ -22,7 +22,7 @@ from debvote_tools.book.book import open_book  # noqa: E402
 from debvote_tools.cli import command_line  # noqa: E402
 from debvote_tools.outbox import letter_files  # noqa: E402
 from debvote_tools.commands import held  # noqa: E402
-from debvote_tools.inbox import signatures  # noqa: E402
+from debvote_tools.inbox import signature  # noqa: E402
 
 RANKS, OTHER = "1,2,4,3", "2,1,4,3"
 LAKE = "At the lake, then In the town hall, then Further discussion, then Sell the house and meet there"
@@ -601,7 +601,7 @@ class Signed(LettersTest):
         (place / "gpgv").chmod(0o755)
         self.write("inbox.mbox", mailbox(self.signed("ada")))
         env = {"PATH": f"{place}:{support.environment()['PATH']}", "XDG_STATE_HOME": str(self.state)}
-        with mock.patch.object(signatures, "SECONDS", 0.2), mock.patch.dict(os.environ, env), contextlib.chdir(self.folder):
+        with mock.patch.object(signature, "SECONDS", 0.2), mock.patch.dict(os.environ, env), contextlib.chdir(self.folder):
             with contextlib.redirect_stdout(io.StringIO()) as said, contextlib.redirect_stderr(io.StringIO()):
                 command_line.main(support.ELECTION.parent, ["add", "--yes", "inbox.mbox"])
         self.assertIn("gpgv did not answer about its signature in time", said.getvalue())

@@ -8,8 +8,8 @@ import signatures_tests
 import table_tests
 from letters_support import NAMES, at, label
 
-from debvote_tools.inbox.parse import may_be_ballot
-from debvote_tools.inbox.readings import repaired
+from debvote_tools.inbox.letter import may_be_ballot
+from debvote_tools.inbox.candidates import repaired
 from debvote_tools.inbox.reasons import FOR_ELECTOR, Because, Reason, for_elector, for_secretary
 
 # values of each name that a reason may have

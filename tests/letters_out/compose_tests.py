@@ -10,7 +10,7 @@ from debvote_tools.book.queries import Elector
 from debvote_tools.book.sent import SentLetter
 from debvote_tools.poll.call_data import CallData, is_mail_address
 from debvote_tools.text.language import LANGUAGES, language_of
-from debvote_tools.inbox.parse import Near
+from debvote_tools.inbox.letter import Near
 from debvote_tools.inbox.reasons import Reason
 from debvote_tools.outbox.compose import Became, Came, Composer, Kind, without_ballots
 from debvote_tools.outbox.message import message_of, new_message_id, one_line as on_one_line

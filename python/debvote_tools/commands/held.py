@@ -15,8 +15,8 @@ from debvote_tools.book.election import Election
 from debvote_tools.inbox.entering import entered
 from debvote_tools.book.reporting import count_of
 from debvote_tools.cli.faults import Fault, Status
-from debvote_tools.inbox.judge import JudgedLetter, Outcome
-from debvote_tools.inbox.readings import BallotLine
+from debvote_tools.inbox.rules import JudgedLetter, Outcome
+from debvote_tools.inbox.candidates import BallotLine
 from debvote_tools.inbox.lines import name_in
 from debvote_tools.cli.terminal_text import shown_text
 

@@ -7,7 +7,7 @@ from collections.abc import Iterator, Sequence
 from debvote_tools.inbox.vote import IS_CODE, Vote
 from debvote_tools.inbox.entering import Entered
 from debvote_tools.book.reporting import act_time, count_of
-from debvote_tools.inbox.judge import JudgedLetter, Outcome
+from debvote_tools.inbox.rules import JudgedLetter, Outcome
 from debvote_tools.inbox.reasons import for_secretary
 from debvote_tools.cli.terminal_text import shown_line, shown_text
 

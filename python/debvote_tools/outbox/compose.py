@@ -17,8 +17,8 @@ from debvote_tools.book.queries import Elector
 from debvote_tools.book.sent import About
 from debvote_tools.poll.call_data import CallData
 from debvote_tools.text.language import Language, marked
-from debvote_tools.inbox.parse import Near
-from debvote_tools.inbox.readings import BALLOT, NAMED, repaired
+from debvote_tools.inbox.letter import Near
+from debvote_tools.inbox.candidates import BALLOT, NAMED, repaired
 from debvote_tools.inbox.reasons import Because, for_elector
 from debvote_tools.outbox.message import one_line
 from debvote_tools.text.rendering import render_letter

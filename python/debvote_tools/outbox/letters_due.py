@@ -5,7 +5,7 @@ the server, and new ones.
 import datetime
 from collections.abc import Callable, Sequence
 
-from debvote_tools.inbox.addresses import address_key
+from debvote_tools.inbox.mime import address_key
 from debvote_tools.book import letters, queries, sent
 from debvote_tools.book.queries import Elector, Envelope
 from debvote_tools.book.sent import BEGUN, POSTPONED, REFUSED, TAKEN, WRITTEN, About, SentLetter
@@ -23,7 +23,7 @@ from debvote_tools.result.publication import (
 from debvote_tools.book.election import Election, History
 from debvote_tools.inbox.vote import Vote
 from debvote_tools.cli.faults import Fault, Status
-from debvote_tools.inbox.judge import JudgedLetter, Outcome
+from debvote_tools.inbox.rules import JudgedLetter, Outcome
 from debvote_tools.outbox.compose import Became, Came, Composer, Kind
 from debvote_tools.outbox.message import new_message_id
 from debvote_tools.inbox.lines import ballot_file
