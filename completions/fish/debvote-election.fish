@@ -8,9 +8,15 @@ complete -c debvote-election -n "not __fish_seen_subcommand_from new roll check 
 complete -c debvote-election -n "not __fish_seen_subcommand_from new roll check codes call add held undo strike desk letters show status close reopen count publish log export backup" -a add -d "Enter ballots from letters, files, tables or standard input, and print the reply to each."
 complete -c debvote-election -n "not __fish_seen_subcommand_from new roll check codes call add held undo strike desk letters show status close reopen count publish log export backup" -a held -d "List the letters that wait; show one, enter its ballot, or set letters aside."
 complete -c debvote-election -n "not __fish_seen_subcommand_from new roll check codes call add held undo strike desk letters show status close reopen count publish log export backup" -a undo -d "Take back the last act that entered lines; a second undo takes back the one before."
-complete -c debvote-election -n "not __fish_seen_subcommand_from new roll check codes call add held undo strike desk letters show status close reopen count publish log export backup" -a strike -d "Strike one envelope before the close, so that its line does not count; the result page says how many, and why."
-complete -c debvote-election -n "not __fish_seen_subcommand_from new roll check codes call add held undo strike desk letters show status close reopen count publish log export backup" -a desk -d "Enter ballots by hand, and print the reply to each; several desks can run at once, each in its own terminal."
-complete -c debvote-election -n "not __fish_seen_subcommand_from new roll check codes call add held undo strike desk letters show status close reopen count publish log export backup" -a letters -d "Write letters to the electors, or send them: the call, receipts, reminders, the close, the result."
+complete -c debvote-election -n "not __fish_seen_subcommand_from new roll check codes call add held undo strike desk letters show status close reopen count publish log export backup" -a strike -d "Strike one envelope before the close, so that its line does not count; the result page says how
+many, and why.
+."
+complete -c debvote-election -n "not __fish_seen_subcommand_from new roll check codes call add held undo strike desk letters show status close reopen count publish log export backup" -a desk -d "Enter ballots by hand, and print the reply to each; several desks can run at once, each in its
+own terminal.
+."
+complete -c debvote-election -n "not __fish_seen_subcommand_from new roll check codes call add held undo strike desk letters show status close reopen count publish log export backup" -a letters -d "Write letters to the electors, or send them: the call, receipts, reminders, the close, the
+result.
+."
 complete -c debvote-election -n "not __fish_seen_subcommand_from new roll check codes call add held undo strike desk letters show status close reopen count publish log export backup" -a show -d "Show one elector: the ballots and letters that came, the current ballot, and what was sent."
 complete -c debvote-election -n "not __fish_seen_subcommand_from new roll check codes call add held undo strike desk letters show status close reopen count publish log export backup" -a status -d "Show how far the election is: lines, ballots, electors without a ballot, refused lines."
 complete -c debvote-election -n "not __fish_seen_subcommand_from new roll check codes call add held undo strike desk letters show status close reopen count publish log export backup" -a close -d "Close the vote; lines that are entered later are late, and do not count."
@@ -34,10 +40,11 @@ complete -c debvote-election -n "__fish_seen_subcommand_from codes" -l moved -d 
 complete -c debvote-election -n "__fish_seen_subcommand_from codes" -l because -x -d "The reason, in your words, for --moved, --force, strike or reopen."
 complete -c debvote-election -n "__fish_seen_subcommand_from call" -l until -x -d "The end of the vote, as '2026-12-04 18:00'; a second call with a later time extends the vote."
 complete -c debvote-election -n "__fish_seen_subcommand_from call" -l zone -x -d "The time zone of --until, as Europe/Berlin (default: that of the earlier end, or else of this computer)."
-complete -c debvote-election -n "__fish_seen_subcommand_from call" -l to -x -d "The mail address to which ballots are sent."
+complete -c debvote-election -n "__fish_seen_subcommand_from call" -l to -x -d "The mail address to which ballots are sent; as 'NAME <ADDRESS>' letters to electors come from this name."
 complete -c debvote-election -n "__fish_seen_subcommand_from call" -l at -x -d "The web address of the page for the call, and later for the result."
 complete -c debvote-election -n "__fish_seen_subcommand_from call" -l form -d "Say in the call that an empty cell of a web form counts as a hyphen; add --blank-is-unranked reads it so."
 complete -c debvote-election -n "__fish_seen_subcommand_from call" -l names -d "Say in the call that real names will be published with the result."
+complete -c debvote-election -n "__fish_seen_subcommand_from call" -l marked -d "Let a letter go in by itself only with the own mark of its elector, which letters to electors have."
 complete -c debvote-election -n "__fish_seen_subcommand_from call" -l keyring -r -F -d "Say in the call that letters must be signed, each with its elector's key in members.csv; this file has the keys."
 complete -c debvote-election -n "__fish_seen_subcommand_from call" -l take-back -d "Take the call back; possible until a ballot or a letter has come."
 complete -c debvote-election -n "__fish_seen_subcommand_from call" -l yes -d "In a secret vote: answer yes when asked whether everybody may read the texts of the options."

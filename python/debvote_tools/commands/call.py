@@ -1,5 +1,6 @@
 """Make the call for votes, a page and a letter; from then on the poll cannot change."""
 
+import dataclasses
 import pathlib
 from collections.abc import Sequence
 
@@ -8,8 +9,8 @@ from debvote_tools.cli.arguments import flag, option
 from debvote_tools.book import queries
 from debvote_tools.book.queries import Elector
 from debvote_tools.book.acts import Detail
-from debvote_tools.book.book import NewAct
-from debvote_tools.poll.call_data import CallData, demand_mail_address, demand_web_address
+from debvote_tools.book.book import Book, NewAct
+from debvote_tools.poll.call_data import CallData, demand_web_address, named_address
 from debvote_tools.poll.call_files import call_files, extension_letter
 from debvote_tools.cli.console import tell
 from debvote_tools.book import acting
@@ -20,6 +21,7 @@ from debvote_tools.commands.roll import demand_read
 from debvote_tools.book.election import (
     CALL,
     KEYRING,
+    LETTER_TEXT,
     LETTERS,
     POLL,
     POLL_WITH_NAMES,
@@ -29,7 +31,7 @@ from debvote_tools.book.election import (
     Sealed,
 )
 from debvote_tools.made_files import OWN, PUBLIC, write_made
-from debvote_tools.poll.draft_poll import checked_poll, lacks_codes, tell_poll
+from debvote_tools.poll.draft_poll import checked, lacks_codes, letter_text_in, tell_poll
 from debvote_tools.book.reporting import act_time
 from debvote_tools.inbox.in_time import demand_future, parse_until
 from debvote_tools.cli.faults import Fault, Status, stop_at
@@ -57,7 +59,10 @@ class Arguments(acting.Arguments):
         "ZONE",
         "The time zone of --until, as Europe/Berlin (default: that of the earlier end, or else of this computer)",
     )
-    to: str | None = option("ADDRESS", "The mail address to which ballots are sent")
+    to: str | None = option(
+        "ADDRESS",
+        'The mail address to which ballots are sent; as "NAME <ADDRESS>" letters to electors come from this name',
+    )
     at: str | None = option(
         "URL", "The web address of the page for the call, and later for the result"
     )
@@ -65,6 +70,9 @@ class Arguments(acting.Arguments):
         "Say in the call that an empty cell of a web form counts as a hyphen; add --blank-is-unranked reads it so"
     )
     names: bool = flag("Say in the call that real names will be published with the result")
+    marked: bool = flag(
+        "Let a letter go in by itself only with the own mark of its elector, which letters to electors have"
+    )
     keyring: str | None = option(
         "FILE",
         "Say in the call that letters must be signed, each with its elector's key in members.csv; this file has the keys",
@@ -93,11 +101,14 @@ def call(election: Election, arguments: Arguments) -> None:
     said, book = announced(arguments, None), election.book
     history = election.history()
     demand_read(election, history)
-    poll, sheet = checked_poll(election, deadline=said.get("until"), address=arguments.to)
+    poll, sheet, letter_text = checked(election, deadline=said.get("until"), address=said.get("to"))
     faults = []
     if poll.secret and arguments.names:
         cure = "leave it out: in a secret vote no names are published"
         faults.append(Fault("--names", "the vote is secret", cure, Status.BAD_WORDS))
+    if history.has_codes_on_roll and arguments.marked:
+        reason = "codes are on the roll, so no elector can be given an own mark"
+        faults.append(Fault("--marked", reason, "leave it out", Status.BAD_WORDS))
     if lacks_codes(election, history, poll):
         faults.append(
             Fault(
@@ -114,12 +125,14 @@ def call(election: Election, arguments: Arguments) -> None:
         {
             "form": arguments.form,
             "names": arguments.names,
+            "marked": arguments.marked,
             "codes_on_roll": history.has_codes_on_roll,
         }
     )
     said.update({"quorum_votes": sheet.quorum, "signed": arguments.keyring is not None})
     keyring = keyring_in(election, arguments.keyring)
     data = current_data(election, history, said, Sealed(public, poll))
+    data = dataclasses.replace(data, letter_text=letter_text)
     if poll.secret:
         demand_no_codes(data, queries.electors(book))
         said["agreed"] = agreed_texts(
@@ -129,17 +142,18 @@ def call(election: Election, arguments: Arguments) -> None:
         act.insert("sealed", name=POLL, data=public.as_bytes())
         if public != poll:
             act.insert("sealed", name=POLL_WITH_NAMES, data=poll.as_bytes())
-        seal(act, data, keyring)
+        seal(book, act, data, keyring)
         if not history.has_codes_on_roll:
             marked = (one._replace(mark=new_own_mark()) for one in queries.electors(book))
             queries.put_electors(act, marked)
-    tell_poll(poll, sheet)
+    tell_poll(poll, sheet, letter_text)
 
 
 def demand_no_codes(data: CallData, electors: Sequence[Elector]) -> None:
     """Stops if a text of the call has a code, of its elector or of the roll."""
     codes = {elector.code or elector.name for elector in electors}
-    for name, content in call_files(data).items():
+    files = {**call_files(data), LETTER_TEXT: data.letter_text.encode()}
+    for name, content in files.items():
         demand_no_code(name, content, codes, "nothing was changed")
 
 
@@ -147,12 +161,13 @@ def call_again(election: Election, arguments: Arguments) -> None:
     """Extends the vote, or adds what the call did not say yet. A new end is refused after a close,
     and if it is not later than the end that electors know.
     """
-    history = election.history()
+    history, book = election.history(), election.book
     said = announced(arguments, history.announced("zone"))
-    is_act = bool(said) or arguments.keyring is not None
-    book = election.book
-    demand_no_change(election, history, arguments)
-    if not is_act:
+    demand_no_change(election, history, arguments, said)
+    before = current_data(election, history).letter_text
+    # after a close no letter begins with it
+    letter_text = before if history.closes else letter_text_in(election.folder)
+    if not said and arguments.keyring is None and letter_text == before:
         return
     if history.is_closed:
         raise Fault(None, "the vote is closed", f"see {election.command('status')}")
@@ -168,11 +183,13 @@ def call_again(election: Election, arguments: Arguments) -> None:
         words = f"electors rely on {times.time_in_words(history.until)}, and {times.time_in_words(until)} is not later"
         raise Fault("--until", words, "name a later time", Status.BAD_WORDS)
     keyring = keyring_in(election, arguments.keyring)
-    data = current_data(election, history, said)
+    data = dataclasses.replace(current_data(election, history, said), letter_text=letter_text)
+    if data.poll.secret:
+        demand_no_codes(data, queries.electors(book))
     if keyring is not None:
         said["keyring"] = True
     with book.act("announce" if until is None else "extend", said, seen=history.last.number) as act:
-        seal(act, data, keyring)
+        seal(book, act, data, keyring)
         if until is not None:
             act.insert(
                 "sealed", name=f"{LETTERS}/{EXTENSION}", data=extension_letter(data).encode()
@@ -188,17 +205,17 @@ def take_back(election: Election) -> None:
     if queries.has_come(election.book, call_act.number):
         words = "ballots or letters have come, and electors rely on the call"
         raise Fault(None, words, "finish this vote, or hold it anew in another folder")
-    coded = queries.electors(book) if election.sealed().counted.secret else []
+    electors = queries.electors(book)
+    coded = len(electors) if election.sealed().counted.secret else 0
     with book.act(
-        "take back", {"call": call_act.number, "codes": len(coded)}, seen=history.last.number
+        "take back", {"call": call_act.number, "codes": coded}, seen=history.last.number
     ) as act:
-        # whoever compares the roll of this call with that of the next would see the alias of each
-        # elector who is new
-        is_on_roll = history.has_codes_on_roll
-        lapsed = (
-            one._replace(position=None) if is_on_roll else one._replace(code="", alias="")
-            for one in coded
-        )
+        # own marks lapse, and codes: whoever compares the roll of this call with that of the next
+        # would see the alias of each elector who is new
+        if history.has_codes_on_roll:
+            lapsed = (one._replace(position=None) for one in electors)
+        else:
+            lapsed = (one._replace(code="", alias="", mark="") for one in electors)
         queries.put_electors(act, lapsed)
     write_made(election.path(CALL), {}, PUBLIC, FILES)
     (election.path(LETTERS) / EXTENSION).unlink(missing_ok=True)
@@ -207,18 +224,21 @@ def take_back(election: Election) -> None:
     if coded:
         write_made(election.path(PRIVATE), {}, OWN, (SLIPS, CODES))
         tell(
-            f"All {len(coded)} codes are void, and their slips and table are removed: destroy what is printed."
+            f"All {coded} codes are void, and their slips and table are removed: destroy what is printed."
         )
         first = "roll" if history.has_codes_on_roll else "codes"
     tell(f"Next: put right what was wrong, then run {election.command(first)}")
 
 
-def seal(act: NewAct, data: CallData, keyring: bytes | None) -> None:
-    """Keeps the keyring, and the files of the call, so that they can be made again with the same
+def seal(book: Book, act: NewAct, data: CallData, keyring: bytes | None) -> None:
+    """Keeps the keyring, the text of the letters if it is new, and the files of the call, so that they can be made again with the same
     bytes.
     """
     if keyring is not None:
         act.insert("sealed", name=KEYRING, data=keyring)
+    letter_bytes = data.letter_text.encode()
+    if letter_bytes != (queries.sealed(book, LETTER_TEXT) or b""):
+        act.insert("sealed", name=LETTER_TEXT, data=letter_bytes)
     for name, content in call_files(data).items():
         act.insert("sealed", name=f"{CALL}/{name}", data=content)
 
@@ -236,21 +256,22 @@ def announced(arguments: Arguments, earlier_zone: str | None) -> Detail:
         if zone is not None:
             said["zone"] = zone
     if arguments.to is not None:
-        demand_mail_address(arguments.to)
-        said["to"] = arguments.to
+        said["to_name"], said["to"] = named_address(arguments.to)
     if arguments.at is not None:
         demand_web_address(arguments.at)
         said["at"] = arguments.at
     return said
 
 
-def demand_no_change(election: Election, history: History, arguments: Arguments) -> None:
+def demand_no_change(
+    election: Election, history: History, arguments: Arguments, said: Detail
+) -> None:
     changed = [
         f"--{name}"
-        for name in ("form", "names")
+        for name in ("form", "names", "marked")
         if getattr(arguments, name) and not history.announced(name)
     ]
-    if arguments.to not in (None, history.announced("to")):
+    if said.get("to") not in (None, history.announced("to")):
         changed.append("--to")
     if arguments.keyring is not None and not history.announced("signed"):
         changed.append("--keyring")

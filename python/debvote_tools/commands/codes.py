@@ -11,12 +11,12 @@ from debvote_tools.commands.check import what_next
 from debvote_tools.commands.roll import demand_read
 from debvote_tools.book.election import POLL_FILE, PRIVATE, Election, History
 from debvote_tools.made_files import OWN, write_made
-from debvote_tools.poll.draft_poll import checked_poll
+from debvote_tools.poll.draft_poll import checked
 from debvote_tools.book.reporting import count_of
 from debvote_tools.cli.faults import Fault
 from debvote_tools.poll.sealed_poll import SealedPoll
 from debvote_tools.poll.aliases import alias_of
-from debvote_tools.poll.codes import CodeRow, codes_csv, new_code
+from debvote_tools.poll.codes import codes_csv, new_code
 from debvote_tools.poll.slips import slips
 
 SLIPS, CODES = "slips.html", "codes.csv"
@@ -63,7 +63,7 @@ def make_codes(election: Election, arguments: Arguments) -> tuple[SealedPoll, in
     """
     book, history = election.book, election.history()
     demand_read(election, history)
-    poll, _ = checked_poll(election)
+    poll = checked(election).poll
     if not poll.secret:
         raise Fault(
             election.path(POLL_FILE), NOT_SECRET, "for a secret vote write into it: secret = true"
@@ -119,11 +119,8 @@ def write_slips(election: Election, history: History, poll: SealedPoll) -> None:
         has_lapsed_codes=history.has_lapsed_codes,
     )
     call = current_data(election, history) if history.call else unsaid
-    rows = [
-        CodeRow(name, who, " ".join(addresses), name if is_on_roll else code, alias)
-        for _, name, _, who, addresses, _, code, alias in queries.electors(election.book)
-    ]
-    files = {SLIPS: slips(call, rows)}
+    electors = queries.electors(election.book)
+    files = {SLIPS: slips(call, electors)}
     if not is_on_roll:
-        files[CODES] = codes_csv(rows)
+        files[CODES] = codes_csv(electors)
     write_made(election.path(PRIVATE), files, OWN)

@@ -6,11 +6,13 @@ import re
 from debvote_tools.inbox.addresses import address_key
 from debvote_tools.cli.arguments import flag
 from debvote_tools.book import queries
+from debvote_tools.book.acts import Detail
 from debvote_tools.book.book import Book
 from debvote_tools.poll.call_data import is_mail_address
 from debvote_tools.cli.console import is_terminal, is_yes, tell
 from debvote_tools.book import acting
 from debvote_tools.book.election import MEMBERS_FILE, Election, History
+from debvote_tools.poll.marks import new_own_mark
 from debvote_tools.poll.members import Member, Roll, members_in, roll_of, several
 from debvote_tools.book.reporting import count_of, listed
 from debvote_tools.cli.faults import Fault, stop_at
@@ -145,7 +147,8 @@ def report(roll: Roll, *, has_all: bool) -> None:
 
 def change_addresses(book: Book, roll: Roll, seen: int, *, is_agreed: bool) -> bool:
     """The act after the call: new addresses and keys of the same people, each of them asked about.
-    Returns whether there were any.
+    A new address makes a new own mark: who reads the old one knows the mark. Returns whether there
+    were any.
     """
     changed = [
         elector for elector in roll.electors if elector.changes and (is_agreed or agreed(elector))
@@ -153,11 +156,14 @@ def change_addresses(book: Book, roll: Roll, seen: int, *, is_agreed: bool) -> b
     if not changed:
         tell("Nothing was changed.")
         return False
-    with book.act("addresses", {"electors": len(changed)}, seen=seen) as act:
-        pairs = ((elector, elector.known) for elector in changed if elector.known)
-        queries.put_electors(
-            act, (known._replace(addresses=now.addresses, key=now.key) for now, known in pairs)
-        )
+    now = []
+    for elector, known in ((elector, elector.known) for elector in changed if elector.known):
+        mark = new_own_mark() if "address" in elector.changes else known.mark
+        now.append(known._replace(addresses=elector.addresses, key=elector.key, mark=mark))
+    moved = [one.number for one, elector in zip(now, changed) if "address" in elector.changes]
+    detail: Detail = {"electors": len(changed), "new_addresses": moved}
+    with book.act("addresses", detail, seen=seen) as act:
+        queries.put_electors(act, now)
     tell(*(f"{elector.name}: {changes_in_words(elector)}" for elector in changed))
     tell(f"{count_of(len(changed), 'elector')} changed; the result page says how many.")
     return True

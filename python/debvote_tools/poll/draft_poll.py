@@ -5,15 +5,16 @@ sealed poll that it becomes.
 import dataclasses
 import json
 import math
+import os
 import pathlib
 import re
 import tomllib
 from collections.abc import Collection, Mapping, Sequence
-from typing import Any
+from typing import Any, NamedTuple
 
 from debvote_tools.book import queries
 from debvote_tools.cli.console import tell, tell_as_it_is
-from debvote_tools.book.election import POLL_FILE, TEXTS, Election, History
+from debvote_tools.book.election import LETTER_TEXT, POLL_FILE, TEXTS, Election, History
 from debvote_tools.book.reporting import count_of
 from debvote_tools.cli.faults import Fault, Status, stop_at
 from debvote_tools.files import POLL_LIMIT, file_text, read_whole
@@ -31,8 +32,8 @@ from debvote_tools.cli.terminal_text import LINE_ENDS, shown_text
 # the file that `new` writes, with its explanations
 NEW_POLL = pathlib.Path(__file__).with_name("new_poll.toml")
 
-# in bytes, of all texts together
-TEXTS_LIMIT = 524_288
+# in bytes: of all texts together, and of what begins letters to electors
+TEXTS_LIMIT, LETTER_LIMIT = 524_288, 4_096
 
 TEXT_NAME = re.compile(r"([1-9][0-9]?)\.txt")
 # a file that an editor leaves beside another
@@ -185,6 +186,16 @@ def texts_in(folder: pathlib.Path, option_count: int) -> tuple[dict[int, str], l
     return dict(sorted(texts.items())), faults
 
 
+def letter_text_in(folder: pathlib.Path) -> str:
+    """What the secretary writes at the head of letters to electors; empty without such a file."""
+    file = folder / LETTER_TEXT
+    if not os.path.lexists(file):
+        return ""
+    data = read_whole(file, LETTER_LIMIT, "put a readable file there, or remove it", THEN)
+    text = file_text(data, file, "write it, or remove the file", THEN, refused=LINE_ENDS)
+    return text.strip("\n") + "\n"
+
+
 # ---------------------------------------------------------------- what is wrong with it as a whole
 def faults_when_sealed(draft: DraftPoll, names: Collection[str], language: str) -> list[Fault]:
     """What electors could not read rightly: names that look alike, and lines that read as a ballot
@@ -287,11 +298,19 @@ def sealed_form(
 
 
 # ---------------------------------------------------------------- asking debvote
-def checked_poll(
+class Checked(NamedTuple):
+    """What a call would seal, without a fault; and the sheet of the poll without ballots."""
+
+    poll: SealedPoll
+    sheet: Sheet
+    letter_text: str
+
+
+def checked(
     election: Election, *, deadline: str | None = None, address: str | None = None
-) -> tuple[SealedPoll, Sheet]:
-    """The poll as it would be sealed, and its sheet without ballots. All that is wrong with it is
-    said at once.
+) -> Checked:
+    """The poll as it would be sealed. All that is wrong with it, or with the text of the letters,
+    is said at once.
     """
     try:
         draft = draft_in(election.folder)
@@ -325,9 +344,15 @@ def checked_poll(
                 done=None,
             )
         )
+    letter_text = ""
+    try:
+        letter_text = letter_text_in(election.folder)
+    except Fault as fault:
+        faults.append(fault)
     data = sealed_form(draft, roll or ["nobody"], language, deadline=deadline, address=address)
     stop_at([*faults, *faults_by_debvote(election, data)])
-    return read_plain(data), sheet_in(election.debvote.answer("count", data).text)
+    sheet = sheet_in(election.debvote.answer("count", data).text)
+    return Checked(read_plain(data), sheet, letter_text)
 
 
 def faults_by_debvote(election: Election, poll_bytes: bytes) -> list[Fault]:
@@ -356,7 +381,7 @@ def lacks_codes(election: Election, history: History, poll: SealedPoll) -> bool:
     )
 
 
-def tell_poll(poll: SealedPoll, sheet: Sheet) -> None:
+def tell_poll(poll: SealedPoll, sheet: Sheet, letter_text: str) -> None:
     tell(
         f"Title: {poll.name}",
         *([f"  plain: {poll.title}"] if poll.name != poll.title else []),
@@ -376,3 +401,6 @@ def tell_poll(poll: SealedPoll, sheet: Sheet) -> None:
             tell(f"     text: {count_of(len(text.split()), 'word')} from texts/{number}.txt")
     if sheet.is_more_than:
         tell("Majority: more than the ratio (Debian's rule is at least the ratio)")
+    if letter_text:
+        tell(f"Letters to electors begin with {LETTER_TEXT}:")
+        tell(*(f"  {line}".rstrip() for line in letter_text.splitlines()))
