@@ -8,15 +8,9 @@ complete -c debvote-election -n "not __fish_seen_subcommand_from new roll check 
 complete -c debvote-election -n "not __fish_seen_subcommand_from new roll check codes call add held undo strike desk letters show status close reopen count publish log export backup" -a add -d "Enter ballots from letters, files, tables or standard input, and print the reply to each."
 complete -c debvote-election -n "not __fish_seen_subcommand_from new roll check codes call add held undo strike desk letters show status close reopen count publish log export backup" -a held -d "List the letters that wait; show one, enter its ballot, or set letters aside."
 complete -c debvote-election -n "not __fish_seen_subcommand_from new roll check codes call add held undo strike desk letters show status close reopen count publish log export backup" -a undo -d "Take back the last act that entered lines; a second undo takes back the one before."
-complete -c debvote-election -n "not __fish_seen_subcommand_from new roll check codes call add held undo strike desk letters show status close reopen count publish log export backup" -a strike -d "Strike one envelope before the close, so that its line does not count; the result page says how
-many, and why.
-."
-complete -c debvote-election -n "not __fish_seen_subcommand_from new roll check codes call add held undo strike desk letters show status close reopen count publish log export backup" -a desk -d "Enter ballots by hand, and print the reply to each; several desks can run at once, each in its
-own terminal.
-."
-complete -c debvote-election -n "not __fish_seen_subcommand_from new roll check codes call add held undo strike desk letters show status close reopen count publish log export backup" -a letters -d "Write letters to the electors, or send them: the call, receipts, reminders, the close, the
-result.
-."
+complete -c debvote-election -n "not __fish_seen_subcommand_from new roll check codes call add held undo strike desk letters show status close reopen count publish log export backup" -a strike -d "Strike one envelope before the close, so that its line does not count; the result page says how many, and why."
+complete -c debvote-election -n "not __fish_seen_subcommand_from new roll check codes call add held undo strike desk letters show status close reopen count publish log export backup" -a desk -d "Enter ballots by hand, and print the reply to each; several desks can run at once, each in its own terminal."
+complete -c debvote-election -n "not __fish_seen_subcommand_from new roll check codes call add held undo strike desk letters show status close reopen count publish log export backup" -a letters -d "Write letters to the electors, or send them: the call, receipts, reminders, the close, the result."
 complete -c debvote-election -n "not __fish_seen_subcommand_from new roll check codes call add held undo strike desk letters show status close reopen count publish log export backup" -a show -d "Show one elector: the ballots and letters that came, the current ballot, and what was sent."
 complete -c debvote-election -n "not __fish_seen_subcommand_from new roll check codes call add held undo strike desk letters show status close reopen count publish log export backup" -a status -d "Show how far the election is: lines, ballots, electors without a ballot, refused lines."
 complete -c debvote-election -n "not __fish_seen_subcommand_from new roll check codes call add held undo strike desk letters show status close reopen count publish log export backup" -a close -d "Close the vote; lines that are entered later are late, and do not count."

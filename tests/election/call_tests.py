@@ -236,8 +236,8 @@ class Letters(CallTest):
     def test_with_marks_alone(self) -> None:
         self.done("call", *UNTIL, "--to", "vote@club.example", "--at", "https://club.example/vote/", "--marked")
         self.assertIs(self.announced("marked"), True)
-        for text in (self.texts(), self.read("call/call.txt").decode()):
-            self.assertIn("Open the link in your letter, or answer that letter: then the subject has your own mark", " ".join(text.split()))
+        said = "Open the link in your letter, or answer that letter: then the subject has your own mark"
+        self.assertIn(said, " ".join(self.read("call/index.html").decode().split()))
         self.done("call", "--marked", "--until", "2026-12-05 18:00")
         self.assertIs(self.announced("marked"), True)
         self.done("call", "--take-back")
