@@ -11,7 +11,7 @@ from debvote_tools.commands.check import what_next
 from debvote_tools.commands.roll import demand_read
 from debvote_tools.book.election import POLL_FILE, PRIVATE, Election, History
 from debvote_tools.made_files import OWN, write_made
-from debvote_tools.poll.draft_poll import checked
+from debvote_tools.poll.draft import checked
 from debvote_tools.book.reporting import count_of
 from debvote_tools.cli.faults import Fault
 from debvote_tools.poll.sealed_poll import SealedPoll

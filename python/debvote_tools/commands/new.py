@@ -8,7 +8,7 @@ import shlex
 from debvote_tools.cli.arguments import Options, option, positional
 from debvote_tools.book import book
 from debvote_tools.cli.console import tell
-from debvote_tools.poll.draft_poll import NEW_POLL
+from debvote_tools.poll.draft import NEW_POLL
 from debvote_tools.book.election import MEMBERS_FILE, POLL_FILE, Election
 from debvote_tools.poll.members import NEW_MEMBERS
 from debvote_tools.cli.faults import Fault, Status

@@ -290,7 +290,7 @@ def with_proposals(
         proposals = filter(None, (elector_name(text, language) for text in texts))
         if not elector.name and (whole := next(proposals, "")):
             wholes[elector.line] = whole
-    taken = [one.name for one in (*electors, *known) if one.name]
+    taken = [*(one.name for one in electors), *(one.name for one in known)]
     bases = [whole[:ELECTOR_LIMIT].rstrip("-") for whole in wholes.values()]
     names = dict(zip(wholes, made_different(bases, taken, ELECTOR_LIMIT, "-")))
     return [
@@ -336,8 +336,11 @@ def wrong_people(rows: Sequence[Member], electors: Sequence[Member]) -> Iterator
 def wrong_after_call(electors: Sequence[Member], gone: Sequence[Elector]) -> Iterator[Wrong]:
     """People who are not as the call has them."""
     cure = "put the list back as it was: after the call only addresses and keys may change"
-    new = [elector for elector in electors if elector.is_new]
-    for words, people in (("missing", gone), ("new", new)):
+    others: dict[str, Sequence[Member | Elector]] = {
+        "missing": gone,
+        "new": [elector for elector in electors if elector.is_new],
+    }
+    for words, people in others.items():
         if people:
             labels = [f"{one.name} ({shown_text(one.who)})" for one in people]
             yield None, f"{words}: {listed(labels, NAMED_LIMIT)}", cure
