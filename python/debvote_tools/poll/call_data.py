@@ -10,6 +10,7 @@ from collections.abc import Mapping
 from debvote_tools.text.ballots import UNRANKED, ranks_in_words
 from debvote_tools.cli.faults import Fault, Status
 from debvote_tools.text.language import Language, marked
+from debvote_tools.poll.marks import in_brackets
 from debvote_tools.poll.sealed_poll import SealedPoll
 
 MAIL = re.compile(r"[A-Za-z0-9_][A-Za-z0-9._+=-]*@[A-Za-z0-9-]+(\.[A-Za-z0-9-]+)*")
@@ -49,6 +50,8 @@ class CallData:
     has_codes_on_roll: bool = False
     # codes were given out with a call that was taken back
     has_lapsed_codes: bool = False
+    # what the secretary writes at the head of letters
+    letter: str = ""
 
     @property
     def is_open(self) -> bool:
@@ -67,7 +70,11 @@ class CallData:
 
     @functools.cached_property
     def mark(self) -> str:
-        return f"[{self.poll.mark}]"
+        return self.mark_of("")
+
+    def mark_of(self, own: str) -> str:
+        """What ends the subject of a letter of an elector with this own mark."""
+        return in_brackets(self.poll.mark, own)
 
     @property
     def mail_to(self) -> str:

@@ -1,20 +1,22 @@
-"""Sends letters by SMTP. Each is noted before the server gets it, and after it has answered, so a
-run that is cut off goes on.
+"""Sends letters by SMTP. What the server answers to each is noted before the next begins, so a run
+that is cut off goes on. The letter that it was cut off in may go twice, with one Message-ID.
 """
 
 import contextlib
 import dataclasses
 import ipaddress
 import re
+import signal
 import smtplib
 import ssl
-from collections.abc import Callable, Iterable, Iterator, Sequence
+from collections.abc import Callable, Iterable, Iterator
+from types import FrameType
 
-from debvote_tools.book.sent import BEGUN, POSTPONED, REFUSED, TAKEN, SentLetter
+from debvote_tools.book.sent import REFUSED, TAKEN, SentLetter
 from debvote_tools.cli.faults import Fault, Status
 
-# in seconds, for each answer of the server
-PATIENCE = 60
+# in seconds: for each answer of the server, and for all answers to one letter together
+PATIENCE, WHOLE = 60, 300
 
 # the port where servers take letters from mail programs; the one that is encrypted from the first
 # byte; and that of this computer
@@ -25,12 +27,8 @@ SERVER = re.compile(
     re.ASCII,
 )
 
-# what a server answers to what it has done, and to what it does not do, now or ever. After any
-# other answer, or a line that is none, nobody knows to which command it answers
-DONE, NOT_DONE, NEVER = range(200, 300), range(400, 600), range(500, 600)
-
-# what a server says before it closes the connection
-CLOSING = 421
+# what a server answers to what it has done, and what it says before it closes the connection
+DONE, CLOSING = range(200, 300), 421
 
 # the name that this computer gives itself: its own is nobody's business
 OWN_NAME = "[127.0.0.1]"
@@ -49,10 +47,19 @@ class Server:
     is_encrypted: bool
     user: str | None = None
     password: str | None = None
+    # it is that of the last letters, and was not named now
+    is_remembered: bool = False
+
+    def __str__(self) -> str:
+        return f"[{self.host}]:{self.port}" if ":" in self.host else f"{self.host}:{self.port}"
 
     def stops(self, words: str, cure: str) -> Fault:
+        if self.is_remembered:
+            cure += (
+                "; it is the server of the last letters: if it is gone, name another with --server"
+            )
         done = "letters taken before are noted, and the next run goes on from there"
-        return Fault(f"{self.host}:{self.port}", words, cure, Status.BAD_OUTPUT, done)
+        return Fault(str(self), words, cure, Status.BAD_OUTPUT, done)
 
 
 class NotNow(Exception):
@@ -81,33 +88,41 @@ def send_all(
     letters: Iterable[tuple[SentLetter, bytes]],
     sender: str,
     server: Server,
-    note: Callable[[Sequence[SentLetter]], None],
+    note: Callable[[SentLetter], None],
 ) -> Iterator[SentLetter]:
-    """Sends letters in their order, and gives back each with what the server said.
-
-    `note` notes states in one act. What the server said of a letter is noted with the beginning of
-    the next, so there is one act more than letters.
-    """
+    """Sends letters in their order, has each noted with what the server said, and gives it back."""
     mailer = Mailer(server, sender)
-    mailer.connection()
-    answered: list[SentLetter] = []
+    with in_time():
+        mailer.connection()
     try:
         for letter, data in letters:
-            note([*answered, dataclasses.replace(letter, state=BEGUN, reply="")])
-            answered = []
             try:
-                tried = mailer.send(letter, data)
+                with in_time():
+                    tried = mailer.send(letter, data)
             except NotNow as why:
-                answered = [dataclasses.replace(letter, state=POSTPONED, reply=str(why))]
-                raise server.stops(
-                    f"it takes no letters now: {why}", "run the command again"
-                ) from None
-            answered = [tried]
+                cure = "run the command again later"
+                raise server.stops(f"it takes no letters now: {why}", cure) from None
+            note(tried)
             yield tried
     finally:
-        if answered:
-            note(answered)
         mailer.close()
+
+
+@contextlib.contextmanager
+def in_time() -> Iterator[None]:
+    """Ends a conversation with a server that answers now and then, but never comes to an end."""
+
+    def stop(number: int, frame: FrameType | None) -> None:
+        raise TimeoutError(f"no end after {WHOLE} seconds")
+
+    before = signal.signal(signal.SIGALRM, stop)
+    # again and again: a letter is tried twice
+    signal.setitimer(signal.ITIMER_REAL, WHOLE, WHOLE)
+    try:
+        yield
+    finally:
+        signal.setitimer(signal.ITIMER_REAL, 0)
+        signal.signal(signal.SIGALRM, before)
 
 
 class Mailer:
@@ -123,9 +138,8 @@ class Mailer:
             try:
                 self.smtp = connected(self.server)
             except smtplib.SMTPAuthenticationError as error:
-                raise self.server.stops(
-                    f"it refuses user or password: {reply_of(error)}", "correct them"
-                ) from None
+                words = f"it refuses user or password: {reply_of(error)}"
+                raise self.server.stops(words, "correct them") from None
             except smtplib.SMTPNotSupportedError as error:
                 cure = "name a server that takes letters from mail programs, encrypted and with a password"
                 raise self.server.stops(str(error), cure) from None
@@ -148,8 +162,9 @@ class Mailer:
             return self.transaction(letter, data)
 
     def transaction(self, letter: SentLetter, data: bytes) -> SentLetter:
-        """One letter. If the connection is lost while the server gets it, nobody knows whether it
-        has it: the run stops.
+        """One letter. It is taken if the server says so after its end, and refused after any other
+        answer. If the connection is lost while the server gets it, nobody knows whether it has it:
+        the run stops.
         """
         reply: bytes | str
         try:
@@ -177,32 +192,27 @@ class Mailer:
             words = (
                 f"the connection was lost during the letter to {letter.address}: {reply_of(error)}"
             )
-            raise self.server.stops(
-                words, "run the command again; it says what to do about this letter"
-            ) from None
+            cure = "run the command again; it sends this letter again, with its Message-ID"
+            raise self.server.stops(words, cure) from None
         if is_taken:
-            return dataclasses.replace(letter, state=TAKEN, reply="")
-        if code == CLOSING or code not in NOT_DONE:
-            self.close()
-        else:
+            return letter._replace(state=TAKEN, reply="")
+        if code in range(400, 600) and code != CLOSING:
             # if the connection is lost here, the next letter gets a new one
             with contextlib.suppress(*LOST):
                 smtp.rset()
-        return dataclasses.replace(
-            letter, state=REFUSED if code in NEVER else POSTPONED, reply=shown(code, reply)
-        )
+        else:
+            # nobody knows to which command this answers
+            self.close()
+        return letter._replace(state=REFUSED, reply=shown(code, reply))
 
 
 def connected(server: Server) -> smtplib.SMTP:
     """A connection after the login. It is encrypted unless the server is on this computer."""
     smtp: smtplib.SMTP
     if server.is_encrypted and server.port == ENCRYPTED:
+        context = ssl.create_default_context()
         smtp = smtplib.SMTP_SSL(
-            server.host,
-            server.port,
-            OWN_NAME,
-            timeout=PATIENCE,
-            context=ssl.create_default_context(),
+            server.host, server.port, OWN_NAME, timeout=PATIENCE, context=context
         )
     else:
         smtp = smtplib.SMTP(server.host, server.port, OWN_NAME, PATIENCE)

@@ -2,6 +2,7 @@
 
 import dataclasses
 import datetime
+import types
 import unittest
 
 from out_support import one_line, parsed
@@ -12,15 +13,17 @@ from debvote_tools.poll.call_data import CallData, is_mail_address
 from debvote_tools.text.language import LANGUAGES, language_of
 from debvote_tools.inbox.parse import Near
 from debvote_tools.inbox.reasons import Reason
-from debvote_tools.outbox.compose import Became, Came, Composer, Kind, without_ballots
-from debvote_tools.outbox.message import message_of, new_message_id, one_line as on_one_line
+from debvote_tools.outbox.files import message
+from debvote_tools.outbox.words import Became, Came, Composer, Kind
+from debvote_tools.text.ballots import without_ballots
+from debvote_tools.text.rendering import one_line as on_one_line
 from debvote_tools.result import result_letter
 from debvote_tools.result.inputs import CastingVote
 from debvote_tools.poll.sealed_poll import SealedPoll
 
 TIME = datetime.datetime(2026, 11, 23, 10, tzinfo=datetime.UTC)
 POLL = SealedPoll("Spring", ("Lake", "Hall"), (1, 1), "None", 1, ("ada", "ben"))
-ADA = Elector(1, "ada", 1, "Ada L.", ("ada@club.example",))
+ADA = Elector(1, "ada", 1, "Ada L.", ("ada@club.example",), mark="abcdefghjk")
 LETTER = SentLetter(1, "call", 1, "ada@club.example", "<1@club.example>", TIME, ())
 
 
@@ -73,7 +76,9 @@ def result(now: Composer, ended: str = "Winner: {option} by casting vote", *, ha
 def texts(now: Composer) -> list[str]:
     """A letter of each kind."""
     return [
-        now.text(Kind.CALL, ADA, letter="CALL\n", code="c0de", find_command="python3"),
+        now.call_letter(ADA, is_extension=False),
+        now.call_letter(ADA._replace(code="c0de"), is_extension=False),
+        now.call_letter(ADA, is_extension=True),
         now.reminder(ADA, all_that_came()[:1]),
         now.reminder(ADA, []),
         now.receipt(ADA, all_that_came()),
@@ -99,13 +104,12 @@ class Texts(unittest.TestCase):
         self.assertIn("(ada 1,2,3)", vote().receipt(ADA, all_that_came()))
         self.assertNotRegex(vote(has_aliases=True).receipt(ADA, all_that_came()), r"\d,\d|In words|Lake, then")
 
-    def test_the_mark_ends_each_subject(self) -> None:
+    def test_each_kind_has_its_own_subject(self) -> None:
         for code in LANGUAGES:
-            for kind in Kind:
-                self.assertTrue(vote(code).subject(kind).endswith(f"Spring [{POLL.mark}]"), (code, kind))
-            extended = vote(code).subject(Kind.CALL, is_extension=True)
-            self.assertTrue(extended.endswith(f"Spring [{POLL.mark}]"), code)
-            self.assertNotEqual(extended, vote(code).subject(Kind.CALL), code)
+            subjects = [vote(code).subject(kind) for kind in Kind] + [vote(code).subject(Kind.CALL, is_extension=True)]
+            self.assertEqual(len(set(subjects)), 6, subjects)
+            for subject in subjects:
+                self.assertTrue(subject.endswith(": Spring"), subject)
 
     def test_a_signed_vote_asks_for_a_signature(self) -> None:
         text = " ".join(vote(is_signed=True).reminder(ADA, []).split())
@@ -131,23 +135,44 @@ class Texts(unittest.TestCase):
 
 
 class NoBallot(unittest.TestCase):
-    def test_lines_that_read_as_ballots_get_brackets(self) -> None:
+    def guarded(self, line: str, options: int = 3) -> str:
+        text = without_ballots(f"x\n{line}\ny", options, lambda word: word.lower() in ("ada", "ben-2", "maier"))
+        self.assertTrue(text.startswith("x\n") and text.endswith("\ny"), text)
+        return text[2:-2]
+
+    def test_lines_that_read_as_ballots_get_a_bar(self) -> None:
         for line in (
             "ada 1,2,3",
             "  Ada: 1, 2, 3.",
             "\u201cada 1,-,3\u201d",
             "*ada* 1;2;3",
-            "who 1,2,\u2013",
-            "Zo\u00eb Maier 1,2,3",
+            "ada *1,2,3*",
+            "ada:1,2,3",
+            "ben-2 1,2,\u2013",
+            "ada\u00a01 , 2 , 3",
+            "ada -,\u2013,1",
+            "ada 1,2,3 ,4",
         ):
-            self.assertEqual(without_ballots(f"x\n{line}\ny", 3), f"x\n({line.strip()})\ny")
-        for line in ("ada 1,2", "ada 1,2,3,4", "ada _,_,_", "(ada 1,2,3)", "ada, ben, cleo", "3 of 4, 5 of 6, 7 of 8"):
-            self.assertEqual(without_ballots(f"x\n{line}\ny", 3), f"x\n{line}\ny")
+            blanks = line[: len(line) - len(line.lstrip())]
+            self.assertEqual(self.guarded(line), f"{blanks}|{line.strip()}")
+
+    def test_and_those_that_would_if_they_were_broken_at_a_blank(self) -> None:
+        self.assertEqual(self.guarded("  paper: ada 1,2,3 or so"), "  |paper:\n  |ada 1,2,3 or so")
+        self.assertEqual(self.guarded("Zo\u00eb Maier 1,2,3"), "|Zo\u00eb\n|Maier 1,2,3")
+        self.assertEqual(self.guarded("ada 1,2,3 ben-2 3,2,1"), "|ada 1,2,3\n|ben-2 3,2,1")
+
+    def test_others_stay(self) -> None:
+        for line in ("ada 1,2", "ada _,_,_", "(ada 1,2,3)", "ada, ben, cleo", "3 of 4, 5 of 6, 7 of 8", "Euro 1,2,3", "ada 100,2,3"):
+            self.assertEqual(self.guarded(line), line)
+        self.assertEqual(self.guarded("The fee is 12,50 Euro", 2), "The fee is 12,50 Euro")
 
 
 class Bytes(unittest.TestCase):
-    def message(self, text: str, subject: str = "Vote: Fr\u00fchling [0123456789abcdef]") -> bytes:
-        return message_of(LETTER, text, sender="vote@club.example", reply_to=None, subject=subject, is_draft=False)
+    def message(self, text: str, subject: str = "Vote: Fr\u00fchling", sender_name: str = "") -> bytes:
+        due = types.SimpleNamespace(sender="vote@club.example", sender_name=sender_name)
+        due.composer = types.SimpleNamespace(call=types.SimpleNamespace(to=None))
+        due.text, due.subject = lambda letter: text, lambda letter: (subject, "[0123456789abcdef-abcdefghjk]")
+        return message(due, LETTER, is_draft=False)  # type: ignore[arg-type]
 
     def test_texts_come_through_as_they_are(self) -> None:
         for text in (
@@ -169,15 +194,20 @@ class Bytes(unittest.TestCase):
 
     def test_a_subject_has_one_field_and_its_mark(self) -> None:
         for title in ("a\nBcc: x@y.example", "\u00fc" * 200, "x" * 200, "a\r\n\r\nbody", "\u202e", "\ud800"):
-            subject = f"Vote: {on_one_line(title)} [0123456789abcdef]"
-            data = self.message("text\n", subject=subject)
-            message = parsed(data)
-            self.assertEqual(message["Subject"].replace(" ", "")[-18:], "[0123456789abcdef]")
-            self.assertEqual([name for name, _ in message.raw_items()].count("Subject"), 1)
-            self.assertIsNone(message["Bcc"])
-            self.assertEqual(message.get_content(), "text\n")
+            found = parsed(self.message("text\n", subject=f"Vote: {on_one_line(title)}"))
+            self.assertTrue(found["Subject"].endswith(" [0123456789abcdef-abcdefghjk]"), found["Subject"])
+            self.assertEqual([name for name, _ in found.raw_items()].count("Subject"), 1)
+            self.assertIsNone(found["Bcc"])
+            self.assertEqual(found.get_content(), "text\n")
 
-    def test_addresses_and_ids(self) -> None:
+    def test_the_sender_has_the_name_of_the_society(self) -> None:
+        for name in ("", "Wahlleitung TSV", "B\u00fcro; Verein, e.V. <x@y.example>", "a\nBcc: x@y.example", '"\\'):
+            found = parsed(self.message("text\n", sender_name=name))
+            [address] = found["From"].addresses
+            self.assertEqual((address.display_name, address.addr_spec), (on_one_line(name), "vote@club.example"))
+            self.assertEqual((found["To"], found["Bcc"]), ("ada@club.example", None))
+
+    def test_addresses(self) -> None:
         for text in ("a@b.example", "a.b+c@d-e.example"):
             self.assertTrue(is_mail_address(text))
         for text in (
@@ -193,10 +223,6 @@ class Bytes(unittest.TestCase):
             "a@b.example\n",
         ):
             self.assertFalse(is_mail_address(text), text)
-        ids = {new_message_id("vote@club.example") for _ in range(100)}
-        self.assertEqual(len(ids), 100)
-        for one in ids:
-            self.assertRegex(one, r"\A<[0-9a-f]{32}@club\.example>\Z")
 
     def test_a_name_is_one_line(self) -> None:
         elector = ADA._replace(who="Ada\r\nBcc: x@y.example\n\nada 1,2,3\u2028" + "x" * 500)
