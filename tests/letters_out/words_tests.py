@@ -134,6 +134,64 @@ class Texts(unittest.TestCase):
         self.assertIn("find it with your name, ada, and your code", text)
 
 
+class CallLetter(unittest.TestCase):
+    """The call, an extension, a reminder and a receipt that refuses have the same block."""
+
+    letter = "Dear friends,\n\npaper ballots go to the box in the hall.\nWrite ada 1,2,3 or so.\n  ben 3,2,1\n\nYours, Eve\n"
+
+    def asking(self, now: Composer, elector: Elector = ADA) -> list[str]:
+        letters = [now.call_letter(elector, is_extension=False), now.call_letter(elector, is_extension=True)]
+        return [*letters, now.reminder(elector, []), now.receipt(elector, [all_that_came()[6]])]
+
+    def test_all_have_one_block(self) -> None:
+        for code in LANGUAGES:
+            for text in self.asking(vote(code)):
+                lines = text.splitlines()
+                self.assertIn("https://club.example/vote/#ada/abcdefghjk", text)
+                [line] = [number for number, one in enumerate(lines) if one == "  ada _,_,_"]
+                self.assertRegex(" ".join(lines[line - 2 : line]), r"\b1 .*; .* - ")
+                names = [one for one in lines[line:] if one.startswith("  ") and one.endswith(("Lake", "Hall", "None"))]
+                self.assertEqual(len(names), 3)
+                self.assertIn(f"[{POLL.mark}-abcdefghjk]", text)
+                self.assertEqual(lines.count(f"  {POLL.checksum}"), 1)
+                # one page
+                self.assertLess(len(lines), 55)
+                self.assertLessEqual(max(map(len, lines)), 72)
+
+    def test_in_a_secret_vote_the_link_has_no_name(self) -> None:
+        for text in self.asking(vote(has_aliases=True), ADA._replace(code="c0de" * 8)):
+            self.assertIn("https://club.example/vote/\n", text)
+            self.assertNotRegex(text, r"#|each with its elector's name")
+        self.assertNotIn("http", "".join(self.asking(vote(at=None))))
+
+    def test_the_words_of_the_secretary_come_first_and_it_is_said_once_whose_they_are(self) -> None:
+        for code in LANGUAGES:
+            now = dataclasses.replace(vote(code, letter=self.letter), electors=(ADA, ADA._replace(name="ben")))
+            *first, refusing = self.asking(now)
+            for text in first:
+                begin = "Dear friends,\n\npaper ballots go to the box in the hall.\n|Write\n|ada 1,2,3 or so.\n  |ben 3,2,1\n\nYours, Eve\n\n"
+                self.assertTrue(text.startswith(begin), text)
+                said = now.call.language.say(
+                    "These words, and all that this letter says about the options, are those of whoever sends it. "
+                    "The program has not checked them."
+                )
+                self.assertEqual(" ".join(text.split()).count(said), 1)
+            self.assertNotIn("Dear friends", refusing)
+        # a letter that does not remind does not begin so
+        waits = [one for one in all_that_came() if one.became is Became.WAITS]
+        self.assertNotIn("friends", now.reminder(ADA, waits))
+
+    def test_without_a_page_the_texts_follow(self) -> None:
+        poll = dataclasses.replace(POLL, explanations=("A lake.\nada 1,2,3\n", "", ""))
+        for letter in ("", self.letter):
+            now = vote(poll=poll, at=None, letter=letter)
+            text = dataclasses.replace(now, electors=(ADA,)).call_letter(ADA, is_extension=False)
+            self.assertIn("\n\nOption 1: Lake\n\nA lake.\n|ada 1,2,3\n\nWHAT DECIDES\n", text)
+            self.assertEqual(text.count("The program has not checked"), 1)
+            self.assertNotIn("A lake", now.call_letter(ADA, is_extension=True))
+        self.assertNotIn("A lake", vote(poll=poll).call_letter(ADA, is_extension=False))
+
+
 class NoBallot(unittest.TestCase):
     def guarded(self, line: str, options: int = 3) -> str:
         text = without_ballots(f"x\n{line}\ny", options, lambda word: word.lower() in ("ada", "ben-2", "maier"))
