@@ -1,14 +1,17 @@
 """`letters --send`: each letter goes out once, whatever happens between, and what a server refuses, or what comes back, is told."""
 
 import base64
+import contextlib
 import datetime
 import json
 import os
 import shutil
+import socket
 import ssl
 import subprocess
 import sys
 import tempfile
+import time
 import unittest
 import unittest.mock
 
@@ -393,6 +396,88 @@ class Sending(SendTest):
         self.assertIn(f"It was read as: (dan {RANKS})", one_line(parsed(taken.data)))
 
 
+class Remembered(SendTest):
+    """Server and user of the last letters are used when --send is given without them; the password is never kept."""
+
+    def test_the_server_of_the_last_letters(self) -> None:
+        self.assert_fault(self.election("letters", "call", "--send"), 2, "--send: no server is named", "give --server HOST[:PORT]")
+        self.assertIn("or by debvote-election letters call --send --server HOST\n", self.done("letters", "call").output)
+        self.send("call")
+        ended = self.election("letters", "reminders", "--send")
+        self.assertEqual(ended.status, 0, ended)
+        self.assertTrue(ended.output.startswith(f"To the server of the last letters: {self.server.name}\n"), ended.output)
+        self.assertEqual(self.server.addresses(), ALL * 2)
+        # a file does not need it
+        self.add_lines(f"ada {RANKS}")
+        ended = self.done("letters", "receipts")
+        self.assertNotIn(self.server.name, ended.output)
+        self.assertIn("or by debvote-election letters receipts --send\n", ended.output)
+        # one that is named takes its place
+        other = self.mail_server()
+        self.assertEqual(self.election("letters", "receipts", "--send", "--server", other.name).status, 0)
+        self.add_lines(f"ben {RANKS}")
+        self.assertIn(other.name, self.election("letters", "receipts", "--send").output)
+        self.assertEqual(other.addresses(), ["ada@club.example", "ben@club.example"])
+
+    def test_the_user_but_not_the_password(self) -> None:
+        self.server = self.mail_server(authenticator=lambda *words: self.server.authenticated(*words), auth_require_tls=False)
+        self.write("password", "right\n")
+        words = ("--user", "vote", "--password-file", "password")
+        self.assertEqual(self.send("call", *words).status, 0)
+        details = [act.detail for act in self.book().acts() if act.name == "letter sent"]
+        self.assertEqual(details, [{"kind": "call", "server": self.server.name, "user": "vote"}] * 9)
+        ended = self.election("letters", "reminders", "--send")
+        self.assert_fault(ended, 2, "the password of vote can't be asked here")
+        self.assertEqual(ended.output, f"To the server of the last letters: {self.server.name}, user vote\n")
+        ended = self.election("letters", "reminders", "--send", "--password-file", "password")
+        self.assertEqual((ended.status, len(self.server.logins), len(self.server.taken)), (0, 2, 18), ended)
+        # a server that is named has the user that is named
+        plain = self.mail_server()
+        self.assertEqual(self.election("letters", "reminders", "--send", "--server", plain.name).status, 0)
+        self.assertEqual(plain.logins, [])
+
+    def test_a_copy_that_was_moved_sends_no_letters(self) -> None:
+        self.send("call")
+        moved = ("--moved", "--because", "a rehearsal")
+        self.assert_fault(self.election("letters", "reminders", "--send", *moved), 2, "no server is named", "act 14 (moved) was done")
+        self.assertEqual(self.server.addresses(), ALL)
+        self.assertIn("--server HOST\n", self.done("letters", "reminders").output)
+        self.assertEqual(self.send("reminders").status, 0)
+
+    def test_a_server_that_is_gone(self) -> None:
+        self.send("call")
+        self.server.stop()
+        ended = self.election("letters", "reminders", "--send")
+        self.assert_fault(ended, 7, f"{self.server.name}: no connection", "the server of the last letters: if it is gone, name another with --server")
+        self.server = self.mail_server()
+        self.assertEqual(self.send("reminders").status, 0)
+        self.assertEqual(self.server.addresses(), ALL)
+
+
+class Endless(unittest.TestCase):
+    """A server that answers now and then, and never to the end."""
+
+    def test_a_conversation_has_an_end(self) -> None:
+        drops = "250-x\r\n" * 3
+
+        class Dropping(PlainServer):
+            def converse(self, connection: socket.socket) -> None:
+                with connection, contextlib.suppress(OSError):
+                    for line in ("220 here\r\n", "250 here\r\n", *begin):
+                        connection.sendall(line.encode())
+                    while True:
+                        connection.sendall(drops.encode())
+                        time.sleep(0.05)
+
+        for begin, said in (([], "no end after 0.3 seconds"), (["250 OK\r\n", "250 OK\r\n", "354 go\r\n"], "lost during the letter to ada@club.example: ")):
+            with self.subTest(said), unittest.mock.patch.object(smtp, "WHOLE", 0.3), Dropping({}) as server:
+                began = time.monotonic()
+                with self.assertRaises(Fault) as caught:
+                    list(smtp.send_all([outgoing()], "vote@club.example", smtp.Server("127.0.0.1", server.port, False), lambda letter: None))
+                self.assertIn(said, str(caught.exception.reason))
+                self.assertLess(time.monotonic() - began, 5)
+
+
 class Killed(SendTest):
     """A run is killed at each step of each letter."""
 
@@ -491,6 +576,26 @@ class AtTerminal(SendTest):
         self.assertIn("[" + "#" * 22 + "." * 18 + "] 5 of 9", shown)
         self.assertIn("[" + "#" * 40 + "] 9 of 9", shown)
         self.assertIn("Sent 9 of 9 letters.", shown)
+
+
+class RemindedSoon(SendTest):
+    def test_reminders_within_a_day_ask_at_a_terminal(self) -> None:
+        self.assertEqual(self.send("reminders").status, 0)
+        words = ("letters", "reminders", "--send", "--server", self.server.name)
+        desk = terminal.Terminal(self, *words)
+        self.assertIn("Reminders were written at 2026-11-23 10:00:00 UTC. Remind again? [y/n] ", desk.until("[y/n] "))
+        desk.type("n\n")
+        shown, status = desk.end()
+        self.assertEqual((status, len(self.server.taken)), (0, 9))
+        self.assertIn("Nobody was reminded.", shown)
+        shown, status = terminal.Terminal(self, *words, "--yes").end()
+        self.assertEqual((status, len(self.server.taken)), (0, 18), shown)
+        desk = terminal.Terminal(self, *words)
+        desk.until("[y/n] ")
+        desk.type("y\n")
+        self.assertEqual((desk.end()[1], len(self.server.taken)), (0, 27))
+        self.set_clock("2026-11-24T10:00:00+00:00")
+        self.assertEqual((terminal.Terminal(self, *words).end()[1], len(self.server.taken)), (0, 36))
 
 
 class Encrypted(unittest.TestCase):

@@ -166,7 +166,7 @@ class CallLetter(unittest.TestCase):
 
     def test_the_words_of_the_secretary_come_first_and_it_is_said_once_whose_they_are(self) -> None:
         for code in LANGUAGES:
-            now = dataclasses.replace(vote(code, letter=self.letter), electors=(ADA, ADA._replace(name="ben")))
+            now = dataclasses.replace(vote(code, letter_text=self.letter), electors=(ADA, ADA._replace(name="ben")))
             *first, refusing = self.asking(now)
             for text in first:
                 begin = "Dear friends,\n\npaper ballots go to the box in the hall.\n|Write\n|ada 1,2,3 or so.\n  |ben 3,2,1\n\nYours, Eve\n\n"
@@ -181,10 +181,15 @@ class CallLetter(unittest.TestCase):
         waits = [one for one in all_that_came() if one.became is Became.WAITS]
         self.assertNotIn("friends", now.reminder(ADA, waits))
 
+    def test_with_marked_it_says_to_answer_or_to_use_the_link(self) -> None:
+        for text in self.asking(vote(is_marked=True)):
+            self.assertIn("only a letter with your own mark goes in by itself", " ".join(text.split()))
+        self.assertNotIn("by itself", "".join(self.asking(vote())))
+
     def test_without_a_page_the_texts_follow(self) -> None:
         poll = dataclasses.replace(POLL, explanations=("A lake.\nada 1,2,3\n", "", ""))
         for letter in ("", self.letter):
-            now = vote(poll=poll, at=None, letter=letter)
+            now = vote(poll=poll, at=None, letter_text=letter)
             text = dataclasses.replace(now, electors=(ADA,)).call_letter(ADA, is_extension=False)
             self.assertIn("\n\nOption 1: Lake\n\nA lake.\n|ada 1,2,3\n\nWHAT DECIDES\n", text)
             self.assertEqual(text.count("The program has not checked"), 1)

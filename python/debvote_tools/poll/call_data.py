@@ -44,14 +44,16 @@ class CallData:
     real_names: Mapping[str, str] | None = None
     has_form: bool = False
     is_signed: bool = False
+    # a letter goes in by itself only with the own mark of its elector
+    is_marked: bool = False
+    # what the secretary writes at the head of letters to electors; empty without it
+    letter_text: str = ""
     # in a secret vote with names on the roll: ballots are published under aliases
     has_aliases: bool = False
     # the roll has codes in place of names, so the poll is published with the result alone
     has_codes_on_roll: bool = False
     # codes were given out with a call that was taken back
     has_lapsed_codes: bool = False
-    # what the secretary writes at the head of letters
-    letter: str = ""
 
     @property
     def is_open(self) -> bool:

@@ -84,10 +84,11 @@ def current_data(
         else None,
         has_form=bool(value_of("form")),
         is_signed=bool(value_of("signed")),
+        is_marked=bool(value_of("marked")),
+        letter_text=(queries.sealed(election.book, LETTER_TEXT) or b"").decode(),
         has_aliases=sealed.is_aliased,
         has_codes_on_roll=bool(value_of("codes_on_roll")),
         has_lapsed_codes=now.has_lapsed_codes,
-        letter=(queries.sealed(election.book, LETTER_TEXT) or b"").decode(),
     )
 
 
