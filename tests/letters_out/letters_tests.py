@@ -43,7 +43,7 @@ class Call(OutTest):
 
     def test_the_letter_to_all_has_gaps_and_the_mark_of_the_poll(self) -> None:
         text = " ".join(self.read("call/call.txt").decode().split())
-        self.assertTrue(text.startswith(f"{WHEN} {FORM} {LINE}NAME _,_,_,_ The ranks are"), text)
+        self.assertTrue(text.startswith(f"{WHEN} {FORM} {LINE}NAME _,_,_,_ Write your name on the roll in the place of NAME. The ranks"), text)
         self.assertRegex(text, r"Send it to vote@club\.example in a letter whose subject ends with \[[0-9a-f]{16}\]\.")
         self.assertNotIn("answer to this letter", text)
 

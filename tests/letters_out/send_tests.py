@@ -378,8 +378,8 @@ class Sending(SendTest):
         self.write("members.csv", support.members_of(support.NAMES).replace("ada@club", "ada@new"))
         self.done("roll", "--yes")
         ended = self.send("receipts")
-        self.assertEqual(ended.status, 0)
-        self.assertIn("Refused: ada, ada@club.example: 550", ended.output)
+        # the old address, which refused it for good, is not tried again
+        self.assertEqual((ended.status, ended.output), (0, "Sent 1 of 1 letter.\n"))
         self.assertEqual(self.server.addresses(), ["ben@club.example", "ada@new.example"])
         self.assertIn("It was read as: (ada 1,2,4,3)", one_line(parsed(self.server.taken[1].data)))
         self.assertIn("There is no letter to send", self.send("receipts").output)
@@ -469,13 +469,13 @@ class Endless(unittest.TestCase):
                         connection.sendall(drops.encode())
                         time.sleep(0.05)
 
-        for begin, said in (([], "no end after 0.3 seconds"), (["250 OK\r\n", "250 OK\r\n", "354 go\r\n"], "lost during the letter to ada@club.example: ")):
-            with self.subTest(said), unittest.mock.patch.object(smtp, "WHOLE", 0.3), Dropping({}) as server:
+        for begin, said in (([], "no end after 1.5 seconds"), (["250 OK\r\n", "250 OK\r\n", "354 go\r\n"], "lost during the letter to ada@club.example: ")):
+            with self.subTest(said), unittest.mock.patch.object(smtp, "WHOLE", 1.5), Dropping({}) as server:
                 began = time.monotonic()
                 with self.assertRaises(Fault) as caught:
                     list(smtp.send_all([outgoing()], "vote@club.example", smtp.Server("127.0.0.1", server.port, False), lambda letter: None))
                 self.assertIn(said, str(caught.exception.reason))
-                self.assertLess(time.monotonic() - began, 5)
+                self.assertLess(time.monotonic() - began, 20)
 
 
 class Killed(SendTest):

@@ -7,14 +7,16 @@ import unittest
 
 from out_support import one_line, parsed
 
-from debvote_tools.book.queries import Elector
+from debvote_tools.book.queries import Elector, Envelope
 from debvote_tools.book.sent import SentLetter
 from debvote_tools.poll.call_data import CallData, is_mail_address
 from debvote_tools.text.language import LANGUAGES, language_of
+from debvote_tools.inbox.judge import Outcome
+from debvote_tools.inbox.of_electors import Became, Came
 from debvote_tools.inbox.parse import Near
 from debvote_tools.inbox.reasons import Reason
 from debvote_tools.outbox.files import message
-from debvote_tools.outbox.words import Became, Came, Composer, Kind
+from debvote_tools.outbox.words import Composer, Kind
 from debvote_tools.text.ballots import without_ballots
 from debvote_tools.text.rendering import one_line as on_one_line
 from debvote_tools.result import result_letter
@@ -29,7 +31,7 @@ LETTER = SentLetter(1, "call", 1, "ada@club.example", "<1@club.example>", TIME, 
 
 def vote(code: str = "en", *, is_over: bool = False, **how: object) -> Composer:
     data = CallData(language_of(code), POLL, 1, to="vote@club.example", at="https://club.example/vote/")
-    return Composer(dataclasses.replace(data, **how), is_over)  # type: ignore[arg-type]
+    return Composer(dataclasses.replace(data, **how), is_over, typed_acts={2})  # type: ignore[arg-type]
 
 
 def all_that_came() -> list[Came]:
@@ -42,16 +44,22 @@ def all_that_came() -> list[Came]:
         Near(5, "ada 1,2,3", False, None),
         Near(6, "ada 1,2,3", True, None),
     )
-    found = []
-    for became in Became:
-        is_ballot = became.name in ("COUNTS", "COUNTS_AT_THE_END", "REPLACED", "LATE", "STRUCK", "TAKEN_BACK")
-        is_letter = became.name in ("WAITS", "SET_ASIDE")
-        because = Reason.NO_BALLOT() if is_letter else None
-        answer = "bad rank count: 1 ranks, the poll has 3 options" if became is Became.REFUSED else ""
-        found.append(
-            Came((became.name, 1, False), became, TIME, "1,2,3" if is_ballot else "", answer, because, near if is_letter else ())
-        )
-    return [*found, Came(("shape", 1, False), Became.REFUSED, TIME, answer='bad shape: column 2: "!"')]
+    def envelope(number: int, became: Became, answer: str | None = None) -> Came:
+        line = b"ada 1,2,3" if answer is None else b"ada 1"
+        return Came(TIME, became, Envelope(number, number, 1, line, None, 1, "", TIME, False, None), answer)
+
+    ballots = [envelope(number, became) for number, became in enumerate(Became) if became is not Became.REFUSED]
+    refused = ["bad rank count: 1 ranks, the poll has 3 options", 'bad shape: column 2: "!"']
+    letter = types.SimpleNamespace(reason=Reason.NO_BALLOT(), near=near)
+    letters = [
+        Came(TIME, outcome, letter=letter, is_own=is_own)  # type: ignore[arg-type]
+        for outcome in (Outcome.WAITS, Outcome.SET_ASIDE)
+        for is_own in (True, False)
+    ]
+    return [*ballots, *(envelope(9, Became.REFUSED, answer) for answer in refused), *letters]
+
+
+WAITS = next(one for one in all_that_came() if one.became is Outcome.WAITS and one.is_own)
 
 
 RESULT = {
@@ -79,7 +87,7 @@ def texts(now: Composer) -> list[str]:
         now.call_letter(ADA, is_extension=False),
         now.call_letter(ADA._replace(code="c0de"), is_extension=False),
         now.call_letter(ADA, is_extension=True),
-        now.reminder(ADA, all_that_came()[:1]),
+        now.reminder(ADA, [WAITS]),
         now.reminder(ADA, []),
         now.receipt(ADA, all_that_came()),
         now.text(Kind.CLOSED, ADA, letter="CLOSED\n"),
@@ -141,7 +149,7 @@ class CallLetter(unittest.TestCase):
 
     def asking(self, now: Composer, elector: Elector = ADA) -> list[str]:
         letters = [now.call_letter(elector, is_extension=False), now.call_letter(elector, is_extension=True)]
-        return [*letters, now.reminder(elector, []), now.receipt(elector, [all_that_came()[6]])]
+        return [*letters, now.reminder(elector, []), now.receipt(elector, [WAITS])]
 
     def test_all_have_one_block(self) -> None:
         for code in LANGUAGES:
@@ -155,7 +163,7 @@ class CallLetter(unittest.TestCase):
                 self.assertIn(f"[{POLL.mark}-abcdefghjk]", text)
                 self.assertEqual(lines.count(f"  {POLL.checksum}"), 1)
                 # one page
-                self.assertLess(len(lines), 55)
+                self.assertLess(len(lines), 60)
                 self.assertLessEqual(max(map(len, lines)), 72)
 
     def test_in_a_secret_vote_the_link_has_no_name(self) -> None:
@@ -178,8 +186,7 @@ class CallLetter(unittest.TestCase):
                 self.assertEqual(" ".join(text.split()).count(said), 1)
             self.assertNotIn("Dear friends", refusing)
         # a letter that does not remind does not begin so
-        waits = [one for one in all_that_came() if one.became is Became.WAITS]
-        self.assertNotIn("friends", now.reminder(ADA, waits))
+        self.assertNotIn("friends", now.reminder(ADA, [WAITS]))
 
     def test_with_marked_it_says_to_answer_or_to_use_the_link(self) -> None:
         for text in self.asking(vote(is_marked=True)):

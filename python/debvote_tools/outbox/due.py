@@ -6,22 +6,21 @@ import datetime
 import itertools
 import re
 import secrets
-from collections.abc import Callable, Iterator, Sequence
+from collections.abc import Callable, Iterator, Mapping, Sequence
 
 from debvote_tools.book import letters, queries, sent
 from debvote_tools.book.election import Election, History
-from debvote_tools.book.queries import Elector, Envelope
+from debvote_tools.book.queries import Elector
 from debvote_tools.book.sent import REFUSED, TAKEN, WRITTEN, About, SentLetter
 from debvote_tools.cli.faults import Fault, Status
 from debvote_tools.debvote import casting_words
-from debvote_tools.inbox import letters_in
 from debvote_tools.inbox.addresses import address_key
-from debvote_tools.inbox.judge import JudgedLetter, Outcome
+from debvote_tools.inbox.judge import Outcome
 from debvote_tools.inbox.lines import ballot_file
+from debvote_tools.inbox.of_electors import NOBODY, Became, Came, of_electors
 from debvote_tools.inbox.parse import decoded
 from debvote_tools.inbox.parts import MAX_PARTS, Part
-from debvote_tools.inbox.vote import Vote
-from debvote_tools.outbox.words import Became, Came, Composer, Kind
+from debvote_tools.outbox.words import Composer, Kind
 from debvote_tools.poll.call_data import is_mail_address
 from debvote_tools.poll.marks import OWN_LENGTH, OWN_SIGNS, in_brackets
 from debvote_tools.result.doubts import Doubt
@@ -63,7 +62,8 @@ class LettersDue:
         self.electors = {elector.number: elector for elector in on_list}
         is_past = self.history.until is not None and self.time > self.history.until
         is_over = is_past or bool(self.history.closes)
-        self.composer = Composer(current_data(election, self.history), is_over, on_list)
+        typed = {act.number for act in self.history.named("enter") if not act.detail.get("lines")}
+        self.composer = Composer(current_data(election, self.history), is_over, on_list, typed)
         self.letters = sent.sent_letters(election.book, kind)
         # the last letter of this kind to each elector whose letters came back is tried again
         back = {
@@ -143,11 +143,11 @@ class LettersDue:
         off, or whose letters the server refused for now, goes on; else each run is a new one.
         """
         self.demand_not_over()
-        came, _ = what_came(self.election, self.history, is_over=False)
+        came = of_electors(self.election, self.history)
         silent = {
-            number: self.electors[number]
-            for number, items in came.items()
-            if not any(one.became is Became.COUNTS for one in items)
+            number: elector
+            for number, elector in self.electors.items()
+            if not any(one.became is Became.COUNTS for one in came[elector.name])
         }
         last = max((letter.for_act for letter in self.letters), default=0)
         # to the address of now
@@ -167,9 +167,9 @@ class LettersDue:
         )
 
         def text_of(elector: Elector, letter: SentLetter) -> str:
-            waiting = (Became.WAITS, Became.ELSEWHERE)
-            waits = [one for one in came[elector.number] if one.became in waiting]
-            return self.composer.reminder(elector, waits)
+            waiting = (Outcome.WAITS, Outcome.GOES_IN)
+            told = told_of(came[elector.name]).values()
+            return self.composer.reminder(elector, [one for one in told if one.became in waiting])
 
         if goes_on:
             return last, [], written, text_of
@@ -185,52 +185,47 @@ class LettersDue:
 
     def receipts(self) -> Plan:
         """A letter to each elector about all that came since the last one, also to an address that
-        they had before.
+        they had before. Those that no server has taken yet go out, too.
         """
-        came, self.in_no_receipt = what_came(
-            self.election, self.history, is_over=self.composer.is_over
-        )
-        for_act, new = self.history.last.number + 1, []
-        told = {
-            (letter.elector, key)
-            for letter in self.letters
-            if not self.failed_elsewhere(letter)
-            for key in letter.about
-        }
-        old = self.old_addresses()
-        for number, items in came.items():
-            keys = [one.key for one in items if (number, one.key) not in told]
-            if keys:
-                elector = self.electors[number]
-                addresses = dict.fromkeys([address_in(elector.addresses), *old.get(number, [])])
-                new += [self.letter_to(elector, for_act, to, keys) for to in addresses]
-
-        def text_of(elector: Elector, letter: SentLetter) -> str:
-            return self.composer.receipt(
-                elector, beside_what_counts(letter.about, came[elector.number])
-            )
-
-        def is_written_anew(letter: SentLetter) -> bool:
-            """Whether a later receipt to the same address says all that this one does."""
-            return any(
-                (one.elector, one.address) == (letter.elector, letter.address)
-                and one.for_act > letter.for_act
-                and set(letter.about) <= set(one.about)
-                for one in (*self.letters, *new)
-            )
-
+        came = of_electors(self.election, self.history)
+        self.in_no_receipt = [
+            one.letter.number
+            for one in came[NOBODY]
+            if one.letter and one.became is Outcome.WAITS and not one.letter.parsed.is_automatic
+        ]
+        told = {one.number: told_of(came[one.name]) for one in self.electors.values()}
         # not to people who left the list, nor about a letter that has become a ballot: a new
         # receipt is about that
         self.earlier = [
             one
             for one in self.letters
             if (one.state != TAKEN or one.message_id in self.came_back)
-            and one.elector in self.electors
-            and about_now(one.about, came[one.elector])
-            and not (self.failed_elsewhere(one) and is_written_anew(one))
+            and one.elector in told
+            and about_now(one.about, told[one.elector])
         ]
-        waiting = list(filter(self.can_be_sent, self.earlier)) if self.is_sending else []
-        return for_act, new, waiting, text_of
+        said = {
+            (one.elector, key)
+            for one in self.letters
+            if not self.failed_elsewhere(one)
+            for key in one.about
+        }
+        waiting = {(one.elector, one.address): set(one.about) for one in self.earlier}
+        old, for_act, new = self.old_addresses(), self.history.last.number + 1, []
+        for number, elector in self.electors.items():
+            keys = [key for key in told[number] if (number, key) not in said]
+            addresses = dict.fromkeys([address_in(elector.addresses), *old.get(number, [])])
+            new += [
+                self.letter_to(elector, for_act, address, keys)
+                for address in addresses
+                if keys and not waiting.get((number, address), set()).issuperset(keys)
+            ]
+
+        def text_of(elector: Elector, letter: SentLetter) -> str:
+            told_now = beside_what_counts(letter.about, told[elector.number])
+            return self.composer.receipt(elector, told_now)
+
+        written = list(filter(self.can_be_sent, self.earlier)) if self.is_sending else []
+        return for_act, new, written, text_of
 
     def old_addresses(self) -> dict[int, list[str]]:
         """The addresses that electors had before the list was changed after the call, if no receipt
@@ -429,95 +424,42 @@ def texts_of(data: bytes) -> Iterator[str]:
         yield from ("".join(text.lower().split()) for text in texts)
 
 
-# ---------------------------------------------------------------- what came, and what became of it
-def what_came(
-    election: Election, history: History, *, is_over: bool
-) -> tuple[dict[int, list[Came]], list[int]]:
-    """Judges all letters and all lines as they are now: what came of each elector, in the order of
-    its times; and the numbers of the letters that people wrote, that wait, and that no elector
-    learns of. debvote is started twice.
+# ---------------------------------------------------------------- what electors are told
+def is_told(came: Came) -> bool:
+    """Whether an elector is told of something that came. A copy is the letter that it copies. To a
+    program that answers by itself nothing is said, since it would answer; and a letter of ours that
+    came back has the name of its elector.
     """
-    envelopes, kept, electors = (
-        queries.envelopes(election.book),
-        letters.letters(election.book),
-        queries.electors(election.book),
-    )
-    came: dict[int, list[Came]] = {elector.number: [] for elector in electors}
-    answers = Vote(election, history).answers([envelope.line for envelope in envelopes])
-    # the last valid line of each elector counts
-    last = {
-        one.elector: one.number
-        for one in envelopes
-        if one.struck is None and not one.is_late and answers[one.line] is None
-    }
-
-    def became(envelope: Envelope) -> Became:
-        if envelope.struck is not None:
-            is_undone = history.act(envelope.struck).name == "undo"
-            return Became.TAKEN_BACK if is_undone else Became.STRUCK
-        if envelope.is_late:
-            return Became.LATE
-        if answers[envelope.line] is not None:
-            return Became.REFUSED
-        if last[envelope.elector] != envelope.number:
-            return Became.REPLACED
-        return Became.COUNTS_AT_THE_END if is_over else Became.COUNTS
-
-    for envelope in envelopes:
-        if envelope.elector in came:
-            answer = answers[envelope.line]
-            key = ("envelope", envelope.number, envelope.struck is not None)
-            ranks = "" if answer is not None else envelope.line.decode("ascii").partition(" ")[2]
-            came[envelope.elector].append(
-                Came(key, became(envelope), envelope.time, ranks=ranks, answer=answer or "")
-            )
-    by_name = {elector.name: elector for elector in electors}
-    entered_of = {(envelope.letter, envelope.elector) for envelope in envelopes}
-    kept_at = {letter.number: history.act(letter.act).time for letter in kept}
-    of_nobody = []
-    for letter in letters_in.judged(election, history, kept):
-        # whoever sent it gets to know, too, if its ballot is in another's name
-        sender = letter.circumstances.elector_of(letter.parsed)
-        names = dict.fromkeys([*letter.electors, *([sender] if sender else [])])
-        concerned = [by_name[name] for name in names if name in by_name]
-        for elector in concerned:
-            if (letter.number, elector.number) not in entered_of:
-                came[elector.number] += came_of_letter(letter, elector, kept_at[letter.number])
-        if letter.outcome is Outcome.WAITS and not concerned and not letter.parsed.is_automatic:
-            of_nobody.append(letter.number)
-    return {
-        number: sorted(items, key=lambda one: one.time) for number, items in came.items()
-    }, of_nobody
+    letter = came.letter
+    if letter is None:
+        return True
+    is_automatic = letter.parsed.is_automatic and (came.is_own or not letter.ballots)
+    return came.became in (Outcome.WAITS, Outcome.GOES_IN, Outcome.SET_ASIDE) and not is_automatic
 
 
-def came_of_letter(letter: JudgedLetter, elector: Elector, kept: datetime.datetime) -> list[Came]:
-    """What became of a letter that entered no line for this elector. A copy is the letter that it
-    copies.
+def told_of(items: Sequence[Came]) -> dict[About, Came]:
+    """What an elector is told of, in its order. A letter is told of by the ballots from it, if
+    there are some.
     """
-    if letter.outcome not in (Outcome.WAITS, Outcome.GOES_IN, Outcome.SET_ASIDE):
-        return []
-    is_own = letter.parsed.sender in map(address_key, elector.addresses)
-    # a program would answer, and be answered; and our own letter, which comes back, has the name of
-    # its elector
-    if letter.parsed.is_automatic and (is_own or not letter.ballots):
-        return []
-    key, time = ("letter", letter.number, False), letter.parsed.arrived or kept
-    is_aside = letter.outcome is Outcome.SET_ASIDE
-    if not is_own:
-        return [Came(key, Became.ELSEWHERE_SET_ASIDE if is_aside else Became.ELSEWHERE, time)]
-    became = Became.SET_ASIDE if is_aside else Became.WAITS
-    return [Came(key, became, time, because=letter.reason, near=letter.near)]
+    entered = {one.envelope.letter for one in items if one.envelope}
+    found: dict[About, Came] = {}
+    for one in filter(is_told, items):
+        if one.envelope is not None:
+            found["envelope", one.envelope.number, one.envelope.is_struck] = one
+        elif one.letter is not None and one.letter.number not in entered:
+            found["letter", one.letter.number, False] = one
+    return found
 
 
-def beside_what_counts(about: Sequence[About], came: Sequence[Came]) -> list[Came]:
+def about_now(about: Sequence[About], told: Mapping[About, Came]) -> list[About]:
+    """What a receipt is about, as it is now: a ballot may have been struck since it was written."""
+    numbers = {key[:2] for key in about}
+    return [key for key in told if key[:2] in numbers]
+
+
+def beside_what_counts(about: Sequence[About], told: Mapping[About, Came]) -> list[Came]:
     """What a receipt says: what it is about, and the ballot that counts, too. Who reads that a
     letter waits, or that a ballot is late or was taken back, learns that an earlier ballot counts.
     """
-    now, counting = about_now(about, came), (Became.COUNTS, Became.COUNTS_AT_THE_END)
-    return [one for one in came if one in now or one.became in counting]
-
-
-def about_now(about: Sequence[About], came: Sequence[Came]) -> list[Came]:
-    """What a receipt is about, as it is now: a ballot may have been struck since it was written."""
-    numbers = {key[:2] for key in about}
-    return [one for one in came if one.key[:2] in numbers]
+    now = about_now(about, told)
+    return [one for key, one in told.items() if key in now or one.became is Became.COUNTS]

@@ -15,20 +15,18 @@ from types import FrameType
 from debvote_tools.book.sent import REFUSED, TAKEN, SentLetter
 from debvote_tools.cli.faults import Fault, Status
 
-# in seconds: for each answer of the server, and for all answers to one letter together
+# in seconds: for each answer of the server, and for the whole conversation about a letter
 PATIENCE, WHOLE = 60, 300
 
 # the port where servers take letters from mail programs; the one that is encrypted from the first
 # byte; and that of this computer
 SUBMISSION, ENCRYPTED, LOOPBACK = 587, 465, 25
 
-SERVER = re.compile(
-    r"(?:\[(?P<bracketed>[0-9A-Fa-f:.]+)\]|(?P<host>[A-Za-z0-9._-]+))(?::(?P<port>\d{1,5}))?",
-    re.ASCII,
-)
+SERVER = re.compile(r"(?:\[([0-9A-Fa-f:.]+)\]|([A-Za-z0-9._-]+))(?::(\d{1,5}))?", re.ASCII)
 
-# what a server answers to what it has done, and what it says before it closes the connection
-DONE, CLOSING = range(200, 300), 421
+# what a server answers to what it has done, to what it does not do, and before it closes the
+# connection
+DONE, NOT_DONE, CLOSING = range(200, 300), range(400, 600), 421
 
 # the name that this computer gives itself: its own is nobody's business
 OWN_NAME = "[127.0.0.1]"
@@ -39,7 +37,7 @@ LOST = (smtplib.SMTPException, OSError)
 @dataclasses.dataclass(frozen=True)
 class Server:
     """The server that takes letters, with user and password. The connection is encrypted, except to
-    a loopback address.
+    a loopback address. `is_remembered` if it is that of the last letters, and was not named now.
     """
 
     host: str
@@ -47,7 +45,6 @@ class Server:
     is_encrypted: bool
     user: str | None = None
     password: str | None = None
-    # it is that of the last letters, and was not named now
     is_remembered: bool = False
 
     def __str__(self) -> str:
@@ -67,21 +64,16 @@ class NotNow(Exception):
 
 
 def server_of(text: str) -> Server:
-    parts = SERVER.fullmatch(text)
-    port = int(parts["port"]) if parts is not None and parts["port"] else None
-    if parts is None or (port is not None and not 0 < port < 65536):
+    bracketed, name, port = found.groups() if (found := SERVER.fullmatch(text)) else ("", "", "0")
+    host = bracketed or name
+    if port is not None and not 0 < int(port) < 65536:
         cure = "write it as mail.example.org or mail.example.org:587"
         raise Fault("--server", "it is not the name of a server", cure, Status.BAD_WORDS, None)
-    host = parts["bracketed"] or parts["host"]
-    is_near = is_loopback(host)
-    return Server(host, port or (LOOPBACK if is_near else SUBMISSION), is_encrypted=not is_near)
-
-
-def is_loopback(host: str) -> bool:
     try:
-        return ipaddress.ip_address(host).is_loopback
+        is_near = ipaddress.ip_address(host).is_loopback
     except ValueError:
-        return host.lower() == "localhost"
+        is_near = host.lower() == "localhost"
+    return Server(host, int(port or (LOOPBACK if is_near else SUBMISSION)), not is_near)
 
 
 def send_all(
@@ -170,33 +162,28 @@ class Mailer:
         try:
             smtp = self.connection()
             code, reply = smtp.mail(self.sender)
-            is_sender_refused = code not in DONE
-            if not is_sender_refused:
-                code, reply = smtp.rcpt(letter.address)
+            if code not in DONE:
+                raise NotNow(shown(code, reply))
+            code, reply = smtp.rcpt(letter.address)
         except Fault as fault:
             raise NotNow(str(fault.reason)) from None
         except LOST as error:
             raise NotNow(reply_of(error)) from None
-        if is_sender_refused or code == CLOSING:
+        if code == CLOSING:
             raise NotNow(shown(code, reply))
-        is_taken = False
         try:
             if code in DONE:
                 code, reply = smtp.data(data.replace(b"\n", b"\r\n"))
-                is_taken = code in DONE
+                if code in DONE:
+                    return letter._replace(state=TAKEN, reply="")
         except smtplib.SMTPDataError as error:
             # it did not let the letter begin
             code, reply = error.smtp_code, error.smtp_error
         except LOST as error:
-            self.close()
-            words = (
-                f"the connection was lost during the letter to {letter.address}: {reply_of(error)}"
-            )
+            words = f"the connection was lost during the letter to {letter.address}"
             cure = "run the command again; it sends this letter again, with its Message-ID"
-            raise self.server.stops(words, cure) from None
-        if is_taken:
-            return letter._replace(state=TAKEN, reply="")
-        if code in range(400, 600) and code != CLOSING:
+            raise self.server.stops(f"{words}: {reply_of(error)}", cure) from None
+        if code in NOT_DONE and code != CLOSING:
             # if the connection is lost here, the next letter gets a new one
             with contextlib.suppress(*LOST):
                 smtp.rset()
@@ -207,17 +194,17 @@ class Mailer:
 
 
 def connected(server: Server) -> smtplib.SMTP:
-    """A connection after the login. It is encrypted unless the server is on this computer."""
+    """A connection after the login."""
+    context = ssl.create_default_context()
     smtp: smtplib.SMTP
     if server.is_encrypted and server.port == ENCRYPTED:
-        context = ssl.create_default_context()
         smtp = smtplib.SMTP_SSL(
             server.host, server.port, OWN_NAME, timeout=PATIENCE, context=context
         )
     else:
         smtp = smtplib.SMTP(server.host, server.port, OWN_NAME, PATIENCE)
         if server.is_encrypted:
-            smtp.starttls(context=ssl.create_default_context())
+            smtp.starttls(context=context)
     smtp.ehlo_or_helo_if_needed()
     if server.user is not None:
         smtp.login(server.user, server.password or "")

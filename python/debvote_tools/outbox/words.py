@@ -10,12 +10,12 @@ import datetime
 import enum
 import functools
 import re
-from collections.abc import Iterator, Sequence
+from collections.abc import Collection, Iterator, Sequence
 
 from debvote_tools.book.queries import Elector
-from debvote_tools.book.sent import About
-from debvote_tools.inbox.parse import Near
-from debvote_tools.inbox.reasons import Because, for_elector
+from debvote_tools.inbox.judge import Outcome
+from debvote_tools.inbox.of_electors import Became, Came
+from debvote_tools.inbox.reasons import for_elector
 from debvote_tools.poll.call_data import CallData
 from debvote_tools.poll.plain_names import without_accents
 from debvote_tools.poll.words import BY_PYTHON
@@ -51,53 +51,42 @@ SUBJECTS = {
 EXTENSION = marked("Vote ends later: {title}")
 
 
-class Became(enum.Enum):
-    """What became of something that came, with the sentence that says it."""
-
-    COUNTS = marked("Your ballot of {time} has arrived. It counts unless you send a later one.")
-    COUNTS_AT_THE_END = marked("Your ballot of {time} has arrived, and it counts.")
-    REPLACED = marked("Your ballot of {time} has arrived. A later ballot of yours counts instead.")
-    LATE = marked(
+# what became of a ballot
+OF_BALLOT = {
+    Became.COUNTS: marked(
+        "Your ballot of {time} has arrived. It counts unless you send a later one."
+    ),
+    Became.REPLACED: marked(
+        "Your ballot of {time} has arrived. A later ballot of yours counts instead."
+    ),
+    Became.LATE: marked(
         "Your ballot of {time} has arrived. It was entered after the close, so it is late and does not count."
-    )
-    STRUCK = marked(
+    ),
+    Became.STRUCK: marked(
         "Your ballot of {time} was entered, and the secretary has struck it. It does not count."
-    )
-    TAKEN_BACK = marked(
+    ),
+    Became.TAKEN_BACK: marked(
         "Your ballot of {time} was entered, and the secretary has taken it back. It does not count unless it is entered again."
-    )
-    REFUSED = marked(
+    ),
+    Became.REFUSED: marked(
         "A line with your name has arrived ({time}). It is not a valid ballot of this vote, so it does not count."
-    )
-    WAITS = marked(
+    ),
+}
+AT_THE_END = marked("Your ballot of {time} has arrived, and it counts.")
+# what became of a letter: whether it came from an address of the elector, and whether it was set
+# aside
+OF_LETTER = {
+    (True, False): marked(
         "Your letter of {time} has arrived. No ballot from it is entered yet: the secretary has to look at it first."
-    )
-    SET_ASIDE = marked("Your letter of {time} has arrived. No ballot from it was entered.")
-    ELSEWHERE = marked(
+    ),
+    (True, True): marked("Your letter of {time} has arrived. No ballot from it was entered."),
+    (False, False): marked(
         "A letter in your name came from another address, and waits until the secretary has looked at it."
-    )
-    ELSEWHERE_SET_ASIDE = marked(
+    ),
+    (False, True): marked(
         "A letter in your name came from another address. The secretary has set it aside."
-    )
-
-
-# a receipt of these has the right line
-REFUSING = (Became.REFUSED, Became.WAITS, Became.SET_ASIDE)
-
-
-@dataclasses.dataclass(frozen=True)
-class Came:
-    """A ballot or a letter that came, and what became of it."""
-
-    key: About
-    became: Became
-    time: datetime.datetime
-    # the ranks of a valid ballot; what debvote says of another line
-    ranks: str = ""
-    answer: str = ""
-    # why a letter waits or was set aside, and its lines that are near to a ballot
-    because: Because | None = None
-    near: tuple[Near, ...] = ()
+    ),
+}
 
 
 @dataclasses.dataclass(frozen=True)
@@ -107,6 +96,8 @@ class Composer:
     call: CallData
     is_over: bool
     electors: Sequence[Elector] = ()
+    # the acts that entered what the secretary typed for a letter
+    typed_acts: Collection[int] = ()
 
     def subject(self, kind: Kind, *, is_extension: bool = False) -> str:
         """The subject of a kind of letters, before the mark that ends it."""
@@ -118,22 +109,22 @@ class Composer:
         more = {"is_extension": is_extension, "find_command": BY_PYTHON}
         return self.rendered("debvote_tools.poll", "call.txt", elector, **more)
 
-    def reminder(self, elector: Elector, came: Sequence[Came]) -> str:
+    def reminder(self, elector: Elector, waits: Sequence[Came]) -> str:
         """A letter to an elector without a ballot. If a letter of theirs waits, it says so, and
         does not remind.
         """
-        is_reminding = all(item.became is Became.ELSEWHERE for item in came)
-        return self.text(Kind.REMINDERS, elector, came=came, is_reminding=is_reminding)
+        is_reminding = not any(one.is_own for one in waits)
+        return self.text(Kind.REMINDERS, elector, came=waits, is_reminding=is_reminding)
 
     def receipt(self, elector: Elector, came: Sequence[Came]) -> str:
         """What became of all that came of an elector. It has the right line if what came last was
         refused or waits.
         """
-        last = next(
-            (item.became for item in reversed(came) if item.became in (Became.COUNTS, *REFUSING)),
-            None,
+        decides = (
+            one for one in came if one.is_own or one.became in (Became.COUNTS, Became.REFUSED)
         )
-        is_refusing = not self.is_over and last in REFUSING
+        last = next(reversed([one.became for one in decides]), Became.COUNTS)
+        is_refusing = not self.is_over and last is not Became.COUNTS
         return self.text(Kind.RECEIPTS, elector, came=came, is_refusing=is_refusing)
 
     def text(self, kind: Kind, elector: Elector, **values: object) -> str:
@@ -166,12 +157,19 @@ class Composer:
         """Says what became of something that came, with its time in the zone in which the end was
         announced, and what is wrong with it.
         """
-        language, until = self.call.language, self.call.until
-        time = time_in_words(
-            came.time.astimezone(until.tzinfo if until else datetime.UTC), language
+        language, zone = (
+            self.call.language,
+            self.call.until.tzinfo if self.call.until else datetime.UTC,
         )
-        said = [language.say(came.became.value, time=time)]
-        if came.because is not None:
+        if not isinstance(came.became, Became):
+            said = OF_LETTER[came.is_own, came.became is Outcome.SET_ASIDE]
+        else:
+            is_final = self.is_over and came.became is Became.COUNTS
+            said = AT_THE_END if is_final else OF_BALLOT[came.became]
+        sentences = [language.say(said, time=time_in_words(came.time.astimezone(zone), language))]
+        if came.envelope is not None and came.envelope.act in self.typed_acts:
+            sentences.append(language.say("The secretary typed it, by your letter."))
+        if came.letter is not None and came.is_own and came.letter.reason is not None:
             # not the line itself: it may be another's ballot, or have a code
             near = (
                 language.say(
@@ -179,13 +177,13 @@ class Composer:
                     line=line.number,
                     fault=fault,
                 )
-                for line in came.near
+                for line in came.letter.near
                 for fault in faults_of(line.answer, name, language, is_within=line.is_within)
             )
-            said += [language.say(for_elector(came.because)), *dict.fromkeys(near)]
+            sentences += [language.say(for_elector(came.letter.reason)), *dict.fromkeys(near)]
         elif came.became is Became.REFUSED:
-            said += faults_of(came.answer, name, language)
-        return " ".join(said)
+            sentences += faults_of(came.answer, name, language)
+        return " ".join(sentences)
 
 
 def faults_of(
