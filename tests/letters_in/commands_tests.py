@@ -20,7 +20,7 @@ from terminal import Terminal  # noqa: E402
 
 from debvote_tools.book.book import open_book  # noqa: E402
 from debvote_tools.cli import command_line  # noqa: E402
-from debvote_tools.outbox import letter_files  # noqa: E402
+from debvote_tools.outbox import files as letter_files  # noqa: E402
 from debvote_tools.commands import held  # noqa: E402
 from debvote_tools.inbox import signature  # noqa: E402
 
