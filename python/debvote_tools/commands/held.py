@@ -153,8 +153,12 @@ def enter(election: Election, vote: Vote, arguments: Arguments) -> None:
         faults.clear()
         for letter in sorted(wanted, key=lambda one: (one.time is None, one.time or one.number)):
             try:
-                demand_undecided(election, history, letter)
+                demand_not_entered(election, history, letter)
                 chosen += chosen_in(letter, arguments.enter, typed)
+                if letter.outcome is Outcome.COPY:
+                    cure = "to enter its ballot once more, have the letter wait first with --wait"
+                    name = f"letter {letter.number}"
+                    raise Fault(name, "it is a copy of another letter", cure)
             except Fault as fault:
                 faults[letter.number] = fault
         if not arguments.force:
@@ -209,7 +213,7 @@ def ballot_of(election: Election, vote: Vote, text: str) -> str:
     return line.decode("ascii")
 
 
-def demand_undecided(election: Election, history: History, letter: JudgedLetter) -> None:
+def demand_not_entered(election: Election, history: History, letter: JudgedLetter) -> None:
     name = f"letter {letter.number}"
     if letter.outcome is Outcome.ENTERED:
         late = queries.envelopes(election.book, f"letter = ? AND {queries.LATE}", letter.number)
@@ -220,9 +224,6 @@ def demand_undecided(election: Election, history: History, letter: JudgedLetter)
         close = "" if history.is_closed else "close again and "
         cure = f"if it came in time, {close}run {reopen}"
         raise Fault(name, "it was entered, and is late", cure)
-    if letter.outcome is Outcome.COPY:
-        cure = "to enter its ballot once more, have the letter wait first with --wait"
-        raise Fault(name, "it is a copy of another letter", cure)
 
 
 def chosen_in(letter: JudgedLetter, lines: str | None, typed: str | None) -> list[Chosen]:
