@@ -52,7 +52,7 @@ class Starts(support.ElectionTest):
         ended = self.election(*words, **how)
         self.tried.add(str(words[0]))
         with self.subTest(words):
-            self.assertIn(ended.status, (0, 1), ended)
+            self.assertIn(ended.status, (0, 1) if words[0] in ("count", "publish") else (0,), ended)
             self.assertLessEqual(len(counter.read_bytes()), MOST.get(str(words[0]), 3))
 
     def mailbox(self) -> str:
@@ -86,7 +86,7 @@ class Starts(support.ElectionTest):
         self.started("add", "--yes", "mail")
         self.started("held")
         self.started("held", 2)
-        self.started("held", 2, "--enter", 1)
+        self.started("held", 2, "--enter", 1, "--force")
         self.started("held", 3, 4, "--set-aside")
         self.started("desk", given="ada 1,2,3,4\n")
         for words in (("show", "ada"), ("status",), ("status", "--json"), ("undo", "--yes"), ("log",), ("log", "--check")):
@@ -108,7 +108,7 @@ class Starts(support.ElectionTest):
         self.started("add", "--look", "mail")
         self.started("close", "--early", "--force", "--because", "x")
         self.started("count", "--force")
-        self.started("publish", "--force", "--because", "x")
+        self.started("publish", "--yes", "--force", "--because", "x")
         self.started("publish")
         for kind in ("result", "receipts"):
             self.started("letters", kind)

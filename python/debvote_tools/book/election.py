@@ -2,7 +2,6 @@
 """
 
 import contextlib
-import dataclasses
 import datetime
 import enum
 import functools
@@ -49,8 +48,7 @@ class Stage(enum.StrEnum):
     PUBLISHED = "published"
 
 
-@dataclasses.dataclass(frozen=True)
-class History:
+class History(NamedTuple):
     """The acts of a book, in their order."""
 
     acts: Sequence[DoneAct]

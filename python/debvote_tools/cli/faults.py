@@ -51,6 +51,9 @@ class Fault(Exception):
         done = "; " if self.done is None else f"; {self.done}: " if self.done else ": "
         return f"{where}{self.reason}{done}{self.cure}"
 
+    def __str__(self) -> str:
+        return self.words or ""
+
     def after(self, acts: Sequence[str]) -> "Fault":
         """The same fault, of a run that did these acts before."""
         if acts and self.done is not None and self.done.startswith(NOTHING):
