@@ -22,7 +22,7 @@ from debvote_tools.text.language import ENGLISH  # noqa: E402
 from debvote_tools.poll.sealed_poll import SealedPoll, with_roll  # noqa: E402
 
 PROGRAM = os.environ.get("DEBVOTE", ROOT / "crates" / "debvote" / "out" / "debvote")
-SCRIPT = ROOT / "python" / "debvote_tools" / "call" / "ballot.js"
+SCRIPT = ROOT / "python" / "debvote_tools" / "poll" / "ballot.js"
 BROWSER = shutil.which("chromium") or shutil.which("chromium-browser")
 FLAGS = ["--headless", "--no-sandbox", "--disable-gpu", "--hide-scrollbars", "--allow-file-access-from-files", "--dump-dom"]
 FLAGS += ["--enable-logging=stderr", "--virtual-time-budget=60000"]

@@ -121,7 +121,7 @@ def write_slips(election: Election, history: History, poll: SealedPoll) -> None:
     call = current_data(election, history) if history.call else unsaid
     rows = [
         CodeRow(name, who, " ".join(addresses), name if is_on_roll else code, alias)
-        for _, name, _, who, addresses, _, code, alias in queries.electors(election.book)
+        for _, name, _, who, addresses, _, code, alias, _ in queries.electors(election.book)
     ]
     files = {SLIPS: slips(call, rows)}
     if not is_on_roll:
