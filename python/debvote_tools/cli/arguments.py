@@ -14,8 +14,10 @@ comes last in the help.
 """
 
 import argparse
-from typing import Any, TypeVar
+import re
+from typing import Any, NoReturn, TypeVar
 
+from debvote_tools import VERSION
 from debvote_tools.cli.faults import Fault, Status
 from debvote_tools.cli.terminal_text import LINE_ENDS, number_of, odd_sign
 
@@ -65,6 +67,24 @@ class Acting(Options):
 
     def __init_subclass__(cls, *, writes: bool = True, checks: bool = False) -> None:
         cls.writes, cls.checks = writes, checks
+
+
+class Parser(argparse.ArgumentParser):
+    """Names a command that was perhaps meant by one that is misspelt."""
+
+    def error(self, message: str) -> NoReturn:
+        if found := re.match(r"argument COMMAND: invalid choice: '(.*)' \(choose from '(.*)'\)", message):
+            # it takes a while to be imported
+            import difflib
+
+            near = difflib.get_close_matches(found[1], found[2].split("', '"), 1)
+            message = f"there is no command {found[1]!r}" + "".join(f"; did you mean {one}?" for one in near)
+        super().error(message)
+
+
+def add_version(parser: argparse.ArgumentParser) -> None:
+    words = f"{parser.prog} {VERSION}"
+    parser.add_argument("-V", "--version", action="version", version=words, help="Print version")
 
 
 def add_arguments(parser: argparse.ArgumentParser, kind: type[Options]) -> None:

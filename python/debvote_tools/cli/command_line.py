@@ -32,19 +32,16 @@ def parser(words: Sequence[str] = ()) -> argparse.ArgumentParser:
     """
     # --folder may come before the command and after it
     folder = argparse.ArgumentParser(add_help=False)
-    folder.add_argument(
-        "--folder",
-        metavar="F",
-        default=argparse.SUPPRESS,
-        help="The folder of the election (default: the current folder)",
-    )
+    text = "The folder of the election (default: the current folder)"
+    folder.add_argument("--folder", metavar="F", default=argparse.SUPPRESS, help=text)
     how: dict[str, Any] = {"allow_abbrev": False, "parents": [folder]}
     text = "Runs an election in one folder, from the list of members to the published result, with debvote."
-    top = argparse.ArgumentParser(prog=PROGRAM, description=text, **how)
+    top = arguments.Parser(prog=PROGRAM, description=text, **how)
+    arguments.add_version(top)
     commands = top.add_subparsers(dest="command", metavar="COMMAND", required=True)
     for name in words[:1] if words and words[0] in COMMANDS else COMMANDS:
         module = importlib.import_module(f"debvote_tools.commands.{name}")
-        text = str(module.__doc__)
+        text = " ".join(str(module.__doc__).split())
         command = commands.add_parser(name, help=text.removesuffix("."), description=text, **how)
         arguments.add_arguments(command, module.Arguments)
         command.set_defaults(run=module.run, arguments=module.Arguments)

@@ -7,7 +7,7 @@ from typing import NamedTuple
 
 from debvote_tools.text import times
 from debvote_tools.cli.arguments import Options, flag
-from debvote_tools.book import queries, sent
+from debvote_tools.book import queries
 from debvote_tools.cli.console import shows, tell
 from debvote_tools.debvote import Finding, Findings, Totals
 from debvote_tools.book.election import LETTERS, RESULT_LETTER, Election, History, Stage
@@ -45,11 +45,9 @@ class State(NamedTuple):
     waiting: int
     stopping: list[int]
     without_ballot: list[str] | None
-    # whose letters a mail server refused, and has taken none since; once `letters call` was run,
-    # whom it has not reached and why, and who gets it printed
-    refused_letters: list[str]
-    not_reached: dict[str, str] | None
-    printed: list[str] | None
+    # once `letters call` was run: whom it has not reached, each with why, and who gets it printed
+    not_reached: dict[str, str]
+    printed: list[str]
     # the last one of the book
     act: int
     digest: str
@@ -109,7 +107,6 @@ def state_of(election: Election, history: History) -> tuple[State, list[Refused]
         waiting=len(waiting),
         stopping=stopping(waiting, history),
         without_ballot=None if has_codes else [name for name in roll if name not in voters],
-        refused_letters=[elector.name for elector, _ in sent.refused(book)],
         not_reached=not_reached,
         printed=printed,
         act=history.last.number,
@@ -118,15 +115,10 @@ def state_of(election: Election, history: History) -> tuple[State, list[Refused]
     return state, refused if has_codes else [line for line in refused if line.name not in voters]
 
 
-def letters_of_call(
-    election: Election, history: History
-) -> tuple[dict[str, str] | None, list[str] | None]:
-    """Whom the letters of the call have not reached, and who gets them printed; None before
-    `letters call`, and where letters go to nobody in person.
-    """
-    runs = history.since_call("letters out")
-    if history.has_codes_on_roll or not any(act.detail.get("kind") == "call" for act in runs):
-        return None, None
+def letters_of_call(election: Election, history: History) -> tuple[dict[str, str], list[str]]:
+    """Whom the letters of the call have not reached, and who gets them printed."""
+    if not any(act.detail["kind"] == "call" for act in history.since_call("letters out")):
+        return {}, []
     # it takes a while to be imported
     from debvote_tools.outbox import due
 
@@ -175,9 +167,6 @@ def words_of(
         yield f"Not reached by the letter of the call ({len(state.not_reached)}):"
         yield from (f"  {name}: {shown_text(why)}" for name, why in state.not_reached.items())
     yield from named("Get the letter of the call printed", state.printed)
-    if state.refused_letters:
-        names = ", ".join(state.refused_letters)
-        yield f"Refused by the mail server, and reached by no letter since: {names}"
     yield f"Last act: {state.act}, digest {state.digest}"
     yield f"Next: {what_next(election, state)}"
 
