@@ -73,12 +73,16 @@ class Parser(argparse.ArgumentParser):
     """Names a command that was perhaps meant by one that is misspelt."""
 
     def error(self, message: str) -> NoReturn:
-        if found := re.match(r"argument COMMAND: invalid choice: '(.*)' \(choose from '(.*)'\)", message):
+        if found := re.match(
+            r"argument COMMAND: invalid choice: '(.*)' \(choose from '(.*)'\)", message
+        ):
             # it takes a while to be imported
             import difflib
 
             near = difflib.get_close_matches(found[1], found[2].split("', '"), 1)
-            message = f"there is no command {found[1]!r}" + "".join(f"; did you mean {one}?" for one in near)
+            message = f"there is no command {found[1]!r}" + "".join(
+                f"; did you mean {one}?" for one in near
+            )
         super().error(message)
 
 

@@ -65,7 +65,11 @@ def of_electors(
     envelopes = (
         queries.envelopes(election.book)
         if of is None
-        else [one for number in names for one in queries.envelopes(election.book, "elector = ?", number)]
+        else [
+            one
+            for number in names
+            for one in queries.envelopes(election.book, "elector = ?", number)
+        ]
     )
     answers = Vote(election, history).answers([envelope.line for envelope in envelopes])
     counting = {

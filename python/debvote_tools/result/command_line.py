@@ -9,7 +9,14 @@ from collections.abc import Sequence
 from typing import Any
 
 from debvote_tools.cli import console
-from debvote_tools.cli.arguments import Options, add_arguments, add_version, arguments_of, option, positional
+from debvote_tools.cli.arguments import (
+    Options,
+    add_arguments,
+    add_version,
+    arguments_of,
+    option,
+    positional,
+)
 from debvote_tools.debvote import Debvote
 from debvote_tools.cli.faults import Fault, Status, other_format
 from debvote_tools.files import BALLOTS_LIMIT, POLL_LIMIT, read_at_most, sha256_of

@@ -110,7 +110,9 @@ def resources(package: str, *names: str) -> str:
     """Styles or scripts, one after another: files of a package, or else of debvote_tools."""
     shared = pathlib.Path(__file__).parent.parent
     places = [shared / package.partition(".")[2], shared]
-    files = (next(filter(pathlib.Path.is_file, (place / name for place in places))) for name in names)
+    files = (
+        next(filter(pathlib.Path.is_file, (place / name for place in places))) for name in names
+    )
     return "".join(file.read_text(encoding="utf-8") for file in files)
 
 
