@@ -412,7 +412,7 @@ def what_came(
     of_nobody = []
     for letter in letters_in.judged(election, history, kept):
         # whoever sent it gets to know, too, if its ballot is in another's name
-        sender = letter.circumstances.elector_of(letter.parsed)
+        sender = letter.known.elector_of(letter.parsed)
         concerned = list(
             dict.fromkeys(
                 filter(None, map(by_name.get, [*letter.electors, *([sender] if sender else [])]))
