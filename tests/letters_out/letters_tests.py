@@ -79,12 +79,13 @@ class Call(OutTest):
         self.assertEqual(self.book().last_number(), last)
 
     def test_an_answer_to_it_goes_in(self) -> None:
-        """Its Message-ID is the elector's alone: it lets them put the ballot above an unmarked quotation with digits, and nobody else."""
+        """Who knows the own mark of an elector and the Message-ID of a letter to them may put a quotation above the ballot, and nobody else."""
         found = self.written("call")
-        quoted = "\n".join(f"{line}" for line in found["ada"].get_content().splitlines()[:12])
+        quoted = "\n".join(f"> {line}" for line in found["ada"].get_content().splitlines()[:12])
+        [own] = self.book().rows("SELECT mark FROM elector JOIN elector_state USING (elector) WHERE name = 'ada' AND mark <> ''")
         for name, other in (("ada", "ada"), ("ben", "ada")):
-            head = f"In-Reply-To: {found[other]['Message-ID']}\nSubject: Re: {found[other]['Subject']}\n"
-            text = f"On 23 November 2026 you wrote:\n\n{name} {RANKS}\n\n> {quoted}\n"
+            head = f"In-Reply-To: {found[other]['Message-ID']}\nSubject: Re: Vote [{support.ANY_MARK}-{own[0]}]\n"
+            text = f"On 23 November 2026 you wrote:\n{quoted}\n\n{name} {RANKS}\n"
             self.add_letters(letter(name, text, head=head, time="Mon, 23 Nov 2026 09:59:00 +0000", number=name))
         self.assertIn("ada", self.debvote_standing())
         self.assertNotIn("ben", self.debvote_standing())

@@ -9,12 +9,17 @@ from collections.abc import Mapping
 
 from debvote_tools.text.ballots import UNRANKED, ranks_in_words
 from debvote_tools.cli.faults import Fault, Status
+from debvote_tools.cli.terminal_text import LINE_ENDS, odd_sign
 from debvote_tools.text.language import Language, marked
 from debvote_tools.poll.marks import in_brackets
 from debvote_tools.poll.sealed_poll import SealedPoll
 
 MAIL = re.compile(r"[A-Za-z0-9_][A-Za-z0-9._+=-]*@[A-Za-z0-9-]+(\.[A-Za-z0-9-]+)*")
 MAIL_LIMIT = 254
+
+# `Name <ADDRESS>`, and how many characters such a name may have
+NAMED = re.compile(r"(?P<quote>\"?)(?P<name>.*?)(?P=quote)\s*<(?P<address>[^<>]*)>", re.DOTALL)
+NAME_LIMIT = 100
 
 # printable ASCII without blanks, without what ends an address in a letter, and without the # that
 # an own ballot's link adds
@@ -138,6 +143,19 @@ def explanations_of(poll: SealedPoll) -> list[tuple[int, list[str]]]:
 
 def paragraphs_of(text: str) -> list[str]:
     return [lines for lines in re.split(r"\n(?:[ \t]*\n)+", text.strip("\n")) if lines.strip()]
+
+
+def named_address(text: str) -> tuple[str, str]:
+    """Name and address of `Name <ADDRESS>`, or of an address alone, whose name is empty."""
+    found = NAMED.fullmatch(text.strip())
+    name, address = (found["name"], found["address"]) if found else ("", text)
+    demand_mail_address(address)
+    if len(name) > NAME_LIMIT or odd_sign(name, refused=f'{LINE_ENDS}<>"') is not None:
+        reason = (
+            f"the name has to be at most {NAME_LIMIT} characters, without quotation marks, < and >"
+        )
+        raise Fault("--to", reason, 'write it as "Name <ADDRESS>"', Status.BAD_WORDS)
+    return name, address
 
 
 def demand_mail_address(text: str, option: str = "--to") -> None:
