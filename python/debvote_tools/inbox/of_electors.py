@@ -98,7 +98,7 @@ def of_electors(
     kept = letters.letters(election.book)
     kept_at = {letter.number: history.act(letter.act).time for letter in kept}
     for letter in letters_in.judged(election, history, kept):
-        sender = letter.circumstances.elector_of(letter.parsed)
+        sender = letter.known.elector_of(letter.parsed)
         time = letter.parsed.arrived or kept_at[letter.number]
         for name in dict.fromkeys([*letter.electors, *([sender] if sender else [])]) or [NOBODY]:
             if name in found:
