@@ -76,8 +76,10 @@ class Detail(TypedDict, total=False):
     casting: str | None
     checksums: dict[str, str]
     doubts: list[Any]
-    # letters out, letter sent
+    # letters out, letter sent; the server that got the letter, and the user on it
     kind: str
+    server: str
+    user: str
     # moved: the act that was noted, and the one that is there
     why: str
     noted: Any
