@@ -170,9 +170,8 @@ class Slips(unittest.TestCase):
     def test_what_all_have(self) -> None:
         said = "Until whenFriday, 4 December 2026, 18:00 (UTC+01:00) Send your ballot tov@example.org "
         options = "The options: Option 1: At the lake; Option 2: 72 Euro; Option 3: None of the above."
-        ranks = "1 is the best. Equal ranks are allowed; - is behind all others. "
         for text in self.each(CALL):
-            for part in (said, ranks + options, "The code is no part of your ballot", "Whoever sees your code can see how you voted."):
+            for part in (said, options, "The code is no part of your ballot", "Whoever sees your code can see how you voted."):
                 self.assertIn(part, text)
         for text in self.each(dataclasses.replace(CALL, at="https://example.org/vote/")):
             self.assertIn(f"{said}At the end of the subject{CALL.mark} The page of the votehttps://example.org/vote/ ", text)
