@@ -15,10 +15,9 @@ import re
 import unicodedata
 from collections.abc import Callable, Collection, Mapping, Sequence
 
-from debvote_tools.cli.terminal_text import shown_text
 from debvote_tools.inbox.candidates import MAX_BALLOTS, BallotLine, view_of
 from debvote_tools.inbox.known import Ballot, Decision, Known
-from debvote_tools.inbox.letter import END, Body, Near, ParsedLetter, is_quoted
+from debvote_tools.inbox.letter import END, Body, Near, ParsedLetter, is_empty, is_quoted
 from debvote_tools.inbox.mime import address_key
 from debvote_tools.inbox.reasons import Because, Reason
 from debvote_tools.poll.marks import marks_in
@@ -138,14 +137,6 @@ class JudgedLetter:
         """The other electors who have the sender's address."""
         sharing = self.known.electors_by_address.get(self.parsed.sender, [])
         return tuple(name for name in sharing if name not in self.electors)
-
-    @property
-    def other_words(self) -> str:
-        """The beginning of the sender's own words beside their ballots."""
-        lines = self.parsed.body.lines
-        own = itertools.chain(*paragraphs_of(self.parsed.body, self.known.passes_over, ()))
-        words = (lines[index] for index in own if index not in self.view.lines)
-        return shown_text(" ".join(line for line in words if not is_quoted(line)))
 
 
 Rule = Callable[[JudgedLetter, Known], Because | None]
@@ -295,10 +286,9 @@ def paragraphs_of(
     """
     paragraphs: list[list[int]] = [[]]
     for index, line in enumerate(body.lines[: above_end(body.lines)]):
-        is_empty = not line.strip()
-        if is_empty and index not in joined or line == STROKE:
+        if line == STROKE or (is_empty(line) and index not in joined):
             paragraphs.append([])
-        elif not is_empty and not passes_over(line):
+        elif not is_empty(line) and not passes_over(line):
             paragraphs[-1].append(index)
     return [paragraph for paragraph in paragraphs if paragraph]
 
