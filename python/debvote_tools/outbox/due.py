@@ -14,12 +14,12 @@ from debvote_tools.book.queries import Elector
 from debvote_tools.book.sent import REFUSED, TAKEN, WRITTEN, About, SentLetter
 from debvote_tools.cli.faults import Fault, Status
 from debvote_tools.debvote import casting_words
-from debvote_tools.inbox.addresses import address_key
-from debvote_tools.inbox.judge import Outcome
+from debvote_tools.inbox.mime import address_key
+from debvote_tools.inbox.rules import Outcome
 from debvote_tools.inbox.lines import ballot_file
 from debvote_tools.inbox.of_electors import NOBODY, Became, Came, of_electors
-from debvote_tools.inbox.parse import decoded
-from debvote_tools.inbox.parts import MAX_PARTS, Part
+from debvote_tools.inbox.letter import decoded
+from debvote_tools.inbox.mime import MAX_PARTS, Part
 from debvote_tools.outbox.words import Composer, Kind
 from debvote_tools.poll.call_data import is_mail_address
 from debvote_tools.poll.marks import OWN_LENGTH, OWN_SIGNS
