@@ -6,8 +6,10 @@ import email.utils
 import hashlib
 import json
 import os
+import pathlib
 import re
 import shutil
+import signal
 import sqlite3
 import sys
 import tomllib
@@ -22,6 +24,8 @@ sys.path.append(str(support.ROOT / "python"))
 
 from debvote_tools.book import letters, queries  # noqa: E402
 from debvote_tools.book.book import open_book  # noqa: E402
+from debvote_tools import files  # noqa: E402
+from debvote_tools.cli import command_line  # noqa: E402
 from debvote_tools.commands import publish as command  # noqa: E402
 from debvote_tools.book.election import Election  # noqa: E402
 from debvote_tools.inbox import parse  # noqa: E402
@@ -109,6 +113,27 @@ class OfElections(support.PublishTest):
         self.say("reopen", "--because", "lost letters", "--in-time")
         self.add(lines, words=("--came-before-close", "yes"))
         self.say("close", *words)
+
+    def starts(self, *words, most):
+        """Runs a command, which may start debvote only so often."""
+        program = self.folder / "counting"
+        program.mkdir(exist_ok=True)
+        starts = program / "starts"
+        starts.write_text("")
+        (program / "debvote").write_text(f'#!/bin/sh\necho $1 >> {starts}\nexec {support.PROGRAM} "$@"\n')
+        (program / "debvote").chmod(0o755)
+        output, faults, status = self.run_words(*words, path=os.pathsep.join([str(program), support.PATH]))
+        self.expect(f"{words}: {output} {faults}", status in (0, 1), True)
+        found = starts.read_text().split()
+        self.expect(f"{words}: {found}", 1 <= len(found) + (words[0] == "close") <= most + (words[0] == "close"), True)
+
+    def add_letters(self):
+        """Letters that were added and wait, of which debvote has to say which lines may be ballots."""
+        now = email.utils.format_datetime(datetime.datetime.now(datetime.UTC))
+        for number, name in enumerate(["zoe-mueller", "cleo"]):
+            text = f"Received: by mx; {now}\nFrom: x@x.example\nSubject: x\n\n{name} 1,2,3\n"
+            (self.folder / f"{number}.eml").write_text(text)
+            self.say("add", f"{number}.eml")
 
     def acts(self):
         book = open_book(self.folder / "election.db")
@@ -619,6 +644,77 @@ class OfOpenVotes(OfElections):
         sums = {name: hashlib.sha256((self.folder / "result" / name).read_bytes()).hexdigest() for name in acts[-1].detail["checksums"]}
         self.expect("the same folder, and no act", (sums, len(self.acts())), (acts[-1].detail["checksums"], len(acts)))
 
+    def in_child(self, patch, *words):
+        """Runs a command in a child with this patch, and returns the status of the child."""
+        child = os.fork()
+        if child == 0:
+            try:
+                os.chdir(self.folder)
+                for output in (1, 2):
+                    os.dup2(os.open(os.devnull, os.O_WRONLY), output)
+                with self.state_of_this(), patch:
+                    os._exit(command_line.main(support.PROGRAM.parent, list(words)))
+            finally:
+                os._exit(70)
+        return os.waitstatus_to_exitcode(os.waitpid(child, 0)[1])
+
+    def left(self):
+        return [name for name in os.listdir(self.folder) if name.startswith(".")]
+
+    def test_a_publication_that_is_killed_after_its_act(self):
+        """Made again it comes back in its place, whatever a kill has left there, and nothing else is left."""
+        self.say("call")
+        self.add("ada-lovelace 1,2,3\n")
+        self.say("close")
+        self.say("publish")
+        rename, moved = pathlib.Path.rename, []
+
+        def kill(*_):
+            os.kill(os.getpid(), signal.SIGKILL)
+
+        def kill_between(file, target):
+            moved.append(kill() if moved else rename(file, target))
+
+        for language, patch, is_there, left in [
+            ("en", unittest.mock.patch.object(Made, "take_place", kill), True, 1),
+            ("fr", unittest.mock.patch.object(pathlib.Path, "rename", kill_between), False, 2),
+        ]:
+            before, acts = self.files(), len(self.acts())
+            self.expect(f"{language}: killed", self.in_child(patch, "publish", "--language", language), -signal.SIGKILL)
+            self.expect(f"{language}: what is left", ((self.folder / "result").exists(), len(self.left())), (is_there, left))
+            self.say("publish")
+            sums = {name: hashlib.sha256(data).hexdigest() for name, data in self.files().items()}
+            last = self.acts()[-1].detail["checksums"]
+            self.expect(f"{language}: it came back", ({name: sums[name] for name in last}, len(self.acts())), (last, acts + 1))
+            self.expect(f"{language}: it is the new one", (self.files() == before, self.left()), (False, []))
+        # a run that lasts keeps its folder
+        lasting = self.folder / ".debvote-result-lasting"
+        lasting.mkdir()
+        (lasting / "poll.toml").touch()
+        with files.locked(lasting, is_directory=True):
+            self.say("publish")
+        self.expect("that of a run that lasts", self.left(), [lasting.name])
+
+    def test_a_folder_that_can_not_take_its_place(self):
+        """The one that was there comes back; once it can, the new one takes its place."""
+        self.say("call")
+        self.add("ada-lovelace 1,2,3\n")
+        self.say("close")
+        self.say("publish")
+        before, rename, moved = self.files(), pathlib.Path.rename, []
+
+        def fail_second(file, target):
+            moved.append(file)
+            if len(moved) == 2:
+                raise OSError(28, "No space left on device", str(file))
+            return rename(file, target)
+
+        patch = unittest.mock.patch.object(pathlib.Path, "rename", fail_second)
+        self.expect("it fails", self.in_child(patch, "publish", "--language", "en"), 7)
+        self.expect("the old one is back", self.files() == before, True)
+        self.say("publish")
+        self.expect("the new one", (self.files() == before, self.left()), (False, []))
+
     def test_a_folder_that_is_counted_otherwise_takes_no_place(self):
         self.say("call")
         self.add("ada-lovelace 1,2,3\nzoe-mueller 1,2,3\n")
@@ -634,10 +730,17 @@ class OfOpenVotes(OfElections):
             output, faults, status = self.run_words("publish", "--language", "es", path=path)
             self.expect(f"{task}: {faults}", (status, NOTHING_DONE in faults), (9, True))
             self.expect(f"{task}: nothing was changed", (self.files() == files, len(self.acts())), (True, acts))
-        starts = self.folder / "starts"
-        (program / "debvote").write_text(f'#!/bin/sh\necho $1 >> {starts}\nexec {support.PROGRAM} "$@"\n')
-        self.run_words("publish", "--language", "es", path=path)
-        self.expect("debvote is started at most eight times", len(starts.read_text().splitlines()) <= 8, True)
+        self.starts("publish", "--language", "es", most=8)
+
+    def test_how_often_debvote_is_started(self):
+        self.say("call")
+        self.add("ada-lovelace 1,2,3\nno-one 1,2,3\n")
+        self.add_letters()
+        self.starts("count", most=3)
+        self.starts("close", "--force", "--because", "no ballots", most=3)
+        self.starts("count", most=3)
+        self.starts("publish", most=8)
+        self.starts("publish", most=8)
 
     def test_hostile_texts(self):
         """Each text of a person stands as text on the page, whatever is in it, and in the letters."""
@@ -789,6 +892,17 @@ class OfSecretVotes(OfElections):
         self.add("ada-lovelace 3,2,9\n")
         self.say("close")
         self.say("publish")
+
+    def test_how_often_debvote_is_started(self):
+        self.called()
+        self.add_letters()
+        self.starts("close", "--force", "--because", "no ballots", most=3)
+        self.starts("count", most=3)
+        self.starts("publish", "--yes", most=8)
+        self.add("cleo 1,2,3\n")
+        self.say("reopen", "--because", "Cleo's letter", "--in-time", "6")
+        self.starts("close", "--force", "--because", "no ballots", most=3)
+        self.starts("publish", "result-2", "--yes", most=8)
 
     def test_two_results_that_can_be_compared(self):
         self.called()

@@ -17,11 +17,17 @@ from debvote_tools.result.agreed_texts import agreed_texts, demand_yes, texts_of
 from debvote_tools.commands import count
 from debvote_tools.book.election import LETTERS, RESULT, RESULT_LETTER, Election, History
 from debvote_tools.made_files import OWN, write_made
-from debvote_tools.result.publication import Words, detail_of, last_publication, publication_of
+from debvote_tools.result.publication import (
+    Words,
+    detail_of,
+    last_publication,
+    publication_of,
+    publications,
+)
 from debvote_tools.book.reporting import act_time
 from debvote_tools.inbox.waiting import in_time, left, waiting_letters
 from debvote_tools.cli.faults import Fault, Status
-from debvote_tools.files import locked
+from debvote_tools.files import locked, uninterrupted
 from debvote_tools.text.language import LANGUAGES
 from debvote_tools.result import result_folder
 from debvote_tools.result.counting import Counted
@@ -96,7 +102,7 @@ def publish(
     history, sealed = election.history(), election.sealed()
     count.demand_countable(election, history, sealed)
     before, given = last_publication(history), words_of(arguments)
-    demand_place(target_folder, before)
+    demand_place(target_folder, history)
     again = before if given == Words(is_forced=arguments.force) else None
     words = given if again is None else Words(**again.detail["words"])
     count.demand_option(sealed.public, words.casting)
@@ -124,25 +130,33 @@ def publish(
             raise would_differ(again)
         if agreed:
             detail["agreed"] = agreed
-        with alone(election):
+        with alone(election), uninterrupted():
             if is_new:
                 with book.act("publish", detail, seen=history.last.number):
                     pass
             elif book.last_number() != history.last.number:
                 raise Overtaken
+            made.is_in_book = True
             made.take_place(target_folder)
             write_made(election.path(LETTERS), {RESULT_LETTER: made.letter}, OWN)
         return made.counted, is_new
 
 
-def demand_place(target_folder: pathlib.Path, last: DoneAct | None) -> None:
+def demand_place(target_folder: pathlib.Path, history: History) -> None:
     """Stops unless the place is free, or has what was published last: an earlier result, or that of
     another election, stays.
+
+    A run that was killed after its act has left its folder beside the place; then the place has
+    what was published before.
     """
     place = result_folder.real_place(target_folder)
-    if result_folder.is_free(place) or (
-        last and result_folder.is_publication(place, last.detail["checksums"][CHECKSUMS])
-    ):
+    if result_folder.is_free(place):
+        return
+    sums = [act.detail["checksums"][CHECKSUMS] for act in publications(history)]
+    was_killed = sums and any(
+        result_folder.is_publication(left, sums[-1]) for left in result_folder.left_beside(place)
+    )
+    if any(result_folder.is_publication(place, sum) for sum in sums[-2 if was_killed else -1 :]):
         return
     named = next(
         one for one in (target_folder, place, pathlib.Path(RESULT)) if one.name not in ("", "..")

@@ -95,10 +95,14 @@ def until_of(said: Detail) -> datetime.datetime | None:
     return datetime.datetime.fromisoformat(said["until"]) if "until" in said else None
 
 
-def last_publication(history: History) -> DoneAct | None:
-    """The last publication since the last close."""
+def publications(history: History) -> list[DoneAct]:
+    """The publications since the last close."""
     close = history.closes[-1].number if history.closes else 0
-    return next((act for act in reversed(history.named("publish")) if act.number > close), None)
+    return [act for act in history.named("publish") if act.number > close]
+
+
+def last_publication(history: History) -> DoneAct | None:
+    return next(reversed(publications(history)), None)
 
 
 def publication_of(election: Election, words: Words) -> Publication:

@@ -7,12 +7,13 @@ import dataclasses
 import os
 import pathlib
 import shutil
+import tempfile
 from collections.abc import Iterator
 
 from debvote_tools.cli.console import tell_aside
 from debvote_tools.debvote import Debvote
 from debvote_tools.cli.faults import Fault, Status
-from debvote_tools.files import sha256_of, sync_folder, temporary_folder, write_public
+from debvote_tools.files import TEMPORARY, locked, sha256_of, sync_folder, write_public
 from debvote_tools.result import names
 from debvote_tools.result.counting import (
     KEEP_FILES,
@@ -40,8 +41,12 @@ BESIDE = {
     names.GUIDE: ("the guide for electors", [TOP / names.GUIDE, TOP.parent / "docs" / names.GUIDE]),
 }
 
+# how a folder begins that is beside its place; a run holds the lock of its own, so what is not
+# locked is of a run that was killed
+BESIDE_PLACE = f"{TEMPORARY}result-"
 
-@dataclasses.dataclass(frozen=True)
+
+@dataclasses.dataclass
 class Made:
     """A folder that is made and counted, beside its place."""
 
@@ -52,22 +57,38 @@ class Made:
     checksums: dict[str, str]
     # the letter of the result
     letter: bytes
+    # the book has its act: if it gets no place now, the next run sees that it got none
+    is_in_book: bool = False
 
     def take_place(self, target_folder: pathlib.Path) -> None:
-        """Moves the folder to its place, and removes a published folder that is there."""
+        """Moves the folder to its place, and removes a published folder that is there, and what
+        killed runs have left beside it.
+        """
         place = real_place(target_folder)
         if place.is_dir():
-            aside = temporary_folder(place.parent)
-            place.rename(aside)
-            try:
-                self.folder.rename(place)
-            except OSError:
-                aside.rename(place)
-                raise
-            shutil.rmtree(aside, ignore_errors=True)
+            with locked(place, is_directory=True):
+                aside = folder_beside(place)
+                place.rename(aside)
+                try:
+                    self.folder.rename(place)
+                except OSError:
+                    aside.rename(place)
+                    raise
         else:
             self.folder.rename(place)
         sync_folder(place.parent)
+        for left in left_beside(place):
+            with contextlib.suppress(OSError), locked(left, is_directory=True):
+                shutil.rmtree(left, ignore_errors=True)
+
+
+def folder_beside(place: pathlib.Path) -> pathlib.Path:
+    return pathlib.Path(tempfile.mkdtemp(prefix=BESIDE_PLACE, dir=place.parent))
+
+
+def left_beside(place: pathlib.Path) -> list[pathlib.Path]:
+    """The folders beside a place that runs have made and filled."""
+    return [left for left in place.parent.glob(f"{BESIDE_PLACE}*") if any(left.iterdir())]
 
 
 def real_place(target_folder: pathlib.Path) -> pathlib.Path:
@@ -114,18 +135,21 @@ def in_use(target_folder: pathlib.Path, words: str, cure: str) -> Fault:
 def made(
     publication: Publication, target_folder: pathlib.Path, program_folder: pathlib.Path | None
 ) -> Iterator[Made]:
-    """Makes the folder beside its place, and removes it at the end unless it was moved.
+    """Makes the folder beside its place, and removes it at the end unless it was moved, or the
+    book has its act.
 
     `program_folder` is that of the program that runs this: debvote may be beside it.
     """
-    folder = temporary_folder(real_place(target_folder).parent)
-    try:
-        filled = fill(folder, publication, program_folder)
-        folder.chmod(0o755)
-        sync_folder(folder)
-        yield filled
-    finally:
-        shutil.rmtree(folder, ignore_errors=True)
+    folder, filled = folder_beside(real_place(target_folder)), None
+    with locked(folder, is_directory=True):
+        try:
+            filled = fill(folder, publication, program_folder)
+            folder.chmod(0o755)
+            sync_folder(folder)
+            yield filled
+        finally:
+            if filled is None or not filled.is_in_book:
+                shutil.rmtree(folder, ignore_errors=True)
 
 
 # ---------------------------------------------------------------- what is in it
