@@ -15,7 +15,7 @@ from debvote_tools.inbox.reasons import Reason
 from debvote_tools.outbox.compose import Became, Came, Composer, Kind, without_ballots
 from debvote_tools.outbox.message import message_of, new_message_id, one_line as on_one_line
 from debvote_tools.result import result_letter
-from debvote_tools.result.inputs import CastingVote
+from debvote_tools.result.facts import CastingVote
 from debvote_tools.poll.sealed_poll import SealedPoll
 
 TIME = datetime.datetime(2026, 11, 23, 10, tzinfo=datetime.UTC)

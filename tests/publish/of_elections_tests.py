@@ -31,9 +31,8 @@ from debvote_tools.book.election import Election  # noqa: E402
 from debvote_tools.inbox import parse  # noqa: E402
 from debvote_tools.inbox.sources import RawLetter  # noqa: E402
 from debvote_tools.text.language import ENGLISH  # noqa: E402
-from debvote_tools.result.done import told_acts  # noqa: E402
-from debvote_tools.result.inputs import Act, Chronicle, Done, Publication  # noqa: E402
-from debvote_tools.result.result_folder import Made  # noqa: E402
+from debvote_tools.result.facts import Act, Chronicle, Facts, told, told_acts  # noqa: E402
+from debvote_tools.result.folder import Made  # noqa: E402
 
 ELECTION = support.ROOT / "bin" / "debvote-election"
 
@@ -378,7 +377,8 @@ class OfOpenVotes(OfElections):
         nobody = "No elector has a ballot that counts: nobody's vote has decided this."
         refused = "More than half of the lines of the ballot file are refused: 1 of 1."
         self.expect("doubts", self.doubts(), [nobody, refused, "The vote was not closed when this page was made: more ballots may come in."])
-        given = [text.text() for text in self.sections()["Result"].one("div", "given").all("p")]
+        page = pages.tree_of((self.folder / "result" / "index.html").read_text())
+        given = [text.text() for text in next(page.all("div", "given")).all("p")]
         self.expect("the reason", given[1:], ["A <test>.", "No more."])
         self.expect("it is in the act", [doubt["kind"] for doubt in self.acts()[-1].detail["doubts"]], ["no ballot", "mostly refused", "not closed"])
         self.add("ada-lovelace 1,2,3\n")
@@ -439,12 +439,13 @@ class OfOpenVotes(OfElections):
     def test_what_the_letter_tells_of_what_was_done(self):
         """All but what is plain: also that the clock went back."""
         time = datetime.datetime(2026, 12, 4, tzinfo=datetime.UTC)
-        plain = {Done.CALLED, Done.CALLED_UNTIL, Done.TAKEN_BACK, Done.KEYRING}
+        plain = {"called", "called until", "taken back", "keyring"}
         places = {"until": time, "before": time, "number": 1, "envelope": 1, "noted": 1, "there": 1}
-        for done in Done:
-            if done is not Done.CLOSED:
-                chronicle = Chronicle((Act(time, done, places),))
-                self.expect(str(done), len(told_acts(Publication(None, b"", chronicle=chronicle), ENGLISH)), 0 if done in plain else 1)
+        kinds = {*told(ENGLISH).DONE, "roll changed"}
+        self.expect("how many kinds", (len(kinds), plain <= kinds), (13, True))
+        for done in kinds:
+            chronicle = Chronicle((Act(time, done, places),))
+            self.expect(done, len(told_acts(Facts(None, b"", chronicle=chronicle), ENGLISH)), 0 if done in plain else 1)
 
     def test_what_was_done_after_the_close(self):
         self.say("call", "--until", "2099-12-04 18:00", "--zone", "Europe/Berlin")
@@ -762,7 +763,7 @@ class OfOpenVotes(OfElections):
         cast = ("--casting", hostile_name(self.folder), "--cast-by", f"by {hostile}", "--cast-on", "2026-11-20")
         self.say("publish", *cast, "--about", "about", "--force", "--because", f"force {hostile}", "--language", "en")
         reading.try_page(self.expect, "hostile", self.folder / "result")
-        seen = ["Result", "Find-your-ballot", "The-result-in-bars", "Why", "About-this-vote"]
+        seen = ["Result", "Why", "Find-your-ballot", "Check-it", "About-this-vote"]
         self.expect("the text about the vote stands above what is folded", list(self.sections())[: len(seen)], seen)
         page = pages.tree_of((self.folder / "result" / "index.html").read_text())
         shown = " ".join(part.text() for part in page.all("main"))

@@ -27,8 +27,7 @@ from debvote_tools.inbox.judge import JudgedLetter, Outcome
 from debvote_tools.outbox.compose import Became, Came, Composer, Kind
 from debvote_tools.outbox.message import new_message_id
 from debvote_tools.inbox.lines import ballot_file
-from debvote_tools.result.doubts import Doubt
-from debvote_tools.result.inputs import Publication
+from debvote_tools.result.facts import Doubt, Facts
 from debvote_tools.result.result_letter import letter_values
 from debvote_tools.poll.words import BY_PYTHON
 from debvote_tools.result.sheet import sheet_in
@@ -291,7 +290,7 @@ class LettersDue:
             History(self.history.acts[: act.number]),
             is_secret=sealed.is_aliased,
         )
-        publication = Publication(
+        publication = Facts(
             sealed.public,
             b"",
             language,

@@ -6,9 +6,7 @@ from collections.abc import Iterable, Mapping
 
 from debvote_tools.poll.call_data import OPTION
 from debvote_tools.text.language import Language, marked
-from debvote_tools.result.done import told_acts
-from debvote_tools.result.doubts import Doubt, sentences_of
-from debvote_tools.result.inputs import CastingVote, Publication
+from debvote_tools.result.facts import CastingVote, Doubt, Facts, sentences_of, told_acts
 from debvote_tools.text.rendering import render_letter
 from debvote_tools.result.sheet import Sheet
 from debvote_tools.text.times import date_in_words
@@ -22,7 +20,7 @@ NOBODYS = marked(
 
 
 def letter_of(
-    publication: Publication, sheet: Sheet, doubts: Iterable[Doubt], checksums: Mapping[str, str]
+    publication: Facts, sheet: Sheet, doubts: Iterable[Doubt], checksums: Mapping[str, str]
 ) -> bytes:
     """The letter for all, in plain text, with checksums of the files by their names."""
     values = letter_values(publication, sheet, doubts, checksums)
@@ -32,7 +30,7 @@ def letter_of(
 
 
 def letter_values(
-    publication: Publication, sheet: Sheet, doubts: Iterable[Doubt], checksums: Mapping[str, str]
+    publication: Facts, sheet: Sheet, doubts: Iterable[Doubt], checksums: Mapping[str, str]
 ) -> dict[str, object]:
     """What the letter for all says, and that to each elector."""
     language, poll = publication.language, publication.poll
@@ -50,7 +48,7 @@ def letter_values(
     }
 
 
-def outcome_in_words(publication: Publication, sheet: Sheet) -> str:
+def outcome_in_words(publication: Facts, sheet: Sheet) -> str:
     language, names = publication.language, publication.poll.names
     left = sheet.left if sheet.winner is None else [sheet.winner]
     options = language.joined(
@@ -70,7 +68,7 @@ def casting_in_words(vote: CastingVote, language: Language) -> str:
     return language.say(WHOSE, name=vote.by, date=date_in_words(vote.on, language))
 
 
-def told_if_it_decides(publication: Publication, sheet: Sheet) -> str:
+def told_if_it_decides(publication: Facts, sheet: Sheet) -> str:
     return (
         casting_in_words(publication.casting, publication.language)
         if sheet.is_by_casting and publication.casting

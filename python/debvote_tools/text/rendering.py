@@ -18,7 +18,7 @@ import jinja2
 from markupsafe import Markup
 
 from debvote_tools.text.ballots import ranks_in_words
-from debvote_tools.text.language import ENGLISH, Language
+from debvote_tools.text.language import ENGLISH, Language, marked
 from debvote_tools.text.times import time_in_words
 
 # mail programs leave lines of this length as they are
@@ -93,12 +93,14 @@ def templates_of(package: str, language: Language, *, is_page: bool) -> jinja2.E
         "given": speaker.given,
         "strong": speaker.strong,
         "exact": speaker.exact,
+        "quoted": speaker.quoted,
     }
     environment.globals |= {
-        name: getattr(speaker, name) for name in ("say", "say_number", "link", "joined")
+        name: getattr(speaker, name) for name in ("say", "say_number", "say_each", "link", "joined")
     }
     environment.globals |= {
         "is_page": is_page,
+        "marked": marked,
         "time_in_words": functools.partial(time_in_words, language=language),
         "ranks_in_words": functools.partial(ranks_in_words, language=language),
     }
