@@ -11,7 +11,7 @@ from typing import Any
 from debvote_tools.book import letters, queries
 from debvote_tools.book.acts import Detail
 from debvote_tools.book.book import Book, DoneAct, as_text, from_text
-from debvote_tools.book.election import Election, History, Sealed
+from debvote_tools.book.election import LETTER_TEXT, Election, History, Sealed
 from debvote_tools.cli.console import is_terminal, is_yes, tell_aside
 from debvote_tools.cli.faults import Fault
 from debvote_tools.debvote import casting_words
@@ -81,6 +81,8 @@ def current_data(
         else None,
         has_form=bool(value_of("form")),
         is_signed=bool(value_of("signed")),
+        is_marked=bool(value_of("marked")),
+        letter_text=(queries.sealed(election.book, LETTER_TEXT) or b"").decode(),
         has_aliases=sealed.is_aliased,
         has_codes_on_roll=bool(value_of("codes_on_roll")),
         has_lapsed_codes=now.has_lapsed_codes,
