@@ -103,12 +103,14 @@ def try_honest_words(expect, scratch):
     verify = sections["How-to-verify"]
     heads = [head.text() for head in verify.all("h4")]
     program = subprocess.run([PROGRAM, "--version"], capture_output=True, text=True).stdout.strip()
-    wanted = ["What is enough for an elector", "To count again", f"With the program {program}", "Without debvote"]
-    expect("how to verify: what is enough comes first", heads, wanted)
-    own, letter, *_ = [entry.text() for entry in verify.all("li")]
+    wanted = ["To count again", f"With the program {program}", "Without debvote"]
+    expect("how to verify: its parts", heads, wanted)
+    own, winner, sums, letter, again = [" ".join(entry.text().split()) for entry in sections["Check-it"].one("ol").all("li")]
     poll_sum = hashlib.sha256((room / "result" / "poll.toml").read_bytes()).hexdigest()
-    expect("how to verify: one's own ballot", own.startswith("Your own ballot. Find your ballot must show it as you sent it. If you"), True)
-    expect("how to verify: one's own letter", letter.endswith(f"must have this checksum, the poll's: {poll_sum}."), True)
+    expect("check it: one's own ballot", own.startswith("Is your ballot as you sent it? Find your ballot shows it. If you did not vote"), True)
+    expect("check it: the winner", winner.startswith("Does your letter of the result name the same winner? "), True)
+    expect("check it: both checksums", sums.startswith("Does it have the checksums of SHA256SUMS and index.html, this page, "), True)
+    expect("check it: one's own letter", letter, f"Does your letter of the call have this checksum, the poll's? {poll_sum}")
     text = verify.text()
     for said in ["Ask your secretary where to get it", "It is better taken from elsewhere", "/usr/share/doc/debvote/reference.py"]:
         expect(f"how to verify: {said}", said in text, True)

@@ -210,6 +210,8 @@ class OfOpenVotes(OfElections):
         done = [item.text().partition("): ")[2] for item in sections["What-was-done"].all("li")]
         struck = "The secretary struck envelope 3: its line does not count. The reason, in the secretary's words: Zoë has sent it <b>twice</b>"
         self.expect("what was done", done[:2], ["The call was made; it named no time until which one could vote.", struck])
+        tie = "Tie: Option 1: 72 Euro and Option 2: Größe. Option 1: 72 Euro against Option 2: Größe: 1 to 1."
+        self.expect("the letter has the numbers of a tie", tie in self.letter().replace("\n", " "), True)
         checksum = hashlib.sha256(files["ballots.txt"]).hexdigest()
         self.expect("the close", done[2:], [f"The vote was closed. Lines in time: 3. Checksum: {checksum}."])
         self.checksums_of_letters(files, "ballots.txt")
@@ -613,6 +615,8 @@ class OfOpenVotes(OfElections):
         self.expect("in the letter", said in self.letter().replace("\n", " "), True)
         said = "Winner: Option 1: 72 Euro by casting vote"
         self.expect("so does the letter say who has won", said in self.letter(), True)
+        numbers = f"{said}. These options were left: Option 1: 72 Euro and Option 2: Größe."
+        self.expect("with what decides it", numbers in self.letter().replace("\n", " "), True)
         self.stops("publish", "--casting", "Groesse", *cast, said=["an earlier publication has a casting vote for 72 Euro"])
         self.reopened_with("cleo 1,2,3\n")
         self.replace("--casting", "72 Euro", *cast, "--language", "en")

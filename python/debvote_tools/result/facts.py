@@ -211,10 +211,10 @@ class Answers:
 
 
 # ---------------------------------------------------------------- in words
-def told(language: Language) -> Any:
-    """What `told.jinja` says, for a page or for a letter."""
+def told(language: Language, template: str = "told.jinja") -> Any:
+    """What a template says by its macros, for a page or for a letter."""
     templates = templates_of(__package__, language, is_page=isinstance(language, InHtml))
-    return templates.get_template("told.jinja").module
+    return templates.get_template(template).module
 
 
 def all_acts(facts: Facts, language: Language) -> list[str]:

@@ -197,7 +197,7 @@ def fill(folder: pathlib.Path, given: Facts, program_folder: pathlib.Path | None
     write({facts.PAGE: page_of(full, answers, checksums)})
     lines = (f"{checksum}  {name}\n" for name, checksum in sorted(checksums.items()))
     write({CHECKSUMS: "".join(lines).encode()})
-    letter = letter_of(full, sheet, full.doubts, checksums)
+    letter = letter_of(full, sheet, checksums)
     if full.chronicle is None:
         # two files have no other folder for it
         write({facts.LETTER: letter})
