@@ -20,7 +20,7 @@ from terminal import Terminal  # noqa: E402
 
 from debvote_tools.book.book import open_book  # noqa: E402
 from debvote_tools.cli import command_line  # noqa: E402
-from debvote_tools.outbox import letter_files  # noqa: E402
+from debvote_tools.outbox import files as letter_files  # noqa: E402
 from debvote_tools.commands import held  # noqa: E402
 from debvote_tools.inbox import signatures  # noqa: E402
 
@@ -33,7 +33,7 @@ def letter(name: str, text: str, arrived: str = "Mon, 23 Nov 2026 10:00:00 +0000
     return (
         f"Received: from mail.example by mx.club.example; {arrived}\n"
         f"From: {name.title()} <{sender or f'{name}@club.example'}>\n"
-        f"Subject: my ballot\nMessage-ID: <{name}.{number}@mail.example>\n\n{text}\n"
+        f"Subject: my ballot [{support.ANY_MARK}]\nMessage-ID: <{name}.{number}@mail.example>\n\n{text}\n"
     )
 
 
@@ -54,6 +54,9 @@ class LettersTest(support.ElectionTest):
     def made(self) -> pathlib.Path:
         self.set_clock("2026-11-20T09:00:00+00:00")
         return super().made()
+
+    def write(self, name: str, content: bytes | str) -> pathlib.Path:
+        return super().write(name, self.of_this_vote(content.encode() if isinstance(content, str) else content))
 
     def add(self, *letters: str, words: tuple[str, ...] = ("--yes",)) -> support.Ended:
         self.write("inbox.mbox", mailbox(*letters))
@@ -80,7 +83,7 @@ class Adding(LettersTest):
         self.assertIn("1 letter waits", self.done("status").output)
 
     def test_what_came_is_kept_as_it_came(self) -> None:
-        text = letter("ada", f"ada {RANKS}")
+        text = self.of_this_vote(letter("ada", f"ada {RANKS}").encode()).decode()
         self.add(text)
         self.exported()
         [kept] = (self.scratch / "out" / "came").iterdir()
@@ -99,7 +102,7 @@ class Adding(LettersTest):
         long = [letter("cleo", picture, number=number) for number in range(5)]
         long = [one.replace("Subject", "Content-Type: multipart/mixed; boundary=b\nSubject") for one in long]
         for given in (None, mailbox(*long, letter("ben", f"ben {RANKS}"))):
-            ended = self.add(*long, letter("ada", f"ada {RANKS}")) if given is None else self.election("add", "--yes", given=given)
+            ended = self.add(*long, letter("ada", f"ada {RANKS}")) if given is None else self.election("add", "--yes", given=self.of_this_vote(given.encode()))
             self.assertIn("1 ballot of letters went in; 5 letters wait.", ended.output, ended)
         self.assertEqual(self.exported()[0], f"ada {RANKS}\nben {RANKS}\n")
 

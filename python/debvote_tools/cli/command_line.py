@@ -62,7 +62,7 @@ def parser(words: Sequence[str] = ()) -> argparse.ArgumentParser:
     commands = top.add_subparsers(dest="command", metavar="COMMAND", required=True)
     for name in words[:1] if words and words[0] in COMMANDS else COMMANDS:
         module = importlib.import_module(f"debvote_tools.commands.{name}")
-        text = str(module.__doc__)
+        text = " ".join(str(module.__doc__).split())
         command = commands.add_parser(
             name,
             help=text.removesuffix("."),

@@ -14,7 +14,7 @@ from debvote_tools.book.election import Election, History
 from debvote_tools.inbox.entering import envelope_words
 from debvote_tools.book.reporting import act_time, count_of
 from debvote_tools.cli.faults import Fault
-from debvote_tools.outbox.compose import Kind
+from debvote_tools.outbox.words import Kind
 
 
 class Arguments(acting.Arguments):

@@ -23,7 +23,7 @@ from debvote_tools.book.reporting import count_of
 from debvote_tools.inbox.vote import Vote
 from debvote_tools.cli.faults import Fault, Status
 from debvote_tools.files import sha256_of
-from debvote_tools.inbox.circumstances import Ballot, Circumstances, Decision, Names
+from debvote_tools.inbox.known import Ballot, Decision, Known, Names
 from debvote_tools.inbox.judge import JudgedLetter, Outcome, judge_all
 from debvote_tools.inbox.parse import ParsedLetter, as_json, from_json, parse
 from debvote_tools.inbox.readings import BallotLine, answers_in, read_all
@@ -31,6 +31,7 @@ from debvote_tools.inbox.reasons import Reason
 from debvote_tools.inbox.signatures import find_gpgv, verified
 from debvote_tools.inbox.sources import PassedOver, RawLetter, letters_of_file, letters_of_folder
 from debvote_tools.cli.terminal_text import shown_text
+from debvote_tools.poll.call_data import SUBJECT
 
 SLOW = Reason.SLOW_SIGNATURE()
 
@@ -343,12 +344,15 @@ def ballots_in(
 
 def circumstances_of(
     election: Election, history: History, by_key: Mapping[str, KeptLetter]
-) -> Circumstances:
+) -> Known:
     call, sealed, electors = history.call, election.sealed(), queries.electors(election.book)
     assert call is not None
     ids = letters.our_message_ids(election.book)
-    return Circumstances(
+    return Known(
         mark=sealed.public.mark,
+        subject=election.language.say(SUBJECT, title=sealed.public.name),
+        own_marks={elector.name: elector.mark for elector in electors},
+        is_marked=bool(history.announced("marked")),
         roll=frozenset(sealed.counted.roll),
         addresses={elector.name: elector.addresses for elector in electors},
         called=call.time,
