@@ -1,5 +1,5 @@
-//! What is said of a poll file that is no TOML: what kind of file it is, or where it leaves TOML, and what stands there. The text and the
-//! place say the line and the column; at which place `toml` finds the error no contract says.
+//! What is said of a poll file that is no TOML: what kind of file it is, or where it leaves TOML, and what is there. At which place `toml`
+//! finds the error no contract says.
 ghost use Rattle.std.specs.Prelude.{◌≡◌, ◌≤◌, ◌++◌, IfOk, codes, decimal, length, string_bytes, take};
 ghost use Rattle.vote_poll_text.specs.Adding.{Adds};
 ghost use Rattle.vote_explain_poll.specs.Hints.{IsHintLine, Tells};
@@ -211,28 +211,7 @@ fn part_around<'t>(place: &Place<'t>) -> (&'t [u8], &'t [u8]) {
     (part.get(..MAX_SHOWN).unwrap_or(part), before)
 }
 
-/// Adds that a text is no TOML after so many bytes, of which this is said, and shows the place.
-fn push_syntax(
-    alloc: Global,
-    finding: &mut String,
-    text: &[u8],
-    at: usize,
-    said: &str,
-    file: Option<&str>,
-) -> Result<(), AllocError>
-    requires { at ≤ length text.now }
-    ensures { Tells result finding.old (IsPlaceFinding text.now) finding.new }
-{
-    let place = place_at(text, at);
-    push_place(finding, place.number, column_number(place.left))?;
-    push_syntax_hint(alloc, finding, &place, said, file)?;
-    let (line, before) = part_around(&place);
-    push_hint_line(finding, line)?;
-    push_mark(alloc, finding, before)?;
-    Ok(())
-}
-
-/// The finding on a text that is no TOML, by its place.
+/// The finding on a text that is no TOML, by its place, which is shown.
 fn place_finding(
     alloc: Global,
     text: &[u8],
@@ -241,9 +220,13 @@ fn place_finding(
 ) -> Result<String, AllocError>
     ensures { IfOk result (λ finding. IsPlaceFinding text.now (string_bytes finding)) }
 {
+    let place = place_at(text, index_of(text, error));
     let mut finding = String::new(alloc);
-    let at = index_of(text, error);
-    push_syntax(alloc, &mut finding, text, at, error.message(), file)?;
+    push_place(&mut finding, place.number, column_number(place.left))?;
+    push_syntax_hint(alloc, &mut finding, &place, error.message(), file)?;
+    let (line, before) = part_around(&place);
+    push_hint_line(&mut finding, line)?;
+    push_mark(alloc, &mut finding, before)?;
     Ok(finding)
 }
 

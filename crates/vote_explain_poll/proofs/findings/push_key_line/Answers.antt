@@ -16,5 +16,5 @@ returns c =
       key_head (path_of c.args.key.now) ++ remark ++ line_feed,
       (remark, is, refl),
       pieces (codes "poll: key ") (shown 60 (path_of c.args.key.now)) (codes " is not read") remark _ _ _ _ _ _ c.in_ok-push_str.ensures.bytes (rw path at c.in_ok-push_shown.ensures) c.in_ok-push_str-2.ensures.bytes
-      added c.in_ok-push_str-3.ensures.bytes,
+          added c.in_ok-push_str-3.ensures.bytes,
     )
