@@ -32,15 +32,9 @@ class KeptLetter(NamedTuple):
         return self.state in (WAITS, PUT_BACK, TAKEN_BACK)
 
 
-KEPT_LETTERS = """
-SELECT letter, act, source, identity, known, coalesce(
-  (SELECT state FROM letter_state WHERE letter_state.letter = letter.letter ORDER BY act DESC LIMIT 1), 'waits')
-FROM letter ORDER BY letter
-"""
-
-
 def letters(book: Book) -> list[KeptLetter]:
-    return [KeptLetter(*row) for row in book.rows(KEPT_LETTERS)]
+    words = "SELECT letter, act, source, identity, known, state FROM letter_now ORDER BY letter"
+    return [KeptLetter(*row) for row in book.rows(words)]
 
 
 def known_digests(book: Book) -> set[tuple[str, bool]]:
@@ -53,6 +47,17 @@ def known_digests(book: Book) -> set[tuple[str, bool]]:
 
 def source_of(book: Book, source: int) -> bytes:
     return bytes(book.rows("SELECT data FROM source WHERE source = ?", source)[0][0])
+
+
+def of_programs(book: Book) -> list[tuple[int, str, bytes]]:
+    """The letters that programs wrote, such as one that came back: the act that kept it, who sent
+    it, and its bytes.
+    """
+    words = (
+        "SELECT letter.act, json_extract(known, '$.sender'), data FROM letter JOIN source USING (source) "
+        "WHERE json_extract(known, '$.is_automatic') ORDER BY letter"
+    )
+    return book.rows(words)
 
 
 def undecided(kept: list[KeptLetter]) -> list[KeptLetter]:
