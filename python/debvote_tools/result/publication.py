@@ -333,10 +333,10 @@ def close_of(act: DoneAct, book: Book, history: History) -> Closed:
     detail, came, struck = act.detail, None, None
     earlier = [close.number for close in history.closes if close.number < act.number]
     if earlier:
-        between = "late = 0 AND {0}.act > ? AND {0}.act < ?"
+        between = "late = 0 AND {0} > ? AND {0} < ?"
         came, struck = (
-            len(queries.lines(book, between.format(table), earlier[-1], act.number))
-            for table in ("envelope", "struck")
+            len(queries.lines(book, between.format(column), earlier[-1], act.number))
+            for column in ("act", "struck")
         )
     return Closed(
         act.time,
