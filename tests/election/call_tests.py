@@ -106,8 +106,8 @@ class Open(CallTest):
         self.done("call", "--to", "vote@club.example")
         self.done("call", *UNTIL)
         text = " ".join(self.read("letters/extension.txt").decode().split())
-        said = f"You can now vote until the time below. Nothing else that the call says has changed. Until when: {FIRST} The call did not"
-        self.assertIn(said, text)
+        self.assertIn("You can now vote until the time below. Nothing else that the call says has changed.", text)
+        self.assertIn(f"Until when: {FIRST} The call did not", text)
         self.assertNotIn("more time", text)
 
 

@@ -57,12 +57,10 @@ def sha256_of(data: bytes) -> str:
 
 
 def texts_of(data: CallData) -> dict[str, str]:
-    """Page and letter as they are read, each blank as one space."""
-    files = call_files(data)
-    body = files["index.html"].decode().partition("<body>")[2].partition("<script>")[0]
+    """The page as it is read, each blank as one space."""
+    body = call_files(data)["index.html"].decode().partition("<body>")[2].partition("<script>")[0]
     page = html.unescape(re.sub("<[^>]*>", " ", re.sub("</?(?:b|bdi|code|a)[^>]*>", "", body)))
-    texts = {"index.html": page, "call.txt": files["call.txt"].decode()}
-    return {name: " ".join(text.split()) for name, text in texts.items()}
+    return {"index.html": " ".join(page.split())}
 
 
 class Elements(html.parser.HTMLParser):
@@ -129,12 +127,13 @@ class Files(unittest.TestCase):
             "never": "You can vote until the time that the secretary announces. ",
         }
         for kind, data in said.items():
-            for (name, text), after in zip(texts_of(data).items(), ("Your name", "The page")):
-                self.assertIn(wanted[kind] + after, text, name)
+            for text in texts_of(data).values():
+                self.assertIn(f"{wanted[kind]}Your name", text)
             if kind in ("extended", "late"):
                 change = "You have more time to vote." if kind == "extended" else "You can now vote until the time below."
-                letter = f"{change} Nothing else that the call says has changed. {wanted[kind]}"
-                self.assertIn(letter, " ".join(extension_letter(data).split()))
+                letter = " ".join(extension_letter(data).split())
+                self.assertTrue(letter.startswith(f"{change} Nothing else that the call says has changed. "), letter)
+                self.assertIn(f"Where we meet {wanted[kind]}The page of the vote", letter)
                 self.assertIn("If you have voted, you need not vote again", extension_letter(data))
         # after a second extension, too, it is the end that the call said at first
         again = dataclasses.replace(said["extended"], until=LATER + datetime.timedelta(days=2))
@@ -155,7 +154,6 @@ class Files(unittest.TestCase):
         }.items():
             for text in texts_of(data).values():
                 self.assertIn(wanted, text)
-        self.assertIn(f"on which the result will be: {PAGE} ", texts_of(CALL)["call.txt"])
 
     def test_subjects_end_with_the_mark(self) -> None:
         mark = f"[{POLL.mark}]"
@@ -165,7 +163,7 @@ class Files(unittest.TestCase):
         self.assertEqual({letter.path for letter in letters}, {"vote%2Bclub@example.org"})
         self.assertEqual([urllib.parse.parse_qs(letter.query)["subject"] for letter in letters], [[f"Ballot: Where we meet {mark}"]])
         self.assertEqual(page.attributes_of("Ballot")["data-mark"], POLL.mark)
-        for text in (*texts_of(CALL).values(), " ".join(extension_letter(CALL).split())):
+        for text in texts_of(CALL).values():
             self.assertIn(f"Let the subject of your letter end with {mark}, which is the mark of this vote", text)
         for text in texts_of(KINDS["signed"]).values():
             self.assertIn(f"your ballot, and below it the mark of this vote, {mark}, so that", text)
@@ -182,7 +180,7 @@ class Files(unittest.TestCase):
             page = Elements(call_files(dataclasses.replace(CALL, poll=poll))["index.html"])
             self.assertIn(f"Ballot%3A%20{urllib.parse.quote(poll.name)}%20%5B{poll.mark}%5D", str(page.found))
             self.assertEqual((page.texts["title"], page.texts["h1"]), ([f"Vote: {poll.name}"], [poll.name]))
-            for name, form in (("index.html", "{}, {}"), ("call.txt", "{} ({})")):
+            for name, form in (("index.html", "{}, {}"),):
                 for part in (*map(form.format, numbered, ratios), said, *rules, f"The default option is {numbered[3]}."):
                     self.assertIn(part, files[name])
                 self.assertIn("(name 2,1,-,3)", files[name])
@@ -202,16 +200,17 @@ class Files(unittest.TestCase):
         self.assertEqual(re.findall('"about"><bdi>(.*?)</bdi>', frames[1][1], re.DOTALL), ["Sell \u05d0\u05d1", "it"])
         self.assertEqual(page.count("are the words of those who publish this page. The program has not checked them."), 1)
         self.assertNotIn("has not checked", call_files(CALL)["index.html"].decode())
-        letter = files["call.txt"].decode()
-        self.assertIn("in the words of those who send this letter.", letter)
-        self.assertIn("\n\nFirst line\nsecond <b>line</b>\n\nand more\n\nAbout Option 3: Sell the house, in", letter)
-        self.assertIn("\n\nSell \u05d0\u05d1\n\nit\n\nMajority", letter)
-        self.assertNotIn("About Option", call_files(CALL)["call.txt"].decode())
+        # the letter has them only where no page has them
+        self.assertNotIn("First line", files["call.txt"].decode())
+        letter = call_files(dataclasses.replace(data, at=None))["call.txt"].decode()
+        self.assertEqual(letter.count("The program has not checked it."), 1)
+        self.assertIn("\n\nOption 1: At the lake\n\nFirst line\nsecond <b>line</b>\n\nand more\n\nOption 3: Sell the house\n", letter)
+        self.assertIn("\n\nSell \u05d0\u05d1\n\nit\n\nWHAT DECIDES\n\nMajority", letter)
 
     def test_the_roll(self) -> None:
         listed = "".join(f"<li><code>{name}</code></li>\n" for name in ROLL)
         self.assertIn(listed, call_files(CALL)["index.html"].decode())
-        self.assertIn("\n  ada, ben, cleo, dan\n", call_files(CALL)["call.txt"].decode())
+        self.assertIn("\n  ada, ben, cleo, dan\n", call_files(dataclasses.replace(CALL, at=None))["call.txt"].decode())
         names = dataclasses.replace(CALL, real_names={"ada": "Ada <i>", "dan": ""})
         page = call_files(names)["index.html"].decode()
         self.assertIn("<li><code>ada</code> <bdi>Ada &lt;i&gt;</bdi></li>\n<li><code>ben</code></li>\n", page)
@@ -219,10 +218,10 @@ class Files(unittest.TestCase):
         hidden = call_files(dataclasses.replace(names, real_names=None))
         self.assertNotIn(b"Ada", b"".join(hidden.values()))
         for count, in_page, in_letter in ((200, True, True), (201, True, False), (2_000, True, False), (2_001, False, False)):
-            data = dataclasses.replace(CALL, poll=with_roll(POLL, [f"e{number:04}" for number in range(count)]))
-            files = call_files(data)
-            self.assertEqual(("e0100" in files["index.html"].decode(), "e0100" in files["call.txt"].decode()), (in_page, in_letter))
-            for text, is_listed in zip(texts_of(data).values(), (in_page, in_letter), strict=True):
+            data = dataclasses.replace(CALL, at=None, poll=with_roll(POLL, [f"e{number:04}" for number in range(count)]))
+            files = {name: call_files(data)[name].decode() for name in ("index.html", "call.txt")}
+            self.assertEqual(tuple("e0100" in text for text in files.values()), (in_page, in_letter))
+            for text, is_listed in zip((*texts_of(data).values(), files["call.txt"]), (in_page, in_letter), strict=True):
                 self.assertEqual("The names on the roll are in the file poll.toml." in text, not is_listed)
 
     def test_what_will_be_public(self) -> None:
@@ -251,14 +250,10 @@ class Files(unittest.TestCase):
 
     def test_parts_have_their_headings(self) -> None:
         names = ["What is voted on", "The roll", "How a ballot is written", "What will be public", "The poll"]
-        page, letter = (call_files(CALL)[name].decode() for name in ("index.html", "call.txt"))
+        page = call_files(CALL)["index.html"].decode()
         heads = ["A rank for each option", "What each option needs", *names[1:]]
         self.assertEqual(re.findall("<h2[^>]*>(.*?)</h2>", page), heads)
         self.assertEqual(re.findall("<summary><h2[^>]*>(.*?)</h2></summary>", page), heads[1:])
-        in_letter = [names[place].upper() for place in (0, 2, 1, 3, 4)]
-        self.assertEqual([line for line in letter.splitlines() if line.isupper() and not line.startswith("  ")], in_letter)
-        self.assertNotIn("\n\n\n", letter)
-        self.assertLessEqual(max(map(len, letter.splitlines())), 72)
 
     def test_a_secret_call_shows_no_roll_and_one_with_codes_no_poll(self) -> None:
         for data in (SECRET, WITH_CODES):

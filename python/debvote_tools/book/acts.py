@@ -44,7 +44,8 @@ class Detail(TypedDict, total=False):
     agreed: list[str]
     # take back: the act of the call; its `codes` have lapsed
     call: int
-    # what comes: how many letters and lines; of set aside, put back and enter their numbers
+    # what comes: how many letters and lines; of set aside, put back and enter their numbers (of enter
+    # `letter` if it is one; a ballot that was typed has no line)
     letter: int
     letters: Any
     lines: Any
@@ -76,8 +77,10 @@ class Detail(TypedDict, total=False):
     casting: str | None
     checksums: dict[str, str]
     doubts: list[Any]
-    # letters out, letter sent
+    # letters out, letter sent; the server that got the letter, and the user on it
     kind: str
+    server: str
+    user: str
     # moved: the act that was noted, and the one that is there
     why: str
     noted: Any

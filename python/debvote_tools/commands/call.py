@@ -30,7 +30,7 @@ from debvote_tools.book.election import (
 from debvote_tools.made_files import OWN, PUBLIC, write_made
 from debvote_tools.poll.draft import checked, lacks_codes, letter_text_in, tell_checked
 from debvote_tools.book.reporting import act_time
-from debvote_tools.inbox.in_time import demand_future, parse_until
+from debvote_tools.poll.until import demand_future, parse_until
 from debvote_tools.cli.faults import Fault, Status, stop_at
 from debvote_tools.files import read_at_most
 from debvote_tools.inbox.signatures import read_keyring

@@ -11,6 +11,7 @@ from debvote_tools.text.ballots import UNRANKED, ranks_in_words
 from debvote_tools.cli.faults import Fault, Status
 from debvote_tools.cli.terminal_text import LINE_ENDS, odd_sign
 from debvote_tools.text.language import Language, marked
+from debvote_tools.poll.marks import in_brackets
 from debvote_tools.poll.sealed_poll import SealedPoll
 
 MAIL = re.compile(r"[A-Za-z0-9_][A-Za-z0-9._+=-]*@[A-Za-z0-9-]+(\.[A-Za-z0-9-]+)*")
@@ -76,7 +77,11 @@ class CallData:
 
     @functools.cached_property
     def mark(self) -> str:
-        return f"[{self.poll.mark}]"
+        return self.mark_of("")
+
+    def mark_of(self, own: str) -> str:
+        """What ends the subject of a letter of an elector with this own mark."""
+        return in_brackets(self.poll.mark, own)
 
     @property
     def mail_to(self) -> str:

@@ -4,7 +4,7 @@
 
 from debvote_tools.poll.call_data import OPTION, SUBJECT, CallData
 from debvote_tools.files import sha256_of
-from debvote_tools.text.ballots import IN_A_LIST
+from debvote_tools.text.ballots import IN_A_LIST, without_ballots
 from debvote_tools.text.language import marked
 from debvote_tools.text.rendering import render_letter, render_page, resources
 
@@ -34,12 +34,20 @@ SENTENCES = {
 
 
 def call_letter(call: CallData) -> str:
-    return render_letter(PACKAGE, "call.txt", call.language, call=call)
+    """The letter of the call to all, with a gap in place of a name."""
+    return letter_to_all(call, is_extension=False)
 
 
 def extension_letter(call: CallData) -> str:
     """The letter about a later end: the old one, the new one, and that all else is as it was."""
-    return render_letter(PACKAGE, "extension.txt", call.language, call=call)
+    return letter_to_all(call, is_extension=True)
+
+
+def letter_to_all(call: CallData, *, is_extension: bool) -> str:
+    text = render_letter(
+        PACKAGE, "call.txt", call.language, call=call, elector=None, is_extension=is_extension
+    )
+    return without_ballots(text, len(call.poll.names), lambda word: True)
 
 
 def call_page(call: CallData) -> bytes:

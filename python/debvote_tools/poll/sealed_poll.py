@@ -91,7 +91,7 @@ class SealedPoll:
             {key: value for key in KEYS if is_set(value := getattr(self, key)) or key in REQUIRED}
         )
 
-    @property
+    @functools.cached_property
     def checksum(self) -> str:
         return sha256_of(self.as_bytes())
 
