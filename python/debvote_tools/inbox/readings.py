@@ -212,10 +212,9 @@ def answers_to(texts: Iterable[str], names: Names, reader: LineReader) -> dict[s
     for text in texts:
         is_certain = BALLOT.fullmatch(text) is not None and text.partition(" ")[0] in names.roll
         (certain if is_certain else others).append(text)
-    parts = [
-        certain,
-        *(others[first : first + MOST_AT_ONCE] for first in range(0, len(others), MOST_AT_ONCE)),
-    ]
+    firsts = range(0, len(others), MOST_AT_ONCE)
+    parts = [others[first : first + MOST_AT_ONCE] for first in firsts] or [[]]
+    parts[0] += certain
     answers: dict[str, str | None] = {}
     for part in filter(None, parts):
         said = reader.answers([text.encode() for text in part])
