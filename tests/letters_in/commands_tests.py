@@ -288,7 +288,7 @@ class ReadOnce(LettersTest):
     def test_judging_again_asks_debvote_nothing(self) -> None:
         letters = [letter("ada", f"adaa {RANKS}"), letter("ben", f"I vote ben {RANKS} today"), letter("cleo", f"cleo {RANKS}")]
         self.write("inbox.mbox", mailbox(*letters, letter("dan", "1,2,4,3")))
-        self.assertEqual(self.with_counter("add", "--yes", "inbox.mbox")[1], ["explain", "explain", "steps"])
+        self.assertEqual(self.with_counter("add", "--yes", "inbox.mbox")[1], ["explain", "steps"])
         self.assertEqual(self.with_counter("add", "--yes", "inbox.mbox")[1], [])
         shown, runs = self.with_counter("held")
         self.assertEqual(runs, [])

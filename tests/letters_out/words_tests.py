@@ -20,7 +20,7 @@ from debvote_tools.outbox.words import Composer, Kind
 from debvote_tools.text.ballots import without_ballots
 from debvote_tools.text.rendering import one_line as on_one_line
 from debvote_tools.result import result_letter
-from debvote_tools.result.inputs import CastingVote
+from debvote_tools.result.facts import CastingVote
 from debvote_tools.poll.sealed_poll import SealedPoll
 
 TIME = datetime.datetime(2026, 11, 23, 10, tzinfo=datetime.UTC)

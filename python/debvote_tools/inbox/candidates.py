@@ -203,11 +203,12 @@ def answers_to(texts: Iterable[str], names: Names, reader: LineReader) -> dict[s
         is_certain = BALLOT.fullmatch(text) is not None and text.partition(" ")[0] in names.roll
         (certain if is_certain else others).append(text)
     firsts = range(0, len(others), MOST_AT_ONCE)
+    parts = [others[first : first + MOST_AT_ONCE] for first in firsts] or [[]]
+    parts[0] += certain
     answers: dict[str, str | None] = {}
-    for part in (certain, *(others[first : first + MOST_AT_ONCE] for first in firsts)):
-        if part:
-            said = reader.answers([text.encode() for text in part])
-            answers |= {text: said[text.encode()] for text in part}
+    for part in filter(None, parts):
+        said = reader.answers([text.encode() for text in part])
+        answers |= {text: said[text.encode()] for text in part}
     return answers
 
 

@@ -340,11 +340,6 @@ def is_quoted(line: str) -> bool:
     return line.lstrip().startswith(">")
 
 
-def is_empty(line: str) -> bool:
-    """Whether a line has nothing but blanks, no-break ones too."""
-    return not line.strip()
-
-
 def text_of(part: Part, *, is_first: bool) -> tuple[Body, list[str]]:
     """The lines of a part as far as they can be read, and what else in it may be lines. All bytes
     of the first part have to be in its character set.

@@ -17,7 +17,7 @@ from collections.abc import Callable, Collection, Mapping, Sequence
 
 from debvote_tools.inbox.candidates import MAX_BALLOTS, BallotLine, view_of
 from debvote_tools.inbox.known import Ballot, Decision, Known
-from debvote_tools.inbox.letter import END, Body, Near, ParsedLetter, is_empty, is_quoted
+from debvote_tools.inbox.letter import END, Body, Near, ParsedLetter, is_quoted
 from debvote_tools.inbox.mime import address_key
 from debvote_tools.inbox.reasons import Because, Reason
 from debvote_tools.poll.marks import marks_in
@@ -286,9 +286,11 @@ def paragraphs_of(
     """
     paragraphs: list[list[int]] = [[]]
     for index, line in enumerate(body.lines[: above_end(body.lines)]):
-        if line == STROKE or (is_empty(line) and index not in joined):
+        # a line of blanks is empty, no-break ones too
+        has_text = bool(line.strip())
+        if line == STROKE or not (has_text or index in joined):
             paragraphs.append([])
-        elif not is_empty(line) and not passes_over(line):
+        elif has_text and not passes_over(line):
             paragraphs[-1].append(index)
     return [paragraph for paragraph in paragraphs if paragraph]
 
