@@ -138,7 +138,7 @@ def read_text(number: int, text: str, names: Names) -> ReadLine | None:
 
 def read_quoted(number: int, line: str, names: Names) -> ReadLine | None:
     """The line of our letter, as `ada _,_,_,_`, that was filled in where it is quoted."""
-    bare = filled_in(line).strip().lstrip("> \t")
+    bare = filled_in(line).strip().lstrip("> \t\u00a0")
     if re.split(r"[\s:]", bare, maxsplit=1)[0].lower() not in names.roll:
         return None
     found = read_text(number, repaired(bare), names)

@@ -76,7 +76,7 @@ class JudgedLetter:
         sharing = known.electors_by_address.get(letter.sender, [])
         self.view = view_of(letter.readings, sharing, self.marked_elector)
         # the time of its ballot is that of the signature, if letters have to be signed
-        is_signed = known.keys is not None and letter.signature is not None
+        is_signed = known.is_signed and letter.signature is not None
         self.time = letter.signature.time if is_signed and letter.signature else letter.arrived
         self.decision = known.decisions.get(letter.key)
         end = above_end(letter.body.lines)
@@ -128,7 +128,7 @@ class JudgedLetter:
         """The electors on its ballots, or near to one; else the one who has the sender's address."""
         named = [line.elector for line in (*self.ballots, *self.offered)]
         near = (near.ballot.partition(" ")[0] for near in self.view.near)
-        named += [name for name in near if name in self.known.roll]
+        named += [name for name in near if name in self.known.electors]
         sender = self.known.elector_of(self.parsed)
         return tuple(dict.fromkeys(named)) or (() if sender is None else (sender,))
 
@@ -176,7 +176,7 @@ def is_sent_by_its_elector(case: JudgedLetter, known: Known) -> Because | None:
     --marked` its subject has the own mark of this elector, too.
     """
     sender, elector = case.parsed.sender, case.elector
-    listed = known.addresses.get(elector, ())
+    listed = known.electors[elector].addresses if elector in known.electors else ()
     if not sender:
         return Reason.NO_SENDER(sender=case.parsed.shown_sender)
     if case.ballot is None:
@@ -197,11 +197,11 @@ def is_signed_by_its_elector(case: JudgedLetter, known: Known) -> Because | None
     text, since only what was signed is read as the text.
     """
     letter, signature, elector = case.parsed, case.parsed.signature, case.elector
-    if known.keys is None or case.ballot is None:
+    if not known.is_signed or case.ballot is None:
         return None
     if signature is None:
         return letter.why_unsigned or Reason.NOT_SIGNED()
-    key = known.keys.get(elector, "")
+    key = known.electors[elector].key if elector in known.electors else ""
     if not key:
         return Reason.NO_KEY(elector=elector)
     if signature.fingerprint != key:
@@ -248,7 +248,7 @@ def is_of_this_vote(case: JudgedLetter, known: Known) -> Because | None:
     """Its subject has the mark of the poll, and no other. If letters have to be signed, no other
     mark is in the signed text, either.
     """
-    signed = () if known.keys is None else case.parsed.shown_lines
+    signed = case.parsed.shown_lines if known.is_signed else ()
     marks = [mark for mark, _ in case.parsed.marks]
     for mark in (*marks, *(mark for line in signed for mark, _ in marks_in(line))):
         if mark != known.mark:
