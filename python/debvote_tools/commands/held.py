@@ -14,7 +14,7 @@ from debvote_tools.cli.faults import Fault, Status, stop_at
 from debvote_tools.cli.terminal_text import shown_line, shown_text
 from debvote_tools.inbox import letter_words, letters_in
 from debvote_tools.inbox.known import Decision
-from debvote_tools.inbox.judge import JudgedLetter, Outcome
+from debvote_tools.inbox.rules import JudgedLetter, Outcome
 from debvote_tools.inbox.letters_in import Plan
 from debvote_tools.inbox.lines import lines_in, name_in
 from debvote_tools.inbox.plan import agreed_act
@@ -297,7 +297,7 @@ def done_with(election: Election, chosen: Sequence[Chosen]) -> list[int]:
     for letter in {one.letter.number: one.letter for one in chosen}.values():
         names, entered = {line.elector for line in letter.ballots}, electors[letter.number]
         if not names <= entered:
-            condition = f"letter = ? AND envelope.{queries.NOT_UNDONE}"
+            condition = f"letter = ? AND {queries.NOT_UNDONE}"
             for envelope in queries.envelopes(election.book, condition, letter.number):
                 entered.add(name_in(envelope.line).decode("ascii"))
         if names <= entered:
