@@ -20,12 +20,13 @@ from tests.support.at_browser import BROWSER, Window
 
 sys.path.insert(0, str(pathlib.Path(__file__).resolve().parents[2] / "python"))
 
+from debvote_tools.book.queries import Elector  # noqa: E402
 from debvote_tools.poll.call_data import CallData  # noqa: E402
 from debvote_tools.text.language import LANGUAGES, language_of  # noqa: E402
 from debvote_tools.poll.sealed_poll import SealedPoll, read_plain  # noqa: E402
 from debvote_tools.poll.aliases import alias_of, aliased_ballots, aliased_poll, seal_line, sealed_checksum  # noqa: E402
 from debvote_tools.inbox.lines import has_code  # noqa: E402
-from debvote_tools.poll.codes import NUMBER, CodeRow, codes_csv, new_code  # noqa: E402
+from debvote_tools.poll.codes import NUMBER, codes_csv, new_code  # noqa: E402
 from debvote_tools.poll.slips import slips  # noqa: E402
 from debvote_tools.poll.words import BY_OPENSSL, BY_PYTHON  # noqa: E402
 
@@ -45,9 +46,15 @@ POLL = SealedPoll(
 )
 UNTIL = datetime.datetime(2026, 12, 4, 18, tzinfo=datetime.timezone(datetime.timedelta(hours=1)))
 CALL = CallData(language_of("en"), POLL, 0, UNTIL, "v@example.org", has_aliases=True)
-ELECTORS = [CodeRow(name, f"{name.title()} L.", "", CODES[name], ALIASES[name]) for name in ROLL]
+
+
+def elector(name: str, who: str, mail: str, code: str, alias: str) -> Elector:
+    return Elector(1, name, 1, who, (mail,) if mail else (), code=code, alias=alias)
+
+
+ELECTORS = [elector(name, f"{name.title()} L.", "", CODES[name], ALIASES[name]) for name in ROLL]
 WITH_CODES = dataclasses.replace(CALL, has_aliases=False, has_codes_on_roll=True)
-CODES_ON_ROLL = [CodeRow(code, "", "", code, "") for code in CODES.values()]
+CODES_ON_ROLL = [elector(code, "", "", "", "") for code in CODES.values()]
 
 
 def run(*words: str, given: str = "", folder: pathlib.Path | None = None) -> str:
@@ -145,7 +152,7 @@ class Published(unittest.TestCase):
 
 
 class Slips(unittest.TestCase):
-    def each(self, call: CallData, electors: Sequence[CodeRow] = ELECTORS) -> list[str]:
+    def each(self, call: CallData, electors: Sequence[Elector] = ELECTORS) -> list[str]:
         """The slips as they are read, each blank as one space."""
         page = slips(call, electors).decode()
         self.assertEqual(slips(call, electors), page.encode())
@@ -186,7 +193,7 @@ class Slips(unittest.TestCase):
             self.assertEqual([other for other in CODES.values() if other in text], [code])
         self.assertIn("let each elector draw one", slips(WITH_CODES, CODES_ON_ROLL).decode())
         # a slip without a real name has the name on the roll in its place
-        bare = CodeRow("ada", "", "", CODES["ada"], "")
+        bare = elector("ada", "", "", CODES["ada"], "")
         self.assertTrue(self.each(CALL, [bare])[0].startswith("ada Where we meet Nameada Code"))
 
     def test_hostile_texts_are_texts(self) -> None:
@@ -194,7 +201,7 @@ class Slips(unittest.TestCase):
         poll = dataclasses.replace(POLL, shown_title=texts[0], shown_options=tuple(texts))
         for code in LANGUAGES:
             call = dataclasses.replace(CALL, language=language_of(code), poll=poll)
-            page = slips(call, [CodeRow(name, who, "", CODES[name], "") for name, who in zip(ROLL, texts)]).decode()
+            page = slips(call, [elector(name, who, "", CODES[name], "") for name, who in zip(ROLL, texts)]).decode()
             self.assertIn(f'<html lang="{code}">', page)
             self.assertNotRegex(page, r"<script| onload=\"x|%s </bdi></section>")
             self.assertEqual(page.count("<section"), 3)
@@ -223,21 +230,22 @@ class Slips(unittest.TestCase):
 class Table(unittest.TestCase):
     """The table of codes."""
 
-    def cells(self, row: CodeRow) -> list[str]:
+    def cells(self, row: Elector) -> list[str]:
         head, cells = csv.reader(io.StringIO(codes_csv([row]).decode(), newline=""))
         self.assertEqual(head, ["name", "who", "mail", "code", "alias"])
         return cells
 
     def test_each_elector_has_a_row(self) -> None:
-        rows = [CodeRow(name, f'{name.title()} "\u00c9", jr.', "", CODES[name], ALIASES[name]) for name in ROLL]
+        rows = [elector(name, f'{name.title()} "\u00c9", jr.', "", CODES[name], ALIASES[name]) for name in ROLL]
         found = list(csv.DictReader(io.StringIO(codes_csv(iter(rows)).decode())))
-        self.assertEqual(found, [row._asdict() for row in rows])
+        wanted = [{"name": row.name, "who": row.who, "mail": "", "code": row.code, "alias": row.alias} for row in rows]
+        self.assertEqual(found, wanted)
         self.assertEqual(codes_csv([]), b"name,who,mail,code,alias\n")
 
     def test_a_spreadsheet_runs_no_cell(self) -> None:
         for cell in ("=1+1", "@SUM(A1)", "+cmd|'/c calc'!A0", "-2+3", "\t=1", "\u200b\ufeff=1", "\uff1dHYPERLINK(1)", "\uff0b1+a", "\uff20x", "  =x"):
             with self.subTest(cell=cell):
-                found = self.cells(CodeRow("ada", cell, f"a{cell}", CODES["ada"], ALIASES["ada"]))
+                found = self.cells(elector("ada", cell, f"a{cell}", CODES["ada"], ALIASES["ada"]))
                 # behind a tab a cell may begin, for a spreadsheet that splits there
                 self.assertTrue(found[1].startswith("'"), found)
                 self.assertEqual(found[1].replace("'", ""), cell.replace("'", ""))
@@ -245,11 +253,11 @@ class Table(unittest.TestCase):
             "Ada;=1": "Ada;'=1", "Ada,@x": "Ada,'@x", "Ada|=1": "Ada|'=1", "Ada\t-x": "Ada\t'-x", "=1;=2": "'=1;'=2", "Ada\n=1": "Ada =1",
             "Ada\r\n;=1": "Ada ;'=1", "=": "'=", "-x;1": "'-x;1",
         }.items():  # fmt: skip
-            self.assertEqual(self.cells(CodeRow("ada", cell, "", "", ""))[1], wanted)
+            self.assertEqual(self.cells(elector("ada", cell, "", "", ""))[1], wanted)
 
     def test_what_is_harmless_stays(self) -> None:
         for cell in ("Ada", "+49 (0) 30 / 12-34", "-", "a=b", "a@b.org", "O'Neil", "a-b", "\u00c9ve", "+49 30;+49 40"):
-            self.assertEqual(self.cells(CodeRow("ada", cell, "", "", ""))[1], cell)
+            self.assertEqual(self.cells(elector("ada", cell, "", "", ""))[1], cell)
 
 
 if __name__ == "__main__":

@@ -50,32 +50,33 @@ HOSTILE = ["</script><b>x</b><script>", '" autofocus onfocus="x', "<!-- & &amp; 
 # opens each page in a frame, types and chooses as an elector does, and writes down what the page shows
 DRIVER = """<!DOCTYPE html><meta charset="utf-8"><title>driver</title><pre id="out"></pre><script>
 const jobs = JSON.parse(JSON_HERE);
-const told = (node) => [...node.querySelectorAll("li")].map((item) => [...item.childNodes].map((part) =>
-  part.nodeType === 3 ? part.data : `{${part.dataset.option}}`).join(""));
+const told = (node) => [...node.childNodes].map((part) => part.nodeType === 3 ? part.data : `{${part.dataset.option}}`).join("");
 const named = (node) => Object.fromEntries([...node.querySelectorAll("b")].map((part) => [part.dataset.option, part.textContent]));
 function choose(doc, choice) {
-  const name = doc.getElementById("name");
+  const name = doc.getElementById("Name");
   const tell = (node) => choice.isFilled || node.dispatchEvent(new Event("input", { bubbles: true }));
   if (name) {
     name.value = choice.name;
     tell(name);
   }
-  [...doc.querySelectorAll("select")].forEach((select, place) => {
-    select.value = choice.ranks[place];
-    tell(select);
+  [...doc.querySelectorAll(".rank")].forEach((rank, place) => {
+    if (rank.matches("select")) rank.value = choice.ranks[place];
+    for (const button of rank.querySelectorAll("input")) button.checked = button.value === choice.ranks[place];
+    tell(rank);
   });
   if (choice.isFilled) doc.defaultView.dispatchEvent(new Event("pageshow"));
-  const letter = doc.getElementById("letter");
+  const letter = doc.getElementById("Letter");
   const is = (id) => !doc.getElementById(id).hidden;
-  return { line: doc.getElementById("line").textContent, words: told(doc.getElementById("words")), names: named(doc.getElementById("words")),
-    said: name && doc.getElementById("name-said").textContent, missing: doc.getElementById("missing").textContent,
-    letter: letter && letter.getAttribute("href"), ready: is("ready"), long: is("long"), invalid: name && name.getAttribute("aria-invalid") };
+  return { line: doc.getElementById("Line").textContent, words: told(doc.getElementById("Words")), names: named(doc.getElementById("Words")),
+    said: name && doc.getElementById("Name-said").textContent, missing: doc.getElementById("Missing").textContent,
+    suggested: [...doc.querySelectorAll("#Name-said button")].map((button) => button.textContent),
+    letter: letter && letter.getAttribute("href"), ready: is("Ready"), long: is("Long"), invalid: name && name.getAttribute("aria-invalid") };
 }
 async function copied(win, write) {
   Object.defineProperty(win.navigator, "clipboard", { value: { writeText: write }, configurable: true });
-  win.document.getElementById("copy").click();
+  win.document.getElementById("Copy").click();
   await new Promise((done) => setTimeout(done, 50));
-  return { said: win.document.getElementById("copied").textContent, selected: String(win.getSelection()) };
+  return { said: win.document.getElementById("Copied").textContent, selected: String(win.getSelection()) };
 }
 async function run(job) {
   const frame = document.createElement("iframe");
@@ -91,11 +92,12 @@ async function run(job) {
   let clip = null;
   const copies = job.choices.length === 0 ? [] : [await copied(win, async (text) => { clip = text; }), await copied(win, async () => { throw 1; })];
   const style = win.getComputedStyle(doc.body);
-  const unlabelled = [...doc.querySelectorAll("input, select")].filter((field) => field.labels.length !== 1).length;
+  const unlabelled = [...doc.querySelectorAll("input, select")].filter((field) => !field.ariaLabel && field.labels.length !== 1).length;
   return { results, clip, copies, violations, unlabelled, wide: doc.documentElement.scrollWidth, title: doc.title, head: doc.querySelector("h1").textContent,
     colours: style.color + " " + style.backgroundColor, requests: win.performance.getEntriesByType("resource").length,
-    offered: [...(doc.getElementById("name")?.list || { options: [] }).options].map((option) => option.value),
-    scripts: doc.querySelectorAll("script").length, shown: !doc.getElementById("ballot").hidden };
+    offered: [...(doc.getElementById("Name")?.list || { options: [] }).options].map((option) => option.value),
+    small: [...doc.querySelectorAll("[id]")].map((node) => node.id).filter((id) => !/[A-Z]/.test(id)),
+    scripts: doc.querySelectorAll("script").length, shown: !doc.getElementById("Bottom").hidden };
 }
 (async () => {
   const all = [];
@@ -153,25 +155,17 @@ def order_of(ranks: list[str]) -> tuple[list[list[int]], list[int]]:
     return [by_rank[rank] for rank in sorted(by_rank, key=int)], unranked
 
 
-def order_in(sentences: list[str]) -> tuple[list[list[int]], list[int]]:
-    """What the sentences say: the options from the first preference on, equal ones together, and those without a rank."""
-    steps: list[list[int]] = []
-    equal: list[list[int]] = []
-    unranked: list[int] = []
-    for sentence in sentences:
-        groups = [[int(number) for number in re.findall(r"\{(\d+)\}", part)] for part in sentence.split(" to ")]
-        if sentence.startswith("You prefer "):
-            if steps and steps[-1] != groups[0]:
-                raise AssertionError(f"the sentences are no chain: {sentences}")
-            steps += ([] if steps else [groups[0]]) + ([] if sentence.endswith(" to all others.") else [groups[1]])
-        elif " equally: " in sentence:
-            equal.append(groups[0])
-        else:
-            unranked = groups[0]
-    steps = steps or equal
-    if [step for step in steps if step[1:]] != equal:
-        raise AssertionError(f"equal options are not told as that: {sentences}")
-    return steps, unranked
+def order_in(words: str) -> tuple[list[list[int]], list[int]]:
+    """What the words say: the options from the first preference on, equal ones together, and those without a rank."""
+
+    def numbers(text: str) -> list[int]:
+        return [int(number) for number in re.findall(r"\{(\d+)\}", text)]
+
+    ranked, _, unranked = words.partition("; not ranked: ")
+    steps = ranked.split("; then ")
+    if any(step.startswith("equally ") != (len(numbers(step)) > 1) for step in steps):
+        raise AssertionError(f"equal options are not told as that: {words}")
+    return [numbers(step) for step in steps], numbers(unranked)
 
 
 class CallFolder(unittest.TestCase):
@@ -217,6 +211,8 @@ class CallPageTest(CallFolder):
         self.assertEqual((page["requests"], page["violations"], page["scripts"], page["unlabelled"]), (0, [], 1, 0))
         self.assertEqual((page["title"], page["head"]), (f"Vote: {HOSTILE_TITLE}", HOSTILE_TITLE))
         self.assertEqual(page["wide"], 360)
+        # no elector's name has a capital letter
+        self.assertEqual(page["small"], [])
         self.assertTrue(page["shown"])
 
     def check_lines(self, folder: pathlib.Path, choices: list[dict], results: list[dict]) -> None:
@@ -234,8 +230,7 @@ class CallPageTest(CallFolder):
         self.assertEqual(result["names"], shown)
         self.assertEqual((result["missing"], result["ready"], result["invalid"]), ("", True, "false"))
         self.assertEqual(result["long"], len(result["line"]) > 72)
-        self.assertEqual("made small" in result["said"], "E" in choice["name"])
-        self.assertEqual("left out" in result["said"], choice["name"].strip() != choice["name"])
+        self.assertEqual(result["said"], "")
         address, _, query = result["letter"].partition("?")
         self.assertEqual(address, "mailto:" + urllib.parse.quote(ADDRESS, safe="@"))
         self.assertEqual(urllib.parse.parse_qs(query), {"subject": [f"Ballot: {HOSTILE_TITLE} [{mark}]"], "body": [result["line"] + "\r\n"]})
@@ -248,8 +243,8 @@ class CallPageTest(CallFolder):
         self.assertIn("The line is selected", page["copies"][1]["said"])
 
     def test_no_line_before_name_and_rank(self) -> None:
-        odd = {"a b": "a space", "\u00e9va": "“\u00e9”", "x_y": "“_”", "\u212aate": "“\u212a”", "a,b": "“,”", "x" * 33: "33 characters"}
-        odd |= {"": "", "   ": "Type your name"}
+        odd = dict.fromkeys(["q b", "\u00e9va", "x_y", "\u212aate", "q,b", "x" * 33], "is not on the roll of this poll")
+        odd |= {"": "", "   ": ""}
         good = {"name": "ada", "ranks": list("1234")}
         # each after a good line, so that nothing of it stays
         choices = [job for name in odd for job in (good, {"name": name, "ranks": list("213-")})]
@@ -266,9 +261,9 @@ class CallPageTest(CallFolder):
             self.assertEqual((result["line"], result["ready"], result["letter"]), ("", False, None), name)
             self.assertIn(part, result["said"])
             self.assertTrue(result["missing"])
-            self.assertEqual(result["invalid"], "true" if name else "false")
+            self.assertEqual(result["invalid"], "true" if name.strip() else "false")
         self.assertEqual((results[-1]["line"], results[-1]["missing"]), ("", "Give at least one option a rank."))
-        self.assertEqual(results[-1]["words"], [])
+        self.assertEqual(results[-1]["words"], "")
 
     def test_what_a_browser_fills_in_again_is_read(self) -> None:
         page = self.called("again", POLL)
@@ -276,40 +271,39 @@ class CallPageTest(CallFolder):
         (found,), console = browse(self.scratch, [{"page": page.as_uri(), "width": 360, "choices": [choice]}])
         self.assertEqual((console, found["results"][0]["line"]), ("", "ada 1,2,3,4"))
 
-    def test_names_on_the_roll_are_offered_and_near_ones_asked_about(self) -> None:
-        roll = ["zoe", "ada-angstrom", "ada.lovelace", "strasse", "oedipus", "-", "anna-1", "anna-2", "anna-3", "anna-4", "anna-5", "anna-6"]
-        missing = "{} is not on the roll of this poll; the names on the roll are below."
-        odd = "The name has {}. Names on the roll have only small letters without accents, digits, points and hyphens."
-        said = {
-            "zoe": "", "-": "", "anna-6": "",
-            "Ada.Lovelace": "Capital letters of the name are made small.",
-            "yves": missing.format("yves"),
-            "anna": missing.format("anna") + " Did you mean anna-1, anna-2, anna-3, anna-4 or anna-5?",
-            "anna6": missing.format("anna6") + " Did you mean anna-6?",
-            "ada": missing.format("ada") + " Did you mean ada-angstrom or ada.lovelace?",
-            "--": missing.format("--"),
-            "Ada \u00c5ngstr\u00f6m": "Capital letters of the name are made small. " + odd.format("a space") + " Did you mean ada-angstrom?",
-            "ada A\u030a": "Capital letters of the name are made small. " + odd.format("a space") + " Did you mean ada-angstrom?",
-            "stra\u00dfe": odd.format("“\u00df”") + " Did you mean strasse?",
-            "\u0152dipus": odd.format("“\u0152”") + " Did you mean oedipus?",
-            "<b>": odd.format("“<”"),
+    def test_names_on_the_roll_are_offered_and_what_is_typed_is_folded(self) -> None:
+        roll = ["zoe", "ada-angstrom", "ada.lovelace", "strasse", "oedipus", "-", "anna-1", "anna-2", "anna-3", "eve-arnold", "ben-lee", "ben-lee-2"]
+        annas = ["anna-1", "anna-2", "anna-3"]
+        # by what is typed: the name in the line, and those that are suggested
+        wanted = {
+            "zoe": ("zoe", []), "-": ("-", []), "anna-2": ("anna-2", []), "ben-lee": ("ben-lee", []), "Ada.Lovelace": ("ada.lovelace", []),
+            "Eve Arnold": ("eve-arnold", ["eve-arnold"]), "Arnold, Eve": ("eve-arnold", ["eve-arnold"]), "\u00c8ve  ARNOLD": ("eve-arnold", ["eve-arnold"]),
+            "Ada \u00c5ngstr\u00f6m": ("ada-angstrom", ["ada-angstrom"]), "ada A\u030angstr\u00f6m": ("ada-angstrom", ["ada-angstrom"]),
+            "stra\u00dfe": ("strasse", ["strasse"]), "\u0152dipus": ("oedipus", ["oedipus"]),
+            # never one of several namesakes alone
+            "Anna": ("", annas), "anna2": ("anna-2", ["anna-2"]), "Ben Lee": ("", ["ben-lee", "ben-lee-2"]), "ben lee 2": ("ben-lee-2", ["ben-lee-2"]),
+            "ada": ("", ["ada-angstrom", "ada.lovelace"]), "eve": ("", ["eve-arnold"]),
+            "yves": ("", []), "--": ("", []), "<q>": ("", []),
         }  # fmt: skip
-        on_roll = ["zoe", "-", "anna-6", "Ada.Lovelace"]
-        choices = [{"name": name, "ranks": list("1234")} for name in said]
+        choices = [{"name": name, "ranks": list("1234")} for name in wanted]
         jobs = [
             {"page": self.called(name, poll).as_uri(), "width": 360, "choices": choices}
             for name, poll in {"listed": with_roll(POLL, roll), "unlisted": with_roll(POLL, [f"x{n}" for n in range(2_001)])}.items()
         ]
         (listed, unlisted), console = browse(self.scratch, jobs)
         self.assertEqual((console, listed["offered"], unlisted["offered"]), ("", roll, []))
-        for name, result in zip(said, listed["results"], strict=True):
-            self.assertEqual(result["said"], said[name])
-            self.assertEqual(result["line"], f"{name.lower()} 1,2,3,4" if name in on_roll else "", name)
-            self.assertEqual(result["invalid"], "false" if name in on_roll else "true", name)
+        for name, result in zip(wanted, listed["results"], strict=True):
+            found, suggested = wanted[name]
+            self.assertEqual((result["line"], result["suggested"]), (f"{found} 1,2,3,4" if found else "", suggested), name)
+            self.assertEqual(result["invalid"], "false" if found else "true", name)
+            self.assertEqual("is not on the roll of this poll" in result["said"], not found and not suggested, name)
+            self.assertEqual(result["said"].startswith("On the roll: "), bool(suggested), name)
+            self.assertEqual(result["missing"], "" if found else "Type your name as it is on the roll.", name)
         # without the roll each name that one may have gets its line, and none is told
-        for name, result in zip(said, unlisted["results"], strict=True):
-            self.assertNotRegex(result["said"], "Did you mean|roll of this poll")
-            self.assertEqual(bool(result["line"]), re.fullmatch("[A-Za-z0-9.-]+", name) is not None, name)
+        for name, result in zip(wanted, unlisted["results"], strict=True):
+            is_name = re.fullmatch("[A-Za-z0-9.-]+", name) is not None
+            self.assertEqual((result["line"], result["suggested"]), (f"{name.lower()} 1,2,3,4" if is_name else "", []), name)
+            self.assertEqual("Names on the roll have only small letters" in result["said"], not is_name, name)
 
     def test_no_name_is_typed_into_the_page_of_a_secret_vote(self) -> None:
         """Whoever can change the page would learn it. The line has a gap in its place, to be filled in the letter."""
@@ -325,7 +319,7 @@ class CallPageTest(CallFolder):
                 body = urllib.parse.parse_qs(found["results"][2]["letter"].partition("?")[2])["body"]
                 self.assertEqual(body, [f"{gap} 2,1,3,-\r\n"])
                 text = page.read_text()
-                self.assertNotRegex(text, "<(input|textarea)")
+                self.assertNotRegex(text, '<textarea|<input (?!type="radio")')
                 self.assertRegex(text, rf"In the letter, and not on this page, write your \w+ in the place of <code>{gap}</code>")
 
     def test_a_name_may_look_like_a_code_in_an_open_vote(self) -> None:
@@ -343,24 +337,12 @@ class CallPageTest(CallFolder):
         self.assertEqual(
             words,
             [
-                ["You prefer {2} to {1}.", "You prefer {1} to {4}.", "You rank {3} not at all, so it is behind all others."],
-                ["You rank {1}, {2}, {3} and {4} equally: none of them is preferred to another."],
-                ["You prefer {1} to all others.", "You rank {2}, {3} and {4} not at all, so they are behind all others."],
-                [
-                    "You prefer {1} and {3} to all others.",
-                    "You rank {1} and {3} equally: none of them is preferred to another.",
-                    "You rank {2} and {4} not at all, so they are behind all others.",
-                ],
-                [
-                    "You prefer {3} to {1} and {2}.",
-                    "You rank {1} and {2} equally: none of them is preferred to another.",
-                    "You rank {4} not at all, so it is behind all others.",
-                ],
-                [
-                    "You prefer {2} and {3} to {1} and {4}.",
-                    "You rank {2} and {3} equally: none of them is preferred to another.",
-                    "You rank {1} and {4} equally: none of them is preferred to another.",
-                ],
+                "{2}; then {1}; then {4}; not ranked: {3}",
+                "equally {1}, {2}, {3} and {4}",
+                "{1}; not ranked: {2}, {3} and {4}",
+                "equally {1} and {3}; not ranked: {2} and {4}",
+                "{3}; then equally {1} and {2}; not ranked: {4}",
+                "equally {2} and {3}; then equally {1} and {4}",
             ],
         )
 
@@ -384,7 +366,6 @@ class CallPageTest(CallFolder):
         found, console = browse(self.scratch, [{"page": page.as_uri(), "width": 360, "choices": []}])
         self.assertFalse(found[0]["shown"])
         self.assertIn("Content Security Policy", console)
-
 
     @unittest.skipUnless(shutil.which("node"), "node is not installed")
     def test_the_script_is_in_order(self) -> None:

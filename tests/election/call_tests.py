@@ -1,5 +1,6 @@
 """`call` and `codes`: what is sealed, what electors are told, and how a call is extended, added to and taken back."""
 
+import contextlib
 import email
 import json
 import re
@@ -11,6 +12,9 @@ import support
 
 sys.path.insert(0, str(support.ROOT / "python"))
 
+from debvote_tools.book import queries  # noqa: E402
+from debvote_tools.book.book import Book, open_book  # noqa: E402
+from debvote_tools.book.election import LETTER_TEXT, History  # noqa: E402
 from debvote_tools.poll.sealed_poll import read_plain  # noqa: E402
 from debvote_tools.poll.aliases import alias_of  # noqa: E402
 
@@ -102,8 +106,8 @@ class Open(CallTest):
         self.done("call", "--to", "vote@club.example")
         self.done("call", *UNTIL)
         text = " ".join(self.read("letters/extension.txt").decode().split())
-        said = f"You can now vote until the time below. Nothing else that the call says has changed. Until when: {FIRST} The call did not"
-        self.assertIn(said, text)
+        self.assertIn("You can now vote until the time below. Nothing else that the call says has changed.", text)
+        self.assertIn(f"Until when: {FIRST} The call did not", text)
         self.assertNotIn("more time", text)
 
 
@@ -165,6 +169,123 @@ class Again(CallTest):
         self.assert_fault(self.election("call", "--take-back"), 9, "have come")
         self.done("held", "1", "--set-aside")
         self.assert_fault(self.election("call", "--take-back"), 9, "have come")
+
+
+class Letters(CallTest):
+    """What letters to electors are told by the call: a name to come from, own marks, and a text of the secretary."""
+
+    def electors(self) -> dict[str, queries.Elector]:
+        with contextlib.closing(open_book(self.folder / "election.db").connection) as connection:
+            return {elector.name: elector for elector in queries.electors(Book(self.folder / "election.db", connection))}
+
+    def marks(self) -> dict[str, str]:
+        return {name: elector.mark for name, elector in self.electors().items()}
+
+    def announced(self, key: str) -> object:
+        with contextlib.closing(open_book(self.folder / "election.db").connection) as connection:
+            return History(Book(self.folder / "election.db", connection).acts()).announced(key)
+
+    def letter_texts(self) -> list[bytes]:
+        with contextlib.closing(open_book(self.folder / "election.db").connection) as connection:
+            return [data for data, in connection.execute("SELECT data FROM sealed WHERE name = ? ORDER BY act", (LETTER_TEXT,))]
+
+    def test_a_name_of_the_address_is_kept_and_not_sealed(self) -> None:
+        self.done("call", *UNTIL, "--to", "Wahlleitung TSV <vote@club.example>")
+        self.assertEqual((self.announced("to"), self.announced("to_name")), ("vote@club.example", "Wahlleitung TSV"))
+        self.assertEqual(read_plain(self.read("call/poll.toml")).address, "vote@club.example")
+        self.assertNotIn("Wahlleitung", self.texts())
+        self.assertIn("mailto:vote@club.example", self.read("call/index.html").decode())
+        # the name alone may change, and may be taken away
+        self.done("call", "--to", '"Vereinsb\u00fcro, TSV" <vote@club.example>')
+        self.assertEqual(self.announced("to_name"), "Vereinsb\u00fcro, TSV")
+        self.done("call", "--to", "vote@club.example")
+        self.assertEqual(self.announced("to_name"), "")
+        self.assert_fault(self.election("call", "--to", "TSV <other@club.example>"), 9, "--to: the call has sealed the address")
+
+    def test_a_name_in_a_wrong_form(self) -> None:
+        for text in ("TSV <vote>", "TSV <vote@club.example", "TSV vote@club.example", "<>"):
+            self.assert_fault(self.election("call", "--to", text), 2, "--to: it must be one mail address", "nothing was changed")
+        for name in ("a\nb", "a\u2028b", "x" * 101, 'a "b" c', "a <b@c.de>", "a\u202eb"):
+            self.assert_fault(self.election("call", "--to", f"{name} <vote@club.example>"), 2, "--to: the name has", "nothing was changed")
+        self.assertIsNone(self.announced("to"))
+
+    def test_own_marks_stay_until_the_call_is_taken_back(self) -> None:
+        self.done("call", *UNTIL)
+        first = self.marks()
+        self.assertTrue(all(re.fullmatch("[2-9a-hj-km-np-z]{10}", mark) for mark in first.values()), first)
+        self.assertEqual(len(set(first.values())), 9)
+        self.done("call", "--until", "2026-12-05 18:00", "--zone", "Europe/Berlin")
+        self.assertEqual(self.marks(), first)
+        self.done("call", "--take-back")
+        self.assertEqual(set(self.marks().values()), {""})
+        self.done("call", *UNTIL)
+        self.assertFalse({*self.marks().values()} & {*first.values()})
+
+    def test_a_new_address_makes_a_new_own_mark(self) -> None:
+        self.done("call", *UNTIL)
+        before = self.electors()
+        rows = support.members_of(support.NAMES).replace("\n", ",\n").replace("mail,", "mail,key", 1)
+        self.write("members.csv", rows.replace("ada@club", "ada@new").replace("ben@club.example,", f"ben@club.example,{'A' * 40}"))
+        self.done("roll", "--yes")
+        after = self.electors()
+        self.assertEqual([name for name in before if before[name].mark != after[name].mark], ["ada"])
+        self.assertRegex(after["ada"].mark, "^[2-9a-z]{10}$")
+        acts = [json.loads(line.partition(" addresses ")[2]) for line in self.done("log").output.splitlines() if " addresses " in line]
+        self.assertEqual(acts, [{"electors": 2, "new_addresses": [after["ada"].number]}])
+
+    def test_with_marks_alone(self) -> None:
+        self.done("call", *UNTIL, "--to", "vote@club.example", "--at", "https://club.example/vote/", "--marked")
+        self.assertIs(self.announced("marked"), True)
+        said = "Open the link in your letter, or answer that letter: then the subject has your own mark"
+        self.assertIn(said, " ".join(self.read("call/index.html").decode().split()))
+        self.done("call", "--marked", "--until", "2026-12-05 18:00")
+        self.assertIs(self.announced("marked"), True)
+        self.done("call", "--take-back")
+        self.done("call", *UNTIL, "--to", "vote@club.example")
+        self.assertNotIn("your own mark", " ".join(self.texts().split()))
+        self.assert_fault(self.election("call", "--marked"), 9, "--marked: the call was made without it", "--take-back")
+
+    def test_the_text_is_sealed_by_each_call(self) -> None:
+        self.write("letter.txt", "\ufeffDear members,\r\npaper ballots go to the office.\r\n\r\n")
+        text = "Dear members,\npaper ballots go to the office.\n"
+        for output in (self.done("check").output, self.done("call", *UNTIL).output):
+            self.assertIn("Letters to electors begin with letter.txt:\n  Dear members,\n  paper ballots go to the office.\n", output)
+        acts = len(self.done("log").output.splitlines())
+        self.done("call")
+        self.assertEqual((self.letter_texts(), len(self.done("log").output.splitlines())), ([text.encode()], acts))
+        self.write("letter.txt", "Hello,\n")
+        self.done("call", "--until", "2026-12-05 18:00")
+        self.write("letter.txt", "Hello again,\n")
+        # the text alone is an act, too
+        self.done("call")
+        (self.folder / "letter.txt").unlink()
+        self.done("call", "--until", "2026-12-06 18:00")
+        self.assertEqual(self.letter_texts(), [text.encode(), b"Hello,\n", b"Hello again,\n", b""])
+        self.done("close", "--early")
+        self.write("letter.txt", "Too late\n")
+        self.done("call")
+        self.assertEqual(len(self.letter_texts()), 4)
+
+    def test_a_text_that_is_none(self) -> None:
+        for data, part in {
+            "Gr\u00fc\u00dfe".encode("latin-1"): "letter.txt:1: it is not in UTF-8; save it as plain text in UTF-8",
+            b"x" * 4_097: "letter.txt: it is longer than 4096 bytes; shorten it",
+            b"a\nb\x1b[31m": "letter.txt:2: it has the character U+001B",
+            "a\u202eb".encode(): "letter.txt:1: it has the character U+202E",
+            b" \n": "letter.txt: it is empty; write it, or remove the file",
+        }.items():
+            self.write("letter.txt", data)
+            for command in ("check", "call"):
+                self.assert_fault(self.election(command), 2, part, "then run debvote-election check")
+        self.write("letter.txt", b"x" * 4_096)
+        self.done("call", *UNTIL)
+        self.write("letter.txt", b"\xff")
+        self.assert_fault(self.election("call", "--until", "2026-12-05 18:00"), 2, "letter.txt:1: it is not in UTF-8")
+        self.write("poll.toml", "title = 5\n")
+        self.done("call", "--take-back")
+        ended = self.election("check")
+        self.assertIn("letter.txt:1: it is not in UTF-8", ended.faults)
+        self.assertIn("poll.toml: ", ended.faults)
 
 
 class Secret(CallTest):
@@ -240,8 +361,19 @@ class Secret(CallTest):
         self.done("call", "--at", "https://club.example/vote/")
         self.assertIn("https://club.example/vote/", self.read("private/slips.html").decode())
 
+    def test_no_code_is_in_the_text_of_the_letters(self) -> None:
+        self.done("codes")
+        code = self.read("private/codes.csv").decode().splitlines()[1].split(",")[3]
+        self.write("letter.txt", f"Your code is {code}\n")
+        self.assert_fault(self.election("call", *UNTIL), 9, "letter.txt would have the code of an elector in it")
+        self.write("letter.txt", "Hello\n")
+        self.done("call", *UNTIL)
+        self.write("letter.txt", f"Your code is {code}\n")
+        self.assert_fault(self.election("call"), 9, "letter.txt would have the code of an elector in it")
+
     def test_codes_on_the_roll(self) -> None:
         self.done("codes", "--on-roll")
+        self.assert_fault(self.election("call", "--marked"), 2, "--marked: codes are on the roll", "leave it out")
         for status in (self.done("status").output, self.done("status", "--json").output):
             self.assertNotRegex(status.rpartition("digest")[0], r"[0-9a-f]{32}")
         self.assertEqual([file.name for file in (self.folder / "private").iterdir()], ["slips.html"])

@@ -7,6 +7,7 @@ import hashlib
 import html
 import html.parser
 import itertools
+import json
 import pathlib
 import re
 import shutil
@@ -56,12 +57,10 @@ def sha256_of(data: bytes) -> str:
 
 
 def texts_of(data: CallData) -> dict[str, str]:
-    """Page and letter as they are read, each blank as one space."""
-    files = call_files(data)
-    body = files["index.html"].decode().partition("<body>")[2].partition("<script>")[0]
+    """The page as it is read, each blank as one space."""
+    body = call_files(data)["index.html"].decode().partition("<body>")[2].partition("<script>")[0]
     page = html.unescape(re.sub("<[^>]*>", " ", re.sub("</?(?:b|bdi|code|a)[^>]*>", "", body)))
-    texts = {"index.html": page, "call.txt": files["call.txt"].decode()}
-    return {name: " ".join(text.split()) for name, text in texts.items()}
+    return {"index.html": " ".join(page.split())}
 
 
 class Elements(html.parser.HTMLParser):
@@ -122,18 +121,19 @@ class Files(unittest.TestCase):
         said["never"] = dataclasses.replace(said["late"], until=None)
         more = f"The time was extended. The call said at first: {FIRST_WORDS}"
         wanted = {
-            "at first": f"Until when: {FIRST_WORDS} The page",
-            "extended": f"Until when: {LATER_WORDS} {more} The page",
-            "late": f"Until when: {LATER_WORDS} The call did not say it at first. The page",
-            "never": "You can vote until the time that the secretary announces. The page",
+            "at first": f"Until when: {FIRST_WORDS} ",
+            "extended": f"Until when: {LATER_WORDS} {more} ",
+            "late": f"Until when: {LATER_WORDS} The call did not say it at first. ",
+            "never": "You can vote until the time that the secretary announces. ",
         }
         for kind, data in said.items():
             for text in texts_of(data).values():
-                self.assertIn(wanted[kind], text)
+                self.assertIn(f"{wanted[kind]}Your name", text)
             if kind in ("extended", "late"):
                 change = "You have more time to vote." if kind == "extended" else "You can now vote until the time below."
-                letter = f"{change} Nothing else that the call says has changed. {wanted[kind]}"
-                self.assertIn(letter, " ".join(extension_letter(data).split()))
+                letter = " ".join(extension_letter(data).split())
+                self.assertTrue(letter.startswith(f"{change} Nothing else that the call says has changed. "), letter)
+                self.assertIn(f"Where we meet {wanted[kind]}The page of the vote", letter)
                 self.assertIn("If you have voted, you need not vote again", extension_letter(data))
         # after a second extension, too, it is the end that the call said at first
         again = dataclasses.replace(said["extended"], until=LATER + datetime.timedelta(days=2))
@@ -149,8 +149,8 @@ class Files(unittest.TestCase):
 
     def test_where_to(self) -> None:
         for data, wanted in {
-            CALL: f"on which the result will be: {PAGE} Send your ballot to: {ADDRESS} ",
-            dataclasses.replace(CALL, at=None, to=None): f"{FIRST_WORDS} Send your ballot as the secretary announces. ",
+            CALL: f"Send your ballot to: {ADDRESS} ",
+            dataclasses.replace(CALL, at=None, to=None): "Send your ballot as the secretary announces. ",
         }.items():
             for text in texts_of(data).values():
                 self.assertIn(wanted, text)
@@ -161,9 +161,9 @@ class Files(unittest.TestCase):
         links = [attributes["href"] or "" for tag, attributes in page.found if tag == "a" and "href" in attributes]
         letters = [urllib.parse.urlsplit(link) for link in links if link.startswith("mailto:")]
         self.assertEqual({letter.path for letter in letters}, {"vote%2Bclub@example.org"})
-        self.assertEqual([urllib.parse.parse_qs(letter.query)["subject"] for letter in letters], [[f"Ballot: Where we meet {mark}"]] * 2)
-        self.assertEqual(page.attributes_of("ballot")["data-mark"], mark)
-        for text in (*texts_of(CALL).values(), " ".join(extension_letter(CALL).split())):
+        self.assertEqual([urllib.parse.parse_qs(letter.query)["subject"] for letter in letters], [[f"Ballot: Where we meet {mark}"]])
+        self.assertEqual(page.attributes_of("Ballot")["data-mark"], POLL.mark)
+        for text in texts_of(CALL).values():
             self.assertIn(f"Let the subject of your letter end with {mark}, which is the mark of this vote", text)
         for text in texts_of(KINDS["signed"]).values():
             self.assertIn(f"your ballot, and below it the mark of this vote, {mark}, so that", text)
@@ -180,7 +180,7 @@ class Files(unittest.TestCase):
             page = Elements(call_files(dataclasses.replace(CALL, poll=poll))["index.html"])
             self.assertIn(f"Ballot%3A%20{urllib.parse.quote(poll.name)}%20%5B{poll.mark}%5D", str(page.found))
             self.assertEqual((page.texts["title"], page.texts["h1"]), ([f"Vote: {poll.name}"], [poll.name]))
-            for name, form in (("index.html", "{}, {}"), ("call.txt", "{} ({})")):
+            for name, form in (("index.html", "{}, {}"),):
                 for part in (*map(form.format, numbered, ratios), said, *rules, f"The default option is {numbered[3]}."):
                     self.assertIn(part, files[name])
                 self.assertIn("(name 2,1,-,3)", files[name])
@@ -193,21 +193,24 @@ class Files(unittest.TestCase):
         poll = dataclasses.replace(POLL, explanations=("First line\nsecond <b>line</b>\n\nand more\n", "", "Sell \u05d0\u05d1\n \n\nit"))
         data = dataclasses.replace(CALL, poll=poll)
         files = call_files(data)
-        frames = re.findall(r'<div class="given" role="note".*?</div>', files["index.html"].decode(), re.DOTALL)
-        self.assertEqual(len(frames), 2)
-        self.assertIn("About Option 1: <bdi>At the lake</bdi>, in the words of those who publish this page.", frames[0])
-        self.assertEqual(re.findall('"about"><bdi>(.*?)</bdi>', frames[0], re.DOTALL), ["First line\nsecond &lt;b&gt;line&lt;/b&gt;", "and more"])
-        self.assertEqual(re.findall('"about"><bdi>(.*?)</bdi>', frames[1], re.DOTALL), ["Sell \u05d0\u05d1", "it"])
-        letter = files["call.txt"].decode()
-        self.assertIn("in the words of those who send this letter.", letter)
-        self.assertIn("\n\nFirst line\nsecond <b>line</b>\n\nand more\n\nAbout Option 3: Sell the house, in", letter)
-        self.assertIn("\n\nSell \u05d0\u05d1\n\nit\n\nMajority", letter)
-        self.assertNotIn("About Option", call_files(CALL)["call.txt"].decode())
+        page = files["index.html"].decode()
+        frames = re.findall(r'<bdi class="name">([^<]*)</bdi></p>\n<div class="text" role="note".*?>\n(.*?)</div>', page, re.DOTALL)
+        self.assertEqual([name for name, _ in frames], ["At the lake", "Sell the house"])
+        self.assertEqual(re.findall('"about"><bdi>(.*?)</bdi>', frames[0][1], re.DOTALL), ["First line\nsecond &lt;b&gt;line&lt;/b&gt;", "and more"])
+        self.assertEqual(re.findall('"about"><bdi>(.*?)</bdi>', frames[1][1], re.DOTALL), ["Sell \u05d0\u05d1", "it"])
+        self.assertEqual(page.count("are the words of those who publish this page. The program has not checked them."), 1)
+        self.assertNotIn("has not checked", call_files(CALL)["index.html"].decode())
+        # the letter has them only where no page has them
+        self.assertNotIn("First line", files["call.txt"].decode())
+        letter = call_files(dataclasses.replace(data, at=None))["call.txt"].decode()
+        self.assertEqual(letter.count("The program has not checked it."), 1)
+        self.assertIn("\n\nOption 1: At the lake\n\nFirst line\nsecond <b>line</b>\n\nand more\n\nOption 3: Sell the house\n", letter)
+        self.assertIn("\n\nSell \u05d0\u05d1\n\nit\n\nWHAT DECIDES\n\nMajority", letter)
 
     def test_the_roll(self) -> None:
         listed = "".join(f"<li><code>{name}</code></li>\n" for name in ROLL)
         self.assertIn(listed, call_files(CALL)["index.html"].decode())
-        self.assertIn("\n  ada, ben, cleo, dan\n", call_files(CALL)["call.txt"].decode())
+        self.assertIn("\n  ada, ben, cleo, dan\n", call_files(dataclasses.replace(CALL, at=None))["call.txt"].decode())
         names = dataclasses.replace(CALL, real_names={"ada": "Ada <i>", "dan": ""})
         page = call_files(names)["index.html"].decode()
         self.assertIn("<li><code>ada</code> <bdi>Ada &lt;i&gt;</bdi></li>\n<li><code>ben</code></li>\n", page)
@@ -215,10 +218,10 @@ class Files(unittest.TestCase):
         hidden = call_files(dataclasses.replace(names, real_names=None))
         self.assertNotIn(b"Ada", b"".join(hidden.values()))
         for count, in_page, in_letter in ((200, True, True), (201, True, False), (2_000, True, False), (2_001, False, False)):
-            data = dataclasses.replace(CALL, poll=with_roll(POLL, [f"e{number:04}" for number in range(count)]))
-            files = call_files(data)
-            self.assertEqual(("e0100" in files["index.html"].decode(), "e0100" in files["call.txt"].decode()), (in_page, in_letter))
-            for text, is_listed in zip(texts_of(data).values(), (in_page, in_letter), strict=True):
+            data = dataclasses.replace(CALL, at=None, poll=with_roll(POLL, [f"e{number:04}" for number in range(count)]))
+            files = {name: call_files(data)[name].decode() for name in ("index.html", "call.txt")}
+            self.assertEqual(tuple("e0100" in text for text in files.values()), (in_page, in_letter))
+            for text, is_listed in zip((*texts_of(data).values(), files["call.txt"]), (in_page, in_letter), strict=True):
                 self.assertEqual("The names on the roll are in the file poll.toml." in text, not is_listed)
 
     def test_what_will_be_public(self) -> None:
@@ -247,19 +250,17 @@ class Files(unittest.TestCase):
 
     def test_parts_have_their_headings(self) -> None:
         names = ["What is voted on", "The roll", "How a ballot is written", "What will be public", "The poll"]
-        page, letter = (call_files(CALL)[name].decode() for name in ("index.html", "call.txt"))
-        self.assertEqual(re.findall("<h2[^>]*>(.*?)</h2>", page), [names[0], "Your ballot", *names[1:]])
-        in_letter = [names[place].upper() for place in (0, 2, 1, 3, 4)]
-        self.assertEqual([line for line in letter.splitlines() if line.isupper() and not line.startswith("  ")], in_letter)
-        self.assertNotIn("\n\n\n", letter)
-        self.assertLessEqual(max(map(len, letter.splitlines())), 72)
+        page = call_files(CALL)["index.html"].decode()
+        heads = ["A rank for each option", "What each option needs", *names[1:]]
+        self.assertEqual(re.findall("<h2[^>]*>(.*?)</h2>", page), heads)
+        self.assertEqual(re.findall("<summary><h2[^>]*>(.*?)</h2></summary>", page), heads[1:])
 
     def test_a_secret_call_shows_no_roll_and_one_with_codes_no_poll(self) -> None:
         for data in (SECRET, WITH_CODES):
             files = call_files(dataclasses.replace(data, real_names=dict.fromkeys(CODES, "Ada L.")))
             for name in files.keys() - {"poll.toml"}:
                 self.assertEqual([text for text in (*CODES, "Ada L.") if text in files[name].decode()], [])
-            self.assertNotIn('id="roll"', files["index.html"].decode())
+            self.assertNotIn('class="roll"', files["index.html"].decode())
         self.assertEqual(set(call_files(SECRET)), {"index.html", "call.txt", "poll.toml", "SHA256SUMS"})
         self.assertEqual(set(call_files(WITH_CODES)), {"index.html", "call.txt", "SHA256SUMS"})
         for text in texts_of(SECRET).values():
@@ -284,8 +285,7 @@ class Hostile(unittest.TestCase):
             # the same elements as with harmless texts, each with the same attributes
             found = [(tag, sorted(attributes)) for tag, attributes in page.found]
             self.assertEqual(found, [(tag, sorted(attributes)) for tag, attributes in plain.found])
-            self.assertEqual((page.open, page.texts["h1"], page.attributes_of("ballot")["data-title"]), ([], [HOSTILE[0]], HOSTILE[0]))
-            self.assertEqual([page.attributes_of(f"rank-{number}")["data-name"] for number in (1, 2, 3)], [HOSTILE[1], HOSTILE[2], HOSTILE[0]])
+            self.assertEqual((page.open, page.texts["h1"], page.attributes_of("Ballot")["data-title"]), ([], [HOSTILE[0]], HOSTILE[0]))
             # each stands by itself, so that one from right to left turns nothing around it
             self.assertTrue(set(HOSTILE) <= set(page.texts["bdi"]))
             for text in HOSTILE:
@@ -308,8 +308,10 @@ class Hostile(unittest.TestCase):
     @unittest.skipUnless(shutil.which("tidy"), "tidy is not installed")
     def test_tidy(self) -> None:
         for data in (self.hostile(HOSTILE), *KINDS.values()):
-            ended = subprocess.run(["tidy", "-q", "-e"], input=call_files(data)["index.html"], capture_output=True)
-            self.assertEqual((ended.stdout, ended.stderr.decode(), ended.returncode), (b"", "", 0))
+            # a heading within a summary is newer than tidy
+            page = re.sub(r"<summary>(<h2 [^>]*>.*?</h2>)</summary>", r"\1", call_files(data)["index.html"].decode())
+            ended = subprocess.run(["tidy", "-q", "-e"], input=page, capture_output=True, text=True)
+            self.assertEqual((ended.stdout, ended.stderr, ended.returncode), ("", "", 0))
 
 
 class NoBallot(unittest.TestCase):
@@ -360,12 +362,18 @@ class Addresses(unittest.TestCase):
 # what the page shows once a name is typed and ranks are chosen
 CHOOSE = """((name, ranks) => {
   const tell = (node, value) => { node.value = value; node.dispatchEvent(new Event("input", { bubbles: true })); };
-  tell(document.getElementById("name"), name);
-  [...document.querySelectorAll("select")].forEach((select, place) => tell(select, ranks[place]));
+  if (name !== null && document.getElementById("Name")) tell(document.getElementById("Name"), name);
+  [...document.querySelectorAll(".rank")].forEach((rank, place) => {
+    for (const button of rank.querySelectorAll("input")) button.checked = button.value === ranks[place];
+    tell(rank, ranks[place]);
+  });
   const text = (id) => document.getElementById(id).textContent;
-  return { line: text("line"), said: text("name-said"), missing: text("missing"), letter: document.getElementById("letter").getAttribute("href"),
-    words: [...document.querySelectorAll("#words li")].map((item) => item.textContent), wide: document.documentElement.scrollWidth };
-})"""
+  const is = (id) => Boolean(document.getElementById(id)?.checkVisibility());
+  return { line: text("Line"), said: text("Name-said"), missing: text("Missing"), words: text("Words"), unmarked: is("Unmarked"),
+    letter: is("Letter") && document.getElementById("Letter").getAttribute("href"), wide: document.documentElement.scrollWidth };
+})""".replace('text("Name-said")', '(document.getElementById("Name-said")?.textContent ?? "")')
+
+OWN = "23456789ab"
 
 
 @unittest.skipUnless(BROWSER, "chromium is not installed")
@@ -376,16 +384,24 @@ class InBrowser(unittest.TestCase):
     def setUpClass(cls) -> None:
         cls.folder = pathlib.Path(cls.enterClassContext(tempfile.TemporaryDirectory(prefix="debvote-call-")))
         cls.browser = cls.enterClassContext(Window(390, 800))
+        cls.numbers = itertools.count(1)
 
-    def window(self, data: CallData) -> Window:
-        """The window, with the page of a call in place of the one before."""
-        (self.folder / "index.html").write_bytes(call_files(data)["index.html"])
-        self.browser.open(self.folder / "index.html")
-        self.browser.ask("document.querySelectorAll('details').forEach((node) => { node.open = true; })")
+    def window(self, data: CallData, place: str = "") -> Window:
+        """The window, with the page of a call in place of the one before, at a place of it."""
+        return self.opened(call_files(data)["index.html"], place)
+
+    def opened(self, page: bytes, place: str = "") -> Window:
+        # with a new name it is loaded, and not only another place of it shown
+        file = self.folder / f"{next(self.numbers)}.html"
+        file.write_bytes(page)
+        self.browser.open(file, place)
         return self.browser
 
-    def chosen(self, window: Window, name: str, ranks: str) -> dict[str, object]:
-        return window.ask(f"{CHOOSE}({name!r}, {ranks!r})")
+    def chosen(self, window: Window, name: str | None, ranks: str) -> dict[str, object]:
+        return window.ask(f"{CHOOSE}({json.dumps(name)}, {ranks!r})")
+
+    def letter(self, found: dict[str, object]) -> dict[str, list[str]]:
+        return urllib.parse.parse_qs(str(found["letter"]).partition("?")[2])
 
     def test_a_ballot_in_each_language(self) -> None:
         long_names = dataclasses.replace(POLL, shown_options=("\u05d0\u05d1 " * 60, "Donaudampfschifffahrt" * 9, "72 \u20ac", "{name} $& $1"))
@@ -395,22 +411,115 @@ class InBrowser(unittest.TestCase):
             with self.subTest(language=code):
                 self.assertEqual((found["line"], found["missing"], found["wide"]), ("ada 2,1,-,3", "", 390))
                 option = data.language.say("Option {number}: {name}", number=4, name="@").replace("@", "{name} $& $1")
-                self.assertIn(option, found["words"][1])
-                query = urllib.parse.parse_qs(str(found["letter"]).partition("?")[2])
+                self.assertIn(option, str(found["words"]))
                 subject = f"{data.language.say('Ballot: {title}', title='Where we meet')} [{long_names.mark}]"
-                self.assertEqual(query, {"subject": [subject], "body": ["ada 2,1,-,3\r\n"]})
+                self.assertEqual(self.letter(found), {"subject": [subject], "body": ["ada 2,1,-,3\r\n"]})
 
     def test_a_letter_that_is_to_be_signed_has_the_mark_below_the_ballot(self) -> None:
         found = self.chosen(self.window(KINDS["signed"]), "ada", "1234")
-        self.assertEqual(urllib.parse.parse_qs(str(found["letter"]).partition("?")[2])["body"], [f"ada 1,2,3,4\r\n[{POLL.mark}]\r\n"])
+        self.assertEqual(self.letter(found)["body"], [f"ada 1,2,3,4\r\n[{POLL.mark}]\r\n"])
 
     def test_real_names(self) -> None:
         names = {"ben": "Zo\u00eb \u00c5ngstr\u00f6m", "cleo": "Zoe Angstr\u00f6mer"}
         window = self.window(dataclasses.replace(CALL, real_names=names))
-        self.assertIn("Did you mean ben?", str(self.chosen(window, "Zoe Angstrom", "1234")["said"]))
-        self.assertIn("Did you mean ben or cleo?", str(self.chosen(window, "Zoe", "1234")["said"]))
+        found = self.chosen(window, "Zoe Angstrom", "1234")
+        self.assertEqual((found["line"], found["said"]), ("ben 1,2,3,4", "On the roll: ben"))
+        found = self.chosen(window, "Zoe", "1234")
+        self.assertEqual((found["line"], found["said"]), ("", "On the roll: bencleo"))
+        offered = window.ask("[...document.getElementById('Name').list.options].map((option) => [option.value, option.label])")
+        self.assertEqual(offered[1:3], [["ben", names["ben"]], ["cleo", names["cleo"]]])
+        window.ask("document.querySelectorAll('#Name-said button')[1].click()")
+        found = self.chosen(window, None, "1234")
+        self.assertEqual((found["line"], found["said"]), ("cleo 1,2,3,4", ""))
         found = self.chosen(window, "eve", "1234")
         self.assertEqual((found["line"], found["said"]), ("", "eve is not on the roll of this poll; the names on the roll are below."))
+
+    def test_the_personal_link(self) -> None:
+        long_roll = dataclasses.replace(CALL, poll=with_roll(POLL, [f"e{number}" for number in range(2_001)]))
+        # by the place: the name that is filled in, and the own mark in the subject
+        places = {"ada": ("ada", ""), f"ada/{OWN}": ("ada", OWN), f"ADA/{OWN.upper()}": ("ada", OWN), f"ada/{OWN}x": ("ada", ""), "ada/0123456789": ("ada", "")}
+        places |= {"zoe": ("", ""), f"zoe/{OWN}": ("", ""), f"/{OWN}": ("", ""), "Poll": ("", ""), "%61da": ("", ""), "<b>": ("", "")}
+        for place, (name, own) in places.items():
+            with self.subTest(place=place):
+                window = self.window(CALL, f"#{place}")
+                self.assertEqual(window.ask("document.getElementById('Name').value"), name)
+                found = self.chosen(window, None, "21-3")
+                mark = f"{POLL.mark}-{own}" if own else POLL.mark
+                if name:
+                    self.assertEqual(self.letter(found)["subject"], [f"Ballot: Where we meet [{mark}]"])
+                self.assertEqual(found["line"], f"{name} 2,1,-,3" if name else "")
+        window = self.window(CALL, f"#ada/{OWN}")
+        for typed, own in (("ben", ""), (" Ada ", f"-{OWN}")):
+            # the own mark goes with the name of the link alone
+            self.assertEqual(self.letter(self.chosen(window, typed, "21-3"))["subject"], [f"Ballot: Where we meet [{POLL.mark}{own}]"])
+        window.ask(f"location.hash = 'ben/{OWN[::-1]}'")
+        window.until("document.getElementById('Name').value === 'ben'")
+        self.assertEqual(self.letter(self.chosen(window, None, "21-3"))["subject"], [f"Ballot: Where we meet [{POLL.mark}-{OWN[::-1]}]"])
+        # where the page has no roll, each name that one may have
+        self.assertEqual(self.window(long_roll, f"#zoe/{OWN}").ask("document.getElementById('Name').value"), "zoe")
+        self.assertIn(f"-{OWN}]", self.letter(self.chosen(self.browser, None, "21-3"))["subject"][0])
+        self.assertEqual(self.chosen(self.window(SECRET, f"#ada/{OWN}"), None, "21-3")["line"], "NAME 2,1,-,3")
+
+    def test_with_marks_alone(self) -> None:
+        data = dataclasses.replace(CALL, is_marked=True)
+        window = self.window(data)
+        found = self.chosen(window, "ada", "21-3")
+        self.assertEqual((found["line"], found["letter"], found["unmarked"]), ("ada 2,1,-,3", False, True))
+        found = self.chosen(self.window(data, f"#ada/{OWN}"), None, "21-3")
+        self.assertEqual((self.letter(found)["subject"], found["unmarked"]), ([f"Ballot: Where we meet [{POLL.mark}-{OWN}]"], False))
+        found = self.chosen(window, "ben", "21-3")
+        self.assertEqual((found["line"], found["letter"], found["unmarked"]), ("ben 2,1,-,3", False, True))
+        for kind in (dataclasses.replace(SECRET, is_marked=True), data):
+            page = call_files(kind)["index.html"].decode()
+            self.assertNotIn('href="mailto:', page)
+        found = self.chosen(self.window(dataclasses.replace(SECRET, is_marked=True)), None, "21-3")
+        self.assertEqual((found["line"], found["letter"], found["unmarked"]), ("NAME 2,1,-,3", False, True))
+        self.assertIn("Answer your letter: then the subject has your own mark", texts_of(dataclasses.replace(SECRET, is_marked=True))["index.html"])
+        self.assertFalse(self.chosen(self.window(SECRET), None, "21-3")["unmarked"])
+
+    def test_on_the_first_screen_of_a_telephone(self) -> None:
+        """The line and what sends it are always seen; of four options all but the last are seen with them."""
+        window = self.window(CALL)
+        self.addCleanup(window.resize, 390, 800)
+        window.resize(360, 640)
+        self.chosen(window, "ada", "21-3")
+        for place in ("Line", "Words", "Letter", "Copy"):
+            seen = window.ask(f"(() => {{ const at = document.getElementById('{place}').getBoundingClientRect(); return [at.top, at.bottom]; }})()")
+            self.assertTrue(0 < seen[0] < seen[1] <= 640, (place, seen))
+        ends = window.ask("[...document.querySelectorAll('.option')].map((node) => node.getBoundingClientRect().bottom)")
+        self.assertLessEqual(ends[2], window.ask("document.getElementById('Bottom').getBoundingClientRect().top"), ends)
+        heights = window.ask("[...document.querySelectorAll('.rank label')].map((node) => node.getBoundingClientRect().height)")
+        self.assertGreaterEqual(min(heights), 41)
+
+    def test_long_texts_are_cut_and_read_at_a_touch(self) -> None:
+        poll = dataclasses.replace(POLL, explanations=("A long text. " * 40, "", "Short."))
+        window = self.window(dataclasses.replace(CALL, poll=poll))
+        shown = "[...document.querySelectorAll('.text')].map((node) => node.clientHeight >= node.scrollHeight - 1)"
+        self.assertEqual(window.ask(shown), [False, True])
+        buttons = "[...document.querySelectorAll('.option .more')].filter((node) => node.checkVisibility())"
+        self.assertEqual(window.ask(f"{buttons}.length"), 1)
+        window.ask(f"{buttons}[0].click()")
+        self.assertEqual((window.ask(shown), window.ask(f"{buttons}.length")), ([True, True], 0))
+
+    def test_without_script_and_on_paper(self) -> None:
+        poll = dataclasses.replace(POLL, explanations=("A long text. " * 40, "", "Short."))
+        data = dataclasses.replace(CALL, poll=poll)
+        # a script that was changed does not run
+        window = self.opened(call_files(data)["index.html"].replace(b'"use strict";', b'"use strict"; '))
+        seen = window.ask("document.body.innerText")
+        for part in ("Until when", "At the lake", "Sell the house", "A long text. " * 39, "Short.", "The poll"):
+            self.assertIn(part, seen)
+        for part in ("Send by e-mail", "Your name", "Read on"):
+            self.assertNotIn(part, seen)
+        window = self.window(data)
+        window.for_paper()
+        self.addCleanup(window.tell, "Emulation.setEmulatedMedia", media="", features=window.scheme)
+        window.ask("dispatchEvent(new Event('beforeprint'))")
+        seen = window.ask("document.body.innerText")
+        for part in ("At the lake", "A long text. " * 39, "majority ratio 3", "The roll has 4 electors.", "ada", poll.checksum):
+            self.assertIn(part, seen)
+        for part in ("Send by e-mail", "Your name", "Read on", "Give at least", "1\n2\n3"):
+            self.assertNotIn(part, seen)
 
 
 if __name__ == "__main__":

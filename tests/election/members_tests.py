@@ -20,14 +20,14 @@ KEY = "0123456789ABCDEF0123456789ABCDEF01234567"
 class MembersTest(unittest.TestCase):
     maxDiff = None
 
-    def read(self, content: str | bytes) -> members.Members:
+    def read(self, content: str | bytes) -> members.Roll:
         return members.members_of(content if isinstance(content, bytes) else content.encode())
 
     def assert_rows(self, content: str | bytes, *wanted: tuple[int, str, str, str]) -> None:
         """Line, name, who and addresses of each member, and no fault."""
         found = self.read(content)
         self.assertEqual([fault.words for fault in found.faults], [])
-        self.assertEqual([(row.line, row.name, row.who, " ".join(row.addresses)) for row in found.rows], list(wanted))
+        self.assertEqual([(row.line, row.name, row.who, " ".join(row.addresses)) for row in found.electors], list(wanted))
 
     def assert_faults(self, content: str | bytes, *wanted: tuple[str, ...]) -> None:
         """The parts of each fault, all of which stop the run."""
@@ -119,12 +119,12 @@ class Read(MembersTest):
 
     def test_several_addresses(self) -> None:
         text = 'who,mail\nAda,a@x b@x\nBen,"b@x, c@x;d@x"\nCleo,"Lovelace, Cleo <c@x>; <d@x>"\nDan,mailto:d@x d@x\n'
-        found = [row.addresses for row in self.read(text).rows]
+        found = [row.addresses for row in self.read(text).electors]
         self.assertEqual(found, [("a@x", "b@x"), ("b@x", "c@x", "d@x"), ("c@x", "d@x"), ("d@x",)])
 
     def test_the_fingerprint_of_a_key(self) -> None:
         text = f"who,mail,key\nAda,,{KEY[:20].lower()} {KEY[20:]}\nBen,,\n"
-        self.assertEqual([row.key for row in self.read(text).rows], [KEY, ""])
+        self.assertEqual([row.key for row in self.read(text).electors], [KEY, ""])
 
     def test_the_list_of_a_new_election_has_its_head_alone(self) -> None:
         self.assert_faults(members.NEW_MEMBERS, ("there is nobody on it",))
@@ -201,7 +201,7 @@ class Rows(MembersTest):
             (":11: `g\\u202E@x` is not a mail address",),
         ]
         self.assert_faults(text, *wanted)
-        self.assertEqual([row.line for row in self.read(text).rows], [2, 3, 4, 6, 7, 9, 10, 11])
+        self.assertEqual([row.line for row in self.read(text).electors], [2, 3, 4, 6, 7, 9, 10, 11])
 
     def test_a_name_has_32_characters_at_most(self) -> None:
         self.assert_rows(f"who,mail,name\nAda,,{'a' * 32}\n", (2, "a" * 32, "Ada", ""))

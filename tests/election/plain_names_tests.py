@@ -105,6 +105,11 @@ class Electors(unittest.TestCase):
             self.assertEqual(elector_name(f"{title} Anna Weiß", "de"), "anna-weiss", title)
         for title in ("PhD", "Ph.D.", "M. Sc., MBA", "LL.M.", "B.Sc."):
             self.assertEqual(elector_name(f"Anna Weiß, {title}", "de"), "anna-weiss", title)
+        for title in ("Frau", "Herr", "Herrn", "Frau Prof. Dr.", "Mr.", "Mr", "Mrs.", "Ms", "Mme", "MME", "Sr.", "Sra.", "Sra"):
+            self.assertEqual(elector_name(f"{title} Anna Weiß", "de"), "anna-weiss", title)
+            self.assertEqual(elector_name(f"Weiß, {title} Anna", "de"), "anna-weiss", title)
+        for who, name in {"Anna Herr": "anna-herr", "Herr, Anna": "anna-herr", "Frauke Mrsic": "frauke-mrsic", "Weiß, Sr.": "weiss-sr", "Frau": "frau"}.items():
+            self.assertEqual(elector_name(who, "de"), name, who)
         for who, name in {"Phil Mag": "phil-mag", "Dr. Chr. Ing": "chr-ing", "Drago Profe": "drago-profe", "Dr.": "dr", "Prof. 李": "prof"}.items():
             self.assertEqual(elector_name(who, "en"), name, who)
 

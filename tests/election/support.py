@@ -2,6 +2,7 @@
 
 import os
 import pathlib
+import re
 import shutil
 import subprocess
 import sys
@@ -26,6 +27,9 @@ SECONDS = 600
 # the output of a run if Graphviz is not installed
 HAS_PICTURES = shutil.which("dot") is not None
 NO_PICTURE = "Note: no picture: Graphviz (its program dot) is not installed\n"
+
+# the mark in the letters that tests write, in place of which they get that of the election
+ANY_MARK = "1ac5041b936c7fc1"
 
 # four options and nine electors, of whom nobody has voted
 POLL = """title = "Where we meet in spring"
@@ -184,6 +188,11 @@ class ElectionTest(unittest.TestCase):
         file = self.folder / name
         file.write_bytes(content.encode() if isinstance(content, str) else content)
         return file
+
+    def of_this_vote(self, letter: bytes) -> bytes:
+        """A letter with the mark of this election."""
+        found = re.search(rb"\[([0-9a-f]{16})\]", self.read("call/call.txt")) if ANY_MARK.encode() in letter else None
+        return letter.replace(ANY_MARK.encode(), found[1]) if found else letter
 
     def read(self, name: str) -> bytes:
         """The bytes of a file of the election."""

@@ -23,9 +23,10 @@ DATA = re.compile(
         [
             *(r"\s+".join(map(re.escape, name.split())) for name in NAMES),
             r"[\w-]+\.(?:toml|txt|csv|json|js|py|svg|html|md)\b", "SHA256SUMS", r"\be\d\d\b", r"\b(?:[0-9a-f]{4} ?){4,16}\b",
-            r"Person\s+\d\d", r"\d+Q", re.escape(support.TO), re.escape(support.AT) + r"(?:#\w+)?",
+            r"Person\s+\d\d", r"\d+Q", re.escape(support.TO), re.escape(support.AT) + r"(?:#\w+)?(?:/\w{10})?",
+            r"\[[0-9a-f]{16}-\w{10}\]",
             r"\bUTC(?:[+-]\d\d:\d\d)?", r"(?:bad shape|bad rank count|bad not on roll|late): .*", r"\b\d+\b",
-            f"[^\\w\\s{BEGIN}{END_MARK}]+", r"\b_\b", r"\bNAME\b",
+            f"[^\\w\\s{BEGIN}{END_MARK}]+", r"\b_\b", r"\b(?:NAME|CODE)\b",
         ]
     )
 )  # fmt: skip

@@ -126,7 +126,7 @@ class LanguageTest(unittest.TestCase):
         self.election(folder, "call", "--until", END, "--zone", "Europe/Berlin")
         self.election(folder, "letters", "call")
         self.election(folder, "add", "--yes", given=BALLOTS)
-        self.election(folder, "add", "--yes", *self.letters())
+        self.election(folder, "add", "--yes", *self.letters(place))
         self.election(folder, "strike", 5, "--because", REASON)
         self.election(folder, "letters", "reminders")
         self.election(folder, "letters", "receipts")
@@ -140,13 +140,14 @@ class LanguageTest(unittest.TestCase):
         self.election(folder, "letters", "result")
         return place
 
-    def letters(self) -> list[pathlib.Path]:
+    def letters(self, place: pathlib.Path) -> list[pathlib.Path]:
         """Files with the letters of electors, which have arrived now."""
         files = []
+        [mark] = set(re.findall(r"\[[0-9a-f]{16}\]", (place / "call" / "call.txt").read_text()))
         for name, text in LETTERS.items():
             files.append(self.scratch / f"{name}.eml")
             files[-1].write_text(
-                f"From: {name}@example.org\nTo: {TO}\nSubject: x\nMessage-ID: <{name}@x>\n"
+                f"From: {name}@example.org\nTo: {TO}\nSubject: {mark}\nMessage-ID: <{name}@x>\n"
                 f"Received: from a by b; {email.utils.formatdate()}\nDate: {email.utils.formatdate()}\n\n{text}\n"
             )
         return files

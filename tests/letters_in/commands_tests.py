@@ -21,7 +21,7 @@ from terminal import Terminal  # noqa: E402
 from debvote_tools.book import queries  # noqa: E402
 from debvote_tools.book.book import open_book  # noqa: E402
 from debvote_tools.cli import command_line  # noqa: E402
-from debvote_tools.outbox import letter_files  # noqa: E402
+from debvote_tools.outbox import files as letter_files  # noqa: E402
 from debvote_tools.commands import held  # noqa: E402
 from debvote_tools.inbox import signatures  # noqa: E402
 
@@ -34,7 +34,7 @@ def letter(name: str, text: str, arrived: str = "Mon, 23 Nov 2026 10:00:00 +0000
     return (
         f"Received: from mail.example by mx.club.example; {arrived}\n"
         f"From: {name.title()} <{sender or f'{name}@club.example'}>\n"
-        f"Subject: my ballot\nMessage-ID: <{name}.{number}@mail.example>\n\n{text}\n"
+        f"Subject: my ballot [{support.ANY_MARK}]\nMessage-ID: <{name}.{number}@mail.example>\n\n{text}\n"
     )
 
 
@@ -56,9 +56,17 @@ class LettersTest(support.ElectionTest):
         self.set_clock("2026-11-20T09:00:00+00:00")
         return super().made()
 
+    def write(self, name: str, content: bytes | str) -> pathlib.Path:
+        return super().write(name, self.of_this_vote(content.encode() if isinstance(content, str) else content))
+
     def add(self, *letters: str, words: tuple[str, ...] = ("--yes",)) -> support.Ended:
         self.write("inbox.mbox", mailbox(*letters))
         return self.election("add", *words, "inbox.mbox")
+
+    @property
+    def mark(self) -> str:
+        """That of the poll."""
+        return hashlib.sha256((self.folder / "call" / "poll.toml").read_bytes()).hexdigest()[:16]
 
     def numbers(self) -> dict[str, object]:
         return json.loads(self.done("status", "--json").output)
@@ -75,14 +83,14 @@ class Adding(LettersTest):
         ended = self.add(letter("ada", f"ada {RANKS}"), letter("ben", "I vote for the lake."), letter("cleo", f"cleo {OTHER}"))
         self.assertEqual(ended.status, 0, ended)
         self.assertIn(f"1 counted  ada: {LAKE}\n", ended.output)
-        row = "     2  2026-11-23 10:00:00 UTC  Ben <ben@club.example>  my ballot\n        no ballot found\n"
+        row = f"     2  2026-11-23 10:00:00 UTC  Ben <ben@club.example>  my ballot [{self.mark}]\n        no ballot found\n"
         self.assertIn(row + "        other words: I vote for the lake.\n", ended.output)
         self.assertEqual(self.exported()[0], f"ada {RANKS}\ncleo {OTHER}\n")
         self.assertEqual(self.numbers()["waiting"], 1)
         self.assertIn("1 letter waits", self.done("status").output)
 
     def test_what_came_is_kept_as_it_came(self) -> None:
-        text = letter("ada", f"ada {RANKS}")
+        text = self.of_this_vote(letter("ada", f"ada {RANKS}").encode()).decode()
         self.add(text)
         self.exported()
         [kept] = (self.scratch / "out" / "came").iterdir()
@@ -101,7 +109,7 @@ class Adding(LettersTest):
         long = [letter("cleo", picture, number=number) for number in range(5)]
         long = [one.replace("Subject", "Content-Type: multipart/mixed; boundary=b\nSubject") for one in long]
         for given in (None, mailbox(*long, letter("ben", f"ben {RANKS}"))):
-            ended = self.add(*long, letter("ada", f"ada {RANKS}")) if given is None else self.election("add", "--yes", given=given)
+            ended = self.add(*long, letter("ada", f"ada {RANKS}")) if given is None else self.election("add", "--yes", given=self.of_this_vote(given.encode()))
             self.assertIn("1 ballot of letters went in; 5 letters wait.", ended.output, ended)
         self.assertEqual(self.exported()[0], f"ada {RANKS}\nben {RANKS}\n")
 
@@ -123,7 +131,8 @@ class Adding(LettersTest):
 
     def test_the_subject_of_a_letter_that_waits(self) -> None:
         said = self.add(letter("ben", "hello").replace("my ballot", "=?utf-8?q?f=C3=BCr_den_See?=")).output
-        self.assertIn("letter  arrived                  from                    subject\n     1  2026-11-23 10:00:00 UTC  Ben <ben@club.example>  für den See\n        no ballot found\n", said)
+        head = "letter  arrived                  from                    subject\n     1  2026-11-23 10:00:00 UTC  Ben <ben@club.example>  "
+        self.assertIn(f"{head}für den See [{self.mark}]\n        no ballot found\n", said)
 
     def test_look_keeps_nothing(self) -> None:
         before = self.contents()
@@ -315,7 +324,7 @@ class Held(LettersTest):
 
     def test_listed_shown_and_entered(self) -> None:
         listed = self.done("held").output
-        self.assertIn("\n     1  2026-11-23 10:00:00 UTC  Ada <ada@club.example>  my ballot\n", listed)
+        self.assertIn(f"\n     1  2026-11-23 10:00:00 UTC  Ada <ada@club.example>  my ballot [{self.mark}]\n", listed)
         self.assertIn(f"line 5: ada {RANKS}", listed)
         self.assertIn("2 letters wait.", listed)
         self.assertIn(f"   5  ada {RANKS}\n", self.done("held", "1").output)
@@ -380,13 +389,12 @@ class Held(LettersTest):
 
     def test_what_it_quotes_of_ours_is_not_shown(self) -> None:
         """But for a line that may be a ballot, each line keeps its number. What others wrote is shown."""
-        mark = hashlib.sha256((self.folder / "call" / "poll.toml").read_bytes()).hexdigest()[:16]
-        ours = f"> Vote on\n> the mark [{mark}]\n>\n> cleo 1,2\n> until Friday"
+        ours = f"> Vote on\n> the mark [{self.mark}]\n>\n> cleo 1,2\n> until Friday"
         self.add(letter("cleo", f"I am for the lake.\n\nVote wrote:\n\n{ours}\n\nAnd Dan wrote:\n> I am not"))
         shown = self.done("held", 3).output
         lines = "   1  I am for the lake.\n   2  \n      .. 7 lines of a letter of ours, which it quotes\n  10  \n  11  And Dan wrote:\n  12  > I am not\n"
         self.assertIn(lines, shown)
-        self.assertTrue(shown.startswith("letter 3, from Cleo <cleo@club.example>, 2026-11-23 10:00:00 UTC\n  subject: my ballot\n"), shown)
+        self.assertTrue(shown.startswith("letter 3, from Cleo <cleo@club.example>, 2026-11-23 10:00:00 UTC\n  subject: my ballot"), shown)
 
     def test_several_with_one_ballot_each(self) -> None:
         """They go in in the order of their times, those of one elector too."""
@@ -671,7 +679,6 @@ class Signed(LettersTest):
         self.keys = pgp.keys()
         self.set_clock("2026-11-20T09:00:00+00:00")
         self.call_with("ada", "cleo")
-        self.mark = hashlib.sha256((self.folder / "call" / "poll.toml").read_bytes()).hexdigest()[:16]
         self.set_clock("2026-11-25T09:00:00+00:00")
 
     def call_with(self, *names: str) -> None:

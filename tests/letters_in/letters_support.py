@@ -1,9 +1,10 @@
-"""What the tests of letters that come share: letters, the circumstances in which they are judged, and debvote, which is asked about lines."""
+"""What the tests of letters that come share: letters, what is known when they are judged, and debvote, which is asked about lines."""
 
 import dataclasses
 import datetime
 import os
 import pathlib
+import re
 import subprocess
 import sys
 from collections.abc import Mapping, Sequence
@@ -14,7 +15,7 @@ SAMPLES = ROOT / "tests" / "letters"
 sys.path.insert(0, str(ROOT / "python"))
 
 from debvote_tools.debvote import findings_in  # noqa: E402
-from debvote_tools.inbox.circumstances import Ballot, Circumstances, Names  # noqa: E402
+from debvote_tools.inbox.known import Ballot, Known, Names  # noqa: E402
 from debvote_tools.inbox.judge import JudgedLetter, Outcome, judge_all  # noqa: E402
 from debvote_tools.inbox.parse import ParsedLetter, as_json, from_json, parse  # noqa: E402
 from debvote_tools.inbox.readings import read_all  # noqa: E402
@@ -31,6 +32,10 @@ roll = {str(list(NAMES)).replace("'", '"')}
 """
 RANKS, OTHER_RANKS = "1,2,4,3", "2,1,4,3"
 MARK = "1ac5041b936c7fc1"
+# the own mark of each elector, and the subjects of a letter of ours and of the page of the call
+OWN = {name: re.sub("[ilo]", "x", f"{name}23456789")[:10] for name in NAMES}
+TITLE = "Where we meet in spring"
+BY_PAGE = f"Ballot: {TITLE}"
 
 TEN = "Mon, 23 Nov 2026 10:00:00 +0000"
 CALLED = datetime.datetime(2026, 11, 20, 9, tzinfo=datetime.UTC)
@@ -85,10 +90,13 @@ def names(**other: object) -> Names:
     return Names(**{**usual, **other})  # type: ignore[arg-type]
 
 
-def circumstances(**other: object) -> Circumstances:
-    """Those of a vote that was called three days ago and has no end."""
+def known(**other: object) -> Known:
+    """What is known of a vote that was called three days ago and has no end."""
     usual: dict[str, object] = {
         "mark": MARK,
+        "subject": BY_PAGE,
+        "own_marks": OWN,
+        "is_marked": False,
         "roll": frozenset(NAMES),
         "addresses": {name: (f"{name}@club.example",) for name in NAMES},
         "called": CALLED,
@@ -99,7 +107,7 @@ def circumstances(**other: object) -> Circumstances:
         "keys": None,
         "decisions": {},
     }
-    return Circumstances(**{**usual, **other})  # type: ignore[arg-type]
+    return Known(**{**usual, **other})  # type: ignore[arg-type]
 
 
 def letter(
@@ -111,16 +119,29 @@ def letter(
     sender: str | None = None,
     head: str = "",
     kind: str = "text/plain; charset=utf-8",
+    subject: str = f"my ballot [{MARK}]",
 ) -> bytes:
-    """A letter of an elector."""
+    """A letter of an elector. Its subject has the mark of the poll, unless its head has another one."""
+    if not re.search("(?im)^subject", head):
+        head = f"Subject: {subject}\n{head}"
     received = "" if time is None else f"Received: from a by b; {time}\n"
     fields = f"From: {sender or f'{name}@club.example'}\nTo: vote@club.example\nMessage-ID: <{number}.{name}@mail.example>\n"
     return f"{received}{fields}{head}Content-Type: {kind}\n\n{text}".encode("utf-8", "surrogateescape")
 
 
+def marked(name: str, text: str, **how: object) -> bytes:
+    """A letter of an elector whose subject has the own mark, as that of each letter of ours to them."""
+    return letter(name, text, **{"subject": f"Re: Vote: {TITLE} [{MARK}-{OWN[name]}]", **how})  # type: ignore[arg-type]
+
+
 def answer(name: str, text: str, **how: object) -> bytes:
     """A letter of an elector that answers the call."""
-    return letter(name, text, head=f"In-Reply-To: <call.{name}@club.example>\n", **how)  # type: ignore[arg-type]
+    return marked(name, text, **{"head": f"In-Reply-To: <call.{name}@club.example>\n", **how})
+
+
+def with_mark(data: bytes, mark: str) -> bytes:
+    """A letter of a mail program, with a mark at the end of its subject."""
+    return re.sub(rb"(?im)^(subject:[^\n]*?(?:\n[ \t][^\n]*?)*)(\r?\n)(?![ \t])", rb"\1\2 %b\2" % mark.encode(), data, count=1)
 
 
 def alternatives(name: str, plain: str, marked: str, **how: object) -> bytes:
@@ -163,7 +184,7 @@ def judged(
     of_names = {name: value for name, value in other.items() if name in ("roll", "language", "real_names")}
     of_others = {name: value for name, value in other.items() if name not in ("language", "real_names")}
     given = read(*letters, reader=reader, **of_names)
-    return judge_all(given, circumstances(**of_others), lambda _: ballots or {})
+    return judge_all(given, known(**of_others), lambda _: ballots or {})
 
 
 def label(because: Because) -> str:

@@ -14,7 +14,7 @@ from debvote_tools.inbox.reasons import FOR_ELECTOR, Because, Reason, for_electo
 
 # values of each name that a reason may have
 VALUES: dict[str, str | int | datetime.datetime] = {
-    "length": 7, "limit": 8, "number": 3, "digest": 2, "called": at(9), "end": at(9), "close": at(9), "time": at(9), "arrived": at(9),
+    "length": 7, "limit": 8, "number": 3, "digest": 2, "options": 4, "called": at(9), "end": at(9), "close": at(9), "time": at(9), "arrived": at(9),
     "what": "text", "charset": "x-none", "character": "U+000D", "element": "<s>", "sender": "a@x",
     "elector": "ada", "listed": "b@x", "electors": "ada, ben", "mark": "0123456789abcdef", "key": "A" * 40,
 }  # fmt: skip

@@ -4,7 +4,7 @@ import unittest
 
 from letters_support import OTHER_RANKS, RANKS, alternatives, at, judged, letter, lines_in, outcome, outcomes, parsed
 
-from debvote_tools.inbox.circumstances import Ballot, Decision
+from debvote_tools.inbox.known import Ballot, Decision
 from debvote_tools.inbox.judge import JudgedLetter, Outcome
 from debvote_tools.inbox.parse import ParsedLetter
 

@@ -17,7 +17,9 @@ from out_support import AT, OTHER_RANKS, RANKS, TITLE, OutTest, one_line, parsed
 from debvote_tools.inbox.lines import changed
 
 LAKE = "At the lake, then In the town hall, then Further discussion, then Sell the house and meet there"
-FORM = f"The page of the vote, which writes the line of your ballot for you, and on which the result will be: {AT} "
+FORM = f"The page of the vote, which writes the line of your ballot for you, and on which the result will be: {AT}"
+LINE = "Your line, with a rank in the place of each _. 1 is the best; equal ranks and - for no rank are allowed: "
+MARKS = r"\[([0-9a-f]{16})-([2-9a-hjkmnp-z]{10})\]"
 WHEN = f"{TITLE} Until when: Friday, 4 December 2026, 18:00 (UTC)"
 OPTIONS = "Option 1: At the lake Option 2: In the town hall Option 3: Sell the house and meet there Option 4: Further discussion"
 ELSEWHERE = "A letter in your name came from another address, and waits until the secretary has looked at it."
@@ -29,24 +31,31 @@ class Call(OutTest):
         self.assertEqual(sorted(found), support.NAMES)
         for name, message in found.items():
             text = one_line(message)
-            begin = f"Dear {name.title()}, {WHEN} {FORM}"
-            self.assertTrue(text.startswith(f"{begin}You vote under this name: {name} Your line, "), text)
+            [(mark, own)] = re.findall(MARKS, message["Subject"])
+            begin = f"Dear {name.title()}, {WHEN} {FORM}#{name}/{own} {LINE}{name} _,_,_,_ The ranks are those of these options, "
+            self.assertTrue(text.startswith(f"{begin}in this order: {OPTIONS} Send it as an answer to this letter, or to "), text)
+            self.assertIn(f"whose subject ends with [{mark}-{own}]", text)
+            self.assertIn(f"until the result: {hashlib.sha256(self.read('call/poll.toml')).hexdigest()} After the vote", text)
             self.assertLess(message.get_content().index(AT), 300)
-            self.assertIn(
-                f"each _: {name} _,_,_,_ There is a rank for each option in the order of their numbers, or a hyphen ", text
-            )
-            self.assertIn(f"{OPTIONS} {WHEN}", text)
             self.assertEqual([other for other in support.NAMES if f"{other} _" in text], [name])
-            self.assertIn(self.read("call/call.txt").decode(), message.get_content())
+            # one page
+            self.assertLess(len(message.get_content().splitlines()), 50)
+
+    def test_the_letter_to_all_has_gaps_and_the_mark_of_the_poll(self) -> None:
+        text = " ".join(self.read("call/call.txt").decode().split())
+        self.assertTrue(text.startswith(f"{WHEN} {FORM} {LINE}NAME _,_,_,_ Write your name on the roll in the place of NAME. The ranks"), text)
+        self.assertRegex(text, r"Send it to vote@club\.example in a letter whose subject ends with \[[0-9a-f]{16}\]\.")
+        self.assertNotIn("answer to this letter", text)
 
     def test_head_and_modes(self) -> None:
         found = self.written("call")
-        mark = re.search(r"\[[0-9a-f]{16}\]", self.read("call/call.txt").decode())
+        mark = re.search(r"\[([0-9a-f]{16})\]", self.read("call/call.txt").decode())
         assert mark is not None
-        ids = set()
+        ids, own_marks = set(), dict(self.book().rows("SELECT name, mark FROM elector JOIN elector_state USING (elector) WHERE mark <> ''"))
+        self.assertEqual(len(set(own_marks.values())), 9)
         for name, message in found.items():
             self.assertEqual(message["To"], f"{name}@club.example")
-            self.assertEqual(message["Subject"], f"Vote: {TITLE} {mark[0]}")
+            self.assertEqual(message["Subject"], f"Vote: {TITLE} [{mark[1]}-{own_marks[name]}]")
             self.assertEqual(
                 (message["From"], message["Auto-Submitted"], message["X-Unsent"]), ("vote@club.example", "auto-generated", "1")
             )
@@ -70,12 +79,13 @@ class Call(OutTest):
         self.assertEqual(self.book().last_number(), last)
 
     def test_an_answer_to_it_goes_in(self) -> None:
-        """Its Message-ID is the elector's alone: it lets them put the ballot above an unmarked quotation with digits, and nobody else."""
+        """Who knows the own mark of an elector and the Message-ID of a letter to them may put a quotation above the ballot, and nobody else."""
         found = self.written("call")
-        quoted = "\n".join(f"{line}" for line in found["ada"].get_content().splitlines()[:12])
+        quoted = "\n".join(f"> {line}" for line in found["ada"].get_content().splitlines()[:12])
+        [own] = self.book().rows("SELECT mark FROM elector JOIN elector_state USING (elector) WHERE name = 'ada' AND mark <> ''")
         for name, other in (("ada", "ada"), ("ben", "ada")):
-            head = f"In-Reply-To: {found[other]['Message-ID']}\nSubject: Re: {found[other]['Subject']}\n"
-            text = f"On 23 November 2026 you wrote:\n\n{name} {RANKS}\n\n> {quoted}\n"
+            head = f"In-Reply-To: {found[other]['Message-ID']}\nSubject: Re: Vote [{support.ANY_MARK}-{own[0]}]\n"
+            text = f"On 23 November 2026 you wrote:\n{quoted}\n\n{name} {RANKS}\n"
             self.add_letters(letter(name, text, head=head, time="Mon, 23 Nov 2026 09:59:00 +0000", number=name))
         self.assertIn("ada", self.debvote_standing())
         self.assertNotIn("ben", self.debvote_standing())
@@ -97,14 +107,14 @@ class Call(OutTest):
         self.done("call", "--until", "2026-12-06 12:00", "--zone", "UTC")
         found = self.written("call")
         texts = {name: one_line(message) for name, message in found.items()}
-        self.assertRegex(found["ben"]["Subject"], rf"^Vote ends later: {TITLE} \[[0-9a-f]{{16}}\]$")
+        self.assertRegex(found["ben"]["Subject"], rf"^Vote ends later: {TITLE} {MARKS}$")
         self.assertRegex(found["ada"]["Subject"], rf"^Vote: {TITLE} ")
-        self.assertIn("WHAT IS VOTED ON", texts.pop("ada"))
+        self.assertNotIn("You have more time", texts.pop("ada"))
         for name, text in texts.items():
-            self.assertTrue(text.startswith(f"Dear {name.title()}, {TITLE} Until when: Sunday, 6 December 2026, 12:00 (UTC) {FORM}"))
-            self.assertIn("You have more time to vote.", text)
-            self.assertIn("Until when: Sunday, 6 December 2026, 12:00 (UTC)", text)
-            self.assertIn(f"{name} _,_,_,_", text)
+            self.assertTrue(text.startswith(f"Dear {name.title()}, You have more time to vote."), text)
+            when = "Until when: Sunday, 6 December 2026, 12:00 (UTC) The time was extended. The call said at first: Friday, 4 December"
+            self.assertIn(f"{TITLE} {when} 2026, 18:00 (UTC) {FORM}#{name}/", text)
+            self.assertIn(f"{LINE}{name} _,_,_,_", text)
         self.done("call", "--until", "2026-12-08 12:00", "--zone", "UTC")
         self.assertIn("Until when: Tuesday, 8 December 2026, 12:00 (UTC)", self.texts("call")["ben"])
 
@@ -116,7 +126,7 @@ class Call(OutTest):
         for day, is_whole in ((6, True), (8, False)):
             self.done("call", "--until", f"2026-12-{day:02} 12:00", "--zone", "UTC")
             for text in self.texts("call").values():
-                self.assertEqual(("WHAT IS VOTED ON" in text, "You have more time to vote." in text), (is_whole, not is_whole))
+                self.assertEqual(("After the vote all" in text, "You have more time to vote." in text), (is_whole, not is_whole))
 
     def test_after_the_end_nobody_is_invited(self) -> None:
         self.set_clock("2026-12-04T18:00:01+00:00")
@@ -140,14 +150,13 @@ class Refused(OutTest):
         self.assert_fault(self.election("letters", "call"), 2, "--from: the call names no address")
         found = self.written("call", "--from", "vote@other.example")
         text = one_line(found["ada"])
-        begin = f"Dear Ada, {TITLE} You can vote until the time that the secretary announces. You vote under this name: ada "
+        begin = f"Dear Ada, {TITLE} You can vote until the time that the secretary announces. {LINE}ada _,_,_,_ "
         self.assertTrue(text.startswith(begin), text)
+        self.assertIn("Option 3: Sell the house and meet there (majority ratio 3)", text)
+        # there is no page that has the rest
+        self.assertRegex(text, r"Send your ballot as the secretary announces\. .* WHAT DECIDES .* WHAT WILL BE PUBLIC ")
         self.assertEqual(found["ada"]["From"], "vote@other.example")
-        self.assertIn(
-            "A ballot of yours looks like this, with your own ranks: ada _,_,_,_",
-            self.texts("reminders", "--from", "v@x.example")["ada"],
-        )
-
+        self.assertIn(f"{LINE}ada _,_,_,_", self.texts("reminders", "--from", "v@x.example")["ada"])
 
     def test_of_several_addresses_the_first_that_each_server_takes(self) -> None:
         self.write("members.csv", support.members_of(support.NAMES).replace("ada@club", "ädä@club.example home@ada"))
@@ -215,7 +224,10 @@ class Names(OutTest):
         self.done("roll", "--yes")
         self.add_lines(f"ada {RANKS}", f"ada-2 {RANKS}")
         wanted = ["ada-2@club.example", "ada@club.example", "ada@new.example"]
-        self.assertEqual(sorted(message["To"] for message in self.written("receipts").values()), wanted)
+        found = self.written("receipts").values()
+        self.assertEqual(sorted(message["To"] for message in found), wanted)
+        # the old address does not learn the own mark
+        self.assertEqual([message["To"] for message in found if not re.search(MARKS, message["Subject"])], ["ada@club.example"])
 
 
 class Receipts(OutTest):
@@ -242,8 +254,9 @@ class Receipts(OutTest):
             "was entered, and the secretary has taken it back. It does not count unless it is entered again.", texts["eve"]
         )
         # a receipt that refuses says why, then where the form is and how a right line looks; another has neither
-        self.assertIn(f"and the vote has 4 options. {FORM}You can send a right line now", texts["cleo"])
-        self.assertIn("cleo _,_,_,_", texts["cleo"])
+        begin = f"and the vote has 4 options. You can send a right line now, and need not wait. {WHEN} {FORM}#cleo/"
+        self.assertIn(begin, texts["cleo"])
+        self.assertIn(f"{LINE}cleo _,_,_,_", texts["cleo"])
         for name in ("ada", "ben", "dan", "eve"):
             self.assertNotIn("_,_", texts[name])
         for name, text in texts.items():
@@ -384,13 +397,14 @@ class Receipts(OutTest):
         self.assertNotRegex(texts["cleo"], rf"dan|{RANKS}")
         waits = "has arrived. No ballot from it is entered yet: the secretary has to look at it first. The reason: "
         self.assertIn(
-            f"{waits}no line of it is a ballot of this vote. Line 1 of its text has 2 ranks, and the vote has 4", texts["ben"]
+            f"{waits}no line of it is a ballot of this vote. Line 1 of its text is near to a ballot. It has 2 ranks,", texts["ben"]
         )
         self.assertIn(ELSEWHERE, texts["dan"])
         self.assertIn(ELSEWHERE, texts["eve"])
         self.assertNotIn("stranger", texts["eve"] + texts["dan"])
-        self.assertIn(f"{waits}no line of it is a ballot of this vote. {FORM}You can send", texts["gus"])
-        self.assertIn("Line 2 of its text has a ballot within other words; it has to be there alone.", texts["hal"])
+        self.assertIn(f"{waits}no line of it is a ballot of this vote. You can send", texts["gus"])
+        said = "Line 2 of its text is near to a ballot. It has a ballot within other words; the ballot has to be there alone."
+        self.assertIn(said, texts["hal"])
         self.assertEqual(self.texts("receipts"), {})
         # one that waited and is entered now
         self.done("held", 3, "--enter", 1)
@@ -549,10 +563,9 @@ class Reminders(OutTest):
         self.add_letters(letter("cleo", "I want the lake\n"), letter("dan", f"dan {RANKS}\n", sender="x@x.example"))
         texts = self.texts("reminders")
         self.assertEqual(sorted(texts), [name for name in support.NAMES if name != "ada"])
-        begin = f"Dear Ben, No ballot of yours that counts has come yet in the vote: {TITLE} "
-        until = "Until when: Friday, 4 December 2026, 18:00 (UTC) "
-        self.assertTrue(texts["ben"].startswith(f"{begin}{until}{FORM}A ballot of yours looks like this"), texts["ben"])
-        self.assertIn("ben _,_,_,_", texts["ben"])
+        begin = f"Dear Ben, No ballot of yours that counts has come yet. {WHEN} {FORM}#ben/"
+        self.assertTrue(texts["ben"].startswith(begin), texts["ben"])
+        self.assertIn(f"{LINE}ben _,_,_,_", texts["ben"])
         # whose letter waits is told so, and not reminded
         self.assertIn("No ballot from it is entered yet: the secretary has to look at it first.", texts["cleo"])
         self.assertNotRegex(texts["cleo"], r"_,_|https|Until when")
@@ -638,7 +651,7 @@ class Closed(OutTest):
         self.assertEqual(sorted(found), support.NAMES)
         for message in found.values():
             self.assertIn(text, message.get_content())
-            self.assertRegex(message["Subject"], r"^Vote closed: Where we meet in spring \[[0-9a-f]{16}\]$")
+            self.assertRegex(message["Subject"], rf"^Vote closed: Where we meet in spring {MARKS}$")
 
     def test_after_a_second_close_all_get_its_letter(self) -> None:
         self.add_lines(f"ada {RANKS}")
@@ -773,10 +786,11 @@ class Secret(OutTest):
             self.assertFalse([code for code in codes.values() if code in message.get_content()])
 
     def test_an_answer_to_the_call_goes_in(self) -> None:
-        """The mark in its subject is that of the poll that everybody sees."""
+        """The mark in its subject is that of the poll that everybody sees, with the own one. The link has no name."""
         found = self.written("call")["ada"]
         mark = hashlib.sha256((self.folder / "call" / "poll.toml").read_bytes()).hexdigest()[:16]
-        self.assertTrue(found["Subject"].endswith(f"[{mark}]"), found["Subject"])
+        self.assertEqual([mark], [mark for mark, _ in re.findall(MARKS, found["Subject"])])
+        self.assertRegex(one_line(found), rf"the result will be: {AT} {LINE}ada _,_,_,_ ")
         head = f"In-Reply-To: {found['Message-ID']}\nSubject: Re: {found['Subject']}\n"
         self.add_letters(letter("ada", f"ada {RANKS}\n", head=head, time="Mon, 23 Nov 2026 09:59:00 +0000"))
         self.assertEqual(json.loads(self.done("status", "--json").output)["valid"], 1)

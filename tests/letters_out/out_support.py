@@ -87,7 +87,7 @@ class OutTest(support.ElectionTest):
         place = self.folder / f"box{len(list(self.folder.iterdir()))}"
         place.mkdir()
         for number, letter in enumerate(letters):
-            (place / f"{number}.eml").write_bytes(letter)
+            (place / f"{number}.eml").write_bytes(self.of_this_vote(letter))
         ended = self.election("add", *(["--yes"] if yes else []), place.name)
         self.assertIn(ended.status, (0, 9), ended)
 

@@ -19,7 +19,7 @@ FLAGS = ["--headless", "--no-sandbox", "--disable-gpu", "--hide-scrollbars", "--
 START = 'read=$1 write=$2; shift 2; exec "$@" 3<&"$read" 4>&"$write"'
 
 # the number of a key, and the text that it types
-KEYS = {"Tab": (9, ""), "Enter": (13, "\r"), " ": (32, " "), "ArrowUp": (38, ""), "ArrowDown": (40, "")}
+KEYS = {"Tab": (9, ""), "Enter": (13, "\r"), " ": (32, " "), "ArrowUp": (38, ""), "ArrowDown": (40, ""), "-": (189, "-")}
 KEYS |= {digit: (ord(digit), digit) for digit in "0123456789"}
 
 
@@ -90,8 +90,9 @@ class Window:
         text, self.rest = self.rest.split(b"\0", 1)
         return dict(json.loads(text))
 
-    def open(self, page: pathlib.Path) -> None:
-        self.tell("Page.navigate", url=page.as_uri())
+    def open(self, page: pathlib.Path, place: str = "") -> None:
+        """Opens a page, at a place of it that begins with #."""
+        self.tell("Page.navigate", url=page.as_uri() + place)
         self.until(f"document.readyState === 'complete' && location.href.startsWith({json.dumps(page.as_uri())})")
 
     def for_paper(self) -> None:

@@ -23,14 +23,18 @@ class Detail(TypedDict, total=False):
     electors: int
     codes: int
     on_roll: bool
+    # addresses: the electors with another address, and so another own mark
+    new_addresses: list[int]
     # call, extend and announce; times, the zone of --until and addresses as the command line names
     # them
     until: str
     zone: str
     to: str
+    to_name: str
     at: str
     form: bool
     names: bool
+    marked: bool
     codes_on_roll: bool
     quorum_votes: int
     signed: bool
@@ -73,8 +77,10 @@ class Detail(TypedDict, total=False):
     casting: str | None
     checksums: dict[str, str]
     doubts: list[Any]
-    # letters out, letter sent
+    # letters out, letter sent; the server that got the letter, and the user on it
     kind: str
+    server: str
+    user: str
     # moved: the act that was noted, and the one that is there
     why: str
     noted: Any

@@ -55,6 +55,17 @@ def source_of(book: Book, source: int) -> bytes:
     return bytes(book.rows("SELECT data FROM source WHERE source = ?", source)[0][0])
 
 
+def of_programs(book: Book) -> list[tuple[int, str, bytes]]:
+    """The letters that programs wrote, such as one that came back: the act that kept it, who sent
+    it, and its bytes.
+    """
+    words = (
+        "SELECT letter.act, json_extract(known, '$.sender'), data FROM letter JOIN source USING (source) "
+        "WHERE json_extract(known, '$.is_automatic') ORDER BY letter"
+    )
+    return book.rows(words)
+
+
 def undecided(kept: list[KeptLetter]) -> list[KeptLetter]:
     """The letters that may wait, and their copies."""
     identities = {letter.identity for letter in kept if letter.is_undecided}

@@ -83,8 +83,8 @@ CREATE TABLE sent (
   act INTEGER NOT NULL REFERENCES act DEFERRABLE INITIALLY DEFERRED,
   elector INTEGER REFERENCES elector,
   kind TEXT NOT NULL,                   -- call, receipts, reminders, closed, result
-  state TEXT NOT NULL,                  -- written, begun, taken, refused, postponed
-  detail TEXT NOT NULL                  -- JSON: Message-ID, address, what it was about
+  state TEXT NOT NULL,                  -- written, taken, refused
+  detail TEXT NOT NULL                  -- JSON: Message-ID, address, act that it belongs to, what it was about, what the server said
 ) STRICT;
 
 CREATE INDEX elector_by_act ON elector (act);

@@ -1,26 +1,24 @@
-"""What is asked of the book about letters that go out. Each row is a state of a letter; the last
-one holds.
+"""The letters that go out, as the book has them. Each row is a state of a letter; the last one
+holds.
 """
 
-import dataclasses
 import datetime
 import json
-from collections.abc import Iterable, Iterator
-from typing import Any
+from collections.abc import Iterable
+from typing import Any, NamedTuple
 
 from debvote_tools.book.book import Book, NewAct, from_text
-from debvote_tools.book.queries import Elector, electors
 
-# it is written; the server may have it; the server has taken it; it takes it never, or not now
-WRITTEN, BEGUN, TAKEN, REFUSED, POSTPONED = "written", "begun", "taken", "refused", "postponed"
+# a letter is written before a server gets it. A server takes it, or refuses it, perhaps only for
+# now; what a run that was cut off has sent is still only written
+WRITTEN, TAKEN, REFUSED = "written", "taken", "refused"
 
 # the subject of a receipt: an envelope or a letter, its number, and whether it says that the
 # envelope was struck
 About = tuple[str, int, bool]
 
 
-@dataclasses.dataclass(frozen=True)
-class SentLetter:
+class SentLetter(NamedTuple):
     """A letter to an elector. One to be printed has no address and no Message-ID."""
 
     elector: int
@@ -33,7 +31,7 @@ class SentLetter:
     time: datetime.datetime
     about: tuple[About, ...]
     state: str = WRITTEN
-    # what the server said last
+    # what the server said when it refused the letter
     reply: str = ""
 
 
@@ -43,78 +41,73 @@ def sent_letters(
     """The letters of a kind, if one is given, and to an elector, if one is given, in the order in
     which they were written.
     """
-    return list({key: letter for key, letter in states(book, kind, elector)}.values())
-
-
-def states(
-    book: Book, kind: str | None = None, elector: int | None = None
-) -> Iterator[tuple[str, SentLetter]]:
-    """All states of these letters, in their order, each with what identifies the letter."""
-    found: dict[str, SentLetter] = {}
-    words = "SELECT * FROM sent WHERE kind = coalesce(?, kind) AND elector = coalesce(?, elector) ORDER BY sent"
-    for row, _, number, its_kind, state, text in book.rows(words, kind, elector):
+    found: dict[object, SentLetter] = {}
+    words = (
+        "SELECT sent, elector, kind, state, detail FROM sent "
+        "WHERE kind = coalesce(?, kind) AND elector = coalesce(?, elector) ORDER BY sent"
+    )
+    for row, number, its_kind, state, text in book.rows(words, kind, elector):
         detail = json.loads(text)
-        key = detail["message_id"] or f"printed {row}"
+        key = detail["message_id"] or row
         if state == WRITTEN:
-            time, about = from_text(detail["time"]), tuple(
-                (what, number, is_struck) for what, number, is_struck in detail["about"]
-            )
+            about = tuple((what, number, is_struck) for what, number, is_struck in detail["about"])
             found[key] = SentLetter(
                 number,
                 its_kind,
                 detail["for_act"],
                 detail["address"],
                 detail["message_id"],
-                time,
+                from_text(detail["time"]),
                 about,
             )
         else:
-            found[key] = dataclasses.replace(found[key], state=state, reply=detail.get("reply", ""))
-        yield key, found[key]
-
-
-def refused(book: Book) -> list[tuple[Elector, SentLetter]]:
-    """The electors of whom a server refused a letter and has taken none since, each with the last
-    such letter. Letters to addresses that an elector had before count only if none to a present one
-    was taken or refused.
-    """
-    if not book.rows("SELECT 1 FROM sent WHERE state = ? LIMIT 1", REFUSED):
-        return []
-    found = electors(book)
-    present = {elector.number: elector.addresses for elector in found}
-    last: dict[tuple[int, bool], SentLetter] = {}
-    for _, letter in states(book):
-        if letter.state in (TAKEN, REFUSED):
-            last[letter.elector, letter.address in present.get(letter.elector, ())] = letter
-    pairs = (
-        (elector, last.get((elector.number, True)) or last.get((elector.number, False)))
-        for elector in found
-    )
-    return [
-        (elector, letter)
-        for elector, letter in pairs
-        if letter is not None and letter.state == REFUSED
-    ]
+            found[key] = found[key]._replace(state=state, reply=detail.get("reply", ""))
+    return list(found.values())
 
 
 def note(act: NewAct, letters: Iterable[SentLetter]) -> None:
+    """Notes the state of each letter."""
     rows = ((letter.elector, letter.kind, letter.state, detail_of(letter)) for letter in letters)
     act.insert_all("sent", ["elector", "kind", "state", "detail"], rows)
 
 
 def detail_of(letter: SentLetter) -> str:
-    """The detail of a state: of a letter that is written all of it, else the reply of the server."""
-    detail: dict[str, Any] = {"message_id": letter.message_id}
+    detail: dict[str, Any] = {
+        "message_id": letter.message_id,
+        "address": letter.address,
+        "for_act": letter.for_act,
+    }
     if letter.state == WRITTEN:
-        detail |= {
-            "address": letter.address,
-            "time": letter.time.isoformat(),
-            "for_act": letter.for_act,
-            "about": letter.about,
-        }
+        detail |= {"time": letter.time.isoformat(), "about": letter.about}
     elif letter.reply:
         detail["reply"] = letter.reply
     return json.dumps(detail, ensure_ascii=False)
+
+
+# the last state of the letters to each address of each elector. A letter that is only written went
+# out by a mail program, unless others of its run went out by a server
+LAST_STATES = """
+WITH state AS (
+  SELECT sent, elector, kind, state, act, json_extract(detail, '$.address') AS address,
+    json_extract(detail, '$.for_act') AS for_act, json_extract(detail, '$.reply') AS reply
+  FROM sent WHERE act > ?
+), by_server AS (SELECT DISTINCT kind, for_act FROM state WHERE state <> 'written')
+SELECT elector, address, act, state, coalesce(reply, ''), max(sent) FROM state
+WHERE state <> 'written' OR (kind, for_act) NOT IN by_server GROUP BY elector, address
+"""
+
+
+class LastState(NamedTuple):
+    """The last state of the letters to an address, and the act that noted it."""
+
+    act: int
+    state: str
+    reply: str
+
+
+def last_states(book: Book, since: int) -> dict[tuple[int, str], LastState]:
+    """The last state of what was written since an act, by elector and address."""
+    return {(row[0], row[1]): LastState(*row[2:5]) for row in book.rows(LAST_STATES, since)}
 
 
 def addresses_before(book: Book, since: int) -> dict[int, list[tuple[int, tuple[str, ...]]]]:

@@ -1,15 +1,13 @@
 """Make the call for votes, a page and a letter; from then on the poll cannot change."""
 
+import dataclasses
 import pathlib
-from collections.abc import Sequence
 
 from debvote_tools.text import times
 from debvote_tools.cli.arguments import flag, option
 from debvote_tools.book import queries
-from debvote_tools.book.queries import Elector
 from debvote_tools.book.acts import Detail
-from debvote_tools.book.book import NewAct
-from debvote_tools.poll.call_data import CallData, demand_mail_address, demand_web_address
+from debvote_tools.poll.call_data import CallData, demand_web_address, named_address
 from debvote_tools.poll.call_files import call_files, extension_letter
 from debvote_tools.cli.console import tell
 from debvote_tools.book import acting
@@ -20,6 +18,7 @@ from debvote_tools.commands.roll import demand_read
 from debvote_tools.book.election import (
     CALL,
     KEYRING,
+    LETTER_TEXT,
     LETTERS,
     POLL,
     POLL_WITH_NAMES,
@@ -29,7 +28,7 @@ from debvote_tools.book.election import (
     Sealed,
 )
 from debvote_tools.made_files import OWN, PUBLIC, write_made
-from debvote_tools.poll.draft_poll import checked_poll, lacks_codes, tell_poll
+from debvote_tools.poll.draft import checked, lacks_codes, letter_text_in, tell_checked
 from debvote_tools.book.reporting import act_time
 from debvote_tools.poll.until import demand_future, parse_until
 from debvote_tools.cli.faults import Fault, Status, stop_at
@@ -57,7 +56,10 @@ class Arguments(acting.Arguments):
         "ZONE",
         "The time zone of --until, as Europe/Berlin (default: that of the earlier end, or else of this computer)",
     )
-    to: str | None = option("ADDRESS", "The mail address to which ballots are sent")
+    to: str | None = option(
+        "ADDRESS",
+        'The mail address to which ballots are sent; as "NAME <ADDRESS>" letters to electors come from this name',
+    )
     at: str | None = option(
         "URL", "The web address of the page for the call, and later for the result"
     )
@@ -65,6 +67,9 @@ class Arguments(acting.Arguments):
         "Say in the call that an empty cell of a web form counts as a hyphen; add --blank-is-unranked reads it so"
     )
     names: bool = flag("Say in the call that real names will be published with the result")
+    marked: bool = flag(
+        "Let a letter go in by itself only with the own mark of its elector, which letters to electors have"
+    )
     keyring: str | None = option(
         "FILE",
         "Say in the call that letters must be signed, each with its elector's key in members.csv; this file has the keys",
@@ -90,57 +95,42 @@ def run(election: Election, arguments: Arguments) -> None:
 
 # ---------------------------------------------------------------- the acts
 def call(election: Election, arguments: Arguments) -> None:
-    said, book = announced(arguments, None), election.book
-    history = election.history()
+    history, said = election.history(), announced(arguments, None)
     demand_read(election, history)
-    poll, sheet = checked_poll(election, deadline=said.get("until"), address=arguments.to)
-    faults = []
+    found = checked(election, deadline=said.get("until"), address=said.get("to"))
+    poll, is_on_roll, faults = found.poll, history.has_codes_on_roll, []
     if poll.secret and arguments.names:
         cure = "leave it out: in a secret vote no names are published"
         faults.append(Fault("--names", "the vote is secret", cure, Status.BAD_WORDS))
+    if is_on_roll and arguments.marked:
+        reason = "codes are on the roll, so no elector can be given an own mark"
+        faults.append(Fault("--marked", reason, "leave it out", Status.BAD_WORDS))
     if lacks_codes(election, history, poll):
-        faults.append(
-            Fault(
-                None,
-                "the vote is secret, and electors have no codes",
-                f"run {election.command('codes')} first",
-            )
-        )
+        reason = "the vote is secret, and electors have no codes"
+        faults.append(Fault(None, reason, f"run {election.command('codes')} first"))
     stop_at(faults)
+    electors = queries.electors(election.book)
     public = poll
-    if poll.secret and not history.has_codes_on_roll:
-        public = aliased_poll(poll, queries.public_names(queries.electors(book)))
-    said.update(
-        {
-            "form": arguments.form,
-            "names": arguments.names,
-            "codes_on_roll": history.has_codes_on_roll,
-        }
-    )
-    said.update({"quorum_votes": sheet.quorum, "signed": arguments.keyring is not None})
+    if poll.secret and not is_on_roll:
+        public = aliased_poll(poll, queries.public_names(electors))
+    said.update({"form": arguments.form, "names": arguments.names, "marked": arguments.marked})
+    said.update({"codes_on_roll": is_on_roll, "quorum_votes": found.sheet.quorum})
+    said["signed"] = arguments.keyring is not None
     keyring = keyring_in(election, arguments.keyring)
-    data = current_data(election, history, said, Sealed(public, poll))
+    files = sealed_by(election, said, found.letter_text, keyring, Sealed(public, poll))
+    files[POLL] = public.as_bytes()
+    if public != poll:
+        files[POLL_WITH_NAMES] = poll.as_bytes()
     if poll.secret:
-        demand_no_codes(data, queries.electors(book))
         said["agreed"] = agreed_texts(
             history, texts_of_poll(poll), is_agreed=arguments.yes, done="nothing was changed"
         )
-    with book.act("call", said, seen=history.last.number) as act:
-        act.insert("sealed", name=POLL, data=public.as_bytes())
-        if public != poll:
-            act.insert("sealed", name=POLL_WITH_NAMES, data=poll.as_bytes())
-        seal(act, data, keyring)
-        if not history.has_codes_on_roll:
-            marked = (one._replace(mark=new_own_mark()) for one in queries.electors(book))
-            queries.put_electors(act, marked)
-    tell_poll(poll, sheet)
-
-
-def demand_no_codes(data: CallData, electors: Sequence[Elector]) -> None:
-    """Stops if a text of the call has a code, of its elector or of the roll."""
-    codes = {elector.code or elector.name for elector in electors}
-    for name, content in call_files(data).items():
-        demand_no_code(name, content, codes, "nothing was changed")
+    with election.book.act("call", said, seen=history.last.number) as act:
+        for name, data in files.items():
+            act.insert("sealed", name=name, data=data)
+        if not is_on_roll:
+            queries.put_electors(act, (one._replace(mark=new_own_mark()) for one in electors))
+    tell_checked(found)
 
 
 def call_again(election: Election, arguments: Arguments) -> None:
@@ -149,34 +139,31 @@ def call_again(election: Election, arguments: Arguments) -> None:
     """
     history = election.history()
     said = announced(arguments, history.announced("zone"))
-    is_act = bool(said) or arguments.keyring is not None
-    book = election.book
-    demand_no_change(election, history, arguments)
-    if not is_act:
+    demand_no_change(election, history, arguments, said)
+    before = current_data(election, history).letter_text
+    # after a close no letter begins with it
+    letter_text = before if history.closes else letter_text_in(election.folder)
+    if not said and arguments.keyring is None and letter_text == before:
         return
     if history.is_closed:
         raise Fault(None, "the vote is closed", f"see {election.command('status')}")
     until = until_of(said)
     if until is not None and history.closes:
         words = f"the vote was closed at {act_time(history.closes[0].time)}, and only ballots that came before then count"
-        raise Fault(
-            "--until",
-            words,
-            f"leave it out; enter ballots that came in time with {election.command('add')}",
-        )
+        cure = f"leave it out; enter ballots that came in time with {election.command('add')}"
+        raise Fault("--until", words, cure)
     if until is not None and history.until is not None and until <= history.until:
         words = f"electors rely on {times.time_in_words(history.until)}, and {times.time_in_words(until)} is not later"
         raise Fault("--until", words, "name a later time", Status.BAD_WORDS)
     keyring = keyring_in(election, arguments.keyring)
-    data = current_data(election, history, said)
+    files = sealed_by(election, said, letter_text, keyring)
     if keyring is not None:
         said["keyring"] = True
-    with book.act("announce" if until is None else "extend", said, seen=history.last.number) as act:
-        seal(act, data, keyring)
-        if until is not None:
-            act.insert(
-                "sealed", name=f"{LETTERS}/{EXTENSION}", data=extension_letter(data).encode()
-            )
+    with election.book.act(
+        "announce" if until is None else "extend", said, seen=history.last.number
+    ) as act:
+        for name, data in files.items():
+            act.insert("sealed", name=name, data=data)
 
 
 def take_back(election: Election) -> None:
@@ -185,19 +172,18 @@ def take_back(election: Election) -> None:
     if history.closes:
         words = f"the vote was closed at {act_time(history.closes[0].time)}, and electors rely on the close"
         raise Fault(None, words, "hold the vote anew in another folder")
-    if queries.has_come(election.book, call_act.number):
+    if queries.has_come(book, call_act.number):
         words = "ballots or letters have come, and electors rely on the call"
         raise Fault(None, words, "finish this vote, or hold it anew in another folder")
-    coded = queries.electors(book) if election.sealed().counted.secret else []
-    with book.act(
-        "take back", {"call": call_act.number, "codes": len(coded)}, seen=history.last.number
-    ) as act:
-        # whoever compares the roll of this call with that of the next would see the alias of each
-        # elector who is new
-        is_on_roll = history.has_codes_on_roll
+    electors, is_on_roll = queries.electors(book), history.has_codes_on_roll
+    coded = len(electors) if election.sealed().counted.secret else 0
+    detail: Detail = {"call": call_act.number, "codes": coded}
+    with book.act("take back", detail, seen=history.last.number) as act:
+        # own marks lapse, and codes: whoever compares the roll of this call with that of the next
+        # would see the alias of each elector who is new
         lapsed = (
-            one._replace(position=None) if is_on_roll else one._replace(code="", alias="")
-            for one in coded
+            one._replace(position=None if is_on_roll else one.position, code="", alias="", mark="")
+            for one in electors
         )
         queries.put_electors(act, lapsed)
     write_made(election.path(CALL), {}, PUBLIC, FILES)
@@ -206,21 +192,36 @@ def take_back(election: Election) -> None:
     first = "call"
     if coded:
         write_made(election.path(PRIVATE), {}, OWN, (SLIPS, CODES))
-        tell(
-            f"All {len(coded)} codes are void, and their slips and table are removed: destroy what is printed."
-        )
-        first = "roll" if history.has_codes_on_roll else "codes"
+        words = "their slips and table are removed: destroy what is printed"
+        tell(f"All {coded} codes are void, and {words}.")
+        first = "roll" if is_on_roll else "codes"
     tell(f"Next: put right what was wrong, then run {election.command(first)}")
 
 
-def seal(act: NewAct, data: CallData, keyring: bytes | None) -> None:
-    """Keeps the keyring, and the files of the call, so that they can be made again with the same
-    bytes.
+def sealed_by(
+    election: Election,
+    said: Detail,
+    letter_text: str,
+    keyring: bytes | None,
+    sealed: Sealed | None = None,
+) -> dict[str, bytes]:
+    """What an act seals, by its name in the book: the files of the call, so that they can be made
+    again with the same bytes, the text of the letters if it is new, and the keyring. Stops if a
+    text would have the code of an elector.
     """
-    if keyring is not None:
-        act.insert("sealed", name=KEYRING, data=keyring)
-    for name, content in call_files(data).items():
-        act.insert("sealed", name=f"{CALL}/{name}", data=content)
+    data = dataclasses.replace(
+        current_data(election, said=said, sealed=sealed), letter_text=letter_text
+    )
+    files = {f"{CALL}/{name}": content for name, content in call_files(data).items()}
+    if sealed is None and "until" in said:
+        files[f"{LETTERS}/{EXTENSION}"] = extension_letter(data).encode()
+    if letter_text.encode() != (queries.sealed(election.book, LETTER_TEXT) or b""):
+        files[LETTER_TEXT] = letter_text.encode()
+    if data.poll.secret:
+        codes = {elector.code or elector.name for elector in queries.electors(election.book)}
+        for name, content in files.items():
+            demand_no_code(name, content, codes, "nothing was changed")
+    return files if keyring is None else {**files, KEYRING: keyring}
 
 
 # ---------------------------------------------------------------- the words of the command line
@@ -236,31 +237,30 @@ def announced(arguments: Arguments, earlier_zone: str | None) -> Detail:
         if zone is not None:
             said["zone"] = zone
     if arguments.to is not None:
-        demand_mail_address(arguments.to)
-        said["to"] = arguments.to
+        said["to_name"], said["to"] = named_address(arguments.to)
     if arguments.at is not None:
         demand_web_address(arguments.at)
         said["at"] = arguments.at
     return said
 
 
-def demand_no_change(election: Election, history: History, arguments: Arguments) -> None:
+def demand_no_change(
+    election: Election, history: History, arguments: Arguments, said: Detail
+) -> None:
     changed = [
         f"--{name}"
-        for name in ("form", "names")
+        for name in ("form", "names", "marked")
         if getattr(arguments, name) and not history.announced(name)
     ]
-    if arguments.to not in (None, history.announced("to")):
+    if said.get("to") not in (None, history.announced("to")):
         changed.append("--to")
     if arguments.keyring is not None and not history.announced("signed"):
         changed.append("--keyring")
     if changed:
-        cure = f"as long as nothing has come, take the call back and call anew: {election.command('call', '--take-back')}"
-        words = (
-            "the call was made without it"
-            if changed != ["--to"]
-            else "the call has sealed the address"
-        )
+        is_address = changed == ["--to"]
+        words = "the call has sealed the address" if is_address else "the call was made without it"
+        again = election.command("call", "--take-back")
+        cure = f"as long as nothing has come, take the call back and call anew: {again}"
         raise Fault(", ".join(changed), words, cure)
 
 
@@ -271,15 +271,11 @@ def keyring_in(election: Election, file: str | None) -> bytes | None:
     try:
         data = read_at_most(pathlib.Path(file), KEYRING_LIMIT)
     except OSError as error:
-        raise Fault(
-            file, error.strerror, "name the file that gpg --export wrote", Status.BAD_WORDS
-        ) from None
+        cure = "name the file that gpg --export wrote"
+        raise Fault(file, error.strerror, cure, Status.BAD_WORDS) from None
     keyring, electors = read_keyring(file, data), queries.electors(election.book)
-    if missing := [
-        elector.name
-        for elector in electors
-        if elector.key and elector.key not in keyring.fingerprints
-    ]:
+    missing = [one.name for one in electors if one.key and one.key not in keyring.fingerprints]
+    if missing:
         words = f"it lacks the keys that the list of members has for: {', '.join(missing)}"
         raise Fault(file, words, "export these keys, too")
     if without := [elector.name for elector in electors if not elector.key]:
@@ -289,15 +285,11 @@ def keyring_in(election: Election, file: str | None) -> bytes | None:
 
 # ---------------------------------------------------------------- the folders
 def make_folders(election: Election) -> None:
-    history = election.history()
-    files = {name: queries.sealed(election.book, f"{CALL}/{name}") for name in FILES}
-    write_made(
-        election.path(CALL),
-        {name: data for name, data in files.items() if data is not None},
-        PUBLIC,
-        FILES,
-    )
-    extension = queries.sealed(election.book, f"{LETTERS}/{EXTENSION}")
+    book, history = election.book, election.history()
+    files = {name: queries.sealed(book, f"{CALL}/{name}") for name in FILES}
+    there = {name: data for name, data in files.items() if data is not None}
+    write_made(election.path(CALL), there, PUBLIC, FILES)
+    extension = queries.sealed(book, f"{LETTERS}/{EXTENSION}")
     if extension is not None and history.since_call("extend"):
         write_made(election.path(LETTERS), {EXTENSION: extension}, OWN)
     if election.sealed().counted.secret:
@@ -305,46 +297,34 @@ def make_folders(election: Election) -> None:
 
 
 def report(election: Election, data: CallData) -> None:
-    folder = election.path(CALL)
-    tell(f"Made the folder {folder} with the page index.html and the letter call.txt.")
+    folder, slips = election.path(CALL), election.path(PRIVATE) / SLIPS
+    letters = election.command("letters", "call")
+    lines = [f"Made the folder {folder} with the page index.html and the letter call.txt."]
     if data.has_aliases:
-        tell(
-            "The vote is secret: the poll of the call has aliases, and the folder has no names of electors."
-        )
+        lines += [
+            "The vote is secret: the poll of the call has aliases, and the folder has no names of electors.",
+            f"Print {slips}, cut the slips out, and give each elector their own.",
+        ]
     if data.has_codes_on_roll:
-        tell("Codes are on the roll: the call has the checksum of the poll, but no poll.toml.")
-    if data.has_aliases or data.has_codes_on_roll:
-        whose = (
-            "let each elector draw one" if data.has_codes_on_roll else "give each elector their own"
-        )
-        tell(f"Print {election.path(PRIVATE) / SLIPS}, cut the slips out, and {whose}.")
-    tell(
+        letters = f"send {folder / 'call.txt'} to all electors"
+        lines += [
+            "Codes are on the roll: the call has the checksum of the poll, but no poll.toml.",
+            f"Print {slips}, cut the slips out, and let each elector draw one.",
+        ]
+    lines += [
         f"Checksum of the poll: {data.poll.checksum}",
-        f"Mark of the poll, at the end of each subject: [{data.poll.mark}]",
-    )
-    if data.until is not None:
-        tell(f"End of the vote: {times.time_in_words(data.until)}")
-    if data.is_extended:
-        tell(f"Made {election.path(LETTERS) / EXTENSION}: send it to all electors.")
-    missing = [
-        words
-        for words, value in (
-            ("when the vote ends (--until)", data.until),
-            ("where ballots go (--to)", data.to),
-        )
-        if value is None
+        f"Mark of the poll, at the end of each subject: {data.mark}",
     ]
-    if missing:
-        tell(f"The call does not say {' nor '.join(missing)}.")
-    tell(
-        "The poll is sealed: poll.toml and texts/ of this folder are no longer read; roll still reads addresses and keys."
-    )
-    write = (
-        f"send {folder / 'call.txt'} to all electors"
-        if data.has_codes_on_roll
-        else election.command("letters", "call")
-    )
+    if data.until is not None:
+        lines.append(f"End of the vote: {times.time_in_words(data.until)}")
+    if data.is_extended:
+        lines.append(f"Made {election.path(LETTERS) / EXTENSION}: send it to all electors.")
+    unsaid = {"when the vote ends (--until)": data.until, "where ballots go (--to)": data.to}
+    if missing := [words for words, value in unsaid.items() if value is None]:
+        lines.append(f"The call does not say {' nor '.join(missing)}.")
     enter = f"{election.command('add', 'FILE')} or {election.command('desk')}"
-    tell(
-        f"Next: put {folder} on the web site, and write to the electors: {write}; enter the ballots that come: {enter}"
-    )
+    lines += [
+        "The poll is sealed: poll.toml and texts/ of this folder are no longer read; roll still reads addresses and keys.",
+        f"Next: put {folder} on the web site, and write to the electors: {letters}; enter the ballots that come: {enter}",
+    ]
+    tell(*lines)

@@ -3,7 +3,7 @@
 from debvote_tools.cli.arguments import Options, flag
 from debvote_tools.cli.console import tell
 from debvote_tools.book.election import Election, History
-from debvote_tools.poll.draft_poll import checked_poll, lacks_codes, tell_poll
+from debvote_tools.poll.draft import checked, lacks_codes, tell_checked
 from debvote_tools.book.reporting import quorum_words, wrapped
 from debvote_tools.poll.sealed_poll import SealedPoll
 
@@ -22,11 +22,11 @@ def run(election: Election, arguments: Arguments) -> None:
             f"The call has sealed the poll, and poll.toml is no longer read. Next: {election.command('status')}"
         )
         return
-    poll, sheet = checked_poll(election)
-    roll = poll.roll
+    found = checked(election)
+    poll, roll = found.poll, found.poll.roll
     tell(f"The poll is in order: {len(poll.names)} options, {len(roll)} electors.")
-    tell_poll(poll, sheet)
-    tell(quorum_words(poll.quorum, sheet.quorum))
+    tell_checked(found)
+    tell(quorum_words(poll.quorum, found.sheet.quorum))
     if not history.has_codes_on_roll:
         names = roll if arguments.all else roll[:MAX_SHOWN]
         tell(f"Electors: {len(roll)}", wrapped(names))

@@ -11,12 +11,12 @@ from debvote_tools.commands.check import what_next
 from debvote_tools.commands.roll import demand_read
 from debvote_tools.book.election import POLL_FILE, PRIVATE, Election, History
 from debvote_tools.made_files import OWN, write_made
-from debvote_tools.poll.draft_poll import checked_poll
+from debvote_tools.poll.draft import checked
 from debvote_tools.book.reporting import count_of
 from debvote_tools.cli.faults import Fault
 from debvote_tools.poll.sealed_poll import SealedPoll
 from debvote_tools.poll.aliases import alias_of
-from debvote_tools.poll.codes import CodeRow, codes_csv, new_code
+from debvote_tools.poll.codes import codes_csv, new_code
 from debvote_tools.poll.slips import slips
 
 SLIPS, CODES = "slips.html", "codes.csv"
@@ -41,18 +41,16 @@ def run(election: Election, arguments: Arguments) -> None:
     history, private = election.history(), election.path(PRIVATE)
     write_slips(election, history, poll)
     when = "Print them after the call, which adds the end of the vote and the address for ballots."
-    tell(f"The slips: {private / SLIPS}. {when}")
+    lines = [f"The slips: {private / SLIPS}. {when}"]
+    without = [one.name for one in queries.electors(election.book) if not one.code]
     if history.has_codes_on_roll:
-        tell(
-            "Nobody may keep a list of who gets which code. Destroy the slips that are left over, and their file."
-        )
+        words = "Destroy the slips that are left over, and their file."
+        lines.append(f"Nobody may keep a list of who gets which code. {words}")
     else:
-        tell(f"The table of codes: {private / CODES}. Let nobody else see it.")
-        if without := [
-            elector.name for elector in queries.electors(election.book) if not elector.code
-        ]:
-            tell(f"Without a code: {', '.join(without)}")
-    tell(f"Next: {what_next(election, history, poll)}")
+        lines.append(f"The table of codes: {private / CODES}. Let nobody else see it.")
+        if without:
+            lines.append(f"Without a code: {', '.join(without)}")
+    tell(*lines, f"Next: {what_next(election, history, poll)}")
 
 
 def make_codes(election: Election, arguments: Arguments) -> tuple[SealedPoll, int]:
@@ -63,46 +61,31 @@ def make_codes(election: Election, arguments: Arguments) -> tuple[SealedPoll, in
     """
     book, history = election.book, election.history()
     demand_read(election, history)
-    poll, _ = checked_poll(election)
+    poll = checked(election).poll
     if not poll.secret:
-        raise Fault(
-            election.path(POLL_FILE), NOT_SECRET, "for a secret vote write into it: secret = true"
-        )
-    if history.has_codes_on_roll:
-        return poll, 0
+        cure = "for a secret vote write into it: secret = true"
+        raise Fault(election.path(POLL_FILE), NOT_SECRET, cure)
     electors = queries.electors(book)
     without = [elector for elector in electors if not elector.code]
     if arguments.on_roll and len(without) < len(electors):
-        raise Fault(
-            "--on-roll", "electors have names with codes already", "begin anew in another folder"
-        )
-    if not without:
+        reason = "electors have names with codes already"
+        raise Fault("--on-roll", reason, "begin anew in another folder")
+    if history.has_codes_on_roll or not without:
         return poll, 0
-    detail: Detail = (
-        {"codes": len(without), "on_roll": True} if arguments.on_roll else {"codes": len(without)}
-    )
+    detail: Detail = {"codes": len(without)}
+    if arguments.on_roll:
+        detail["on_roll"] = True
     with book.act("codes", detail, seen=history.last.number) as act:
         if arguments.on_roll:
-            on_roll = (
-                queries.new_elector(act, code) for code in sorted(new_code() for _ in electors)
-            )
             queries.put_electors(act, (elector._replace(position=None) for elector in electors))
-            queries.put_electors(
-                act,
-                (
-                    elector._replace(position=number)
-                    for number, elector in enumerate(on_roll, start=1)
-                ),
-            )
+            on_roll = [
+                queries.new_elector(act, name) for name in sorted(new_code() for _ in electors)
+            ]
+            coded = [one._replace(position=at) for at, one in enumerate(on_roll, start=1)]
         else:
-            codes = ((elector, new_code(elector.name)) for elector in without)
-            queries.put_electors(
-                act,
-                (
-                    elector._replace(code=code, alias=alias_of(code, elector.name))
-                    for elector, code in codes
-                ),
-            )
+            codes = [(one, new_code(one.name)) for one in without]
+            coded = [one._replace(code=code, alias=alias_of(code, one.name)) for one, code in codes]
+        queries.put_electors(act, coded)
     return poll, len(without)
 
 
@@ -110,20 +93,14 @@ def write_slips(election: Election, history: History, poll: SealedPoll) -> None:
     """Makes the folder `private`, with what the call says if there is one. With codes on the roll
     the names are the codes.
     """
-    is_on_roll = history.has_codes_on_roll
-    unsaid = CallData(
-        election.language,
-        poll,
-        0,
-        has_codes_on_roll=is_on_roll,
-        has_lapsed_codes=history.has_lapsed_codes,
+    is_on_roll, lapsed = history.has_codes_on_roll, history.has_lapsed_codes
+    call = CallData(
+        election.language, poll, 0, has_codes_on_roll=is_on_roll, has_lapsed_codes=lapsed
     )
-    call = current_data(election, history) if history.call else unsaid
-    rows = [
-        CodeRow(name, who, " ".join(addresses), name if is_on_roll else code, alias)
-        for _, name, _, who, addresses, _, code, alias, _ in queries.electors(election.book)
-    ]
-    files = {SLIPS: slips(call, rows)}
+    if history.call is not None:
+        call = current_data(election, history)
+    electors = queries.electors(election.book)
+    files = {SLIPS: slips(call, electors)}
     if not is_on_roll:
-        files[CODES] = codes_csv(rows)
+        files[CODES] = codes_csv(electors)
     write_made(election.path(PRIVATE), files, OWN)

@@ -13,7 +13,7 @@ from debvote_tools.cli.console import is_terminal, is_yes, tell
 from debvote_tools.cli.faults import Fault, Status, stop_at
 from debvote_tools.cli.terminal_text import shown_line, shown_text
 from debvote_tools.inbox import letter_words, letters_in
-from debvote_tools.inbox.circumstances import Decision
+from debvote_tools.inbox.known import Decision
 from debvote_tools.inbox.judge import JudgedLetter, Outcome
 from debvote_tools.inbox.letters_in import Plan
 from debvote_tools.inbox.lines import lines_in, name_in
@@ -230,8 +230,8 @@ def chosen_in(letter: JudgedLetter, lines: str | None, typed: str | None) -> lis
     """
     name = f"letter {letter.number}"
     if typed is not None:
-        sharing = letter.circumstances.electors_by_address.get(letter.parsed.sender, [])
-        possible, chosen = {*letter.electors, *sharing}, Chosen(letter, 0, typed)
+        possible = {*letter.electors, *letter.known.may_have_sent(letter.parsed)}
+        chosen = Chosen(letter, 0, typed)
         if possible and chosen.elector not in possible:
             words = f"neither its sender nor a line of {name} is of {chosen.elector}"
             raise Fault("--as", words, "check the name; if it is right, enter the ballot at a desk")

@@ -8,7 +8,7 @@ import shlex
 from debvote_tools.cli.arguments import Options, option, positional
 from debvote_tools.book import book
 from debvote_tools.cli.console import tell
-from debvote_tools.poll.draft_poll import NEW_POLL
+from debvote_tools.poll.draft import NEW_POLL
 from debvote_tools.book.election import MEMBERS_FILE, POLL_FILE, Election
 from debvote_tools.poll.members import NEW_MEMBERS
 from debvote_tools.cli.faults import Fault, Status
@@ -28,25 +28,15 @@ class Arguments(Options):
 
 def run(election: Election, arguments: Arguments) -> None:
     if election.is_named:
-        raise Fault(
-            "--folder",
-            "new makes the folder that follows it",
-            "leave --folder out",
-            Status.BAD_WORDS,
-            None,
-        )
+        words = "new makes the folder that follows it"
+        raise Fault("--folder", words, "leave --folder out", Status.BAD_WORDS, None)
     folder, language = pathlib.Path(arguments.target), arguments.language
     # an empty folder is replaced
-    if os.path.lexists(folder) and not (
-        folder.is_dir() and not folder.is_symlink() and not any(folder.iterdir())
-    ):
-        what = (
-            "an election already"
-            if (folder / book.NAME).exists()
-            else "not empty"
-            if folder.is_dir()
-            else "not a folder"
-        )
+    is_folder = folder.is_dir() and not folder.is_symlink()
+    if os.path.lexists(folder) and (not is_folder or any(folder.iterdir())):
+        what = "not empty" if folder.is_dir() else "not a folder"
+        if (folder / book.NAME).exists():
+            what = "an election already"
         raise Fault(folder, f"it exists, and is {what}", "choose another name", Status.BAD_WORDS)
     with uninterrupted():
         make(folder, language)
@@ -69,8 +59,5 @@ def make(folder: pathlib.Path, language: str) -> None:
             raise Fault(folder, error.strerror, cure, Status.BAD_WORDS) from None
         write_whole(made / POLL_FILE, NEW_POLL.read_bytes(), 0o600)
         write_whole(made / MEMBERS_FILE, NEW_MEMBERS.encode(), 0o600)
-        book.create(
-            made / book.NAME,
-            {"language": language},
-            place.parent.resolve() / place.name / book.NAME,
-        )
+        final_path = place.parent.resolve() / place.name / book.NAME
+        book.create(made / book.NAME, {"language": language}, final_path)

@@ -6,11 +6,12 @@ from typing import NamedTuple
 
 from debvote_tools.text import times
 from debvote_tools.cli.arguments import Options, flag
-from debvote_tools.book import queries, sent
+from debvote_tools.book import queries
 from debvote_tools.cli.console import shows, tell
 from debvote_tools.debvote import Finding, Findings, Totals
 from debvote_tools.book.election import LETTERS, RESULT_LETTER, Election, History, Stage
 from debvote_tools.book.reporting import act_time, count_of, quorum_words, wrapped
+from debvote_tools.outbox.due import not_reached
 from debvote_tools.inbox.waiting import Arrived, stopping, waiting_letters
 from debvote_tools.inbox.lines import ballot_file
 from debvote_tools.cli.terminal_text import shown_line
@@ -94,9 +95,7 @@ def run(election: Election, arguments: Arguments) -> None:
             f"These arrived in time, and {stops} while they wait: {', '.join(map(str, state.stopping))}"
         )
     if state.refused_letters:
-        tell(
-            f"Refused by the mail server, and reached by no letter since: {', '.join(state.refused_letters)}"
-        )
+        tell(f"Not reached by the call: {', '.join(state.refused_letters)}")
     tell(f"Last act: {state.act}, digest {state.digest}", f"Next: {what_next(election, state)}")
 
 
@@ -134,7 +133,7 @@ def state_of(election: Election, history: History) -> tuple[State, list[Refused]
         waiting=len(waiting),
         stopping=stopping(waiting, history),
         without_ballot=None if has_codes else [name for name in roll if name not in voters],
-        refused_letters=[elector.name for elector, _ in sent.refused(election.book)],
+        refused_letters=[name for name, _ in not_reached(election, history)],
         act=history.last.number,
         digest=history.last.digest,
     )

@@ -12,7 +12,7 @@ from debvote_tools.cli.console import is_terminal, is_yes, tell
 from debvote_tools.cli.faults import Fault
 from debvote_tools.inbox.plan import agreed_act, envelope_words
 from debvote_tools.inbox.vote import Vote, standing_words
-from debvote_tools.outbox.compose import Kind
+from debvote_tools.outbox.words import Kind
 
 
 class Arguments(acting.Arguments):

@@ -5,9 +5,10 @@ stand above a ballot is listed instead: a few lines of greeting or, in an answer
 only this elector has, the quotation of it.
 """
 
+import itertools
 import re
 import unicodedata
-from collections.abc import Collection, Sequence
+from collections.abc import Callable, Collection, Sequence
 
 from debvote_tools.inbox.parse import END, Body
 from debvote_tools.inbox.reasons import Because, Reason
@@ -15,8 +16,9 @@ from debvote_tools.inbox.reasons import Because, Reason
 # the line that parts paragraphs as an empty one does
 STROKE = "--"
 
-# the most lines of greeting above a ballot, and the most characters of them together
-MAX_ABOVE, MAX_CHARACTERS = 5, 200
+# the most lines of greeting above a ballot, and the most characters of them together; and the most
+# lines of the head of a quotation
+MAX_ABOVE, MAX_CHARACTERS, MAX_HEAD = 5, 200, 2
 
 # how a greeting in Spanish may begin
 OPENING = ("¡", "¿")
@@ -25,8 +27,8 @@ OPENING = ("¡", "¿")
 CATEGORIES = ("Lu", "Ll", "Lt", "Lm", "Lo", "Mn", "Mc", "Zs", "Pd", "Pi", "Pf")
 SIGNS = "\t,.;!?'\"()/&*+…·¡¿、。，！？،؟।\u200d\u200e\u200f"
 PICTURES = re.compile("[\u2600-\u2767\u2794-\u27bf\U0001f300-\U0001faff]")
-# letters that look like a colon
-LIKE_COLONS = "\u02d0\u0903\ua4fd"
+# colons of any width, and letters that look like one
+COLONS, LIKE_COLONS = (":", "：", "﹕"), "\u02d0\u0903\ua4fd"
 
 
 def is_quoted(line: str) -> bool:
@@ -42,14 +44,15 @@ def above_end(lines: Sequence[str]) -> int:
     return lines.index(END) if END in lines else len(lines)
 
 
-def paragraphs_of(body: Body, passed_over: Collection[str] = ()) -> list[list[int]]:
+def paragraphs_of(
+    body: Body, passes_over: Callable[[str], bool], joined: Collection[int]
+) -> list[list[int]]:
     """The paragraphs above the end of a letter, each as the indices of its lines. A line that is
-    passed over is in no paragraph, and ends none.
+    passed over is in no paragraph, and ends none; nor does an empty one that is joined to others.
     """
     paragraphs: list[list[int]] = [[]]
-    flowing = frozenset(body.flowing)
     for index, line in enumerate(body.lines[: above_end(body.lines)]):
-        if line.strip() in passed_over or (index in flowing and is_empty(line)):
+        if passes_over(line) or (index in joined and is_empty(line)):
             continue
         if is_empty(line) or line == STROKE:
             paragraphs.append([])
@@ -58,16 +61,13 @@ def paragraphs_of(body: Body, passed_over: Collection[str] = ()) -> list[list[in
     return [paragraph for paragraph in paragraphs if paragraph]
 
 
-def is_greeting(line: str, *, is_answer: bool) -> bool:
+def is_greeting(line: str, *, may_end_in_colon: bool = False) -> bool:
     """Whether a line may be a greeting: it begins with a letter, and has what greetings have, so no
-    digit and no colon. Above the ballot of an answer to ours it may be the head of a quotation,
-    with digits, and a colon at its end.
+    digit and no colon.
     """
-    begins = line[:1].isalpha() or line.startswith(OPENING)
-    bare = line.removesuffix(":").removesuffix("：") if is_answer else line
-    return begins and all(
-        is_plain(character) or (is_answer and character.isnumeric()) for character in set(bare)
-    )
+    bare = line[:-1] if may_end_in_colon and line.endswith(COLONS) else line
+    begins = bare.lstrip()[:1].isalpha() or bare.lstrip().startswith(OPENING)
+    return begins and all(map(is_plain, set(bare)))
 
 
 def is_plain(character: str) -> bool:
@@ -80,35 +80,56 @@ def is_plain(character: str) -> bool:
 
 
 def why_not_first(
-    body: Body, ballot: int, *, is_answer: bool, passed_over: Collection[str] = ()
+    body: Body,
+    ballot: int,
+    passes_over: Callable[[str], bool],
+    *,
+    is_answer: bool,
+    may_end_in_colon: bool,
+    most_above: int = MAX_ABOVE,
 ) -> Because | None:
     """Why the ballot with this index among the lines is not the first line of the letter; None if
     it is.
 
-    `is_answer` says that the letter answers one of ours, which only this elector has. `passed_over`
-    are lines without their blanks, such as the mark of the vote, that may be anywhere.
+    `is_answer` says that the letter answers one of ours, so a quotation may be above the ballot;
+    `may_end_in_colon` that a greeting above it may. Lines that flow are judged as they stand, and
+    joined.
     """
     lines = body.lines
-    paragraphs = paragraphs_of(body, passed_over)
-    own = next(paragraph for paragraph in paragraphs if ballot in paragraph)
-    before = paragraphs[: paragraphs.index(own)]
-    # by their first lines
-    quoted = {
-        paragraph[0]
-        for paragraph in (*before, own)
-        if any(is_quoted(lines[index]) for index in paragraph)
-    }
-    if own[0] in quoted or (quoted and not is_answer):
-        return Reason.QUOTED()
-    greetings = [index for paragraph in before if paragraph[0] not in quoted for index in paragraph]
-    greetings += [index for index in own if index != ballot and not is_answer]
-    flowing = frozenset(body.flowing)
-    for index in greetings:
-        line = lines[index] if index in flowing else lines[index].rstrip()
-        if not is_greeting(line, is_answer=is_answer):
-            return Reason.NOT_FIRST(number=index + 1)
-    above = [lines[index].strip() for index in greetings if index < ballot]
-    is_much = (
-        len(above) > (0 if body.is_html else MAX_ABOVE) or len("".join(above)) > MAX_CHARACTERS
+    for joined in dict.fromkeys((frozenset(body.flowing), frozenset[int]())):
+        paragraphs = paragraphs_of(body, passes_over, joined)
+        place = next(place for place, own in enumerate(paragraphs) if ballot in own)
+        quoted = [any(is_quoted(lines[index]) for index in one) for one in paragraphs]
+        first = quoted.index(True) if True in quoted[:place] else -1
+        if quoted[place] or (first >= 0 and not is_answer):
+            return Reason.QUOTED()
+        if first >= 0 and not has_only_a_head(lines, paragraphs[: first + 1]):
+            return Reason.MUCH_QUOTED()
+        own = [index for index in paragraphs[place] if index != ballot]
+        between = range(first + 1, place)
+        greetings = [index for one in between if not quoted[one] for index in paragraphs[one]] + own
+        if is_answer and True not in quoted[place + 1 : place + 2]:
+            greetings = [index for index in greetings if index < ballot]
+        for index in greetings:
+            line = lines[index] if index in joined else lines[index].rstrip()
+            if not is_greeting(line, may_end_in_colon=may_end_in_colon and index < ballot):
+                return Reason.NOT_FIRST(number=index + 1)
+        above = [lines[index].strip() for index in greetings if index < ballot]
+        if len(above) > most_above or len("".join(above)) > MAX_CHARACTERS:
+            return Reason.MUCH_ABOVE()
+    return None
+
+
+def has_only_a_head(lines: Sequence[str], paragraphs: Sequence[Sequence[int]]) -> bool:
+    """Whether nothing is above the first quoted line, which is in the last of these paragraphs, but
+    its head: two lines at most, of which the last ends in a colon. They are in its paragraph, or
+    in one of their own above it.
+    """
+    *over, quotation = paragraphs
+    own = list(itertools.takewhile(lambda index: not is_quoted(lines[index]), quotation))
+    heads = [*over, *([own] if own else [])]
+    return not heads or (
+        len(heads) == 1
+        and len(heads[0]) <= MAX_HEAD
+        and lines[heads[0][-1]].rstrip().endswith(COLONS)
     )
-    return Reason.MUCH_ABOVE() if is_much and not is_answer else None

@@ -24,14 +24,14 @@ TOKEN = re.compile(
 )
 DOCTYPE = re.compile(r"<!doctype\s[^<>\[\]]*>", re.IGNORECASE)
 ATTRIBUTE = re.compile(
-    r"""(?<!\s)\s++([a-zA-Z-]++)(?:\s*+=\s*+(?:"([^"]*+)"|'([^']*+)'|([^\s"'>=]++)))?"""
+    r"""(?<!\s)\s++([a-zA-Z0-9:-]++)(?:\s*+=\s*+(?:"([^"]*+)"|'([^']*+)'|([^\s"'>=]++)))?"""
 )
 
 # the elements, attributes and styles of plain marks
 PLAIN = frozenset(
-    "html head meta title body div p br span font b strong i em u center blockquote".split()
+    "html head meta title body div p br pre span font b strong i em u center blockquote".split()
 )
-PLAIN_ATTRIBUTES = frozenset("class id lang dir style".split())
+PLAIN_ATTRIBUTES = frozenset("class id lang dir style wrap".split())
 META_ATTRIBUTES = frozenset("charset content http-equiv name".split())
 # from right to left numbers are in another order
 DIRECTIONS = ("ltr", "auto")
@@ -53,7 +53,7 @@ PLAIN_STYLES |= {
 # what else may be below a ballot, since it changes nothing above it; with any other mark nothing of
 # a letter is plain
 BELOW = PLAIN - {"html", "head", "meta", "title", "body"} | frozenset(
-    "a img hr ul ol li pre h1 h2 h3 h4 h5 h6 s small code table thead tbody tfoot tr td th".split()
+    "a img hr ul ol li h1 h2 h3 h4 h5 h6 s small code table thead tbody tfoot tr td th".split()
 )
 BELOW_ATTRIBUTES = PLAIN_ATTRIBUTES | frozenset(
     "name href src alt title target rel width height border cellpadding cellspacing colspan rowspan valign bgcolor color face size "
@@ -130,6 +130,9 @@ class HtmlText:
         self.open_count: collections.Counter[str] = collections.Counter()
         # the element whose text nobody sees, while it is open
         self.holder = ""
+        # whether the last mark began a `pre`, so that a line end after it is left out; and the text
+        # since then as programs show it that know no `pre`
+        self.is_begun, self.flat = False, list[str]()
 
     def found_other(self, name: str, *, may_be_below: bool) -> None:
         if not self.first_other:
@@ -160,13 +163,16 @@ class HtmlText:
         if tag in CELLS or tag in BLOCKS:
             self.open.append(tag)
             self.open_count[tag] += 1
+        self.is_begun = tag == "pre"
 
     def close(self, tag: str) -> None:
-        """Closes a block that is open, and those within it."""
+        """Closes a block that is open, and those within it. The end of a `p` parts paragraphs."""
         closed = ""
         while closed != tag:
             closed = self.open.pop()
             self.open_count[closed] -= 1
+            if closed == "p" and self.lines[-1:] not in ([], [""]):
+                self.lines.append("")
 
     def end(self, tag: str) -> None:
         """An element ends. The end of one that is not open begins a line in browsers if it is `br`
@@ -201,14 +207,36 @@ class HtmlText:
         if self.open and self.open[-1] in TABLE and shown.strip():
             self.found_other(text, may_be_below=False)
         self.pieces += [f"{self.quotation}{line}" for line in shown.splitlines()]
-        if not self.holder:
-            self.parts.append(re.sub(r"[ \t\r\n\f]+", " ", shown))
+        if self.holder:
+            return
+        flat = re.sub(r"[ \t\r\n\f]+", " ", shown)
+        if self.open_count["pre"]:
+            self.flat.append(flat)
+            self.read_preformatted(shown.replace("\r\n", "\n"))
+        else:
+            self.parts.append(flat)
+
+    def read_preformatted(self, text: str) -> None:
+        if "\r" in text or "\f" in text:
+            self.found_other("pre", may_be_below=True)
+        *lines, rest = text[self.is_begun and text.startswith("\n") :].split("\n")
+        for line in lines:
+            self.parts.append(line)
+            self.put_line(keeps_empty=True)
+        self.parts.append(rest)
+        self.is_begun = False
 
     @property
     def quotation(self) -> str:
         return "> " if self.open_count["blockquote"] else ""
 
     def end_line(self, *, keeps_empty: bool = False) -> None:
+        if self.flat:
+            self.pieces.append(self.quotation + "".join(self.flat))
+            self.flat.clear()
+        self.put_line(keeps_empty=keeps_empty)
+
+    def put_line(self, *, keeps_empty: bool) -> None:
         """Ends the line. One without text is kept as an empty one where a `br` or a no-break space
         makes it seen.
         """
@@ -237,7 +265,7 @@ def are_plain(given: str, names: Collection[str], styles: Mapping[str, re.Patter
     for name, *values in ATTRIBUTE.findall(bare.lower()):
         value = unescaped("".join(values))
         if (
-            name not in names
+            not (name in names or name == "xmlns" or name.startswith("xmlns:"))
             or (name == "dir" and value not in DIRECTIONS)
             or (name == "style" and not is_plain_style(value, styles))
         ):

@@ -13,12 +13,22 @@ import functools
 from collections.abc import Callable, Collection, Mapping, Sequence
 
 from debvote_tools.inbox.addresses import address_key
-from debvote_tools.inbox.circumstances import Ballot, Circumstances, Decision
-from debvote_tools.inbox.greeting import above_end, is_quoted, paragraphs_of, why_not_first
-from debvote_tools.inbox.parse import Body, Near, ParsedLetter, marks_of
+from debvote_tools.inbox.known import Ballot, Decision, Known
+from debvote_tools.inbox.greeting import (
+    MAX_ABOVE,
+    above_end,
+    is_quoted,
+    paragraphs_of,
+    why_not_first,
+)
+from debvote_tools.inbox.parse import Body, Near, ParsedLetter
 from debvote_tools.inbox.readings import MAX_BALLOTS, BallotLine, view_of
 from debvote_tools.inbox.reasons import Because, Reason
 from debvote_tools.cli.terminal_text import shown_text
+from debvote_tools.poll.marks import marks_in
+
+# in digits; a subject with so much of the mark of the poll has a mark that was cut or changed
+PIECE = 6
 
 # how far the clock of a mail server or of an elector may be ahead
 AHEAD = datetime.timedelta(minutes=10)
@@ -56,17 +66,22 @@ class JudgedLetter:
     # roll
     code_lines: tuple[int, ...] = ()
 
-    def __init__(self, letter: ParsedLetter, circumstances: Circumstances) -> None:
-        self.parsed, self.circumstances = letter, circumstances
-        self.view = view_of(letter.readings, circumstances.elector_of(letter))
+    def __init__(self, letter: ParsedLetter, known: Known) -> None:
+        self.parsed, self.known = letter, known
+        self.view = view_of(
+            letter.readings,
+            known.elector_of(letter),
+            known.likely_elector(letter),
+            known.may_have_sent(letter),
+        )
         # the time of its ballot: that of the signature where letters have to be signed, else that
         # of the arrival
         self.time = (
             letter.signature.time
-            if circumstances.keys is not None and letter.signature is not None
+            if known.keys is not None and letter.signature is not None
             else letter.arrived
         )
-        self.decision = circumstances.decisions.get(letter.key)
+        self.decision = known.decisions.get(letter.key)
         end = above_end(letter.body.lines)
         self.index = next((index for index in self.view.lines if index < end), None)
         self.ballot = None if self.index is None else self.view.lines[self.index]
@@ -82,10 +97,15 @@ class JudgedLetter:
         # of a letter that a program wrote it says nothing, since that quotes others
         self.near: tuple[Near, ...] = () if self.ballots or letter.is_automatic else self.view.near
 
+    @property
+    def has_own_mark(self) -> bool:
+        """Whether its subject has the own mark of the elector on its ballot."""
+        return self.ballot is not None and self.known.marked_elector(self.parsed) == self.elector
+
     @functools.cached_property
     def why_by_itself(self) -> Because | None:
         """Why it waits, whatever other letters there are: all rules but `why_not_latest`."""
-        return next(filter(None, (rule(self, self.circumstances) for rule in RULES)), None)
+        return next(filter(None, (rule(self, self.known) for rule in RULES)), None)
 
     @property
     def hides(self) -> bool:
@@ -102,11 +122,11 @@ class JudgedLetter:
 
     @property
     def arrived_before_call(self) -> bool:
-        return self.parsed.arrived is not None and self.parsed.arrived <= self.circumstances.called
+        return self.parsed.arrived is not None and self.parsed.arrived <= self.known.called
 
     @property
     def arrived_late(self) -> bool:
-        ends = filter(None, (self.circumstances.end, self.circumstances.first_close))
+        ends = filter(None, (self.known.end, self.known.first_close))
         return any(self.parsed.arrived is not None and self.parsed.arrived > end for end in ends)
 
     @functools.cached_property
@@ -118,15 +138,15 @@ class JudgedLetter:
         named += [
             name
             for near in self.view.near
-            if (name := near.ballot.partition(" ")[0]) in self.circumstances.roll
+            if (name := near.ballot.partition(" ")[0]) in self.known.roll
         ]
-        sender = self.circumstances.elector_of(self.parsed)
+        sender = self.known.elector_of(self.parsed)
         return tuple(dict.fromkeys(named)) or (() if sender is None else (sender,))
 
     @property
     def shared_with(self) -> tuple[str, ...]:
         """The other electors who have the sender's address."""
-        sharing = self.circumstances.electors_by_address.get(self.parsed.sender, [])
+        sharing = self.known.electors_by_address.get(self.parsed.sender, [])
         return tuple(name for name in sharing if name not in self.electors)
 
     @property
@@ -135,7 +155,7 @@ class JudgedLetter:
         lines = self.parsed.body.lines
         own = (
             index
-            for paragraph in paragraphs_of(self.parsed.body, self.circumstances.passed_over)
+            for paragraph in paragraphs_of(self.parsed.body, self.known.passes_over, ())
             for index in paragraph
         )
         return shown_text(
@@ -147,11 +167,11 @@ class JudgedLetter:
         )
 
 
-Rule = Callable[[JudgedLetter, Circumstances], Because | None]
+Rule = Callable[[JudgedLetter, Known], Because | None]
 
 
 # ---------------------------------------------------------------- the rules
-def can_be_read(case: JudgedLetter, circumstances: Circumstances) -> Because | None:
+def can_be_read(case: JudgedLetter, known: Known) -> Because | None:
     letter, text = case.parsed, case.parsed.body
     if letter.is_parted_off:
         return Reason.PARTED_OFF()
@@ -167,53 +187,59 @@ def can_be_read(case: JudgedLetter, circumstances: Circumstances) -> Because | N
     return Reason.HTML(element=text.first_other) if is_odd else None
 
 
-def arrived_in_time(case: JudgedLetter, circumstances: Circumstances) -> Because | None:
-    arrived, end, close = case.parsed.arrived, circumstances.end, circumstances.first_close
+def arrived_in_time(case: JudgedLetter, known: Known) -> Because | None:
+    arrived, end, close = case.parsed.arrived, known.end, known.first_close
     if arrived is None:
         return Reason.NO_ARRIVAL()
-    if arrived <= circumstances.called:
-        return Reason.BEFORE_THE_CALL(called=circumstances.called)
+    if arrived <= known.called:
+        return Reason.BEFORE_THE_CALL(called=known.called)
     if end is not None and arrived > end:
         return Reason.AFTER_THE_END(end=end)
     if close is not None and arrived > close:
         return Reason.AFTER_THE_CLOSE(close=close)
-    return Reason.IN_THE_FUTURE(arrived=arrived) if arrived > circumstances.now + AHEAD else None
+    return Reason.IN_THE_FUTURE(arrived=arrived) if arrived > known.now + AHEAD else None
 
 
-def is_sent_by_its_elector(case: JudgedLetter, circumstances: Circumstances) -> Because | None:
-    sender, listed = case.parsed.sender, circumstances.addresses.get(case.elector, ())
+def is_sent_by_its_elector(case: JudgedLetter, known: Known) -> Because | None:
+    sender, listed = case.parsed.sender, known.addresses.get(case.elector, ())
     if not sender:
         return Reason.NO_SENDER(sender=case.parsed.shown_sender)
-    if case.ballot is None or sender in map(address_key, listed):
+    if case.ballot is None:
         return None
+    if sender in map(address_key, listed):
+        if case.has_own_mark or not known.is_marked:
+            return None
+        return is_of_this_vote(case, known) or Reason.NO_OWN_MARK(elector=case.elector)
+    if case.has_own_mark:
+        return Reason.OWN_MARK_ELSEWHERE(sender=sender, elector=case.elector)
     if not listed:
         return Reason.NO_ADDRESS(elector=case.elector)
     return Reason.OTHER_SENDER(sender=sender, listed=" and ".join(listed), elector=case.elector)
 
 
-def is_signed_by_its_elector(case: JudgedLetter, circumstances: Circumstances) -> Because | None:
+def is_signed_by_its_elector(case: JudgedLetter, known: Known) -> Because | None:
     """Where letters have to be signed. It comes before the rules about the text: what is read as
     the text is what was signed.
     """
     letter, signature = case.parsed, case.parsed.signature
-    if circumstances.keys is None or case.ballot is None:
+    if known.keys is None or case.ballot is None:
         return None
     if signature is None:
         return letter.why_unsigned or Reason.NOT_SIGNED()
-    key = circumstances.keys.get(case.elector, "")
+    key = known.keys.get(case.elector, "")
     if not key:
         return Reason.NO_KEY(elector=case.elector)
     if signature.fingerprint != key:
         return Reason.OTHER_KEY(key=signature.fingerprint, listed=key, elector=case.elector)
-    if signature.time <= circumstances.called:
+    if signature.time <= known.called:
         return Reason.SIGNED_BEFORE_THE_CALL(time=signature.time)
     if letter.arrived is None or signature.time > letter.arrived + AHEAD:
         return Reason.SIGNED_AHEAD(time=signature.time)
-    has_mark = any(line.strip() == f"[{circumstances.mark}]" for line in letter.body.lines)
-    return None if has_mark else Reason.NO_MARK(mark=circumstances.mark)
+    has_mark = any(map(known.is_mark, letter.body.lines))
+    return None if has_mark else Reason.NO_MARK(mark=known.mark)
 
 
-def has_one_ballot(case: JudgedLetter, circumstances: Circumstances) -> Because | None:
+def has_one_ballot(case: JudgedLetter, known: Known) -> Because | None:
     """No other line reads as a ballot that differs. It comes before the rule about the greeting,
     whose reason would say less.
     """
@@ -228,29 +254,45 @@ def has_one_ballot(case: JudgedLetter, circumstances: Circumstances) -> Because 
     )
 
 
-def ballot_is_first(case: JudgedLetter, circumstances: Circumstances) -> Because | None:
-    body = case.parsed.body
-    if case.index is None:
+def ballot_is_first(case: JudgedLetter, known: Known) -> Because | None:
+    body, letter = case.parsed.body, case.parsed
+    if case.index is None or case.ballot is None:
         if case.ballots:
             return (
                 Reason.JOINED() if body.flowing else Reason.ELSEWHERE(number=case.ballots[0].number)
             )
-        return Reason.NO_NAME() if case.offered else Reason.NO_BALLOT()
+        return Reason.NO_BALLOT() if case.view.offered_for is None else case.view.offered_for()
     if case.index in body.flowing:
         return Reason.JOINED()
-    answered = case.parsed.in_reply_to
-    is_answer = bool(answered) and answered in circumstances.our_letters.get(case.elector, ())
+    if case.ballot.has_high_rank:
+        return Reason.HIGH_RANK(number=case.ballot.number, options=len(case.ballot.ranks))
+    is_answer = case.has_own_mark and letter.in_reply_to in known.our_letters.get(case.elector, ())
+    is_by_page = case.has_own_mark and letter.is_new and known.is_subject_of_page(letter.subject)
     return why_not_first(
-        body, case.index, is_answer=is_answer, passed_over=circumstances.passed_over
+        body,
+        case.index,
+        known.passes_over,
+        is_answer=is_answer,
+        may_end_in_colon=is_answer or is_by_page,
+        most_above=0 if body.is_html and not case.has_own_mark else MAX_ABOVE,
     )
 
 
-def is_of_this_vote(case: JudgedLetter, circumstances: Circumstances) -> Because | None:
-    """Where letters have to be signed, the marks in what is signed count, too."""
-    signed = () if circumstances.keys is None else case.parsed.shown_lines
-    marks = [*case.parsed.marks, *(mark for line in signed for mark in marks_of(line))]
-    other = next((mark for mark in marks if mark != circumstances.mark), None)
-    return None if other is None else Reason.OTHER_MARK(mark=other)
+def is_of_this_vote(case: JudgedLetter, known: Known) -> Because | None:
+    """Its subject has the mark of the poll, and no other. Where letters have to be signed, other
+    marks in what is signed count, too.
+    """
+    signed = () if known.keys is None else case.parsed.shown_lines
+    marks = [mark for mark, _ in case.parsed.marks]
+    for mark in (*marks, *(mark for line in signed for mark, _ in marks_in(line))):
+        if mark != known.mark:
+            return Reason.OTHER_MARK(mark=mark)
+    if known.mark in marks:
+        return None
+    subject = "".join(case.parsed.subject.split()).lower()
+    pieces = (known.mark[place : place + PIECE] for place in range(len(known.mark) - PIECE + 1))
+    is_changed = any(piece in subject for piece in pieces)
+    return (Reason.CHANGED_MARK if is_changed else Reason.NO_SUBJECT_MARK)(mark=known.mark)
 
 
 RULES: tuple[Rule, ...] = (
@@ -384,14 +426,14 @@ def set_copy(case: JudgedLetter, first: JudgedLetter, box: Box) -> None:
 
 def judge_all(
     letters: Sequence[ParsedLetter],
-    circumstances: Circumstances,
+    known: Known,
     ballots_of: Callable[[Collection[str]], Mapping[str, Sequence[Ballot]]],
 ) -> list[JudgedLetter]:
     """Judges letters in the order of their times; those without a time come last, in their order.
     `ballots_of` says which ballots of some electors are in and not struck.
     """
-    cases = [JudgedLetter(letter, circumstances) for letter in letters]
-    ordered = sorted(cases, key=lambda case: (case.time is None, case.time or circumstances.now))
+    cases = [JudgedLetter(letter, known) for letter in letters]
+    ordered = sorted(cases, key=lambda case: (case.time is None, case.time or known.now))
     box = Box()
     for elector, ballots in ballots_of(
         {elector for case in cases for elector in case.electors}

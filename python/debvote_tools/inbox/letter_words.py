@@ -202,8 +202,8 @@ def quoted_of_ours(letter: JudgedLetter) -> set[int]:
     """The indices of the lines of our letters that a letter quotes: it answers one of ours, or the
     quotation has the mark of the poll.
     """
-    lines, mark = letter.parsed.shown_lines, letter.circumstances.mark
-    answered, ours = letter.parsed.in_reply_to, letter.circumstances.our_letters.values()
+    lines, mark = letter.parsed.shown_lines, letter.known.mark
+    answered, ours = letter.parsed.in_reply_to, letter.known.our_letters.values()
     is_answer = bool(answered) and any(answered in ids for ids in ours)
     found = set[int]()
     for quotation in quotations(letter.parsed.body.lines):
@@ -226,11 +226,10 @@ def other_words(letter: JudgedLetter) -> str:
     left_out |= candidates(letter)
     left_out |= {near.number - 1 for near in letter.near if not near.is_within}
     names = set(WORD.findall(letter.parsed.shown_sender.partition("<")[0].casefold()))
-    passed_over = letter.circumstances.passed_over
 
     def says_something(line: str) -> bool:
         first, *others = words = WORD.findall(line) or [""]
-        if line in passed_over or names.issuperset(map(str.casefold, words)):
+        if letter.known.passes_over(line) or names.issuperset(map(str.casefold, words)):
             return False
         is_usual = first.lower() in USUAL and len(words) <= MOST_USUAL
         is_usual &= all(word.lower() in USUAL or word.istitle() for word in others)

@@ -18,7 +18,7 @@ from debvote_tools.cli.faults import Fault, Status
 from debvote_tools.cli.terminal_text import shown_text
 from debvote_tools.files import sha256_of
 from debvote_tools.inbox import letter_words, plan
-from debvote_tools.inbox.circumstances import Ballot, Circumstances, Decision, Names
+from debvote_tools.inbox.known import Ballot, Decision, Known, Names
 from debvote_tools.inbox.files import CameFile, safe
 from debvote_tools.inbox.judge import JudgedLetter, Outcome, judge_all
 from debvote_tools.inbox.lines import NOTHING_ADDED
@@ -28,6 +28,7 @@ from debvote_tools.inbox.reasons import Reason
 from debvote_tools.inbox.signatures import find_gpgv, verified
 from debvote_tools.inbox.sources import PassedOver, RawLetter, letters_of_file, letters_of_folder
 from debvote_tools.inbox.vote import Vote
+from debvote_tools.poll.call_data import SUBJECT
 from debvote_tools.text import times
 
 SLOW = Reason.SLOW_SIGNATURE()
@@ -266,7 +267,7 @@ def judged(
     def ballots_of(names: Collection[str]) -> dict[str, list[Ballot]]:
         return ballots_in(election, asked, names, all_letters)
 
-    letters_now = judge_all(all_letters, circumstances_of(election, history, by_key), ballots_of)
+    letters_now = judge_all(all_letters, known_of(election, history, by_key), ballots_of)
     no_codes_expected = election.sealed().counted.secret and not asked.has_codes
     for letter in letters_now:
         if (kept_letter := by_key.get(letter.parsed.key)) is not None:
@@ -344,17 +345,18 @@ def ballots_in(
     return ballots
 
 
-def circumstances_of(
-    election: Election, history: History, by_key: Mapping[str, KeptLetter]
-) -> Circumstances:
+def known_of(election: Election, history: History, by_key: Mapping[str, KeptLetter]) -> Known:
     call, sealed, electors = history.call, election.sealed(), queries.electors(election.book)
     assert call is not None
     ids, keys = letters.our_message_ids(election.book), None
     if keyring_of(election) is not None:
         keys = {elector.name: elector.key for elector in electors}
     states = ((key, kept.state) for key, kept in by_key.items())
-    return Circumstances(
+    return Known(
         mark=sealed.public.mark,
+        subject=election.language.say(SUBJECT, title=sealed.public.name),
+        own_marks={elector.name: elector.mark for elector in electors},
+        is_marked=bool(history.announced("marked")),
         roll=frozenset(sealed.counted.roll),
         addresses={elector.name: elector.addresses for elector in electors},
         called=call.time,

@@ -18,6 +18,7 @@ from debvote_tools.inbox.html_text import read_html
 from debvote_tools.inbox.parts import MAX_PARTS, Part
 from debvote_tools.inbox.reasons import Because, Reason
 from debvote_tools.inbox.sources import RawLetter
+from debvote_tools.poll.marks import marks_in
 
 # in bytes; a text is shorter, and so are all texts of a letter together
 MAX_TEXT, MAX_TEXTS = 262_144, 1_048_576
@@ -59,7 +60,6 @@ ADDRESS = rf"{ATOM}(?:\.{ATOM})*@[\w-]+(?:\.[\w-]+)*"
 NAME = r"""(?:"(?:[ !#-\[\]-~]|\\[ -~])*"|[\w!#$%&'*+/=?^`{|}~. -])*"""
 SENDER = re.compile(rf"{NAME}<({ADDRESS})>|({ADDRESS})(?: *\([ !-'*-\[\]-~]*\))?", re.ASCII)
 MESSAGE_ID = re.compile(r"<[!-;=?-~]{1,250}>")
-MARK = re.compile(r"\[([0-9a-f]{16})\]", re.IGNORECASE)
 # a time as mail servers write it, and where it is in a field Received
 TIME = r"(?:[A-Z][a-z]{2}, *)?\d{1,2} +[A-Z][a-z]{2} +20\d\d +\d{1,2}:\d\d(?::\d\d)? +(?:[+-]\d{4}|UTC?|GMT|[ECMP][SD]T)"
 CLOCK = r"(?<![:\d])\d{1,2}:\d\d:\d\d(?![:\d])"
@@ -124,6 +124,8 @@ class ReadLine:
     # its ranks, and what debvote says of them; None if they are valid
     ranks: str = ""
     answer: str | None = None
+    # why it is no ballot by itself, and is only offered to the secretary
+    offered_for: Reason | None = None
     near: Near | None = None
 
 
@@ -159,8 +161,10 @@ class ParsedLetter:
     sender: str
     shown_sender: str
     subject: str
-    # the marks of votes in its subject
-    marks: tuple[str, ...]
+    # the marks of votes in its subject, each with the own mark of an elector or ""
+    marks: tuple[tuple[str, str], ...]
+    # whether it answers no letter, as far as its head says
+    is_new: bool
     # by the mail server that took it in last
     arrived: datetime.datetime | None
     is_automatic: bool
@@ -219,9 +223,10 @@ def parse(raw: RawLetter) -> ParsedLetter:
             dict.fromkeys(
                 mark
                 for subject in subjects
-                for mark in (*marks_of(decoded(subject)), *marks_of(subject))
+                for mark in (*marks_in(decoded(subject)), *marks_in(subject))
             )
         ),
+        is_new=not (letter.values("in-reply-to") or letter.values("references")),
         arrived=arrival_of(letter.value("received")),
         is_automatic=any(
             AUTOMATIC.match(f"{name}:{value[:MAX_FIELD]}") for name, value in letter.fields
@@ -269,11 +274,6 @@ def decoded_bytes(data: bytes, charset: str) -> str:
 def plain_id(values: Sequence[str]) -> str:
     """The Message-ID that a field has, alone, in plain characters; empty where it has none such."""
     return values[0] if len(values) == 1 and MESSAGE_ID.fullmatch(values[0]) else ""
-
-
-def marks_of(line: str) -> list[str]:
-    """The marks of votes in a line. Blanks in a mark do not count."""
-    return [mark.lower() for mark in MARK.findall("".join(line.split()))]
 
 
 def sender_of(senders: Sequence[str]) -> str:
@@ -470,7 +470,7 @@ def from_json(text: str) -> ParsedLetter:
     }
     values["trouble"] = because_from(body["trouble"])
     kept |= {
-        "marks": tuple(kept["marks"]),
+        "marks": tuple(map(tuple, kept["marks"])),
         "arrived": None
         if kept["arrived"] is None
         else datetime.datetime.fromisoformat(kept["arrived"]),
@@ -492,6 +492,7 @@ def read_line_from(kept: dict[str, Any]) -> ReadLine:
     values: dict[str, Any] = kept | {
         "on_roll": tuple(kept["on_roll"]),
         "real": tuple(kept["real"]),
+        "offered_for": kept["offered_for"] and Reason[kept["offered_for"]],
         "near": near,
     }
     return ReadLine(**values)

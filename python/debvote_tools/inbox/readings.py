@@ -12,9 +12,10 @@ import unicodedata
 from collections.abc import Collection, Iterable, Iterator, Mapping, Sequence
 from typing import Protocol
 
-from debvote_tools.inbox.circumstances import Names
+from debvote_tools.inbox.known import Names
 from debvote_tools.inbox.greeting import is_quoted
 from debvote_tools.inbox.parse import Near, ParsedLetter, ReadLine, Readings, may_be_ballot
+from debvote_tools.inbox.reasons import Reason
 from debvote_tools.inbox.lines import DASHES, LONGEST_REPAIRED, changed, has_code
 
 # the grammar of a ballot line, and ranks alone
@@ -23,6 +24,7 @@ BALLOT = re.compile(rf"[a-z0-9.-]{{1,32}} {RANKS}")
 RANKS_ALONE = re.compile(RANKS)
 # a name as people write it, with letters of any script, and ranks
 NAMED = re.compile(rf"([^\W_](?:[\w .'\u2019-]*[^\W_])?)(?:\s*:\s*|\s+)({RANKS})")
+ONE_RANK = re.compile("-|[1-9][0-9]?")
 
 # a name and two ranks or more, within other words
 RANK = rf"(?:\d{{1,2}}|[{DASHES}-])"
@@ -36,6 +38,8 @@ SEPARATOR = re.compile("[,;]")
 # the most lines that may be ballots: a letter with more waits. So many others with a number are
 # looked at; and so many that are near to a ballot are shown
 MAX_BALLOTS, MAX_OTHERS, MAX_NEAR = 200, 50, 5
+# what the line of our letters has in place of each rank
+GAP = "_"
 # debvote looks for names that were meant for the first lines alone, so it gets no more of unknown
 # names at once
 MOST_AT_ONCE = 100
@@ -84,7 +88,13 @@ def read(letter: ParsedLetter, names: Names) -> Readings:
         (one for one, has_several in zip(own, several) if not has_several), MAX_OTHERS
     )
     chosen = sorted([*itertools.compress(own, several), *others])
-    lines = (read_line(number, line, names) for number, line in chosen)
+    lines = [read_line(number, line, names) for number, line in chosen]
+    quoted = (
+        read_quoted(number, line, names)
+        for number, line in enumerate(letter.shown_lines, start=1)
+        if is_quoted(line) and may_be_ballot(line)
+    )
+    lines += itertools.islice(filter(None, quoted), MAX_NEAR)
     return Readings(tuple(filter(None, lines)), code_lines=code_lines)
 
 
@@ -95,10 +105,29 @@ def is_own(line: str) -> bool:
 
 def read_line(number: int, line: str, names: Names) -> ReadLine | None:
     text = repaired(line)
+    found = read_text(number, text, names)
+    for other, reason in (
+        (filled_in(text), Reason.FILLED_IN),
+        (with_commas(text), Reason.NO_COMMAS),
+    ):
+        if found is None and other != text:
+            found = read_text(number, other, names)
+            found = found and dataclasses.replace(found, offered_for=reason)
+    if found is not None and found.elector and found.offered_for is None:
+        return found
+    near = near_in(number, line, text, names.roll)
+    if found is None:
+        return None if near is None else ReadLine(number, near=near)
+    return dataclasses.replace(found, near=near)
+
+
+def read_text(number: int, text: str, names: Names) -> ReadLine | None:
+    """What a repaired line is: a ballot, ranks with a name that people may write so, or ranks
+    alone.
+    """
     name, _, ranks = text.partition(" ")
     if BALLOT.fullmatch(text) and name in names.roll:
         return ReadLine(number, elector=name, ranks=ranks)
-    near = near_in(number, line, text, names.roll)
     named = NAMED.fullmatch(unicodedata.normalize("NFC", text))
     if named is not None:
         folds = names.folds(named[1])
@@ -109,10 +138,35 @@ def read_line(number: int, line: str, names: Names) -> ReadLine | None:
             for elector in names.electors_by_real_name.get(fold, ())
         )
         if on_roll or real:
-            return ReadLine(number, on_roll=on_roll, real=real, ranks=named[2], near=near)
+            return ReadLine(number, on_roll=on_roll, real=real, ranks=named[2])
     elif "," in text and RANKS_ALONE.fullmatch(text):
-        return ReadLine(number, ranks=text, near=near)
-    return None if near is None else ReadLine(number, near=near)
+        return ReadLine(number, ranks=text, offered_for=Reason.NO_NAME)
+    return None
+
+
+def filled_in(text: str) -> str:
+    """The line of our letters, as `ada _,_,_,_`, whose strokes were left where ranks were filled
+    in.
+    """
+    return text.replace(GAP, "")
+
+
+def with_commas(text: str) -> str:
+    """A line with ranks that have blanks between them, as `ada 1 2 4 3`, with commas there."""
+    words = text.replace(",", " ").split()
+    count = len(list(itertools.takewhile(ONE_RANK.fullmatch, reversed(words))))
+    return " ".join([*words[: len(words) - count], ",".join(words[len(words) - count :])])
+
+
+def read_quoted(number: int, line: str, names: Names) -> ReadLine | None:
+    """A line of ours that is filled in where it is quoted."""
+    bare = filled_in(line).strip().lstrip("> \t")
+    if re.split(r"[\s:]", bare, maxsplit=1)[0].lower() not in names.roll:
+        return None
+    found = read_text(number, repaired(bare), names)
+    if found is None or not found.elector:
+        return None
+    return dataclasses.replace(found, offered_for=Reason.FILLED_IN)
 
 
 def near_in(number: int, line: str, text: str, roll: frozenset[str]) -> Near | None:
@@ -206,54 +260,65 @@ class BallotLine:
     def elector(self) -> str:
         return self.ballot.partition(" ")[0]
 
+    @property
+    def ranks(self) -> list[str]:
+        return self.ballot.partition(" ")[2].split(",")
+
+    @property
+    def has_high_rank(self) -> bool:
+        """Whether a rank is above the number of options: such a line is a ballot to debvote, but
+        `Lars Winter 12,50` may be money.
+        """
+        return any(rank != "-" and int(rank) > len(self.ranks) for rank in self.ranks)
+
 
 @dataclasses.dataclass(frozen=True)
 class View:
     """What the lines of a letter are, by who sent it.
 
     `lines` are the ballots, by the indices of their lines among all that are shown; `others` those
-    with the real name of somebody else, as in the letter of a family. `offered` are ranks without a
-    name, with the name of the one elector who may have sent them.
+    with the real name of somebody else, as in the letter of a family. `offered` are lines that the
+    secretary may enter, and `offered_for` says why the first is no ballot by itself.
     """
 
     lines: Mapping[int, BallotLine]
     others: tuple[BallotLine, ...] = ()
     offered: tuple[BallotLine, ...] = ()
+    offered_for: Reason | None = None
     near: tuple[Near, ...] = ()
 
 
-def view_of(readings: Readings, sender: str | None) -> View:
+def view_of(
+    readings: Readings, sender: str | None, likely: str | None, may_have_sent: Collection[str]
+) -> View:
     """What the lines are if this elector sent them; None if nobody knows which elector did. The
     sender may have written their own name with accents, or their real name.
+
+    Ranks without a name are offered for the `likely` elector, and a line of ours that is filled in
+    for those who may have sent the letter.
     """
     own, others, refused = dict[int, BallotLine](), list[BallotLine](), dict[str, Near]()
+    offered = dict[BallotLine, Reason]()
     for line in readings.lines:
         name = line.elector or (sender if sender is not None and is_name_of(sender, line) else None)
+        if not (line.elector or line.on_roll or line.real):
+            name = likely
         ballot = BallotLine(line.number, f"{name or next(iter(line.real), None)} {line.ranks}")
-        if line.answer is not None and name is not None:
+        if line.offered_for is not None:
+            is_odd = ballot.has_high_rank and line.offered_for is not Reason.NO_NAME
+            is_other = line.offered_for is Reason.FILLED_IN and name not in may_have_sent
+            if line.answer is None and name is not None and not is_odd and not is_other:
+                offered[ballot] = line.offered_for
+        elif line.answer is not None and name is not None:
             refused.setdefault(ballot.ballot, Near(line.number, ballot.ballot, False, line.answer))
-        elif line.answer is None and name is not None:
+        elif line.answer is None and line.ranks and name is not None:
             own[line.number - 1] = ballot
         elif line.answer is None and line.real:
             others.append(ballot)
     if own or refused:
         return View(own, tuple(others), near=tuple(refused.values())[:MAX_NEAR])
-    bare = (
-        line
-        for line in readings.lines
-        if line.ranks and line.answer is None and not (line.on_roll or line.real)
-    )
-    offered = (
-        ()
-        if sender is None
-        else tuple(BallotLine(line.number, f"{sender} {line.ranks}") for line in bare)
-    )
-    return View(
-        {},
-        (),
-        offered,
-        tuple(line.near for line in readings.lines if line.near is not None)[:MAX_NEAR],
-    )
+    near = tuple(line.near for line in readings.lines if line.near is not None)
+    return View({}, (), tuple(offered), next(iter(offered.values()), None), near[:MAX_NEAR])
 
 
 def is_name_of(elector: str, line: ReadLine) -> bool:

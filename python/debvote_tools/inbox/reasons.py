@@ -56,21 +56,31 @@ class Reason(enum.Enum):
     NO_SENDER = "it does not come from one address alone: {sender}"
     NO_ADDRESS = "the list of members has no address for {elector}"
     OTHER_SENDER = "it came from {sender}, but the list of members has {listed} for {elector}"
+    OWN_MARK_ELSEWHERE = "it came from {sender}, which is not the address of {elector} in the list of members, but its subject has the own mark of {elector}"
+    NO_OWN_MARK = "its subject lacks the own mark of {elector}, so anybody may have sent it"
     # where the ballot is
     NO_BALLOT = "no ballot found"
     NO_NAME = "the ranks have no name before them"
+    NO_COMMAS = "the ranks have blanks between them, and no commas"
+    FILLED_IN = "the line of our letter is filled in where it is quoted, or strokes are left in it"
     ELSEWHERE = "line {number} is a ballot, but is below the end of the text, or in another part"
     QUOTED = "a line that begins with > is next to the ballot, or above it although the letter answers none of ours"
     NOT_FIRST = "line {number} is not a greeting, and is above the ballot or next to it"
     MUCH_ABOVE = "there is more than a greeting above the ballot"
+    MUCH_QUOTED = "there is more above the quotation than its head: two lines, the last with a colon at its end"
+    HIGH_RANK = "line {number} has a rank above {options}, the number of options"
     JOINED = (
         "its lines are marked as belonging together, and joined they make another ballot or none"
     )
     # other ballots
     TWO_BALLOTS = "two different ballots"
     SEVERAL_ELECTORS = "ballots of several electors: {electors}"
-    # another vote
-    OTHER_MARK = "it has the mark of another vote: [{mark}]"
+    # which vote it is about
+    NO_SUBJECT_MARK = (
+        "its subject has no mark of this vote, [{mark}]; if it is about this vote, enter it"
+    )
+    CHANGED_MARK = "the mark of this vote in its subject, [{mark}], is cut off or changed; if it is about this vote, enter it"
+    OTHER_MARK = "it has the mark of another vote, [{mark}]; add it to that vote"
     # the ballots of the elector that are in
     LATER_BALLOT = "a later ballot of {elector}, of {time}, was entered already"
     SAME_TIME = "another ballot of {elector} has the same time, {time}"
@@ -154,16 +164,36 @@ FOR_ELECTOR = {
     Reason.OTHER_SENDER: marked(
         "The reason: the list of members has another address for the name on the ballot."
     ),
+    Reason.OWN_MARK_ELSEWHERE: marked(
+        "The reason: the list of members has another address for the name on the ballot."
+    ),
+    Reason.NO_OWN_MARK: marked(
+        "The reason: its subject does not end with your own mark. Answer a letter of this vote to you, or use the link in it."
+    ),
     Reason.NO_BALLOT: marked("The reason: no line of it is a ballot of this vote."),
     Reason.NO_NAME: marked("The reason: the ranks have no name before them."),
+    Reason.NO_COMMAS: marked("The reason: there are no commas between the ranks."),
+    Reason.FILLED_IN: marked(
+        "The reason: the ballot is in the quotation of our letter, or has strokes in it. Send the ballot alone, in a letter of its own."
+    ),
     Reason.ELSEWHERE: ALONE,
     Reason.QUOTED: ALONE,
     Reason.NOT_FIRST: ALONE,
     Reason.MUCH_ABOVE: ALONE,
+    Reason.MUCH_QUOTED: ALONE,
+    Reason.HIGH_RANK: marked("The reason: a rank is higher than the number of options."),
     Reason.JOINED: ALONE,
     Reason.TWO_BALLOTS: marked("The reason: it has two ballots that differ."),
     Reason.SEVERAL_ELECTORS: marked("The reason: it has ballots of several electors."),
-    Reason.OTHER_MARK: marked("The reason: it has the mark of another vote."),
+    Reason.NO_SUBJECT_MARK: marked(
+        "The reason: its subject has no mark of this vote. Answer a letter of this vote: its subject has the mark."
+    ),
+    Reason.CHANGED_MARK: marked(
+        "The reason: the mark of this vote in its subject is cut off or changed. Answer a letter of this vote: its subject has the whole mark."
+    ),
+    Reason.OTHER_MARK: marked(
+        "The reason: it has the mark of another vote. To vote here, answer a letter of this vote."
+    ),
     Reason.LATER_BALLOT: marked("The reason: a later ballot of this elector is in already."),
     Reason.SAME_TIME: marked("The reason: another ballot of this elector has the same time."),
     Reason.CAME_BEFORE: marked(

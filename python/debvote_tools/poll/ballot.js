@@ -4,44 +4,45 @@
 "use strict";
 
 (() => {
-  const NAME_LIMIT = 32;
+  const NAME = /^[a-z0-9.-]{1,32}$/;
+  const OWN_MARK = /^[2-9a-hj-km-np-z]{10}$/;
   // mail programs break longer lines at their space
   const MAIL_LIMIT = 72;
   const UNRANKED = "-";
-  // how many names that are near a typed one are shown
-  const NEAR_LIMIT = 5;
+  // if more names begin with what is typed, none of them is suggested
+  const NEAR_LIMIT = 8;
 
+  // each id of the page has a capital letter, and no elector's name has one
   const byId = (id) => document.getElementById(id);
-  const form = byId("ballot");
+  const form = byId("Ballot");
   // the sentences, in the language of the page, with their places in braces
   const words = JSON.parse(form.dataset.words);
   const sentence = (key, places = {}) => words[key].replace(/\{([a-z]+)\}/g, (all, place) => places[place]);
   // not in a secret vote
-  const nameInput = byId("name");
-  const selects = [...form.querySelectorAll("select")];
+  const nameInput = byId("Name");
+  const names = [...form.querySelectorAll(".option .name")].map((node) => node.textContent);
+  // each is a list, or has a button for each rank
+  const ranks = [...form.querySelectorAll(".rank")];
   // the names on the roll, and the real names beside them, where the page shows them
-  const electors = [...document.querySelectorAll("#roll li")].map((item) => [...item.children].map((part) => part.textContent));
+  const electors = [...document.querySelectorAll(".roll li")].map((item) => [...item.children].map((part) => part.textContent));
   const roll = electors.map(([name]) => name);
+  // the name and the own mark that the address of the page has
+  let linked = {};
 
-  // ---------------------------------------------------------------- the name
-  // What is put right in a name, and the sentence that says so.
-  const repairs = [
-    [(text) => text.trim(), sentence("spaces")],
-    [(text) => text.replace(/[A-Z]/g, (letter) => letter.toLowerCase()), sentence("capitals")],
-  ];
-
-  // The name as it stands in the line, with the sentences on what was put right.
-  function repaired(typed) {
-    const notes = [];
-    let name = typed;
-    for (const [repair, note] of repairs) {
-      const next = repair(name);
-      if (next !== name) notes.push(note);
-      name = next;
-    }
-    return { name, notes };
+  // A sentence with lists of nodes at its places, as texts and these nodes.
+  function nodesOf(key, places) {
+    return words[key].split(/(\{[a-z]+\})/).flatMap((part) => (part.startsWith("{") ? places[part.slice(1, -1)] : [part]));
   }
 
+  // A text that has not changed is not written again, so that a screen reader does not read it again.
+  function say(id, ...nodes) {
+    const made = document.createElement("p");
+    made.append(...nodes);
+    const node = byId(id);
+    if (node.textContent !== made.textContent || node.children.length !== made.children.length) node.replaceChildren(...made.childNodes);
+  }
+
+  // ---------------------------------------------------------------- the name
   // Letters that Unicode does not take apart into a letter and its accent.
   const letters = { ø: "o", ł: "l", đ: "d", ð: "d", þ: "th", æ: "ae", œ: "oe", ı: "i", ħ: "h", ŧ: "t", ß: "ss" };
 
@@ -51,65 +52,68 @@
     return plain.replace(/[^\p{Letter}\p{Number}]/gu, "");
   }
 
-  // by the name of each elector, the letters of the name and of the real name
-  const keys = new Map(electors.map((names) => [names[0], names.map(lettersOf)]));
+  // By the name of each elector its letters and those of the real name; and the letters without the number of a namesake.
+  const wholes = new Map(electors.map((known) => [known[0], known.map(lettersOf)]));
+  const shared = new Map(roll.map((name) => [name, lettersOf(name.replace(/-[0-9]+$/, ""))]));
 
-  // The names on the roll that have the letters of a typed one, or whose real name has them; or else those that begin with them.
-  function near(name) {
-    // in German ä is ae
-    const typed = [name, name.normalize("NFC").replace(/[äöü]/gi, "$&e")].map(lettersOf).filter(Boolean);
-    const same = roll.filter((other) => keys.get(other).some((key) => typed.includes(key)));
-    const isBegun = (key) => typed.some((letters) => key.startsWith(letters));
-    return same.length > 0 ? same : roll.filter((other) => keys.get(other).some(isBegun));
+  // The name on the roll that what was typed plainly is, if there is one; and the names that are suggested: never one of several
+  // namesakes alone.
+  function electorsTyped(text) {
+    const typed = text.trim().replace(/[A-Z]/g, (letter) => letter.toLowerCase());
+    if (roll.length === 0 || roll.includes(typed)) return { name: NAME.test(typed) ? typed : undefined, suggested: [] };
+    // in German ä is ae; the family name may come first
+    const turned = text.split(",").reverse().join(" ");
+    const forms = [text, text.normalize("NFC").replace(/[äöü]/gi, "$&e"), turned].map(lettersOf).filter(Boolean);
+    const isWhole = (name) => wholes.get(name).some((key) => forms.includes(key));
+    const same = roll.filter((name) => isWhole(name) || forms.includes(shared.get(name)));
+    if (same.length > 0) return { name: same.length === 1 && isWhole(same[0]) ? same[0] : undefined, suggested: same };
+    const begun = roll.filter((name) => wholes.get(name).some((key) => forms.some((form) => key.startsWith(form))));
+    return { suggested: begun.length > NEAR_LIMIT ? [] : begun };
   }
 
-  // A question for the names that are near, or nothing.
-  function question(name) {
-    const found = near(name).slice(0, NEAR_LIMIT);
-    if (found.length < 2) return found.map((other) => sentence("did_you_mean", { name: other })).join("");
-    return sentence("did_you_mean_one_of", { names: found.slice(0, -1).join(", "), last: found[found.length - 1] });
+  // A button that puts a name into the field.
+  function suggestion(name) {
+    const button = document.createElement("button");
+    button.type = "button";
+    button.textContent = name;
+    button.addEventListener("click", () => {
+      nameInput.value = name;
+      nameInput.focus();
+      update();
+    });
+    return button;
   }
 
-  // Why this is no name on the roll, with those that are near; nothing where it is one, or may be one since the page has no roll.
-  function faultOf(name) {
-    if (keys.has(name)) return "";
-    const fault = oddity(name) || (keys.size > 0 ? sentence("not_on_roll", { name }) : "");
-    return [fault, question(name)].filter(Boolean).join(" ");
+  // The name for the line; undefined if there is none yet. What is wrong with it, or suggested, is said below the field.
+  function nameTyped() {
+    if (nameInput === null) return form.dataset.name;
+    const text = nameInput.value;
+    const { name, suggested } = electorsTyped(text);
+    const isOdd = text.trim() !== "" && name === undefined;
+    if (suggested.length > 0) say("Name-said", ...nodesOf("on_roll", { names: suggested.map(suggestion) }));
+    else say("Name-said", isOdd ? sentence(roll.length > 0 ? "not_on_roll" : "no_name", { name: text.trim() }) : "");
+    nameInput.setAttribute("aria-invalid", String(isOdd));
+    return name;
   }
 
-  // Why no elector can have this name, or nothing.
-  function oddity(name) {
-    if (name === "") return sentence("type_name");
-    const odd = [...name].find((character) => !/[a-z0-9.-]/.test(character));
-    if (odd !== undefined) return /\s/.test(odd) ? sentence("has_space") : sentence("has_sign", { sign: odd });
-    if (name.length > NAME_LIMIT) return sentence("too_long", { number: name.length, most: NAME_LIMIT });
-    return "";
+  // The elector and the own mark of a personal link, if the roll has such a name.
+  function readLink() {
+    const [name, own = ""] = location.hash.slice(1).toLowerCase().split("/");
+    if (nameInput === null || !NAME.test(name) || (roll.length > 0 && !roll.includes(name))) return;
+    linked = { name, own: OWN_MARK.test(own) ? own : undefined };
+    nameInput.value = name;
+    update();
   }
 
   // ---------------------------------------------------------------- the ranks in words
-  // The options of each rank, the first preference first, and those without a rank.
-  function groupsOf(ranks) {
-    const byRank = new Map();
-    ranks.forEach((rank, option) => byRank.set(rank, [...(byRank.get(rank) || []), option]));
-    const unranked = byRank.get(UNRANKED) || [];
-    byRank.delete(UNRANKED);
-    const ranked = [...byRank.keys()].sort((a, b) => a - b).map((rank) => byRank.get(rank));
-    return { ranked, unranked };
-  }
-
   // The name of an option with its number, as it stands in a sentence.
   function optionNode(option) {
     const node = document.createElement("b");
     node.dataset.option = option + 1;
     // a name that is written from right to left turns nothing around it
     node.dir = "auto";
-    node.textContent = sentence("option", { number: option + 1, name: selects[option].dataset.name });
+    node.textContent = sentence("option", { number: option + 1, name: names[option] });
     return node;
-  }
-
-  // A sentence with lists of nodes at its places, as texts and these nodes.
-  function nodesOf(key, places) {
-    return words[key].split(/(\{[a-z]+\})/).flatMap((part) => (part.startsWith("{") ? places[part.slice(1, -1)] : [part]));
   }
 
   // Some options in a sentence: "Option 1: A, Option 2: B and Option 3: C".
@@ -121,115 +125,119 @@
     return nodesOf("and", { entries, last: [last] });
   }
 
-  // The sentences that say what the ranks prefer to what, each a list of texts and names.
-  function sentencesOf({ ranked, unranked }) {
-    const sentences = ranked
-      .slice(1)
-      .map((lower, place) => nodesOf("prefer", { upper: joined(ranked[place]), lower: joined(lower) }));
-    if (ranked.length === 1 && unranked.length > 0) sentences.push(nodesOf("prefer_to_all", { upper: joined(ranked[0]) }));
-    for (const equal of ranked.filter((options) => options.length > 1)) {
-      sentences.push(nodesOf("equal", { options: joined(equal) }));
-    }
-    if (unranked.length > 0) {
-      sentences.push(nodesOf(unranked.length === 1 ? "unranked" : "unranked_options", { options: joined(unranked) }));
-    }
-    return sentences;
-  }
-
-  // The sentences as a list.
-  function listOf(sentences) {
-    const list = document.createElement("ul");
-    for (const sentence of sentences) {
-      const item = document.createElement("li");
-      item.append(...sentence);
-      list.append(item);
-    }
-    return list;
+  // What the ranks say, as texts and names: "B; then equally A and C; not ranked: D".
+  function ballotNodes(given) {
+    const optionsOf = (rank) => given.flatMap((other, option) => (other === rank ? [option] : []));
+    const steps = [...new Set(given)].filter((rank) => rank !== UNRANKED).sort((a, b) => a - b).map(optionsOf);
+    const said = steps
+      .map((options) => (options.length === 1 ? joined(options) : nodesOf("equally", { options: joined(options) })))
+      .reduce((before, step) => nodesOf("then", { before, step }));
+    const unranked = optionsOf(UNRANKED);
+    return unranked.length === 0 ? said : nodesOf("unranked", { ranked: said, unranked: joined(unranked) });
   }
 
   // ---------------------------------------------------------------- what the page shows
-  // A text that has not changed is not written again, so that a screen reader does not read it again.
-  function say(id, text) {
-    const node = byId(id);
-    if (node.textContent !== text) node.textContent = text;
+  // The subject ends with the mark of the poll, and with the own mark of the elector whose link this is; in a letter that has to be
+  // signed the mark stands below the ballot, too.
+  function mailTo(line, own) {
+    const { title, mark, to } = form.dataset;
+    const subject = encodeURIComponent(`${sentence("subject", { title })} [${own ? `${mark}-${own}` : mark}]`);
+    const lines = "signed" in form.dataset ? [line, `[${mark}]`] : [line];
+    return `${to}?subject=${subject}&body=${encodeURIComponent(lines.map((text) => `${text}\r\n`).join(""))}`;
   }
 
-  // The subject ends with the mark of the poll; in a letter that has to be signed the mark stands below the ballot, too.
-  function mailTo(line) {
-    const { title, mark } = form.dataset;
-    const subject = encodeURIComponent(`${sentence("subject", { title })} ${mark}`);
-    const lines = "signed" in form.dataset ? [line, mark] : [line];
-    return `${form.dataset.to}?subject=${subject}&body=${encodeURIComponent(lines.map((text) => `${text}\r\n`).join(""))}`;
-  }
-
-  function showLine(line) {
-    say("line", line);
-    byId("ready").hidden = line === "";
-    byId("long").hidden = line.length <= MAIL_LIMIT;
-    const letter = byId("letter");
-    if (letter !== null && line !== "") letter.href = mailTo(line);
-    if (letter !== null && line === "") letter.removeAttribute("href");
-  }
-
-  // The name for the line, and what has to be done before it is one.
-  function nameTyped() {
-    if (nameInput === null) return { name: form.dataset.name, missing: "" };
-    const { name, notes } = repaired(nameInput.value);
-    const fault = faultOf(name);
-    const isTyped = nameInput.value !== "";
-    say("name-said", isTyped ? [...notes, fault].filter(Boolean).join(" ") : "");
-    nameInput.setAttribute("aria-invalid", String(isTyped && fault !== ""));
-    return { name, missing: fault && isTyped ? sentence("name_missing") : fault };
+  // Two lines of a text are shown, and the rest at a touch.
+  function cut(node) {
+    const button = document.createElement("button");
+    button.type = "button";
+    button.className = "more";
+    button.textContent = sentence("more");
+    button.addEventListener("click", () => {
+      node.classList.remove("cut");
+      button.hidden = true;
+    });
+    node.classList.add("cut");
+    node.after(button);
+    const look = () => {
+      button.hidden = !node.classList.contains("cut") || node.scrollHeight <= node.clientHeight + 1;
+    };
+    new ResizeObserver(look).observe(node);
+    return look;
   }
 
   function update() {
-    const { name, missing } = nameTyped();
-    const ranks = selects.map((select) => select.value);
-    const isRanked = ranks.some((rank) => rank !== UNRANKED);
-    byId("words").replaceChildren(...(isRanked ? [listOf(sentencesOf(groupsOf(ranks)))] : []));
-    byId("meaning").hidden = !isRanked;
-    const rankMissing = isRanked ? "" : sentence("rank_missing");
-    say("missing", [missing, rankMissing].filter(Boolean).join(" "));
-    say("copied", "");
-    showLine(missing === "" && isRanked ? `${name} ${ranks.join(",")}` : "");
+    const name = nameTyped();
+    const given = ranks.map((rank) => (rank.value ?? rank.querySelector(":checked")?.value) || UNRANKED);
+    const isRanked = given.some((rank) => rank !== UNRANKED);
+    const line = name !== undefined && isRanked ? `${name} ${given.join(",")}` : "";
+    const missing = [name === undefined ? sentence("type_name") : "", isRanked ? "" : sentence("rank_missing")];
+    say("Line", line);
+    say("Words", ...(isRanked ? ballotNodes(given) : []));
+    lookAtWords();
+    say("Missing", missing.filter(Boolean).join(" "));
+    say("Copied", "");
+    byId("Ready").hidden = line === "";
+    byId("Long").hidden = line.length <= MAIL_LIMIT;
+    const own = name === linked.name ? linked.own : undefined;
+    const [letter, unmarked] = [byId("Letter"), byId("Unmarked")];
+    if (unmarked !== null) unmarked.hidden = own !== undefined;
+    if (letter === null) return;
+    letter.hidden = unmarked !== null && own === undefined;
+    if (line === "" || letter.hidden) letter.removeAttribute("href");
+    else letter.href = mailTo(line, own);
   }
 
   // ---------------------------------------------------------------- the copy
   function selectLine() {
     const range = document.createRange();
-    range.selectNodeContents(byId("line"));
+    range.selectNodeContents(byId("Line"));
     const selection = window.getSelection();
     selection.removeAllRanges();
     selection.addRange(range);
-    say("copied", sentence("selected"));
+    say("Copied", sentence("selected"));
   }
 
   async function copyLine() {
     try {
-      await navigator.clipboard.writeText(byId("line").textContent);
-      say("copied", sentence("copied"));
+      await navigator.clipboard.writeText(byId("Line").textContent);
+      say("Copied", sentence("copied"));
     } catch {
       // a browser gives no clipboard to a page that did not come by https
       selectLine();
     }
   }
 
-  // The field offers the names on the roll.
+  // ---------------------------------------------------------------- the start
+  // The field offers the names on the roll, with the real names that the page shows.
   function offer() {
     const offered = document.createElement("datalist");
-    offered.id = "offered";
-    offered.append(...roll.map((name) => new Option(name, name)));
+    offered.id = "Offered";
+    offered.append(...electors.map(([name, who]) => new Option(who ?? name, name)));
     form.append(offered);
     nameInput.setAttribute("list", offered.id);
   }
 
+  // The key of a digit or of the hyphen chooses that rank.
+  function chooseByKey(event) {
+    if (event.target.type !== "radio" || event.ctrlKey || event.altKey || event.metaKey) return;
+    const buttons = [...event.target.closest(".rank").querySelectorAll("input")];
+    const chosen = buttons.find((button) => button.value === event.key);
+    chosen?.focus();
+    chosen?.click();
+  }
+
+  for (const node of form.querySelectorAll(".scripted")) node.hidden = false;
+  form.querySelectorAll(".text").forEach(cut);
+  const lookAtWords = cut(byId("Words"));
   if (roll.length > 0) offer();
   // a telephone begins a text with a capital letter
   if (nameInput !== null) nameInput.autocapitalize = "none";
   form.addEventListener("input", update);
-  byId("copy").addEventListener("click", copyLine);
+  form.addEventListener("keydown", chooseByKey);
+  byId("Copy").addEventListener("click", copyLine);
+  addEventListener("hashchange", readLink);
   // a browser that comes back to the page may fill in what was chosen before
-  window.addEventListener("pageshow", update);
-  form.hidden = false;
+  addEventListener("pageshow", update);
   update();
+  readLink();
 })();

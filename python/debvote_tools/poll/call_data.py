@@ -9,11 +9,17 @@ from collections.abc import Mapping
 
 from debvote_tools.text.ballots import UNRANKED, ranks_in_words
 from debvote_tools.cli.faults import Fault, Status
+from debvote_tools.cli.terminal_text import LINE_ENDS, odd_sign
 from debvote_tools.text.language import Language, marked
+from debvote_tools.poll.marks import in_brackets
 from debvote_tools.poll.sealed_poll import SealedPoll
 
 MAIL = re.compile(r"[A-Za-z0-9_][A-Za-z0-9._+=-]*@[A-Za-z0-9-]+(\.[A-Za-z0-9-]+)*")
 MAIL_LIMIT = 254
+
+# `Name <ADDRESS>`, and how many characters such a name may have
+NAMED = re.compile(r"(?P<quote>\"?)(?P<name>.*?)(?P=quote)\s*<(?P<address>[^<>]*)>", re.DOTALL)
+NAME_LIMIT = 100
 
 # printable ASCII without blanks, without what ends an address in a letter, and without the # that
 # an own ballot's link adds
@@ -43,6 +49,10 @@ class CallData:
     real_names: Mapping[str, str] | None = None
     has_form: bool = False
     is_signed: bool = False
+    # a letter goes in by itself only with the own mark of its elector
+    is_marked: bool = False
+    # what the secretary writes at the head of letters to electors; empty without it
+    letter_text: str = ""
     # in a secret vote with names on the roll: ballots are published under aliases
     has_aliases: bool = False
     # the roll has codes in place of names, so the poll is published with the result alone
@@ -67,7 +77,11 @@ class CallData:
 
     @functools.cached_property
     def mark(self) -> str:
-        return f"[{self.poll.mark}]"
+        return self.mark_of("")
+
+    def mark_of(self, own: str) -> str:
+        """What ends the subject of a letter of an elector with this own mark."""
+        return in_brackets(self.poll.mark, own)
 
     @property
     def mail_to(self) -> str:
@@ -129,6 +143,19 @@ def explanations_of(poll: SealedPoll) -> list[tuple[int, list[str]]]:
 
 def paragraphs_of(text: str) -> list[str]:
     return [lines for lines in re.split(r"\n(?:[ \t]*\n)+", text.strip("\n")) if lines.strip()]
+
+
+def named_address(text: str) -> tuple[str, str]:
+    """Name and address of `Name <ADDRESS>`, or of an address alone, whose name is empty."""
+    found = NAMED.fullmatch(text.strip())
+    name, address = (found["name"], found["address"]) if found else ("", text)
+    demand_mail_address(address)
+    if len(name) > NAME_LIMIT or odd_sign(name, refused=f'{LINE_ENDS}<>"') is not None:
+        reason = (
+            f"the name has to be at most {NAME_LIMIT} characters, without quotation marks, < and >"
+        )
+        raise Fault("--to", reason, 'write it as "Name <ADDRESS>"', Status.BAD_WORDS)
+    return name, address
 
 
 def demand_mail_address(text: str, option: str = "--to") -> None:

@@ -4,6 +4,7 @@
 
 from debvote_tools.poll.call_data import OPTION, SUBJECT, CallData
 from debvote_tools.files import sha256_of
+from debvote_tools.text.ballots import IN_A_LIST, without_ballots
 from debvote_tools.text.language import marked
 from debvote_tools.text.rendering import render_letter, render_page, resources
 
@@ -14,46 +15,44 @@ SENTENCES = {
     "option": OPTION,
     "subject": SUBJECT,
     "type_name": marked("Type your name as it is on the roll."),
-    "spaces": marked("Spaces before or after the name are left out."),
-    "capitals": marked("Capital letters of the name are made small."),
-    "did_you_mean": marked("Did you mean {name}?"),
-    "did_you_mean_one_of": marked("Did you mean {names} or {last}?"),
+    "on_roll": marked("On the roll: {names}"),
     "not_on_roll": marked(
         "{name} is not on the roll of this poll; the names on the roll are below."
     ),
-    "has_space": marked(
-        "The name has a space. Names on the roll have only small letters without accents, digits, points and hyphens."
+    "no_name": marked(
+        "Names on the roll have only small letters without accents, digits, points and hyphens, and at most 32 of them."
     ),
-    "has_sign": marked(
-        "The name has “{sign}”. Names on the roll have only small letters without accents, digits, points and hyphens."
-    ),
-    "too_long": marked("The name has {number} characters. Names on the roll have at most {most}."),
-    "prefer": marked("You prefer {upper} to {lower}."),
-    "prefer_to_all": marked("You prefer {upper} to all others."),
-    "equal": marked("You rank {options} equally: none of them is preferred to another."),
-    "unranked": marked("You rank {options} not at all, so it is behind all others."),
-    "unranked_options": marked("You rank {options} not at all, so they are behind all others."),
+    "then": IN_A_LIST.then,
+    "equally": IN_A_LIST.equally,
+    "unranked": IN_A_LIST.unranked,
     "and": marked("{entries} and {last}"),
-    "name_missing": marked("The name has to be put right."),
     "rank_missing": marked("Give at least one option a rank."),
+    "more": marked("Read on"),
     "selected": marked("The line is selected. Copy it with Ctrl+C, or Cmd+C on a Mac."),
     "copied": marked("The line is copied."),
 }
 
 
 def call_letter(call: CallData) -> str:
-    return render_letter(PACKAGE, "call.txt", call.language, call=call)
+    """The letter of the call to all, with a gap in place of a name."""
+    return letter_to_all(call, is_extension=False)
 
 
 def extension_letter(call: CallData) -> str:
     """The letter about a later end: the old one, the new one, and that all else is as it was."""
-    return render_letter(PACKAGE, "extension.txt", call.language, call=call)
+    return letter_to_all(call, is_extension=True)
+
+
+def letter_to_all(call: CallData, *, is_extension: bool) -> str:
+    text = render_letter(
+        PACKAGE, "call.txt", call.language, call=call, elector=None, is_extension=is_extension
+    )
+    return without_ballots(text, len(call.poll.names), lambda word: True)
 
 
 def call_page(call: CallData) -> bytes:
-    style, script = resources(PACKAGE, "fields.css", "given.css", "ballot.css"), resources(
-        PACKAGE, "ballot.js"
-    )
+    style = resources(PACKAGE, "fields.css", "given.css", "ballot.css")
+    script = resources(PACKAGE, "fold.js", "ballot.js")
     script_words = call.language.words(SENTENCES)
     return render_page(
         PACKAGE,

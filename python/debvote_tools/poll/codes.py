@@ -5,8 +5,8 @@ import io
 import re
 import secrets
 from collections.abc import Collection, Iterable
-from typing import NamedTuple
 
+from debvote_tools.book.queries import Elector
 from debvote_tools.cli.faults import Fault, Status
 from debvote_tools.inbox.lines import CODE_WITHIN
 from debvote_tools.poll.aliases import alias_of
@@ -22,18 +22,6 @@ NUMBER = re.compile(r"\d*e?\d*")
 FORMULA = re.compile(
     r"(^|[,;\t|])(?=[\s\u200b\ufeff]*(?:[=@\uff1d\uff20]|[+\uff0b\uff0d-](?![\d\s()./-]*(?:[,;\t|]|$))))"
 )
-
-
-class CodeRow(NamedTuple):
-    """An elector with a code. The real name and the address are empty where the secretary's list
-    does not have them.
-    """
-
-    name: str
-    who: str
-    mail: str
-    code: str
-    alias: str
 
 
 def new_code(name: str = "") -> str:
@@ -62,13 +50,14 @@ def demand_no_code(name: str, data: bytes, codes: Collection[str], done: str) ->
         )
 
 
-def codes_csv(rows: Iterable[CodeRow]) -> bytes:
+def codes_csv(electors: Iterable[Elector]) -> bytes:
     """The table of the codes, for a spreadsheet or a mail merge. Electors give their names, so each
     cell is made harmless.
     """
     text = io.StringIO()
     table = csv.writer(text, lineterminator="\n")
-    table.writerow(CodeRow._fields)
+    table.writerow(("name", "who", "mail", "code", "alias"))
+    rows = ((one.name, one.who, " ".join(one.addresses), one.code, one.alias) for one in electors)
     table.writerows(map(harmless, row) for row in rows)
     return text.getvalue().encode()
 

@@ -1,6 +1,4 @@
-"""The list of members, a table as spreadsheets save it, and the roll that it becomes. It is read,
-and never written.
-"""
+"""The list of members, a table as spreadsheets save it, and the roll that it becomes."""
 
 import itertools
 import operator
@@ -25,31 +23,13 @@ from debvote_tools.poll.plain_names import (
 )
 from debvote_tools.cli.terminal_text import shown_text, steering
 
-# the heads of each column, the first that are there, without case, accents and what is no letter;
-# some are of two columns
+# the heads of each column, without case, accents and what is no letter, the preferred ones first;
+# some names are in two columns
 HEADS = {
-    "who": (
-        *(
-            "who",
-            "vorname nachname",
-            "vorname name",
-            "firstname lastname",
-            "prenom nom",
-            "nombre apellidos",
-        ),
-        *("name", "nom", "nombre"),
-    ),
-    "mail": (
-        "mail",
-        "email",
-        "emailadresse",
-        "emailaddress",
-        "courriel",
-        "correo",
-        "correoelectronico",
-    ),
-    "name": ("name",),
-    "key": ("key",),
+    "who": "who, vorname nachname, vorname name, firstname lastname, prenom nom, nombre apellidos, name, nom, nombre",
+    "mail": "mail, email, emailadresse, emailaddress, courriel, correo, correoelectronico",
+    "name": "name",
+    "key": "key",
 }
 REQUIRED = ("who", "mail")
 
@@ -107,85 +87,95 @@ class Member(NamedTuple):
     @property
     def changes(self) -> dict[str, tuple[str, str]]:
         """What is not as the book has it of an elector on the roll: before, and now."""
-        if self.known is None or self.is_new:
+        known = self.known
+        if known is None or self.is_new:
             return {}
-        known, before, now = self.known, ", ".join(self.known.addresses), ", ".join(self.addresses)
-        # without the case of letters an address is the same
-        address = (before, now) if address_key(before) != address_key(now) else ("", "")
         pairs = {
             "name": (known.name, self.name),
             "who": (known.who, self.who),
-            "address": address,
+            "address": (", ".join(known.addresses), ", ".join(self.addresses)),
             "key": (known.key, self.key),
         }
+        # without the case of letters an address is the same
+        if address_key(pairs["address"][0]) == address_key(pairs["address"][1]):
+            del pairs["address"]
         return {what: pair for what, pair in pairs.items() if pair[0] != pair[1]}
 
 
-class Members(NamedTuple):
-    """The rows of a list in its order, and all that is wrong with them."""
+# the line if there is one, what is wrong with it, and the cure
+Wrong = tuple[int | None, str, str]
+
+
+class Roll(NamedTuple):
+    """The members in the order of the list, after the call in that of the sealed poll; and all that
+    is wrong with them.
+    """
 
     file: object
-    rows: tuple[Member, ...]
+    electors: tuple[Member, ...]
     faults: tuple[Fault, ...]
+    # electors of the last list who are not on this one
+    gone: tuple[Elector, ...] = ()
 
 
-def members_in(file: pathlib.Path) -> Members:
+# ---------------------------------------------------------------- the table
+def members_in(file: pathlib.Path) -> Roll:
     """Reads the list of members in a file. Raises `Fault` if it is no table with their columns."""
     unread = "the list of members is a CSV file, as a spreadsheet saves it: put it there"
     return members_of(read_whole(file, TABLE_LIMIT, unread, f", {AGAIN}"), file)
 
 
-def members_of(data: bytes, file: object = "members.csv") -> Members:
-    table = read_table(
-        data, " ".join(itertools.chain(*HEADS.values())).split(), file, bad_list, skips_spaces=True
-    )
+def members_of(data: bytes, file: object = "members.csv") -> Roll:
+    """The members as the table has them, some of them without a name."""
+    wanted = re.findall(r"\w+", " ".join(HEADS.values()))
+    table = read_table(data, wanted, file, bad_list, skips_spaces=True)
     heads = [re.sub(r"[\W_]", "", alike(head)) for head in table.head.cells]
-    used: dict[str, list[str]] = {}
+    columns: dict[str, list[str]] = {}
     for column, choices in HEADS.items():
-        free = {*heads}.difference(*used.values())
-        for words in map(str.split, choices):
+        free = {*heads}.difference(*columns.values())
+        for words in map(str.split, choices.split(", ")):
             if free.issuperset(words):
-                used.setdefault(column, words)
-    twice = [head for head in itertools.chain(*used.values()) if heads.count(head) > 1]
-    wrong = [
-        (f"the header line has the column `{head}` twice", "rename one of them") for head in twice
+                columns.setdefault(column, words)
+    twice = [head for head in itertools.chain(*columns.values()) if heads.count(head) > 1]
+    wrong: list[Wrong] = [
+        (table.head.line, f"the header line has the column `{head}` twice", "rename one of them")
+        for head in twice
     ]
-    if missing := [f"`{column}`" for column in REQUIRED if column not in used]:
+    if missing := [f"`{column}`" for column in REQUIRED if column not in columns]:
         reason = f"the header line has no column {' and no column '.join(missing)}; it has {table.heads_in_words}"
         cure = "put the real names under `who` and the addresses under `mail`; a column `name`, with names on the roll, is optional"
-        wrong.append((reason, cure))
-    stop_at([bad_list(file, *fault, table.head.line) for fault in wrong])
-    indices = {column: [heads.index(head) for head in others] for column, others in used.items()}
+        wrong.append((table.head.line, reason, cure))
+    stop_at(faults_of(file, wrong))
+    indices = {column: [heads.index(head) for head in used] for column, used in columns.items()}
     # up to the last column that has a head
     width = max(index for index, head in enumerate(heads, start=1) if head)
-    members, faults = [], []
+    members = []
     for row in table.rows:
         if not row.is_blank:
             members.append(member_of(row, indices))
-            found = faults_of_row(row, members[-1], width, table.delimiter)
-            faults += [bad_list(file, *fault, row.line) for fault in found]
+            wrong += wrong_row(row, members[-1], width, table.delimiter)
     if not members:
-        faults.append(
-            bad_list(
-                file, "there is nobody on it", "write a line for each member below the header line"
-            )
-        )
-    return Members(file, tuple(members), tuple(faults))
+        cure = "write a line for each member below the header line"
+        wrong.append((None, "there is nobody on it", cure))
+    return Roll(file, tuple(members), tuple(faults_of(file, wrong)))
 
 
-def bad_list(file: object, reason: str, cure: str, line: int | None = None) -> Fault:
-    return Fault(file if line is None else f"{file}:{line}", reason, f"{cure}, {AGAIN}", done=None)
+def bad_list(file: object, reason: str, cure: str) -> Fault:
+    return Fault(file, reason, f"{cure}, {AGAIN}", done=None)
+
+
+def faults_of(file: object, wrong: Iterable[Wrong]) -> list[Fault]:
+    return [
+        bad_list(f"{file}:{line}" if line else file, reason, cure) for line, reason, cure in wrong
+    ]
 
 
 def member_of(row: Row, indices: Mapping[str, Sequence[int]]) -> Member:
     """The member of a row, with what each column has on one line."""
-    joined = {
-        column: " ".join(row.cells[index] for index in places) for column, places in indices.items()
-    }
-    cells = {
-        column: unicodedata.normalize("NFC", " ".join(text.split()))
-        for column, text in joined.items()
-    }
+    cells = {}
+    for column, places in indices.items():
+        text = " ".join(row.cells[index] for index in places)
+        cells[column] = unicodedata.normalize("NFC", " ".join(text.split()))
     addresses = IN_BRACKETS.findall(cells["mail"]) or BETWEEN_ADDRESSES.split(cells["mail"])
     each_once = dict.fromkeys(
         address.strip().removeprefix("mailto:") for address in addresses if address.strip()
@@ -194,77 +184,60 @@ def member_of(row: Row, indices: Mapping[str, Sequence[int]]) -> Member:
     return Member(row.line, cells.get("name", ""), cells["who"], tuple(each_once), key)
 
 
-def faults_of_row(
-    row: Row, member: Member, width: int, delimiter: str
-) -> Iterator[tuple[str, str]]:
-    first = next(cell for cell in map(str.strip, row.cells) if cell)
+def wrong_row(row: Row, member: Member, width: int, delimiter: str) -> Iterator[Wrong]:
+    line, first = row.line, next(cell for cell in map(str.strip, row.cells) if cell)
     if SUM.fullmatch(first.casefold()) and not any(map(ADDRESS.fullmatch, member.addresses)):
-        yield f"`{shown_text(first)}` is a sum and no member", "take the line out"
+        yield line, f"`{shown_text(first)}` is a sum and no member", "take the line out"
         return
     for cell in (member.who, member.name, member.key, *member.addresses):
+        shown = shown_text(cell)
         if delimiter == "," and ";" in cell:
-            reason = f"`{shown_text(cell)}` has a semicolon, and the header line has commas between its cells"
-            yield reason, "put a comma between the cells of this line too, or take the semicolon out"
+            cure = "put a comma between the cells of this line too, or take the semicolon out"
+            reason = f"`{shown}` has a semicolon, and the header line has commas between its cells"
+            yield line, reason, cure
         if LOST in cell:
-            yield f"`{shown_text(cell)}` has lost a character when it was saved (U+FFFD)", "write the character again"
+            reason = f"`{shown}` has lost a character when it was saved (U+FFFD)"
+            yield line, reason, "write the character again"
     if beyond := row.cells_after(width):
         reason = f"`{shown_text(beyond[0])}` is after the last column of the header line"
-        yield reason, "put quotation marks around a cell that contains the delimiter"
+        yield line, reason, "put quotation marks around a cell that contains the delimiter"
     if not member.who and not member.name:
-        yield "it has no `who`", "write who it is, or take the line out"
+        yield line, "it has no `who`", "write who it is, or take the line out"
     if odd := steering(member.who):
-        yield f"`{shown_text(member.who)}` has the character {odd}, which controls a terminal or turns text around", "take it out"
+        reason = f"`{shown_text(member.who)}` has the character {odd}, which controls a terminal or turns text around"
+        yield line, reason, "take it out"
     if member.name and not is_elector_name(member.name):
         cure = f"write 1 to {ELECTOR_LIMIT} of a to z, 0 to 9, point and hyphen under `name`, or leave it empty"
-        yield f"`{shown_text(member.name)}` cannot be a name on the roll", cure
+        yield line, f"`{shown_text(member.name)}` cannot be a name on the roll", cure
     for address in member.addresses:
         if not ADDRESS.fullmatch(address) or steering(address) is not None:
-            yield f"`{shown_text(address)}` is not a mail address", "put it right, or take it out"
+            reason = f"`{shown_text(address)}` is not a mail address"
+            yield line, reason, "put it right, or take it out"
     if member.key and not FINGERPRINT.fullmatch(member.key):
         cure = "write all 40 digits of it (0 to 9 and A to F; spaces may be between), as gpg --fingerprint shows them"
-        yield f"`{shown_text(member.key)}` is not the fingerprint of a key", cure
+        yield line, f"`{shown_text(member.key)}` is not the fingerprint of a key", cure
 
 
-Entry = TypeVar("Entry")
-
-
-class Roll(NamedTuple):
-    """The electors in the order of the list, after the call in that of the sealed poll; and all
-    that is wrong with them.
-    """
-
-    electors: tuple[Member, ...]
-    # electors of the last list who are not on this one
-    gone: tuple[Elector, ...]
-    faults: tuple[Fault, ...]
-
-
+# ---------------------------------------------------------------- the roll
 def roll_of(
-    members: Members, known: Sequence[Elector], language: str, *, is_called: bool = False
+    members: Roll, known: Sequence[Elector], language: str, *, is_called: bool = False
 ) -> Roll:
     """The roll of a list; `known` are all electors of the book. After the call addresses and keys
     alone may change.
     """
-    electors = with_proposals(with_known(members.rows, known), known, language)
+    electors = with_proposals(with_known(members.electors, known), known, language)
     numbers = {elector.known.number for elector in electors if elector.known}
-    gone = [
-        elector
-        for elector in known
-        if elector.position is not None and elector.number not in numbers
-    ]
-    faults = list(members.faults)
+    gone = [one for one in known if one.position is not None and one.number not in numbers]
+    wrong: list[Wrong] = []
     if electors:
-        found = [
-            *faults_of_people(members.rows, electors),
-            *(faults_after_call(electors, gone) if is_called else ()),
-        ]
-        faults += [bad_list(members.file, reason, cure, line) for line, reason, cure in found]
+        wrong += wrong_people(members.electors, electors)
+    if electors and is_called:
+        wrong += wrong_after_call(electors, gone)
     if is_called:
         order = {elector.number: index for index, elector in enumerate(known)}
-        electors.sort(
-            key=lambda elector: order[elector.known.number] if elector.known else len(order)
-        )
-    return Roll(tuple(electors), tuple(gone), tuple(faults))
+        electors.sort(key=lambda one: order[one.known.number] if one.known else len(order))
+    faults = (*members.faults, *faults_of(members.file, wrong))
+    return Roll(members.file, tuple(electors), faults, tuple(gone))
 
 
 def with_known(rows: Sequence[Member], known: Sequence[Elector]) -> list[Member]:
@@ -275,11 +248,10 @@ def with_known(rows: Sequence[Member], known: Sequence[Elector]) -> list[Member]
     last = [elector for elector in known if elector.position is not None]
     for what, candidates in itertools.product(("name", "who"), (last, known)):
         form = operator.attrgetter(what)
-        numbers = {elector.number for elector in found.values()}
+        taken = {elector.number for elector in found.values()}
         rows_by_form = grouped((row for row in rows if row.line not in found), form)
-        for text, electors in grouped(
-            (elector for elector in candidates if elector.number not in numbers), form
-        ).items():
+        free = (elector for elector in candidates if elector.number not in taken)
+        for text, electors in grouped(free, form).items():
             fitting = rows_by_form.get(text, [])
             if text and len(fitting) == len(electors) == 1:
                 found[fitting[0].line] = electors[0]
@@ -289,6 +261,9 @@ def with_known(rows: Sequence[Member], known: Sequence[Elector]) -> list[Member]
         else row
         for row in rows
     ]
+
+
+Entry = TypeVar("Entry")
 
 
 def grouped(
@@ -312,14 +287,10 @@ def with_proposals(
     wholes = {}
     for elector in electors:
         texts = [elector.who, *(address.partition("@")[0] for address in elector.addresses)]
-        if not elector.name and (
-            whole := next(filter(None, (elector_name(text, language) for text in texts)), "")
-        ):
+        proposals = filter(None, (elector_name(text, language) for text in texts))
+        if not elector.name and (whole := next(proposals, "")):
             wholes[elector.line] = whole
-    taken = [
-        *(elector.name for elector in electors if elector.name),
-        *(elector.name for elector in known),
-    ]
+    taken = [*(one.name for one in electors), *(one.name for one in known)]
     bases = [whole[:ELECTOR_LIMIT].rstrip("-") for whole in wholes.values()]
     names = dict(zip(wholes, made_different(bases, taken, ELECTOR_LIMIT, "-")))
     return [
@@ -328,10 +299,7 @@ def with_proposals(
     ]
 
 
-# ---------------------------------------------------------------- what is wrong: the line, the reason and the cure
-def faults_of_people(
-    rows: Sequence[Member], electors: Sequence[Member]
-) -> Iterator[tuple[int | None, str, str]]:
+def wrong_people(rows: Sequence[Member], electors: Sequence[Member]) -> Iterator[Wrong]:
     """Members of whom nobody knows which name is whose, and names and keys that are missing or that
     several have.
     """
@@ -341,32 +309,31 @@ def faults_of_people(
         nameless = [elector.line for elector in group if not given[elector.line]]
         if who and len(group) > 1 and nameless:
             reason = f"{lines_in_words(group)} have the same `who`: {shown_text(group[0].who)}"
-            yield nameless[
-                0
-            ], reason, "give each a name of their own under `name`, or take a line out if it is one person"
-    for elector in electors:
-        known = elector.known
-        if known is not None and known.name == elector.name and known.who not in ("", elector.who):
+            cure = (
+                "give each a name of their own under `name`, or take a line out if it is one person"
+            )
+            yield nameless[0], reason, cure
+    for one in electors:
+        known = one.known
+        if known is not None and known.name == one.name and known.who not in ("", one.who):
             for owner in by_who.get(known.who, [])[:1]:
-                reason = f"`{elector.name}` is the name of {shown_text(owner.who)} (line {owner.line}) already"
-                yield elector.line, reason, "write another name"
-    for elector in electors:
-        if not elector.name and elector.who:
-            yield elector.line, f"no name can be made from {shown_text(elector.who)} or an address", "write one under `name`"
+                whose = f"{shown_text(owner.who)} (line {owner.line})"
+                yield one.line, f"`{one.name}` is the name of {whose} already", "write another name"
+        if not one.name and one.who:
+            reason = f"no name can be made from {shown_text(one.who)} or an address"
+            yield one.line, reason, "write one under `name`"
     for group in several(electors, lambda elector: elector.name):
         reason = f"{lines_in_words(group)} have the same name: {shown_text(group[0].name)}"
         yield group[1].line, reason, "give each a different name, or take a line out"
     for group in several(electors, lambda elector: elector.key):
-        yield group[
-            1
-        ].line, f"{lines_in_words(group)} have the same key", "leave it only on the line of its owner"
+        reason = f"{lines_in_words(group)} have the same key"
+        yield group[1].line, reason, "leave it only on the line of its owner"
     if len(electors) > ROLL_LIMIT:
-        yield None, f"it has {len(electors)} members; at most {ROLL_LIMIT} are allowed", "take some out"
+        reason = f"it has {len(electors)} members; at most {ROLL_LIMIT} are allowed"
+        yield None, reason, "take some out"
 
 
-def faults_after_call(
-    electors: Sequence[Member], gone: Sequence[Elector]
-) -> Iterator[tuple[int | None, str, str]]:
+def wrong_after_call(electors: Sequence[Member], gone: Sequence[Elector]) -> Iterator[Wrong]:
     """People who are not as the call has them."""
     cure = "put the list back as it was: after the call only addresses and keys may change"
     others: dict[str, Sequence[Member | Elector]] = {
@@ -375,7 +342,8 @@ def faults_after_call(
     }
     for words, people in others.items():
         if people:
-            yield None, f"{words}: {listed([f'{one.name} ({shown_text(one.who)})' for one in people], NAMED_LIMIT)}", cure
+            labels = [f"{one.name} ({shown_text(one.who)})" for one in people]
+            yield None, f"{words}: {listed(labels, NAMED_LIMIT)}", cure
     for elector in electors:
         for what, (before, _) in elector.changes.items():
             if what in ("name", "who"):

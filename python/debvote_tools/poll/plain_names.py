@@ -18,8 +18,9 @@ SHOWN_LIMIT = 200
 PLAIN_NAME = re.compile(r"[!-~](?:[ -~]*[!-~])?")
 
 # a title, and what belongs to it: `Dr. rer. nat.`, `Univ.-Prof.`, `Dipl.-Ing. (FH)`; some are words
-# or names without their point
+# or names without their point, and how people are addressed stands before the whole name alone
 TITLE = re.compile(
+    r"(?i:(?<![^,])\s*(?:Frau|Herrn?|Mrs?|Ms|Mme|Mlle|Sra?|Srta)\b\.?(?=\s))|"
     r"(?<!\w)(?i:(?:Dr|Prof)\b\.?|(?:Mag|Ing|Univ|Dipl)\.(?:-\w+\.?)?|Ph\.? ?D\b\.?|[BM]\.? ?Sc\b\.?|MBA\b|LL\. ?M\.)"
     r"(?:(?:in|a)\b)?(?:\s*(?:[a-z]{2,6}\.|h\. ?c\.|\(\w{2,5}\.?\)))*"
 )

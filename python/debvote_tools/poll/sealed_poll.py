@@ -10,7 +10,7 @@ import datetime
 import functools
 import json
 from collections.abc import Sequence
-from typing import Any
+from typing import Any, NamedTuple
 
 from debvote_tools.cli.faults import Fault, Status
 from debvote_tools.files import sha256_of
@@ -21,6 +21,16 @@ KEYS = (
     *("title", "options", "ratios", "default", "quorum", "wording", "roll", "last_envelope"),
     *("deadline", "address", "secret", "shown_title", "shown_options", "explanations"),
 )
+
+
+class Wording(NamedTuple):
+    """An option as the poll has it. The default option has no ratio and no text."""
+
+    number: int
+    name: str
+    plain: str
+    ratio: int | None
+    text: str
 
 
 @dataclasses.dataclass(frozen=True)
@@ -58,6 +68,13 @@ class SealedPoll:
         """The names of all options that people read, the default last."""
         return self.shown_options or self.plain_names
 
+    @functools.cached_property
+    def choices(self) -> list[Wording]:
+        """All options, the default last."""
+        texts = self.explanations or [""] * len(self.options)
+        facts = zip(self.names, self.plain_names, (*self.ratios, None), (*texts, ""))
+        return [Wording(number, *each) for number, each in enumerate(facts, start=1)]
+
     @property
     def name(self) -> str:
         """The title that people read."""
@@ -74,7 +91,7 @@ class SealedPoll:
             {key: value for key in KEYS if is_set(value := getattr(self, key)) or key in REQUIRED}
         )
 
-    @property
+    @functools.cached_property
     def checksum(self) -> str:
         return sha256_of(self.as_bytes())
 

@@ -4,15 +4,15 @@ apart.
 
 from collections.abc import Sequence
 
+from debvote_tools.book.queries import Elector
 from debvote_tools.poll.call_data import CallData
 from debvote_tools.text.rendering import render_page, resources
-from debvote_tools.poll.codes import CodeRow
 from debvote_tools.poll.words import BY_PYTHON
 
 PACKAGE = "debvote_tools.poll"
 
 
-def slips(call: CallData, electors: Sequence[CodeRow]) -> bytes:
+def slips(call: CallData, electors: Sequence[Elector]) -> bytes:
     """The page of slips. It loads nothing, and has no script. With codes on the roll the name of an
     elector is the code.
     """

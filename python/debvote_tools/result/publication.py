@@ -14,7 +14,7 @@ from debvote_tools.book.acts import Detail
 from debvote_tools.book.book import Book, DoneAct, as_text, from_text
 from debvote_tools.poll.call_data import CallData
 from debvote_tools.debvote import casting_words
-from debvote_tools.book.election import Election, History, Sealed
+from debvote_tools.book.election import LETTER_TEXT, Election, History, Sealed
 from debvote_tools.cli.faults import Fault
 from debvote_tools.files import sha256_of
 from debvote_tools.text.language import Language, language_of
@@ -84,6 +84,8 @@ def current_data(
         else None,
         has_form=bool(value_of("form")),
         is_signed=bool(value_of("signed")),
+        is_marked=bool(value_of("marked")),
+        letter_text=(queries.sealed(election.book, LETTER_TEXT) or b"").decode(),
         has_aliases=sealed.is_aliased,
         has_codes_on_roll=bool(value_of("codes_on_roll")),
         has_lapsed_codes=now.has_lapsed_codes,

@@ -1,9 +1,10 @@
 """A ballot in words, from its ranks as `standing` and the ballot file spell them, such as
-`1,2,-,3`.
+`1,2,-,3`; and texts of which no line reads as a ballot.
 """
 
 import functools
-from collections.abc import Sequence
+import re
+from collections.abc import Callable, Sequence
 from typing import NamedTuple
 
 from debvote_tools.text.language import ENGLISH, Language, marked
@@ -90,3 +91,44 @@ class BallotWords:
             if len(names) == 1
             else self.language.say(self.phrases.equally, options=self.language.joined(names))
         )
+
+
+# ---------------------------------------------------------------- no line reads as a ballot
+# what repairs of a line take away or replace: blanks, dashes, and signs around names and ranks
+BLANK, DASH, SIGNS = r"[^\S\n]", "[\u2010-\u2014\u2212-]", r"[^\w\s(|\u2010-\u2014\u2212-]{0,4}"
+RANK = rf"\*{{0,3}}(?:(?<!\d)\d{{1,2}}(?!\d)|{DASH})\*{{0,3}}"
+
+
+@functools.cache
+def name_with_ranks(options: int) -> re.Pattern[str]:
+    """A word, and after it as many ranks as there are options, or more."""
+    ranks = rf"{RANK}(?:{BLANK}*[,;]{BLANK}*{RANK}){{{options - 1}}}"
+    name = rf"(?P<name>[^\W_](?:[\w.'\u2019-]*\w)?)"
+    return re.compile(rf"(?<!\S){SIGNS}{name}{SIGNS}(?:{BLANK}+|(?<=:)){SIGNS}{BLANK}*{ranks}")
+
+
+# most letters of a run have the same lines
+@functools.lru_cache(maxsize=10_000)
+def may_read_as_ballot(line: str, options: int) -> bool:
+    enough = line.count(",") + line.count(";") >= options - 1
+    return enough and name_with_ranks(options).search(line) is not None
+
+
+def without_ballots(text: str, options: int, is_name: Callable[[str], bool]) -> str:
+    """The text, in which no line reads as a ballot of this number of options, wherever its lines
+    are broken at blanks. A line that has a ballot in it gets a bar before it, and before the
+    ballot, which begins a line of its own: `paper: ada 1,2` becomes `|paper:` and `|ada 1,2`.
+    """
+
+    def barred(line: str) -> str:
+        if not may_read_as_ballot(line, options):
+            return line
+        parts = name_with_ranks(options).sub(
+            lambda found: f"\n{found[0]}" if is_name(found["name"]) else found[0], line
+        )
+        if parts == line:
+            return line
+        blanks = line[: len(line) - len(line.lstrip())]
+        return "\n".join(f"{blanks}|{part.strip()}" for part in parts.split("\n") if part.strip())
+
+    return "\n".join(map(barred, text.split("\n")))

@@ -39,6 +39,11 @@ class InHtml(Language):
         return Markup("<q><bdi>{}</bdi></q>").format(text)
 
 
+def one_line(text: str) -> str:
+    """A text on one line, without characters that steer."""
+    return "".join(character if character.isprintable() else " " for character in text)
+
+
 # ---------------------------------------------------------------- templates
 # most letters of a run have the same paragraphs
 @functools.lru_cache(maxsize=1_000)

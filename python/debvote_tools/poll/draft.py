@@ -1,19 +1,17 @@
-"""The poll as the secretary writes it, `poll.toml` and a text for each option in `texts`, and the
-sealed poll that it becomes.
-"""
+"""The poll as the secretary writes it, and the sealed poll that it becomes."""
 
-import dataclasses
 import json
 import math
+import os
 import pathlib
 import re
 import tomllib
 from collections.abc import Collection, Mapping, Sequence
-from typing import Any
+from typing import Any, NamedTuple
 
 from debvote_tools.book import queries
 from debvote_tools.cli.console import tell, tell_as_it_is
-from debvote_tools.book.election import POLL_FILE, TEXTS, Election, History
+from debvote_tools.book.election import LETTER_TEXT, POLL_FILE, TEXTS, Election, History
 from debvote_tools.book.reporting import count_of
 from debvote_tools.cli.faults import Fault, Status, stop_at
 from debvote_tools.files import POLL_LIMIT, file_text, read_whole
@@ -31,8 +29,8 @@ from debvote_tools.cli.terminal_text import LINE_ENDS, shown_text
 # the file that `new` writes, with its explanations
 NEW_POLL = pathlib.Path(__file__).with_name("new_poll.toml")
 
-# in bytes, of all texts together
-TEXTS_LIMIT = 524_288
+# in bytes: of all texts together, and of what begins letters to electors
+TEXTS_LIMIT, LETTER_LIMIT = 524_288, 4_096
 
 TEXT_NAME = re.compile(r"([1-9][0-9]?)\.txt")
 # a file that an editor leaves beside another
@@ -59,43 +57,40 @@ IS_TOML = re.compile(r"(?m)^poll(?:: | ok)")
 FOLDINGS, LONGEST_REAL_NAME = ("en", "de"), 200
 
 
-@dataclasses.dataclass(frozen=True)
-class DraftPoll:
-    """The poll as it is written: the values of its keys, of whatever type, and the texts of options
-    by their numbers. `faults` has what is wrong with each by itself.
+class DraftPoll(NamedTuple):
+    """The poll as it is written: the values of its keys, of whatever type, and what is wrong with
+    each by itself.
     """
 
+    folder: pathlib.Path
     values: Mapping[str, Any]
     # title and options as people read them, the default last; empty where it is no text
     title: str
     names: Sequence[str]
+    # the texts about options, by their numbers
     texts: Mapping[int, str]
     faults: Sequence[Fault]
-    folder: pathlib.Path
 
 
+# ---------------------------------------------------------------- the files
 def draft_in(folder: pathlib.Path) -> DraftPoll:
     """Reads the poll of a folder, and the texts beside it. Raises `Fault` if the poll can't be read
     at all.
     """
     file = folder / POLL_FILE
-    values = parsed_toml(read_whole(file, POLL_LIMIT, "write it", THEN), file)
+    data = read_whole(file, POLL_LIMIT, "write it", THEN)
+    try:
+        values = tomllib.loads(data.decode("utf-8-sig"))
+    except (ValueError, RecursionError) as error:
+        reason = f"it can't be read as TOML 1.0: {error}"
+        raise bad_poll(file, reason, "put it right with an editor") from None
     options = values["options"] if isinstance(values.get("options"), list) else []
     title, *names = (
         name.strip() if isinstance(name, str) else ""
         for name in (values.get("title"), *options, values.get("default"))
     )
     texts, faults = texts_in(folder / TEXTS, len(options))
-    return DraftPoll(values, title, names, texts, (*faults_of_keys(values, file), *faults), folder)
-
-
-def parsed_toml(data: bytes, file: pathlib.Path) -> dict[str, Any]:
-    try:
-        return tomllib.loads(data.decode("utf-8-sig"))
-    except (ValueError, RecursionError) as error:
-        raise bad_poll(
-            file, f"it can't be read as TOML 1.0: {error}", "put it right with an editor"
-        ) from None
+    return DraftPoll(folder, values, title, names, texts, faults_of_keys(values, file) + faults)
 
 
 def bad_poll(file: object, reason: str, cure: str) -> Fault:
@@ -103,30 +98,20 @@ def bad_poll(file: object, reason: str, cure: str) -> Fault:
 
 
 def faults_of_keys(values: Mapping[str, Any], file: object) -> list[Fault]:
-    """Keys that are not the secretary's, and values that can't be written in plain form, so that
-    debvote could not name them.
+    """Keys that are not the secretary's, and values that have no plain form, so that debvote could
+    not name them.
     """
     faults = []
     for key, value in values.items():
         if key in SET_ELSEWHERE:
-            faults.append(
-                bad_poll(
-                    file,
-                    f"the key `{key}` is not written here: {SET_ELSEWHERE[key]}",
-                    "take it out",
-                )
-            )
+            reason = f"the key `{key}` is not written here: {SET_ELSEWHERE[key]}"
+            faults.append(bad_poll(file, reason, "take it out"))
+        elif key == "secret" and not isinstance(value, bool):
+            cure = "write secret = true, or take the line out"
+            faults.append(bad_poll(file, "`secret` is neither true nor false", cure))
         elif not has_plain_form(value):
             cure = "write a text, a whole number or a list of these, or take it out"
             faults.append(bad_poll(file, f"`{shown_text(key)}` has a value of a wrong kind", cure))
-    if not isinstance(values.get("secret", False), bool):
-        faults.append(
-            bad_poll(
-                file,
-                "`secret` is neither true nor false",
-                "write secret = true, or take the line out",
-            )
-        )
     return faults
 
 
@@ -140,9 +125,7 @@ def has_plain_form(value: object) -> bool:
 
 
 def texts_in(folder: pathlib.Path, option_count: int) -> tuple[dict[int, str], list[Fault]]:
-    """The texts of a folder by the numbers of their options, and all that is wrong with them. None,
-    if there is no folder.
-    """
+    """The texts of a folder by the numbers of their options, and all that is wrong with them."""
     texts: dict[int, str] = {}
     faults, size = [], 0
     try:
@@ -150,39 +133,37 @@ def texts_in(folder: pathlib.Path, option_count: int) -> tuple[dict[int, str], l
     except FileNotFoundError:
         return {}, []
     except OSError as error:
-        return {}, [
-            Fault(
-                folder,
-                error.strerror,
-                "put a folder there with a text for each option",
-                Status.BAD_WORDS,
-                None,
-            )
-        ]
+        cure = "put a folder there with a text for each option"
+        return {}, [Fault(folder, error.strerror, cure, Status.BAD_WORDS, None)]
     for file in files:
         number = TEXT_NAME.fullmatch(file.name)
+        if number is None or int(number[1]) > option_count:
+            most = f"1.txt to {option_count}.txt" if option_count else "1.txt and so on"
+            cure = f"name it by the number of an option that is not the default, {most}, or move it out of there"
+            reason = "it is not the text of an option of this poll"
+            faults.append(Fault(file, reason, cure, Status.BAD_WORDS, None))
+            continue
         try:
-            if number is None or int(number[1]) > option_count:
-                most = f"1.txt to {option_count}.txt" if option_count else "1.txt and so on"
-                cure = f"name it by the number of an option that is not the default, {most}, or move it out of there"
-                raise Fault(
-                    file,
-                    "it is not the text of an option of this poll",
-                    cure,
-                    Status.BAD_WORDS,
-                    None,
-                )
-            data = read_whole(file, TEXTS_LIMIT, "put a readable file there", THEN)
-            size += len(data)
-            texts[int(number[1])] = file_text(
-                data, file, "write it, or remove the file", THEN, refused=LINE_ENDS
-            )
+            texts[int(number[1])] = text_in(file, TEXTS_LIMIT)
         except Fault as fault:
             faults.append(fault)
+    size = sum(len(text.encode()) for text in texts.values())
     if size > TEXTS_LIMIT:
         reason = f"the texts have {size} bytes together; at most {TEXTS_LIMIT} are allowed"
         faults.append(Fault(folder, reason, f"shorten them{THEN}", Status.BAD_WORDS, None))
     return dict(sorted(texts.items())), faults
+
+
+def text_in(file: pathlib.Path, limit: int) -> str:
+    """A text of the secretary. Raises `Fault` if it is not plain text in UTF-8."""
+    data = read_whole(file, limit, "put a readable file there, or remove it", THEN)
+    return file_text(data, file, "write it, or remove the file", THEN, refused=LINE_ENDS)
+
+
+def letter_text_in(folder: pathlib.Path) -> str:
+    """What the secretary writes at the head of letters to electors; empty without such a file."""
+    file = folder / LETTER_TEXT
+    return text_in(file, LETTER_LIMIT).strip("\n") + "\n" if os.path.lexists(file) else ""
 
 
 # ---------------------------------------------------------------- what is wrong with it as a whole
@@ -190,24 +171,19 @@ def faults_when_sealed(draft: DraftPoll, names: Collection[str], language: str) 
     """What electors could not read rightly: names that look alike, and lines that read as a ballot
     of one of these names.
     """
-    file, faults = draft.folder / POLL_FILE, []
-    for bad in (
-        *bad_title(draft.title),
-        *bad_options(draft.names, plain_options(draft.names, language)),
-    ):
+    file, cure = draft.folder / POLL_FILE, "write it in another way"
+    faults = []
+    plain_names = plain_options(draft.names, language)
+    for bad in (*bad_title(draft.title), *bad_options(draft.names, plain_names)):
         which = f"option {bad.number}" if bad.number else "the title"
-        faults.append(
-            bad_poll(
-                file, f"{which}, `{shown_text(bad.name)}`: {bad.reason}", "write it in another way"
-            )
-        )
+        faults.append(bad_poll(file, f"{which}, `{shown_text(bad.name)}`: {bad.reason}", cure))
     texts = {draft.folder / TEXTS / f"{number}.txt": text for number, text in draft.texts.items()}
     texts[file] = " | ".join([draft.title, *draft.names])
     plain = {as_repaired(name, folding) for folding in FOLDINGS for name in names} - {""}
     for source, text in texts.items():
         for ballot in ballots_in(text, plain, len(draft.names)):
             reason = f"`{shown_text(ballot)}` in it would be read as a ballot if a letter quotes it"
-            faults.append(bad_poll(source, reason, "write it in another way"))
+            faults.append(bad_poll(source, reason, cure))
     return faults
 
 
@@ -248,131 +224,119 @@ def sealed_form(
     address: str | None = None,
 ) -> bytes:
     """The poll in plain form as it would be sealed, for debvote to say what is wrong with it: what
-    is missing stays missing.
+    is missing stays missing, and a value of another type, or a key that no poll has, stays there.
     """
-    names, plain_names, title = (
-        draft.names,
-        plain_options(draft.names, language),
-        plain_title(draft.title, language),
-    )
-    texts = [draft.texts.get(number, "") for number in range(1, len(names))]
-    further: dict[str, Any] = {
-        "deadline": deadline,
-        "address": address,
-        "secret": draft.values.get("secret") is True,
-        "shown_title": draft.title if draft.title != title else None,
-        "shown_options": tuple(names) if names != plain_names else (),
-        "explanations": tuple(texts) if any(texts) else (),
-    }
+    title, plain_names = plain_title(draft.title, language), plain_options(draft.names, language)
     made = {
         key: value
         for key, value in draft.values.items()
-        if key not in {**SET_ELSEWHERE, **further} and has_plain_form(value)
+        if key not in (*SET_ELSEWHERE, "secret") and has_plain_form(value)
     }
-    # a value of another type stays
-    made |= {
-        key: name
-        for key, name in {"title": title, "default": plain_names[-1]}.items()
-        if isinstance(made.get(key), str)
-    }
+    for key, name in (("title", title), ("default", plain_names[-1])):
+        if isinstance(made.get(key), str):
+            made[key] = name
     if isinstance(made.get("options"), list):
         made["options"] = [
             name if isinstance(value, str) else value
             for name, value in zip(plain_names, made["options"])
         ]
-    made |= {key: value for key, value in further.items() if is_set(value)} | {"roll": list(roll)}
-    # and so does a key that no poll has
+    texts = tuple(draft.texts.get(number, "") for number in range(1, len(draft.names)))
+    further = {
+        "roll": list(roll),
+        "deadline": deadline,
+        "address": address,
+        "secret": draft.values.get("secret") is True,
+        "shown_title": draft.title if draft.title != title else None,
+        "shown_options": tuple(draft.names) if draft.names != plain_names else (),
+        "explanations": texts if any(texts) else (),
+    }
+    made |= {key: value for key, value in further.items() if is_set(value)}
     others = {json.dumps(key): made[key] for key in made if key not in KEYS}
     return plain_form({key: made[key] for key in KEYS if key in made} | others)
 
 
 # ---------------------------------------------------------------- asking debvote
-def checked_poll(
+class Checked(NamedTuple):
+    """What a call would seal, without a fault; and the sheet of the poll without ballots."""
+
+    poll: SealedPoll
+    sheet: Sheet
+    letter_text: str
+
+
+def checked(
     election: Election, *, deadline: str | None = None, address: str | None = None
-) -> tuple[SealedPoll, Sheet]:
-    """The poll as it would be sealed, and its sheet without ballots. All that is wrong with it is
-    said at once.
+) -> Checked:
+    """The poll as it would be sealed. All that is wrong with it, or with the text of the letters,
+    is said at once.
     """
     try:
         draft = draft_in(election.folder)
     except Fault as fault:
-        said = (
-            election.debvote.run("explain", "--poll", POLL_FILE).text
-            if fault.status == Status.BAD_POLL
-            else ""
-        )
+        if fault.status != Status.BAD_POLL:
+            raise
+        said = election.debvote.run("explain", "--poll", POLL_FILE).text
         # debvote reads a newer TOML than Python does
         if not said or IS_TOML.search(said):
             raise
         tell_as_it_is(said)
-        raise bad_poll(
-            election.path(POLL_FILE),
-            "it can't be read as TOML, as said above",
-            "put it right with an editor",
-        ) from None
+        reason = "it can't be read as TOML, as said above"
+        raise bad_poll(fault.file, reason, "put it right with an editor") from None
     electors, language = queries.electors(election.book), election.language.code
     roll = [elector.name for elector in electors]
-    faults = [
-        *draft.faults,
-        *faults_when_sealed(draft, [*roll, *(elector.who for elector in electors)], language),
-    ]
+    names = [*roll, *(elector.who for elector in electors)]
+    faults = [*draft.faults, *faults_when_sealed(draft, names, language)]
     if not roll:
-        faults.append(
-            Fault(
-                None,
-                "there are no electors yet",
-                f"run {election.command('roll')} first",
-                done=None,
-            )
-        )
+        cure = f"run {election.command('roll')} first"
+        faults.append(Fault(None, "there are no electors yet", cure, done=None))
+    letter_text = ""
+    try:
+        letter_text = letter_text_in(election.folder)
+    except Fault as fault:
+        faults.append(fault)
     data = sealed_form(draft, roll or ["nobody"], language, deadline=deadline, address=address)
     stop_at([*faults, *faults_by_debvote(election, data)])
-    return read_plain(data), sheet_in(election.debvote.answer("count", data).text)
+    sheet = sheet_in(election.debvote.answer("count", data).text)
+    return Checked(read_plain(data), sheet, letter_text)
 
 
 def faults_by_debvote(election: Election, poll_bytes: bytes) -> list[Fault]:
-    answer, file = election.debvote.run(
-        "explain", "--poll", "/dev/stdin", given=poll_bytes
-    ), election.path(POLL_FILE)
+    file = election.path(POLL_FILE)
+    answer = election.debvote.run("explain", "--poll", "/dev/stdin", given=poll_bytes)
     if not answer.text:
-        words = (
-            answer.faults.strip().removeprefix("debvote: ")
-            or f"debvote ended with status {answer.status}"
-        )
-        return [Fault(file, words, f"run {election.command('check')} again", answer.status, None)]
-    findings = [
-        line.removeprefix("poll: ")
+        said = answer.faults.strip().removeprefix("debvote: ")
+        reason = said or f"debvote ended with status {answer.status}"
+        cure = f"run {election.command('check')} again"
+        return [Fault(file, reason, cure, answer.status, None)]
+    return [
+        bad_poll(file, line.removeprefix("poll: "), "put it right with an editor")
         for line in answer.text.splitlines()
         if line.startswith("poll: ")
     ]
-    return [bad_poll(file, finding, "put it right with an editor") for finding in findings]
 
 
 def lacks_codes(election: Election, history: History, poll: SealedPoll) -> bool:
-    return (
-        poll.secret
-        and not history.has_codes_on_roll
-        and not all(elector.code for elector in queries.electors(election.book))
-    )
+    has_all = all(elector.code for elector in queries.electors(election.book))
+    return poll.secret and not history.has_codes_on_roll and not has_all
 
 
-def tell_poll(poll: SealedPoll, sheet: Sheet) -> None:
-    tell(
-        f"Title: {poll.name}",
-        *([f"  plain: {poll.title}"] if poll.name != poll.title else []),
-        "Options:",
-    )
-    texts = (*poll.explanations, *[""] * len(poll.names))
-    for number, (name, plain, text) in enumerate(zip(poll.names, poll.plain_names, texts), start=1):
-        kind = (
-            f"majority ratio {sheet.ratios[number]}"
-            if number in sheet.ratios
-            else "the default option"
-        )
-        tell(f"{number:3}  {name} ({kind})")
-        if name != plain:
-            tell(f"     plain: {plain}")
-        if text:
-            tell(f"     text: {count_of(len(text.split()), 'word')} from texts/{number}.txt")
-    if sheet.is_more_than:
-        tell("Majority: more than the ratio (Debian's rule is at least the ratio)")
+def tell_checked(found: Checked) -> None:
+    poll = found.poll
+    lines = [f"Title: {poll.name}"]
+    if poll.name != poll.title:
+        lines.append(f"  plain: {poll.title}")
+    lines.append("Options:")
+    for choice in poll.choices:
+        kind = f"majority ratio {choice.ratio}" if choice.ratio else "the default option"
+        lines.append(f"{choice.number:3}  {choice.name} ({kind})")
+        if choice.name != choice.plain:
+            lines.append(f"     plain: {choice.plain}")
+        if choice.text:
+            words = count_of(len(choice.text.split()), "word")
+            lines.append(f"     text: {words} from {TEXTS}/{choice.number}.txt")
+    if found.sheet.is_more_than:
+        lines.append("Majority: more than the ratio (Debian's rule is at least the ratio)")
+    if found.letter_text:
+        lines.append(f"Letters to electors begin with {LETTER_TEXT}:")
+        lines += (f"  {line}".rstrip() for line in found.letter_text.splitlines())
+    tell(*lines)

@@ -13,8 +13,7 @@ import support
 
 sys.path.insert(0, str(support.ROOT / "python"))
 
-from debvote_tools.poll import draft_poll  # noqa: E402
-from debvote_tools.poll.draft_poll import DraftPoll, faults_when_sealed, sealed_form  # noqa: E402
+from debvote_tools.poll.draft import NEW_POLL, DraftPoll, draft_in, faults_when_sealed, sealed_form  # noqa: E402
 from debvote_tools.cli.faults import Fault, Status  # noqa: E402
 from debvote_tools.poll.sealed_poll import SealedPoll, read_plain  # noqa: E402
 
@@ -53,7 +52,7 @@ class DraftTest(unittest.TestCase):
             (self.folder / "texts").mkdir()
             for name, text in texts.items():
                 self.write(f"texts/{name}", text)
-        return draft_poll.draft_in(self.folder)
+        return draft_in(self.folder)
 
     def assert_faults(self, faults: object, *wanted: tuple[str, ...]) -> None:
         """Each fault has these parts, and tells what to do next."""
@@ -112,7 +111,7 @@ class Explained(DraftTest):
 
     def assert_explained(self, poll: str, *wanted: str) -> None:
         draft = self.draft(poll)
-        self.assertEqual(draft.faults, ())
+        self.assertEqual(draft.faults, [])
         found = self.explained(draft)
         for part in wanted:
             self.assertIn(f"poll: {part}", found)
@@ -130,7 +129,7 @@ class Explained(DraftTest):
             lines = [line for line in PLAIN.splitlines() if not line.startswith(f"{key.strip()} = ")]
             with self.subTest(key=key):
                 draft = self.draft("\n".join([*lines, f"{key} = {value}"]))
-                self.assertEqual(draft.faults, ())
+                self.assertEqual(draft.faults, [])
                 self.assertIn(f"poll: key {key.strip()}: ", self.explained(draft))
 
     def test_numbers_out_of_range(self) -> None:
@@ -161,7 +160,7 @@ class Faults(DraftTest):
 
     def test_keys_that_no_poll_has(self) -> None:
         draft = self.draft(GERMAN.replace("quorum", "qorum") + '"a \\" =\u00e4" = [1]\n')
-        self.assertEqual(draft.faults, ())
+        self.assertEqual(draft.faults, [])
         found = self.explained(draft)
         for part in ("poll: key quorum: it is missing", "poll: key qorum is not read; did you mean quorum?", "poll: key a \" ="):
             self.assertIn(part, found)
@@ -200,7 +199,7 @@ class Faults(DraftTest):
 class Texts(DraftTest):
     def test_texts(self) -> None:
         draft = self.draft(texts={"3.txt": "\ufeffC\r\n\n\tx\n", "1.txt": "ä: \u05d0\n", ".1.txt.swp": "", "1.txt~": "", "#1.txt#": ""})
-        self.assertEqual((draft.faults, dict(draft.texts)), ((), {1: "ä: \u05d0\n", 3: "C\n\n\tx\n"}))
+        self.assertEqual((draft.faults, dict(draft.texts)), ([], {1: "ä: \u05d0\n", 3: "C\n\n\tx\n"}))
         self.assertEqual(seal(draft, ROLL, "de").explanations, ("ä: \u05d0\n", "", "C\n\n\tx\n"))
 
     def test_all_that_is_no_text(self) -> None:
@@ -217,19 +216,19 @@ class Texts(DraftTest):
 
     def test_their_size_together(self) -> None:
         half = "x" * 262_144
-        self.assertEqual(self.draft(texts={"1.txt": half, "2.txt": half}).faults, ())
+        self.assertEqual(self.draft(texts={"1.txt": half, "2.txt": half}).faults, [])
         self.assert_faults(self.draft(texts={"1.txt": half, "2.txt": half, "3.txt": "y"}).faults, ("texts: the texts have 524289 bytes",))
         self.assert_faults(self.draft(texts={"1.txt": "x" * 524_289}).faults, ("/1.txt: it is longer than 524288 bytes",))
 
     def test_a_file_for_the_folder(self) -> None:
         self.write("texts", "x")
-        self.assert_faults(draft_poll.draft_in(self.folder).faults, ("texts: Not a directory",))
+        self.assert_faults(draft_in(self.folder).faults, ("texts: Not a directory",))
 
 
 class Confusing(DraftTest):
     def faults(self, poll: str = GERMAN, names: list[str] | None = None, **texts: str) -> list[object]:
         draft = self.draft(poll, {f"{name[1:]}.txt": text for name, text in texts.items()})
-        self.assertEqual(draft.faults, ())
+        self.assertEqual(draft.faults, [])
         return faults_when_sealed(draft, ROLL if names is None else names, "de")
 
     def test_nothing_is_wrong(self) -> None:
@@ -272,10 +271,10 @@ class Confusing(DraftTest):
 
 class NewPoll(DraftTest):
     def test_it_is_filled_in_by_its_own_examples(self) -> None:
-        text = draft_poll.NEW_POLL.read_text()
+        text = NEW_POLL.read_text()
         self.assertEqual(tomllib.loads(text), {"title": "", "options": [], "ratios": [], "default": ""})
         self.assertLess(max(map(len, text.splitlines())), 111)
-        self.assertEqual(self.draft(text).faults, ())
+        self.assertEqual(self.draft(text).faults, [])
         examples = re.findall(r"(?m)^#     (\w+)( = .*)$", text)
         self.assertEqual([key for key, _ in examples], ["options", "ratios", "default", "title", "options", "ratios", "default"])
         for options, given in ((4, [("title", ' = "Frühling"'), *examples[:3]]), (2, examples[3:])):
@@ -286,6 +285,6 @@ class NewPoll(DraftTest):
                 self.assertEqual(filled.count(f"\n# {line}\n"), 1)
                 filled = filled.replace(f"\n# {line}\n", f"\n{line}\n")
             draft = self.draft(filled)
-            self.assertEqual(draft.faults, ())
+            self.assertEqual(draft.faults, [])
             self.assertIn(f"poll ok: {options} options, 3 electors", self.explained(draft))
             self.assertEqual(seal(draft, ROLL, "en").secret, True)

@@ -1,36 +1,32 @@
-"""Sends letters by SMTP. Each is noted before the server gets it, and after it has answered, so a
-run that is cut off goes on.
+"""Sends letters by SMTP. What the server answers to each is noted before the next begins, so a run
+that is cut off goes on. The letter that it was cut off in may go twice, with one Message-ID.
 """
 
 import contextlib
 import dataclasses
 import ipaddress
 import re
+import signal
 import smtplib
 import ssl
-from collections.abc import Callable, Iterable, Iterator, Sequence
+from collections.abc import Callable, Iterable, Iterator
+from types import FrameType
 
-from debvote_tools.book.sent import BEGUN, POSTPONED, REFUSED, TAKEN, SentLetter
+from debvote_tools.book.sent import REFUSED, TAKEN, SentLetter
 from debvote_tools.cli.faults import Fault, Status
 
-# in seconds, for each answer of the server
-PATIENCE = 60
+# in seconds: for each answer of the server, and for the whole conversation about a letter
+PATIENCE, WHOLE = 60, 300
 
 # the port where servers take letters from mail programs; the one that is encrypted from the first
 # byte; and that of this computer
 SUBMISSION, ENCRYPTED, LOOPBACK = 587, 465, 25
 
-SERVER = re.compile(
-    r"(?:\[(?P<bracketed>[0-9A-Fa-f:.]+)\]|(?P<host>[A-Za-z0-9._-]+))(?::(?P<port>\d{1,5}))?",
-    re.ASCII,
-)
+SERVER = re.compile(r"(?:\[([0-9A-Fa-f:.]+)\]|([A-Za-z0-9._-]+))(?::(\d{1,5}))?", re.ASCII)
 
-# what a server answers to what it has done, and to what it does not do, now or ever. After any
-# other answer, or a line that is none, nobody knows to which command it answers
-DONE, NOT_DONE, NEVER = range(200, 300), range(400, 600), range(500, 600)
-
-# what a server says before it closes the connection
-CLOSING = 421
+# what a server answers to what it has done, to what it does not do, and before it closes the
+# connection
+DONE, NOT_DONE, CLOSING = range(200, 300), range(400, 600), 421
 
 # the name that this computer gives itself: its own is nobody's business
 OWN_NAME = "[127.0.0.1]"
@@ -41,7 +37,7 @@ LOST = (smtplib.SMTPException, OSError)
 @dataclasses.dataclass(frozen=True)
 class Server:
     """The server that takes letters, with user and password. The connection is encrypted, except to
-    a loopback address.
+    a loopback address. `is_remembered` if it is that of the last letters, and was not named now.
     """
 
     host: str
@@ -49,10 +45,18 @@ class Server:
     is_encrypted: bool
     user: str | None = None
     password: str | None = None
+    is_remembered: bool = False
+
+    def __str__(self) -> str:
+        return f"[{self.host}]:{self.port}" if ":" in self.host else f"{self.host}:{self.port}"
 
     def stops(self, words: str, cure: str) -> Fault:
+        if self.is_remembered:
+            cure += (
+                "; it is the server of the last letters: if it is gone, name another with --server"
+            )
         done = "letters taken before are noted, and the next run goes on from there"
-        return Fault(f"{self.host}:{self.port}", words, cure, Status.BAD_OUTPUT, done)
+        return Fault(str(self), words, cure, Status.BAD_OUTPUT, done)
 
 
 class NotNow(Exception):
@@ -60,54 +64,57 @@ class NotNow(Exception):
 
 
 def server_of(text: str) -> Server:
-    parts = SERVER.fullmatch(text)
-    port = int(parts["port"]) if parts is not None and parts["port"] else None
-    if parts is None or (port is not None and not 0 < port < 65536):
+    bracketed, name, port = found.groups() if (found := SERVER.fullmatch(text)) else ("", "", "0")
+    host = bracketed or name
+    if port is not None and not 0 < int(port) < 65536:
         cure = "write it as mail.example.org or mail.example.org:587"
         raise Fault("--server", "it is not the name of a server", cure, Status.BAD_WORDS, None)
-    host = parts["bracketed"] or parts["host"]
-    is_near = is_loopback(host)
-    return Server(host, port or (LOOPBACK if is_near else SUBMISSION), is_encrypted=not is_near)
-
-
-def is_loopback(host: str) -> bool:
     try:
-        return ipaddress.ip_address(host).is_loopback
+        is_near = ipaddress.ip_address(host).is_loopback
     except ValueError:
-        return host.lower() == "localhost"
+        is_near = host.lower() == "localhost"
+    return Server(host, int(port or (LOOPBACK if is_near else SUBMISSION)), not is_near)
 
 
 def send_all(
     letters: Iterable[tuple[SentLetter, bytes]],
     sender: str,
     server: Server,
-    note: Callable[[Sequence[SentLetter]], None],
+    note: Callable[[SentLetter], None],
 ) -> Iterator[SentLetter]:
-    """Sends letters in their order, and gives back each with what the server said.
-
-    `note` notes states in one act. What the server said of a letter is noted with the beginning of
-    the next, so there is one act more than letters.
-    """
+    """Sends letters in their order, has each noted with what the server said, and gives it back."""
     mailer = Mailer(server, sender)
-    mailer.connection()
-    answered: list[SentLetter] = []
+    with in_time():
+        mailer.connection()
     try:
         for letter, data in letters:
-            note([*answered, dataclasses.replace(letter, state=BEGUN, reply="")])
-            answered = []
             try:
-                tried = mailer.send(letter, data)
+                with in_time():
+                    tried = mailer.send(letter, data)
             except NotNow as why:
-                answered = [dataclasses.replace(letter, state=POSTPONED, reply=str(why))]
-                raise server.stops(
-                    f"it takes no letters now: {why}", "run the command again"
-                ) from None
-            answered = [tried]
+                cure = "run the command again later"
+                raise server.stops(f"it takes no letters now: {why}", cure) from None
+            note(tried)
             yield tried
     finally:
-        if answered:
-            note(answered)
         mailer.close()
+
+
+@contextlib.contextmanager
+def in_time() -> Iterator[None]:
+    """Ends a conversation with a server that answers now and then, but never comes to an end."""
+
+    def stop(number: int, frame: FrameType | None) -> None:
+        raise TimeoutError(f"no end after {WHOLE} seconds")
+
+    before = signal.signal(signal.SIGALRM, stop)
+    # again and again: a letter is tried twice
+    signal.setitimer(signal.ITIMER_REAL, WHOLE, WHOLE)
+    try:
+        yield
+    finally:
+        signal.setitimer(signal.ITIMER_REAL, 0)
+        signal.signal(signal.SIGALRM, before)
 
 
 class Mailer:
@@ -123,9 +130,8 @@ class Mailer:
             try:
                 self.smtp = connected(self.server)
             except smtplib.SMTPAuthenticationError as error:
-                raise self.server.stops(
-                    f"it refuses user or password: {reply_of(error)}", "correct them"
-                ) from None
+                words = f"it refuses user or password: {reply_of(error)}"
+                raise self.server.stops(words, "correct them") from None
             except smtplib.SMTPNotSupportedError as error:
                 cure = "name a server that takes letters from mail programs, encrypted and with a password"
                 raise self.server.stops(str(error), cure) from None
@@ -148,66 +154,57 @@ class Mailer:
             return self.transaction(letter, data)
 
     def transaction(self, letter: SentLetter, data: bytes) -> SentLetter:
-        """One letter. If the connection is lost while the server gets it, nobody knows whether it
-        has it: the run stops.
+        """One letter. It is taken if the server says so after its end, and refused after any other
+        answer. If the connection is lost while the server gets it, nobody knows whether it has it:
+        the run stops.
         """
         reply: bytes | str
         try:
             smtp = self.connection()
             code, reply = smtp.mail(self.sender)
-            is_sender_refused = code not in DONE
-            if not is_sender_refused:
-                code, reply = smtp.rcpt(letter.address)
+            if code not in DONE:
+                raise NotNow(shown(code, reply))
+            code, reply = smtp.rcpt(letter.address)
         except Fault as fault:
             raise NotNow(str(fault.reason)) from None
         except LOST as error:
             raise NotNow(reply_of(error)) from None
-        if is_sender_refused or code == CLOSING:
+        if code == CLOSING:
             raise NotNow(shown(code, reply))
-        is_taken = False
         try:
             if code in DONE:
                 code, reply = smtp.data(data.replace(b"\n", b"\r\n"))
-                is_taken = code in DONE
+                if code in DONE:
+                    return letter._replace(state=TAKEN, reply="")
         except smtplib.SMTPDataError as error:
             # it did not let the letter begin
             code, reply = error.smtp_code, error.smtp_error
         except LOST as error:
-            self.close()
-            words = (
-                f"the connection was lost during the letter to {letter.address}: {reply_of(error)}"
-            )
-            raise self.server.stops(
-                words, "run the command again; it says what to do about this letter"
-            ) from None
-        if is_taken:
-            return dataclasses.replace(letter, state=TAKEN, reply="")
-        if code == CLOSING or code not in NOT_DONE:
-            self.close()
-        else:
+            words = f"the connection was lost during the letter to {letter.address}"
+            cure = "run the command again; it sends this letter again, with its Message-ID"
+            raise self.server.stops(f"{words}: {reply_of(error)}", cure) from None
+        if code in NOT_DONE and code != CLOSING:
             # if the connection is lost here, the next letter gets a new one
             with contextlib.suppress(*LOST):
                 smtp.rset()
-        return dataclasses.replace(
-            letter, state=REFUSED if code in NEVER else POSTPONED, reply=shown(code, reply)
-        )
+        else:
+            # nobody knows to which command this answers
+            self.close()
+        return letter._replace(state=REFUSED, reply=shown(code, reply))
 
 
 def connected(server: Server) -> smtplib.SMTP:
-    """A connection after the login. It is encrypted unless the server is on this computer."""
+    """A connection after the login."""
+    context = ssl.create_default_context()
     smtp: smtplib.SMTP
     if server.is_encrypted and server.port == ENCRYPTED:
         smtp = smtplib.SMTP_SSL(
-            server.host,
-            server.port,
-            OWN_NAME,
-            timeout=PATIENCE,
-            context=ssl.create_default_context(),
+            server.host, server.port, OWN_NAME, timeout=PATIENCE, context=context
         )
     else:
         smtp = smtplib.SMTP(server.host, server.port, OWN_NAME, PATIENCE)
         if server.is_encrypted:
-            smtp.starttls(context=ssl.create_default_context())
+            smtp.starttls(context=context)
     smtp.ehlo_or_helo_if_needed()
     if server.user is not None:
         smtp.login(server.user, server.password or "")

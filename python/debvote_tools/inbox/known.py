@@ -12,6 +12,7 @@ from collections.abc import Collection, Mapping, Sequence
 
 from debvote_tools.inbox.addresses import address_key
 from debvote_tools.inbox.parse import ParsedLetter
+from debvote_tools.poll.marks import MARKS
 from debvote_tools.poll.plain_names import without_accents
 
 # what parts the words of a name, and what each name on a roll has
@@ -32,6 +33,10 @@ class Ballot:
 
     time: datetime.datetime
     line: str
+
+
+def as_compared(subject: str) -> str:
+    return "".join(subject.split()).casefold()
 
 
 @dataclasses.dataclass(frozen=True)
@@ -64,12 +69,17 @@ class Names:
 
 
 @dataclasses.dataclass(frozen=True)
-class Circumstances:
+class Known:
     """All that a letter is judged by, beside itself, as it is now. Times have a zone."""
 
     # of the poll: the mark and the roll
     mark: str
     roll: frozenset[str]
+    # the subject that the page of the call makes, without a mark
+    subject: str
+    # the own mark of each elector who has one, and whether no letter goes in without it
+    own_marks: Mapping[str, str]
+    is_marked: bool
     # of each elector: the addresses as the list has them
     addresses: Mapping[str, Sequence[str]]
     # the first call that was not taken back; the end as it is now; the first close
@@ -84,12 +94,25 @@ class Circumstances:
     # what acts decided, by the keys of the letters
     decisions: Mapping[str, Decision]
 
-    @property
-    def passed_over(self) -> tuple[str, ...]:
-        """The lines that may be anywhere in a letter: where letters have to be signed, the mark of
-        the poll.
+    def is_mark(self, line: str) -> bool:
+        """Whether a line is the mark of the poll, alone or with an own one."""
+        mark = MARKS.fullmatch(line.strip())
+        return mark is not None and mark[1] == self.mark
+
+    def passes_over(self, line: str) -> bool:
+        """Whether a line may be anywhere in a letter: where letters have to be signed, the mark."""
+        return self.keys is not None and self.is_mark(line)
+
+    @functools.cached_property
+    def electors_by_mark(self) -> dict[str, str]:
+        return {mark: elector for elector, mark in self.own_marks.items() if mark}
+
+    def marked_elector(self, letter: ParsedLetter) -> str | None:
+        """The elector whose own mark the subject of a letter has; None if it has several, or none.
+        A subject with the own mark of somebody else counts as one with the mark of the poll alone.
         """
-        return () if self.keys is None else (f"[{self.mark}]",)
+        owns = {own for mark, own in letter.marks if own and mark == self.mark}
+        return self.electors_by_mark.get(*owns) if len(owns) == 1 else None
 
     @functools.cached_property
     def electors_by_address(self) -> dict[str, list[str]]:
@@ -103,3 +126,23 @@ class Circumstances:
         """The one elector whose address the sender of a letter has."""
         electors = self.electors_by_address.get(letter.sender, [])
         return electors[0] if len(electors) == 1 else None
+
+    def likely_elector(self, letter: ParsedLetter) -> str | None:
+        """The one elector who may have sent a letter: whose own mark it has, or whose address; None
+        if both differ.
+        """
+        marked, electors = self.marked_elector(letter), self.electors_by_address.get(letter.sender)
+        if marked is None:
+            return self.elector_of(letter)
+        return marked if marked in (electors or [marked]) else None
+
+    def may_have_sent(self, letter: ParsedLetter) -> set[str]:
+        """The electors whose own mark a letter has, or whose address its sender has."""
+        marked = self.marked_elector(letter)
+        return {*self.electors_by_address.get(letter.sender, ()), *([marked] if marked else ())}
+
+    def is_subject_of_page(self, subject: str) -> bool:
+        """Whether a subject is the one that the page of the call makes, but for its marks and
+        blanks.
+        """
+        return as_compared(MARKS.sub("", as_compared(subject))) == as_compared(self.subject)

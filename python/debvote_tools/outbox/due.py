@@ -1,0 +1,465 @@
+"""Which letters of a kind are due, and what each says: those that were written before, and new
+ones. And whom the call has not reached.
+"""
+
+import datetime
+import itertools
+import re
+import secrets
+from collections.abc import Callable, Iterator, Mapping, Sequence
+
+from debvote_tools.book import letters, queries, sent
+from debvote_tools.book.election import Election, History
+from debvote_tools.book.queries import Elector
+from debvote_tools.book.sent import REFUSED, TAKEN, WRITTEN, About, SentLetter
+from debvote_tools.cli.faults import Fault, Status
+from debvote_tools.debvote import casting_words
+from debvote_tools.inbox.addresses import address_key
+from debvote_tools.inbox.judge import Outcome
+from debvote_tools.inbox.lines import ballot_file
+from debvote_tools.inbox.of_electors import NOBODY, Became, Came, of_electors
+from debvote_tools.inbox.parse import decoded
+from debvote_tools.inbox.parts import MAX_PARTS, Part
+from debvote_tools.outbox.words import Composer, Kind
+from debvote_tools.poll.call_data import is_mail_address
+from debvote_tools.poll.marks import OWN_LENGTH, OWN_SIGNS, in_brackets
+from debvote_tools.result.doubts import Doubt
+from debvote_tools.result.inputs import Publication
+from debvote_tools.result.publication import (
+    Words,
+    chronicle_of,
+    closing_letter,
+    current_data,
+    last_publication,
+)
+from debvote_tools.result.result_letter import letter_values
+from debvote_tools.result.sheet import sheet_in
+from debvote_tools.text.times import now
+
+# how long a run of reminders goes on, and how soon after it the next one is asked about
+LASTING = datetime.timedelta(days=1)
+
+# the act to which letters belong, new ones, those that were written before and belong to the same,
+# and the text of each
+Plan = tuple[int, Sequence[SentLetter], Sequence[SentLetter], Callable[[Elector, SentLetter], str]]
+
+
+class LettersDue:
+    """The letters of a kind, by the book as it is now. Stops before the call, and where nobody
+    knows who has which code.
+    """
+
+    def __init__(self, election: Election, kind: Kind, sender: str, *, is_sending: bool) -> None:
+        self.election, self.kind, self.sender, self.is_sending = election, kind, sender, is_sending
+        self.history, self.time = election.history(), now()
+        election.called(self.history)
+        if self.history.has_codes_on_roll:
+            words = "codes are on the roll, and nobody knows whose they are, so no letters can be written to electors"
+            cure = "with your mail program send call/call.txt, letters/closed.txt and letters/result.txt to all"
+            raise Fault("letters", words, cure, Status.DOUBT, "nothing was written")
+        self.sender_name = str(self.history.announced("to_name") or "")
+        on_list = queries.electors(election.book)
+        self.electors = {elector.number: elector for elector in on_list}
+        is_past = self.history.until is not None and self.time > self.history.until
+        is_over = is_past or bool(self.history.closes)
+        typed = {act.number for act in self.history.named("enter") if not act.detail.get("lines")}
+        self.composer = Composer(current_data(election, self.history), is_over, on_list, typed)
+        self.letters = sent.sent_letters(election.book, kind)
+        # the last letter of this kind to each elector whose letters came back is tried again
+        back = {
+            elector.number
+            for elector, why, _ in unreached(election, self.history)
+            if why == CAME_BACK
+        }
+        last = {
+            letter.elector: letter
+            for letter in self.letters
+            if letter.elector in back and self.is_present(letter)
+        }
+        self.came_back = {letter.message_id for letter in last.values()}
+        # those who have the call, each at an address, to whom the letter of an extension is due
+        self.had_call: set[tuple[int, str]] = set()
+        # the receipts of earlier runs that have files, or had them; and the letters that wait and
+        # are in no elector's receipt, by number
+        self.earlier: list[SentLetter] = []
+        self.in_no_receipt: list[int] = []
+        # each kind has a method of its name
+        plan: Plan = getattr(self, kind)()
+        self.for_act, self.new, self.written, self.text_of = plan
+
+    @property
+    def waiting(self) -> list[SentLetter]:
+        return list(filter(self.can_be_sent, (*self.written, *self.new)))
+
+    def can_be_sent(self, letter: SentLetter) -> bool:
+        """Whether a server is to take a letter now. One to be printed has no address. An address
+        that an elector had before, and that refused a letter for good, is not tried again.
+        """
+        is_done = letter.state == TAKEN and letter.message_id not in self.came_back
+        is_gone = not self.is_present(letter) and is_refused_for_good(letter)
+        return bool(letter.address) and not is_done and not is_gone
+
+    def is_present(self, letter: SentLetter) -> bool:
+        """Whether its elector has its address now, or it is to be printed."""
+        elector = self.electors.get(letter.elector)
+        return elector is None or not letter.address or letter.address in elector.addresses
+
+    def text(self, letter: SentLetter) -> str:
+        return self.text_of(self.electors[letter.elector], letter)
+
+    def subject(self, letter: SentLetter) -> tuple[str, str]:
+        """The subject of a letter, and the mark that ends it. An address that its elector no longer
+        has does not learn the own mark.
+        """
+        is_extension = (letter.elector, letter.address) in self.had_call
+        own = self.electors[letter.elector].mark if self.is_present(letter) else ""
+        mark = in_brackets(self.composer.call.poll.mark, own)
+        return self.composer.subject(self.kind, is_extension=is_extension), mark
+
+    # ------------------------------------------------------------ each kind
+    def call(self) -> Plan:
+        """The call to each elector; after an extension that, to those who have the call."""
+        self.demand_not_over()
+        acts = self.history.since_call("call", "extend")
+        first, last = acts[0].number, acts[-1].number
+        earlier = [letter for letter in self.letters if first <= letter.for_act < last]
+        by_server = {letter.for_act for letter in earlier if letter.state != WRITTEN}
+        self.had_call = {
+            (letter.elector, letter.address)
+            for letter in earlier
+            # a server has taken it, it is on paper, or all for its act were written as files
+            if letter.state == TAKEN
+            or (letter.state == WRITTEN and not (letter.address and letter.for_act in by_server))
+        }
+
+        def text_of(elector: Elector, letter: SentLetter) -> str:
+            is_extension = (letter.elector, letter.address) in self.had_call
+            return self.composer.call_letter(elector, is_extension=is_extension)
+
+        return self.to_each(last, text_of)
+
+    def reminders(self) -> Plan:
+        """A letter to each elector whose ballot does not count yet. A run of this day that was cut
+        off, or whose letters the server refused for now, goes on; else each run is a new one.
+        """
+        self.demand_not_over()
+        came = of_electors(self.election, self.history)
+        silent = {
+            number: elector
+            for number, elector in self.electors.items()
+            if not any(one.became is Became.COUNTS for one in came[elector.name])
+        }
+        last = max((letter.for_act for letter in self.letters), default=0)
+        # to the address of now
+        written = [
+            letter
+            for letter in self.letters
+            if letter.for_act == last
+            and letter.elector in silent
+            and letter.address == address_in(silent[letter.elector].addresses)
+        ]
+        goes_on = self.is_sending and any(
+            self.can_be_sent(letter)
+            and letter.state != TAKEN
+            and not is_refused_for_good(letter)
+            and self.time - letter.time < LASTING
+            for letter in written
+        )
+
+        def text_of(elector: Elector, letter: SentLetter) -> str:
+            waiting = (Outcome.WAITS, Outcome.GOES_IN)
+            told = told_of(came[elector.name]).values()
+            return self.composer.reminder(elector, [one for one in told if one.became in waiting])
+
+        if goes_on:
+            return last, [], written, text_of
+        for_act = self.history.last.number + 1
+        return for_act, [self.letter_to(one, for_act) for one in silent.values()], [], text_of
+
+    @property
+    def reminded(self) -> datetime.datetime | None:
+        """When others were reminded, if this run would do so again within a day."""
+        last = max((letter.time for letter in self.letters), default=None)
+        is_soon = self.kind is Kind.REMINDERS and bool(self.new)
+        return last if is_soon and last is not None and self.time - last < LASTING else None
+
+    def receipts(self) -> Plan:
+        """A letter to each elector about all that came since the last one, also to an address that
+        they had before. Those that no server has taken yet go out, too.
+        """
+        came = of_electors(self.election, self.history)
+        self.in_no_receipt = [
+            one.letter.number
+            for one in came[NOBODY]
+            if one.letter and one.became is Outcome.WAITS and not one.letter.parsed.is_automatic
+        ]
+        told = {one.number: told_of(came[one.name]) for one in self.electors.values()}
+        # not to people who left the list, nor about a letter that has become a ballot: a new
+        # receipt is about that
+        self.earlier = [
+            one
+            for one in self.letters
+            if (one.state != TAKEN or one.message_id in self.came_back)
+            and one.elector in told
+            and about_now(one.about, told[one.elector])
+        ]
+        said = {
+            (one.elector, key)
+            for one in self.letters
+            if not self.failed_elsewhere(one)
+            for key in one.about
+        }
+        waiting = {(one.elector, one.address): set(one.about) for one in self.earlier}
+        old, for_act, new = self.old_addresses(), self.history.last.number + 1, []
+        for number, elector in self.electors.items():
+            keys = [key for key in told[number] if (number, key) not in said]
+            addresses = dict.fromkeys([address_in(elector.addresses), *old.get(number, [])])
+            new += [
+                self.letter_to(elector, for_act, address, keys)
+                for address in addresses
+                if keys and not waiting.get((number, address), set()).issuperset(keys)
+            ]
+
+        def text_of(elector: Elector, letter: SentLetter) -> str:
+            told_now = beside_what_counts(letter.about, told[elector.number])
+            return self.composer.receipt(elector, told_now)
+
+        written = list(filter(self.can_be_sent, self.earlier)) if self.is_sending else []
+        return for_act, new, written, text_of
+
+    def old_addresses(self) -> dict[int, list[str]]:
+        """The addresses that electors had before the list was changed after the call, if no receipt
+        was written to them since.
+        """
+        last = {letter.elector: letter.for_act for letter in self.letters}
+        call = self.election.called(self.history).number
+        return {
+            elector: [
+                address
+                for act, old in lists
+                if act > last.get(elector, 0) and (address := address_in(old))
+            ]
+            for elector, lists in sent.addresses_before(self.election.book, call).items()
+        }
+
+    def failed_elsewhere(self, letter: SentLetter) -> bool:
+        """Whether no server has taken it, and its elector has the address no longer. A file may
+        have gone out by a mail program, unless it is the server that is to send it now.
+        """
+        states = (REFUSED, *([WRITTEN] if self.is_sending else []))
+        return letter.state in states and not self.is_present(letter)
+
+    def closed(self) -> Plan:
+        if not self.history.is_closed:
+            cure = f"run {self.election.command('close')} first"
+            raise Fault(
+                self.kind, "the vote is not closed", cure, Status.DOUBT, "nothing was written"
+            )
+        poll = self.composer.call.poll
+        text = closing_letter(self.history, poll, self.election.language).decode()
+        return self.to_each(
+            self.history.closes[-1].number,
+            lambda elector, letter: self.composer.text(self.kind, elector, letter=text),
+        )
+
+    def result(self) -> Plan:
+        act = last_publication(self.history)
+        if act is None or not self.history.is_closed:
+            cure = f"run {self.election.command('publish')} first"
+            raise Fault(None, "nothing is published", cure, Status.DOUBT, "nothing was written")
+        if self.composer.call.at is None:
+            reason = "the letter must say where the result is published"
+            cure = "give its address with --at URL"
+            raise Fault("--at", reason, cure, Status.BAD_WORDS, "nothing was written")
+        book, debvote = self.election.book, self.election.debvote
+        sealed, words = self.election.sealed(), Words(**act.detail["words"])
+        poll = sealed.counted.as_bytes()
+        ballots = ballot_file(queries.lines_after(book, act.number))
+        sheet = sheet_in(debvote.answer("count", poll, ballots, *casting_words(words.casting)).text)
+        standing = debvote.standing(poll, ballots)
+        before = History(self.history.acts[: act.number])
+        publication = Publication(
+            sealed.public,
+            b"",
+            self.election.language,
+            casting=words.vote,
+            chronicle=chronicle_of(book, before, is_secret=sealed.is_aliased),
+            closed=b"",
+            because=words.because,
+            at=self.composer.call.at,
+        )
+        values = letter_values(
+            publication, sheet, map(Doubt.from_data, act.detail["doubts"]), act.detail["checksums"]
+        )
+        return self.to_each(
+            act.number,
+            lambda elector, _: self.composer.text(
+                self.kind, elector, has_ballot=elector.name in standing, **values
+            ),
+        )
+
+    def demand_not_over(self) -> None:
+        if self.composer.is_over:
+            words = "the vote is over, so nobody is asked to vote"
+            cure = f"see {self.election.command('status')}"
+            raise Fault(self.kind, words, cure, Status.DOUBT, "nothing was written")
+
+    def letter_to(
+        self,
+        elector: Elector,
+        for_act: int,
+        address: str | None = None,
+        about: Sequence[About] = (),
+    ) -> SentLetter:
+        """A letter that is not written yet. Nobody can guess its Message-ID, so an answer that
+        names it comes from whoever got the letter.
+        """
+        address = address_in(elector.addresses) if address is None else address
+        domain = self.sender.partition("@")[2]
+        message_id = f"<{secrets.token_hex(16)}@{domain}>" if address else ""
+        return SentLetter(
+            elector.number, self.kind, for_act, address, message_id, self.time, tuple(about)
+        )
+
+    def to_each(self, for_act: int, text_of: Callable[[Elector, SentLetter], str]) -> Plan:
+        """One letter to each elector; those that were written before, to the same address and for
+        the same act, stay as they are.
+        """
+        before = {
+            (letter.elector, letter.address): letter
+            for letter in self.letters
+            if letter.for_act == for_act
+        }
+        written, new = [], []
+        for elector in self.electors.values():
+            letter = before.get((elector.number, address_in(elector.addresses)))
+            if letter is None:
+                new.append(self.letter_to(elector, for_act))
+            else:
+                written.append(letter)
+        return for_act, new, written, text_of
+
+
+def is_refused_for_good(letter: SentLetter) -> bool:
+    """Whether the server said that it never takes it, and not that it does not take it now."""
+    return letter.state == REFUSED and not letter.reply.startswith("4")
+
+
+def address_in(addresses: Sequence[str]) -> str:
+    """The first of some addresses that every mail server takes; empty if there is none."""
+    return next(filter(is_mail_address, addresses), "")
+
+
+# ---------------------------------------------------------------- whom the call has not reached
+NO_LETTER, WAS_REFUSED, CAME_BACK = "no letter", "refused", "came back"
+
+
+def not_reached(election: Election, history: History) -> list[tuple[str, str]]:
+    """The names of those whom the call has not reached, each with the reason, until a letter is
+    taken: none was written since the call, the server refused the last one, or it came back.
+    """
+    return [(elector.name, why) for elector, why, _ in unreached(election, history)]
+
+
+def printed(election: Election, history: History) -> list[str]:
+    """The names of those who get the call printed."""
+    if not has_letters(election, history):
+        return []
+    electors = queries.electors(election.book)
+    return [elector.name for elector in electors if not address_in(elector.addresses)]
+
+
+def has_letters(election: Election, history: History) -> bool:
+    """Whether `letters call` was run since the call."""
+    acts = history.since_call("letters out")
+    return not history.has_codes_on_roll and any(act.detail["kind"] == Kind.CALL for act in acts)
+
+
+def unreached(election: Election, history: History) -> Iterator[tuple[Elector, str, str]]:
+    """The electors whom the call has not reached, the reason, and what the server said."""
+    if history.call is None or not has_letters(election, history):
+        return
+    electors = queries.electors(election.book)
+    states = sent.last_states(election.book, history.call.number)
+    back = came_back(election, electors)
+    for elector in electors:
+        if address := address_in(elector.addresses):
+            last = states.get((elector.number, address))
+            if last is None:
+                yield elector, NO_LETTER, ""
+            elif last.state == REFUSED:
+                yield elector, WAS_REFUSED, last.reply
+            elif back.get(elector.number, 0) > last.act:
+                yield elector, CAME_BACK, ""
+
+
+# an own mark, in a subject and in a personal link
+OWN = re.compile(
+    rf"[0-9a-f]{{16}}-([{OWN_SIGNS}]{{{OWN_LENGTH}}})\]|/([{OWN_SIGNS}]{{{OWN_LENGTH}}})"
+)
+
+
+def came_back(election: Election, electors: Sequence[Elector]) -> dict[int, int]:
+    """The last act with which a letter came back, by elector: one that a program wrote, not at an
+    address of theirs, with their own mark in what it says.
+    """
+    found: dict[int, int] = {}
+    by_mark = {elector.mark: elector for elector in electors if elector.mark}
+    for act, sender, data in letters.of_programs(election.book):
+        for mark in itertools.chain(*map(OWN.findall, texts_of(data))):
+            elector = by_mark.get("".join(mark))
+            if elector is not None and sender not in map(address_key, elector.addresses):
+                found[elector.number] = act
+                break
+    return found
+
+
+def texts_of(data: bytes) -> Iterator[str]:
+    """What a letter says: its bytes as they are, then the subjects and the texts of its parts. Line
+    breaks and blanks are left out.
+    """
+    yield "".join(data.decode("latin-1").lower().split())
+    for part, _ in itertools.islice(Part(data).walk(), MAX_PARTS):
+        texts = [*map(decoded, part.values("subject")), part.payload.decode("latin-1")]
+        yield from ("".join(text.lower().split()) for text in texts)
+
+
+# ---------------------------------------------------------------- what electors are told
+def is_told(came: Came) -> bool:
+    """Whether an elector is told of something that came. A copy is the letter that it copies. To a
+    program that answers by itself nothing is said, since it would answer; and a letter of ours that
+    came back has the name of its elector.
+    """
+    letter = came.letter
+    if letter is None:
+        return True
+    is_automatic = letter.parsed.is_automatic and (came.is_own or not letter.ballots)
+    return came.became in (Outcome.WAITS, Outcome.GOES_IN, Outcome.SET_ASIDE) and not is_automatic
+
+
+def told_of(items: Sequence[Came]) -> dict[About, Came]:
+    """What an elector is told of, in its order. A letter is told of by the ballots from it, if
+    there are some.
+    """
+    entered = {one.envelope.letter for one in items if one.envelope}
+    found: dict[About, Came] = {}
+    for one in filter(is_told, items):
+        if one.envelope is not None:
+            found["envelope", one.envelope.number, one.envelope.is_struck] = one
+        elif one.letter is not None and one.letter.number not in entered:
+            found["letter", one.letter.number, False] = one
+    return found
+
+
+def about_now(about: Sequence[About], told: Mapping[About, Came]) -> list[About]:
+    """What a receipt is about, as it is now: a ballot may have been struck since it was written."""
+    numbers = {key[:2] for key in about}
+    return [key for key in told if key[:2] in numbers]
+
+
+def beside_what_counts(about: Sequence[About], told: Mapping[About, Came]) -> list[Came]:
+    """What a receipt says: what it is about, and the ballot that counts, too. Who reads that a
+    letter waits, or that a ballot is late or was taken back, learns that an earlier ballot counts.
+    """
+    now = about_now(about, told)
+    return [one for key, one in told.items() if key in now or one.became is Became.COUNTS]

@@ -1,0 +1,149 @@
+"""The bytes of letters, and their folder: a file for each address, and a page to print for electors
+without one. The folder is its owner's alone.
+
+The head of a letter has only what was checked or made here: nothing of a letter that came gets into
+it.
+"""
+
+import contextlib
+import email.header
+import email.utils
+import functools
+import os
+import pathlib
+import quopri
+import re
+import shutil
+from collections.abc import Iterator, Mapping, Sequence
+
+from debvote_tools.book.sent import SentLetter
+from debvote_tools.files import TEMPORARY, sync_folder, temporary_folder
+from debvote_tools.outbox.due import LettersDue
+from debvote_tools.outbox.words import PACKAGE
+from debvote_tools.text.rendering import one_line, render_page, resources
+
+TO_PRINT = "to-print.html"
+
+# lines that programs on the way change: these words begin a letter of an mbox, and a full stop
+# alone ends what `sendmail -t` reads
+CHANGED_ON_THE_WAY = re.compile(rb"(?m)^(?:(?=>*From ).|\.$)")
+# in characters; mail servers break lines of a thousand
+LONGEST_LINE = 900
+
+
+# ---------------------------------------------------------------- a letter
+def message(due: LettersDue, letter: SentLetter, *, is_draft: bool) -> bytes:
+    """The bytes of a letter. An answer with a ballot goes to the address of the call. As a draft,
+    mail programs offer to send it.
+    """
+    coding, body = body_of(due.text(letter))
+    subject, mark = due.subject(letter)
+    reply_to = due.composer.call.to
+    fields = [
+        ("From", email.utils.formataddr((one_line(due.sender_name), due.sender))),
+        *([("Reply-To", reply_to)] if reply_to not in (None, due.sender) else []),
+        ("To", letter.address),
+        # on a line of its own it is found in a letter that comes back
+        ("Subject", f"{subject_field(subject)}\n {mark}"),
+        ("Date", email.utils.format_datetime(letter.time)),
+        ("Message-ID", letter.message_id),
+        *([("X-Unsent", "1")] if is_draft else []),
+        # no program answers it by itself
+        ("Auto-Submitted", "auto-generated"),
+        ("MIME-Version", "1.0"),
+        ("Content-Type", "text/plain; charset=utf-8"),
+        ("Content-Transfer-Encoding", coding),
+    ]
+    return "".join(f"{name}: {value}\n" for name, value in fields).encode("ascii") + b"\n" + body
+
+
+# all letters of a run have the same but for the mark
+@functools.lru_cache
+def subject_field(subject: str) -> str:
+    """A subject as a head has it."""
+    charset = "us-ascii" if subject.isascii() else "utf-8"
+    return email.header.Header(one_line(subject), charset, header_name="Subject").encode(
+        splitchars=" "
+    )
+
+
+def body_of(text: str) -> tuple[str, bytes]:
+    """The name of the coding, and the coded text. A text that every program leaves as it is stays
+    as it is.
+    """
+    data = text.encode("utf-8", "replace")
+    if (
+        text.isascii()
+        and CHANGED_ON_THE_WAY.search(data) is None
+        and all(len(line) <= LONGEST_LINE for line in text.split("\n"))
+    ):
+        return "7bit", data
+    return "quoted-printable", CHANGED_ON_THE_WAY.sub(
+        lambda found: b"=%02X" % found[0][0], quopri.encodestring(data)
+    )
+
+
+# ---------------------------------------------------------------- the folder
+def letter_files(due: LettersDue, letters: Sequence[SentLetter]) -> dict[str, bytes]:
+    """The files of letters by their names. Letters that are sent, or that a server has taken, have
+    none.
+    """
+    files: dict[str, bytes] = {}
+    printed = []
+    for letter in letters:
+        elector = due.electors[letter.elector]
+        if not letter.address:
+            printed.append((one_line(elector.who) or elector.name, due.text(letter)))
+        elif not due.is_sending and due.can_be_sent(letter):
+            # no name on a roll has the sign _
+            name = (
+                f"{elector.name}_{len(files)}" if f"{elector.name}.eml" in files else elector.name
+            )
+            files[f"{name}.eml"] = message(due, letter, is_draft=True)
+    if printed:
+        call, style = due.composer.call, resources(PACKAGE, "letter.css")
+        files[TO_PRINT] = render_page(
+            PACKAGE, "print.html", call.language, style=style, title=call.poll.name, letters=printed
+        )
+    return files
+
+
+@contextlib.contextmanager
+def in_place(files: Mapping[str, bytes], place: pathlib.Path) -> Iterator[None]:
+    """Puts the files into their folder, whole, while the caller notes them. If that fails, the
+    folder is as it was. The caller holds the lock.
+    """
+    if not files:
+        yield
+        return
+    make_own(place.parent)
+    for left in place.parent.glob(f"{TEMPORARY}*"):
+        shutil.rmtree(left)
+    made, before = temporary_folder(place.parent), temporary_folder(place.parent)
+    try:
+        for name, data in files.items():
+            (made / name).touch(0o600)
+            (made / name).write_bytes(data)
+        os.sync()
+        has_before = place.is_dir()
+        if has_before:
+            place.rename(before)
+        try:
+            made.rename(place)
+            sync_folder(place.parent)
+            yield
+        except BaseException:
+            if place.is_dir():
+                place.rename(made)
+            if has_before:
+                before.rename(place)
+            raise
+    finally:
+        shutil.rmtree(made, ignore_errors=True)
+        shutil.rmtree(before, ignore_errors=True)
+
+
+def make_own(folder: pathlib.Path) -> None:
+    for one in (folder.parent, folder):
+        one.mkdir(mode=0o700, exist_ok=True)
+        one.chmod(0o700)

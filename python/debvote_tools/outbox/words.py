@@ -1,0 +1,208 @@
+"""What letters to electors say. Nothing is asked here, and nothing is written.
+
+No line reads as a ballot, however a mail program breaks it. The right line has gaps in place of
+ranks, a ballot that came is in round brackets, and lines of the secretary's that would read as one
+have a bar before them. So whoever answers a letter and quotes it does not vote by the quotation.
+"""
+
+import dataclasses
+import datetime
+import enum
+import functools
+import re
+from collections.abc import Collection, Iterator, Sequence
+
+from debvote_tools.book.queries import Elector
+from debvote_tools.inbox.judge import Outcome
+from debvote_tools.inbox.of_electors import Became, Came
+from debvote_tools.inbox.reasons import for_elector
+from debvote_tools.poll.call_data import CallData
+from debvote_tools.poll.plain_names import without_accents
+from debvote_tools.poll.words import BY_PYTHON
+from debvote_tools.text.ballots import without_ballots
+from debvote_tools.text.language import Language, marked
+from debvote_tools.text.rendering import one_line, render_letter
+from debvote_tools.text.times import time_in_words
+
+PACKAGE = "debvote_tools.outbox"
+
+# what debvote says of a line
+RANK_COUNT = re.compile(r"bad rank count: (\d+) ranks?, the poll has (\d+) options?")
+
+
+class Kind(enum.StrEnum):
+    """The letters that go out, as the command and the book name them."""
+
+    CALL = "call"
+    RECEIPTS = "receipts"
+    REMINDERS = "reminders"
+    CLOSED = "closed"
+    RESULT = "result"
+
+
+SUBJECTS = {
+    Kind.CALL: marked("Vote: {title}"),
+    Kind.RECEIPTS: marked("Receipt: {title}"),
+    Kind.REMINDERS: marked("Not yet voted: {title}"),
+    Kind.CLOSED: marked("Vote closed: {title}"),
+    Kind.RESULT: marked("Result: {title}"),
+}
+# in place of that of the call
+EXTENSION = marked("Vote ends later: {title}")
+
+
+# what became of a ballot
+OF_BALLOT = {
+    Became.COUNTS: marked(
+        "Your ballot of {time} has arrived. It counts unless you send a later one."
+    ),
+    Became.REPLACED: marked(
+        "Your ballot of {time} has arrived. A later ballot of yours counts instead."
+    ),
+    Became.LATE: marked(
+        "Your ballot of {time} has arrived. It was entered after the close, so it is late and does not count."
+    ),
+    Became.STRUCK: marked(
+        "Your ballot of {time} was entered, and the secretary has struck it. It does not count."
+    ),
+    Became.TAKEN_BACK: marked(
+        "Your ballot of {time} was entered, and the secretary has taken it back. It does not count unless it is entered again."
+    ),
+    Became.REFUSED: marked(
+        "A line with your name has arrived ({time}). It is not a valid ballot of this vote, so it does not count."
+    ),
+}
+AT_THE_END = marked("Your ballot of {time} has arrived, and it counts.")
+# what became of a letter: whether it came from an address of the elector, and whether it was set
+# aside
+OF_LETTER = {
+    (True, False): marked(
+        "Your letter of {time} has arrived. No ballot from it is entered yet: the secretary has to look at it first."
+    ),
+    (True, True): marked("Your letter of {time} has arrived. No ballot from it was entered."),
+    (False, False): marked(
+        "A letter in your name came from another address, and waits until the secretary has looked at it."
+    ),
+    (False, True): marked(
+        "A letter in your name came from another address. The secretary has set it aside."
+    ),
+}
+
+
+@dataclasses.dataclass(frozen=True)
+class Composer:
+    """Makes all letters of a run. After the end nobody is invited to vote."""
+
+    call: CallData
+    is_over: bool
+    electors: Sequence[Elector] = ()
+    # the acts that entered what the secretary typed for a letter
+    typed_acts: Collection[int] = ()
+
+    def subject(self, kind: Kind, *, is_extension: bool = False) -> str:
+        """The subject of a kind of letters, before the mark that ends it."""
+        said = EXTENSION if is_extension else SUBJECTS[kind]
+        return self.call.language.say(said, title=one_line(self.call.poll.name))
+
+    def call_letter(self, elector: Elector, *, is_extension: bool) -> str:
+        """The call; or that it ends later, which repeats no code."""
+        more = {"is_extension": is_extension, "find_command": BY_PYTHON}
+        return self.rendered("debvote_tools.poll", "call.txt", elector, **more)
+
+    def reminder(self, elector: Elector, waits: Sequence[Came]) -> str:
+        """A letter to an elector without a ballot. If a letter of theirs waits, it says so, and
+        does not remind.
+        """
+        is_reminding = not any(one.is_own for one in waits)
+        return self.text(Kind.REMINDERS, elector, came=waits, is_reminding=is_reminding)
+
+    def receipt(self, elector: Elector, came: Sequence[Came]) -> str:
+        """What became of all that came of an elector. It has the right line if what came last was
+        refused or waits.
+        """
+        decides = (
+            one for one in came if one.is_own or one.became in (Became.COUNTS, Became.REFUSED)
+        )
+        last = next(reversed([one.became for one in decides]), Became.COUNTS)
+        is_refusing = not self.is_over and last is not Became.COUNTS
+        return self.text(Kind.RECEIPTS, elector, came=came, is_refusing=is_refusing)
+
+    def text(self, kind: Kind, elector: Elector, **values: object) -> str:
+        return self.rendered(PACKAGE, f"{kind}.txt", elector, said_of=self.said_of, **values)
+
+    def rendered(self, package: str, template: str, elector: Elector, **values: object) -> str:
+        call = self.call
+        greeting = call.language.say(
+            "Dear {name},", name=one_line(elector.who)[:200] or elector.name
+        )
+        own = {"call": call, "elector": elector, "greeting": greeting}
+        text = render_letter(package, template, call.language, **own, **values)
+        return without_ballots(text, len(call.poll.names), self.is_name)
+
+    def is_name(self, word: str) -> bool:
+        """Whether a word is a name on the roll, or ends one or a real name, in whatever case."""
+        return self.folded(word) in self.names
+
+    @functools.cached_property
+    def names(self) -> frozenset[str]:
+        names = (
+            (one.name, one.name.split("-")[-1], *one.who.split()[-1:]) for one in self.electors
+        )
+        return frozenset(self.folded(word) for words in names for word in words)
+
+    def folded(self, word: str) -> str:
+        return without_accents(word, self.call.language.code).lower()
+
+    def said_of(self, came: Came, name: str) -> str:
+        """Says what became of something that came, with its time in the zone in which the end was
+        announced, and what is wrong with it.
+        """
+        language, zone = (
+            self.call.language,
+            self.call.until.tzinfo if self.call.until else datetime.UTC,
+        )
+        if not isinstance(came.became, Became):
+            said = OF_LETTER[came.is_own, came.became is Outcome.SET_ASIDE]
+        else:
+            is_final = self.is_over and came.became is Became.COUNTS
+            said = AT_THE_END if is_final else OF_BALLOT[came.became]
+        sentences = [language.say(said, time=time_in_words(came.time.astimezone(zone), language))]
+        if came.envelope is not None and came.envelope.act in self.typed_acts:
+            sentences.append(language.say("The secretary typed it, by your letter."))
+        if came.letter is not None and came.is_own and came.letter.reason is not None:
+            # not the line itself: it may be another's ballot, or have a code
+            near = (
+                language.say(
+                    "Line {line} of its text is near to a ballot. {fault}",
+                    line=line.number,
+                    fault=fault,
+                )
+                for line in came.letter.near
+                for fault in faults_of(line.answer, name, language, is_within=line.is_within)
+            )
+            sentences += [language.say(for_elector(came.letter.reason)), *dict.fromkeys(near)]
+        elif came.became is Became.REFUSED:
+            sentences += faults_of(came.answer, name, language)
+        return " ".join(sentences)
+
+
+def faults_of(
+    answer: str | None, name: str, language: Language, *, is_within: bool = False
+) -> Iterator[str]:
+    """What is wrong with a line, by what debvote says of it."""
+    if is_within:
+        yield language.say("It has a ballot within other words; the ballot has to be there alone.")
+    if answer is None:
+        if not is_within:
+            yield language.say("It is a ballot.")
+    elif count := RANK_COUNT.match(answer):
+        yield language.say_number(
+            "It has {number} rank, and the vote has {options} options.",
+            "It has {number} ranks, and the vote has {options} options.",
+            int(count[1]),
+            options=count[2],
+        )
+    elif answer.startswith("bad not on roll: "):
+        yield language.say("The name in it is not on the roll; yours is {name}.", name=name)
+    elif not is_within:
+        yield language.say("It is not written as a ballot is.")
