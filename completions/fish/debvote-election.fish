@@ -22,6 +22,7 @@ complete -c debvote-election -n "not __fish_seen_subcommand_from new roll check 
 complete -c debvote-election -n "not __fish_seen_subcommand_from new roll check codes call add held undo strike desk letters show status close reopen count publish log export backup" -a backup -d "Write a copy of the book into a new file."
 complete -c debvote-election -l help -d "show this help message and exit."
 complete -c debvote-election -l folder -x -a "(__fish_complete_directories)" -d "The folder of the election (default: the current folder)."
+complete -c debvote-election -n "not __fish_seen_subcommand_from new roll check codes call add held undo strike desk letters show status close reopen count publish log export backup" -l version -d "Print version."
 complete -c debvote-election -n "__fish_seen_subcommand_from new" -l language -x -a "de en es fr" -d "The language of pages and letters for electors: de, en, es or fr (default: en)."
 complete -c debvote-election -n "__fish_seen_subcommand_from new" -a "(__fish_complete_directories)"
 complete -c debvote-election -n "__fish_seen_subcommand_from roll" -l all -d "Print all electors, however many there are."

@@ -222,12 +222,15 @@ class Names(OutTest):
         """Two letters to ada, at her old address and her new one, beside one to ada-2."""
         self.write("members.csv", support.members_of(self.names).replace(",ada@club", ",ada@new"))
         self.done("roll", "--yes")
-        self.add_lines(f"ada {RANKS}", f"ada-2 {RANKS}")
+        self.add_lines("ada 1", f"ada-2 {RANKS}")
         wanted = ["ada-2@club.example", "ada@club.example", "ada@new.example"]
         found = self.written("receipts").values()
         self.assertEqual(sorted(message["To"] for message in found), wanted)
-        # the old address does not learn the own mark
-        self.assertEqual([message["To"] for message in found if not re.search(MARKS, message["Subject"])], ["ada@club.example"])
+        # the old address does not learn the own mark, neither in the subject nor in the text, which has the right line
+        said = {message["To"]: (bool(re.search(MARKS, message["Subject"])), f"{AT}#ada/" in one_line(message)) for message in found}
+        wanted_marks = {"ada-2@club.example": (True, False), "ada@club.example": (False, False), "ada@new.example": (True, True)}
+        self.assertEqual(said, wanted_marks)
+        self.assertTrue(all("ada _,_,_,_" in one_line(message) for message in found if "ada@" in message["To"]))
 
 
 class Receipts(OutTest):

@@ -295,7 +295,7 @@ def done_with(election: Election, chosen: Sequence[Chosen]) -> list[int]:
     for letter in {one.letter.number: one.letter for one in chosen}.values():
         names, entered = {line.elector for line in letter.ballots}, electors[letter.number]
         if not names <= entered:
-            condition = f"letter = ? AND envelope.{queries.NOT_UNDONE}"
+            condition = f"letter = ? AND {queries.NOT_UNDONE}"
             for envelope in queries.envelopes(election.book, condition, letter.number):
                 entered.add(name_in(envelope.line).decode("ascii"))
         if names <= entered:

@@ -85,7 +85,7 @@ def what_is_taken_back(election: Election, book: Book, vote: Vote) -> Plan:
         if number is None:
             words = "there is nothing to take back"
             raise Fault("undo", words, f"see {election.command('status')}")
-        condition = f"envelope.act = ? AND {queries.NOT_STRUCK}"
+        condition = f"act = ? AND {queries.NOT_STRUCK}"
         envelopes = queries.envelopes(book, condition, number)
         electors = {envelope.elector for envelope in envelopes if envelope.elector is not None}
         lines = queries.lines_of_electors(book, electors)
