@@ -1,11 +1,11 @@
 """Enter ballots from letters, files, tables or standard input, and print the reply to each."""
 
 import collections
-import dataclasses
 import itertools
 import os
 import re
 from collections.abc import Iterator, Sequence
+from typing import NamedTuple
 
 from debvote_tools.book import acting, queries
 from debvote_tools.book.acts import Detail
@@ -108,11 +108,9 @@ def demand_words(arguments: Arguments) -> None:
 
 
 # ---------------------------------------------------------------- lines
-@dataclasses.dataclass(frozen=True)
-class Plan:
+class Plan(NamedTuple):
     """Which lines would be entered, by the book as it is now."""
 
-    decided_at: int = dataclasses.field(compare=False)
     openness: History
     files: tuple[FileLines, ...]
 
@@ -140,7 +138,7 @@ def take_lines(
         plans.demand_same_call(vote, history, "run the command again", NOTHING_ADDED)
         takes_again, is_reopened = arguments.again, history.is_reopened
         found = plans.sorted_out(book, files, takes_again=takes_again, is_reopened=is_reopened)
-        return Plan(history.last.number, history.openness(), found)
+        return Plan(history.openness(), found)
 
     def show(found: Plan) -> bool:
         nonlocal answer
@@ -153,7 +151,7 @@ def take_lines(
         answer = plans.came_before_close(found.openness, said, NOTHING_ADDED)
         return True
 
-    def act(found: Plan) -> None:
+    def act(found: Plan, seen: int) -> None:
         def told(numbers: range, replies: Sequence[str]) -> Iterator[str]:
             yield from report(election, vote, found, numbers, replies)
             yield f"Added {summary(replies)}."
@@ -165,7 +163,7 @@ def take_lines(
             detail_of(vote, found, arguments, answer),
             found.envelopes,
             told,
-            decided_at=found.decided_at,
+            seen,
             is_late=found.openness.is_late(answer),
             is_same=lambda: plan() == found,
         )
@@ -174,7 +172,7 @@ def take_lines(
         with book.snapshot():
             found, lines, first = plan(), queries.lines_in_time(book), queries.last_envelope(book)
         look(election, vote, found, lines, first + 1, arguments)
-    elif plans.agreed_act(plan, show, act).openness.is_closed:
+    elif plans.agreed_act(book, plan, show, act).openness.is_closed:
         tell(f"Next: {election.command('count')}")
     else:
         more = f"add more ballots with {election.command('add', 'FILE')}"

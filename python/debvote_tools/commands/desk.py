@@ -2,12 +2,12 @@
 own terminal.
 """
 
-import dataclasses
 import functools
 import os
 import re
 import sys
 from collections.abc import Callable, Iterator, Sequence
+from typing import NamedTuple
 
 from debvote_tools.book import acting, queries
 from debvote_tools.book.acts import Detail
@@ -36,13 +36,11 @@ MAX_NAMES = 9
 Arguments = plans.Arguments
 
 
-@dataclasses.dataclass(frozen=True)
-class Shown:
+class Shown(NamedTuple):
     """The state of the book by which ballots are shown before the question, or at a pipe before
     they are cast.
     """
 
-    decided_at: int = dataclasses.field(compare=False)
     openness: History
     # those of the elector of a ballot at a terminal
     envelopes: list[queries.Envelope]
@@ -73,7 +71,7 @@ class Desk:
         history = History(self.book.acts())
         plans.demand_same_call(self.vote, history, "start the desk again", NOTHING_CAST)
         envelopes = queries.envelopes(self.book, "elector = ?", elector)
-        return Shown(history.last.number, history.openness(), envelopes)
+        return Shown(history.openness(), envelopes)
 
     def ask_if_reopened(self, shown: Shown, done: str) -> None:
         """If the vote was opened again, asks once whether what is cast came before the first close."""
@@ -85,7 +83,9 @@ class Desk:
         self.next_line += len(lines)
         return lines
 
-    def cast(self, lines: list[JudgedLine], shown: Shown, elector: int | None = None) -> None:
+    def cast(
+        self, lines: list[JudgedLine], shown: Shown, seen: int, elector: int | None = None
+    ) -> None:
         """The act, and the replies to it. Raises `Overtaken` if the state is not the one that was
         shown.
         """
@@ -104,7 +104,7 @@ class Desk:
             detail,
             lambda _: [queries.NewEnvelope(line.as_entered, line.line.place) for line in lines],
             report,
-            decided_at=shown.decided_at,
+            seen,
             is_late=shown.openness.is_late(self.came_before_close),
             is_same=lambda: self.now(elector) == shown,
             what="ballots to be reported",
@@ -158,7 +158,10 @@ def shown_and_cast(
         desk.ask_if_reopened(shown, done)
         return show(shown)
 
-    agreed_act(lambda: desk.now(elector), show_all, lambda shown: desk.cast(lines, shown, elector))
+    def cast(shown: Shown, seen: int) -> None:
+        desk.cast(lines, shown, seen, elector)
+
+    agreed_act(desk.book, lambda: desk.now(elector), show_all, cast)
 
 
 def whole_lines() -> Iterator[bytes]:

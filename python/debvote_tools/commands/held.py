@@ -106,20 +106,19 @@ def decide(election: Election, vote: Vote, arguments: Arguments) -> None:
     """The act that sets letters aside, or has them wait again."""
     state: ActName = letters.SET_ASIDE if arguments.set_aside else letters.PUT_BACK
 
-    def plan() -> tuple[int, list[int]]:
-        decided_at = election.book.last_number()
+    def plan() -> list[int]:
         chosen = chosen_letters(all_letters(election, vote), arguments.numbers)
         if entered := [letter for letter in chosen if letter.outcome is Outcome.ENTERED]:
             cure = "strike takes out one envelope, undo takes back the last act"
             raise Fault(f"letter {entered[0].number}", "its ballot was entered", cure)
-        return decided_at, [letter.number for letter in chosen]
+        return [letter.number for letter in chosen]
 
-    def act(now: tuple[int, list[int]]) -> None:
-        with election.book.act(state, {"letters": now[1]}, seen=now[0]) as act:
-            for number in now[1]:
+    def act(numbers: list[int], seen: int) -> None:
+        with election.book.act(state, {"letters": numbers}, seen=seen) as act:
+            for number in numbers:
                 letters.decide(act, number, state)
 
-    agreed_act(plan, lambda _: True, act)
+    agreed_act(election.book, plan, lambda _: True, act)
 
 
 # ---------------------------------------------------------------- entering
@@ -174,9 +173,8 @@ def enter(election: Election, vote: Vote, arguments: Arguments) -> None:
         if len(late) > 1:
             words = "some of these letters arrived before the first close, and some after it"
             raise Fault("--enter", words, "enter those that arrived before it apart")
-        ballots = [(one.letter.number, one.ballot) for one in chosen]
-        done = done_with(election, chosen)
-        return Plan(history.last.number, history, found, ballots, late.pop(), done)
+        new = [letters_in.envelope_of(one.letter, one.ballot) for one in chosen]
+        return Plan(new, done_with(election, chosen), late.pop())
 
     def show(_: Plan) -> bool:
         for one in chosen:
@@ -188,16 +186,16 @@ def enter(election: Election, vote: Vote, arguments: Arguments) -> None:
             raise Fault("held", "you did not say yes", "run the command again when you agree")
         return True
 
-    def act(now: Plan) -> None:
-        numbers = list(dict.fromkeys(number for number, _ in now.ballots))
+    def act(now: Plan, seen: int) -> None:
+        numbers = list(dict.fromkeys(one.letter.number for one in chosen))
         detail: Detail = {"lines": [one.line for one in chosen if one.line]}
         if len(numbers) == 1:
             detail["letter"] = numbers[0]
         else:
             detail["letters"] = numbers
-        now.enter(election, vote, "enter", detail)
+        letters_in.enter(election, vote, "enter", detail, now, seen)
 
-    agreed_act(plan, show, act)
+    agreed_act(election.book, plan, show, act)
 
 
 def ballot_of(election: Election, vote: Vote, text: str) -> str:
@@ -232,8 +230,8 @@ def chosen_in(letter: JudgedLetter, lines: str | None, typed: str | None) -> lis
     """
     name = f"letter {letter.number}"
     if typed is not None:
-        sharing = letter.known.electors_by_address.get(letter.parsed.sender, [])
-        possible, chosen = {*letter.electors, *sharing}, Chosen(letter, 0, typed)
+        possible = {*letter.electors, *letter.known.may_have_sent(letter.parsed)}
+        chosen = Chosen(letter, 0, typed)
         if possible and chosen.elector not in possible:
             words = f"neither its sender nor a line of {name} is of {chosen.elector}"
             raise Fault("--as", words, "check the name; if it is right, enter the ballot at a desk")

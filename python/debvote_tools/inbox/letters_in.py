@@ -2,9 +2,9 @@
 now, and enters the ballots of those that are plainly ballots.
 """
 
-import dataclasses
 import pathlib
 from collections.abc import Collection, Iterable, Iterator, Mapping, Sequence
+from typing import NamedTuple
 
 from debvote_tools.book import letters, queries
 from debvote_tools.book.acts import ActName, Detail
@@ -122,48 +122,42 @@ def keep(
                 letters.keep_letter(act, where, raw.data, letter.identity, known_of_it)
 
 
-@dataclasses.dataclass(frozen=True)
-class Plan:
+class Plan(NamedTuple):
     """The ballots of letters that would go in, by the book as it is now."""
 
-    decided_at: int = dataclasses.field(compare=False)
-    history: History = dataclasses.field(compare=False)
-    # all that are judged
-    letters: Sequence[JudgedLetter] = dataclasses.field(compare=False)
-    # each with the number of its letter
-    ballots: Sequence[tuple[int, str]]
+    envelopes: list[NewEnvelope]
+    # the letters that wait no longer then
+    done: list[int]
     is_late: bool
-    # the numbers of the letters that are entered with them, and wait no longer
-    done: Collection[int]
 
-    def enter(
-        self, election: Election, vote: Vote, name: ActName, detail: Detail, end: Iterable[str] = ()
-    ) -> None:
-        """The act that enters them. Each envelope has the time of its letter."""
-        by_number = {letter.number: letter for letter in self.letters}
-        lines = [ballot for _, ballot in self.ballots]
 
-        def envelopes(act: NewAct) -> Iterator[NewEnvelope]:
-            for number in self.done:
-                letters.decide(act, number, letters.ENTERED)
-            for number, ballot in self.ballots:
-                letter = by_number[number]
-                yield NewEnvelope(ballot.encode(), "", letter.source, number, letter.time)
+def envelope_of(letter: JudgedLetter, ballot: str) -> NewEnvelope:
+    return NewEnvelope(ballot.encode(), "", letter.source, letter.number, letter.time)
 
-        def report(numbers: range, replies: Sequence[str]) -> Iterator[str]:
-            yield from letter_words.reply_words(vote, numbers, replies, lines)
-            yield from end
 
-        plan.enter(
-            election.book,
-            vote,
-            name,
-            detail,
-            envelopes,
-            report,
-            decided_at=self.decided_at,
-            is_late=self.is_late,
-        )
+def enter(
+    election: Election,
+    vote: Vote,
+    name: ActName,
+    detail: Detail,
+    now: Plan,
+    seen: int,
+    end: Sequence[str] = (),
+) -> None:
+    """The act that enters ballots of letters."""
+
+    def envelopes(act: NewAct) -> list[NewEnvelope]:
+        for number in now.done:
+            letters.decide(act, number, letters.ENTERED)
+        return now.envelopes
+
+    def report(numbers: range, replies: Sequence[str]) -> Iterator[str]:
+        for number, reply, envelope in zip(numbers, replies, now.envelopes):
+            yield f"{number} {reply}  {vote.ballot_in_words(envelope.line.decode('ascii'))}"
+        yield from end
+
+    late = now.is_late
+    plan.enter(election.book, vote, name, detail, envelopes, report, seen, is_late=late)
 
 
 def going_in(found: Iterable[JudgedLetter]) -> list[JudgedLetter]:
@@ -172,37 +166,39 @@ def going_in(found: Iterable[JudgedLetter]) -> list[JudgedLetter]:
 
 def enter_letters(election: Election, vote: Vote, *, is_agreed: bool) -> None:
     """Enters the ballots that go in, once they are agreed to."""
+    history, found = election.history(), list[JudgedLetter]()
 
     def plan_now() -> Plan:
+        nonlocal history, found
         history = election.history()
         plan.demand_same_call(vote, history, "run the command again", NOTHING_ADDED)
         found = judged(election, history, letters.letters(election.book), vote=vote)
-        ballots = [(letter.number, letter.ballots[0].ballot) for letter in going_in(found)]
-        numbers = [number for number, _ in ballots]
-        return Plan(history.last.number, history, found, ballots, history.is_closed, numbers)
+        new = [envelope_of(letter, letter.ballots[0].ballot) for letter in going_in(found)]
+        return Plan(new, [letter.number for letter in going_in(found)], history.is_closed)
 
     def show(now: Plan) -> bool:
-        tell_letters(election, vote, now.history, now.letters)
-        if not now.ballots:
-            tell(letter_words.counts(now.letters, 0))
-        elif is_agreed or agreed(count_of(len(now.ballots), "ballot")):
+        tell_letters(election, vote, history, found)
+        if not now.done:
+            tell(letter_words.counts(found, 0))
+        elif is_agreed or agreed(count_of(len(now.done), "ballot")):
             return True
         else:
-            waits = letter_words.wait_words(sum(letter.waits for letter in now.letters))
+            waits = letter_words.wait_words(sum(letter.waits for letter in found))
             tell(f"Nothing was entered. The letters are kept, and wait: {waits}.")
         return False
 
-    def act(now: Plan) -> None:
-        number = len(now.ballots)
-        end = letter_words.counts(now.letters, number)
-        now.enter(election, vote, "add", {"letters": number, "lines": number}, [end])
+    def act(now: Plan, seen: int) -> None:
+        number = len(now.done)
+        detail: Detail = {"letters": number, "lines": number}
+        end = letter_words.counts(found, number)
+        enter(election, vote, "add", detail, now, seen, [end])
 
-    last = plan.agreed_act(plan_now, show, act)
+    plan.agreed_act(election.book, plan_now, show, act)
     undo = f"; {election.command('undo')} takes back what was entered last"
     waiting = f"{election.command('held')}, which lists the letters that wait"
-    is_waiting = any(letter.outcome is Outcome.WAITS for letter in last.letters)
+    is_waiting = any(letter.outcome is Outcome.WAITS for letter in found)
     following = waiting if is_waiting else election.command("status")
-    tell(f"Next: {following}{'' if last.history.is_closed else undo}")
+    tell(f"Next: {following}{'' if history.is_closed else undo}")
 
 
 def agreed(ballots: str) -> bool:
@@ -271,7 +267,7 @@ def judged(
     def ballots_of(names: Collection[str]) -> dict[str, list[Ballot]]:
         return ballots_in(election, asked, names, all_letters)
 
-    letters_now = judge_all(all_letters, circumstances_of(election, history, by_key), ballots_of)
+    letters_now = judge_all(all_letters, known_of(election, history, by_key), ballots_of)
     no_codes_expected = election.sealed().counted.secret and not asked.has_codes
     for letter in letters_now:
         if (kept_letter := by_key.get(letter.parsed.key)) is not None:
@@ -349,9 +345,7 @@ def ballots_in(
     return ballots
 
 
-def circumstances_of(
-    election: Election, history: History, by_key: Mapping[str, KeptLetter]
-) -> Known:
+def known_of(election: Election, history: History, by_key: Mapping[str, KeptLetter]) -> Known:
     call, sealed, electors = history.call, election.sealed(), queries.electors(election.book)
     assert call is not None
     ids, keys = letters.our_message_ids(election.book), None
