@@ -230,7 +230,9 @@ def chosen_in(letter: JudgedLetter, lines: str | None, typed: str | None) -> lis
     """
     name = f"letter {letter.number}"
     if typed is not None:
-        possible = {*letter.electors, *letter.known.may_have_sent(letter.parsed)}
+        known, marked = letter.known, letter.known.marked_elector(letter.parsed)
+        sharing = known.electors_by_address.get(letter.parsed.sender, ())
+        possible = {*letter.electors, *sharing, *filter(None, [marked])}
         chosen = Chosen(letter, 0, typed)
         if possible and chosen.elector not in possible:
             words = f"neither its sender nor a line of {name} is of {chosen.elector}"
