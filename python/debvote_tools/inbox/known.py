@@ -42,7 +42,7 @@ def as_compared(subject: str) -> str:
 
 @dataclasses.dataclass(frozen=True)
 class Names:
-    """The names of the electors, which stay from the call on: those on the roll, and the real ones."""
+    """The names of the electors, which never change after the call: on the roll, and real ones."""
 
     roll: frozenset[str]
     language: str
@@ -50,9 +50,7 @@ class Names:
 
     @functools.cached_property
     def electors_by_real_name(self) -> dict[str, list[str]]:
-        """All electors by their real names, folded. Few letters ask for it, and with many electors
-        it takes a while.
-        """
+        """All electors by folded real name. Few letters need it, and it takes a while."""
         found: dict[str, list[str]] = collections.defaultdict(list)
         for elector, who in self.real_names.items():
             for fold in self.folds(who):
@@ -60,9 +58,8 @@ class Names:
         return dict(found)
 
     def folds(self, name: str) -> set[str]:
-        """A name as one on a roll is made from it, but whole: there a long one is cut, and letters
-        of other scripts are left out, so other words may be where they were. The signs that are
-        written as an apostrophe are no letters.
+        """A name as `roll` makes one from it, but whole: `roll` cuts a long name, and omits letters of
+        other scripts, where other words may have been. Signs in place of an apostrophe are no letters.
         """
         plain = (without_accents(name, language).lower() for language in (self.language, ""))
         folds = {NO_NAME.sub("-", one).strip("-") for one in plain}
