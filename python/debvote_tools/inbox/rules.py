@@ -75,9 +75,9 @@ class JudgedLetter:
         self.marked_elector = known.marked_elector(letter)
         sharing = known.electors_by_address.get(letter.sender, [])
         self.view = view_of(letter.readings, sharing, self.marked_elector)
-        # the time of its ballot is that of the signature, if letters have to be signed
-        is_signed = known.is_signed and letter.signature is not None
-        self.time = letter.signature.time if is_signed and letter.signature else letter.arrived
+        # that of its ballot: if letters have to be signed, that of the signature
+        signature = letter.signature if known.is_signed else None
+        self.time = letter.arrived if signature is None else signature.time
         self.decision = known.decisions.get(letter.key)
         end = above_end(letter.body.lines)
         self.index = next((index for index in self.view.lines if index < end), None)
@@ -369,10 +369,6 @@ class Box:
     def last(self, elector: str) -> datetime.datetime | None:
         return self.times[elector][-1] if self.times[elector] else None
 
-    def has_later(self, elector: str, time: datetime.datetime | None) -> bool:
-        last = self.last(elector)
-        return last is not None and (time is None or last > time)
-
     def has_between(self, elector: str, after: datetime.datetime, until: datetime.datetime) -> bool:
         times = self.times[elector]
         return bisect.bisect_right(times, after) < bisect.bisect_left(times, until)
@@ -389,16 +385,16 @@ def set_outcomes(cases: Sequence[JudgedLetter], box: Box) -> None:
             case.outcome = DECIDED.get(case.decision, Outcome.WAITS)
             if case.decision is not Decision.ENTERED:
                 case.reason = Reason[case.decision.name]()
-    firsts: dict[JudgedLetter, None] = {}
+    firsts: set[JudgedLetter] = set()
+    at_once: dict[tuple[str, datetime.datetime | None], set[str]] = collections.defaultdict(set)
     undecided = [group for group in groups.values() if any(case.decision is None for case in group)]
     for group in undecided:
         # the first copy that may go in, unless an act decided of one that hides it
-        if not any(case.decision is not None and case.hides for case in group):
-            may_go_in = (c for c in group if c.decision is None and c.why_by_itself is None)
-            firsts |= dict.fromkeys(itertools.islice(may_go_in, 1))
-    at_once: dict[tuple[str, datetime.datetime | None], set[str]] = collections.defaultdict(set)
-    for case in firsts:
-        at_once[case.elector, case.time].add(case.ballots[0].ballot)
+        may_go_in = (one for one in group if one.decision is None and one.why_by_itself is None)
+        is_hidden = any(case.decision is not None and case.hides for case in group)
+        for case in () if is_hidden else itertools.islice(may_go_in, 1):
+            firsts.add(case)
+            at_once[case.elector, case.time].add(case.ballots[0].ballot)
     for case in filter(firsts.__contains__, cases):
         case.reason = why_not_latest(case, box, at_once[case.elector, case.time])
         if case.reason is None and case.time is not None:
@@ -428,9 +424,8 @@ def set_copies(group: Sequence[JudgedLetter], firsts: Collection[JudgedLetter], 
     """
     hiding = [case for case in group if case.hides]
     is_hidden = any(case.decision is not None or case.outcome is Outcome.GOES_IN for case in hiding)
-    first = min(
-        hiding, key=lambda case: (case.parsed.arrived is None, case.parsed.arrived), default=None
-    )
+    hiding.sort(key=lambda case: (case.parsed.arrived is None, case.parsed.arrived))
+    first = next(iter(hiding), None)
     waiting: dict[tuple[Because | None, Body], JudgedLetter] = {}
     for case in sorted(group, key=lambda case: case.decision is None):
         before = waiting.setdefault((case.why_by_itself, case.parsed.body), case)
@@ -474,5 +469,6 @@ def judge_all(
             box.add(elector, ballot)
     set_outcomes(ordered, box)
     for case in ordered:
-        case.has_voted_since = any(box.has_later(elector, case.time) for elector in case.electors)
+        times = filter(None, map(box.last, case.electors))
+        case.has_voted_since = any(case.time is None or time > case.time for time in times)
     return ordered
