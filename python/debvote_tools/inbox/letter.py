@@ -125,17 +125,6 @@ class ReadLine:
 
 
 @dataclasses.dataclass(frozen=True)
-class Readings:
-    """What the lines of a letter may be; or, if more lines may be ballots than are read, how many.
-    The `code_lines` have what looks like a code of a secret vote or an alias.
-    """
-
-    lines: tuple[ReadLine, ...] = ()
-    crowd: int = 0
-    code_lines: tuple[int, ...] = ()
-
-
-@dataclasses.dataclass(frozen=True)
 class ParsedLetter:
     """What the bytes of a letter say and, if letters have to be signed, what gpgv says of it."""
 
@@ -162,7 +151,11 @@ class ParsedLetter:
     # if letters have to be signed: the good signature, or why there is none
     signature: Signature | None = None
     why_unsigned: Because | None = None
-    readings: Readings = Readings()
+    # what its lines may be, or how many may be ballots if they are more than are read; and the
+    # lines with what looks like a code of a secret vote or an alias
+    read_lines: tuple[ReadLine, ...] = ()
+    crowd: int = 0
+    code_lines: tuple[int, ...] = ()
 
     @property
     def key(self) -> str:

@@ -262,7 +262,7 @@ def judged(
         if (kept_letter := by_key.get(letter.parsed.key)) is not None:
             letter.number, letter.source = kept_letter.number, kept_letter.source
         if no_codes_expected:
-            letter.code_lines = letter.parsed.readings.code_lines
+            letter.code_lines = letter.parsed.code_lines
     return letters_now
 
 

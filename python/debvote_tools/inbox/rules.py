@@ -74,7 +74,7 @@ class JudgedLetter:
         self.parsed, self.known = letter, known
         self.marked_elector = known.marked_elector(letter)
         sharing = known.electors_by_address.get(letter.sender, [])
-        self.view = view_of(letter.readings, sharing, self.marked_elector)
+        self.view = view_of(letter.read_lines, sharing, self.marked_elector)
         # that of its ballot: if letters have to be signed, that of the signature
         signature = letter.signature if known.is_signed else None
         self.time = letter.arrived if signature is None else signature.time
@@ -151,7 +151,7 @@ def can_be_read(case: JudgedLetter, known: Known) -> Because | None:
         return Reason.AUTOMATIC()
     if body.trouble is not None:
         return body.trouble
-    if crowd := letter.readings.crowd:
+    if crowd := letter.crowd:
         what = "lines that may be ballots"
         return Reason.TOO_LONG(length=crowd, what=what, limit=MAX_BALLOTS)
     is_odd = body.is_html and case.index is not None and case.index >= body.plain_lines
