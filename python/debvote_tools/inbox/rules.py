@@ -139,9 +139,6 @@ class JudgedLetter:
         return tuple(name for name in sharing if name not in self.electors)
 
 
-Rule = Callable[[JudgedLetter, Known], Because | None]
-
-
 # ---------------------------------------------------------------- the rules
 def can_be_read(case: JudgedLetter, known: Known) -> Because | None:
     letter, body = case.parsed, case.parsed.body
@@ -261,7 +258,7 @@ def is_of_this_vote(case: JudgedLetter, known: Known) -> Because | None:
     return (Reason.CHANGED_MARK if is_changed else Reason.NO_SUBJECT_MARK)(mark=known.mark)
 
 
-RULES: tuple[Rule, ...] = (
+RULES = (
     can_be_read,
     arrived_in_time,
     is_sent_by_its_elector,
