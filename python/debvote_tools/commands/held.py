@@ -14,7 +14,7 @@ from debvote_tools.cli.faults import Fault, Status, stop_at
 from debvote_tools.cli.terminal_text import shown_line, shown_text
 from debvote_tools.inbox import letter_words, letters_in
 from debvote_tools.inbox.known import Decision
-from debvote_tools.inbox.judge import JudgedLetter, Outcome
+from debvote_tools.inbox.rules import JudgedLetter, Outcome
 from debvote_tools.inbox.letters_in import Plan
 from debvote_tools.inbox.lines import lines_in, name_in
 from debvote_tools.inbox.plan import agreed_act
@@ -230,7 +230,9 @@ def chosen_in(letter: JudgedLetter, lines: str | None, typed: str | None) -> lis
     """
     name = f"letter {letter.number}"
     if typed is not None:
-        possible = {*letter.electors, *letter.known.may_have_sent(letter.parsed)}
+        known, marked = letter.known, letter.known.marked_elector(letter.parsed)
+        sharing = known.electors_by_address.get(letter.parsed.sender, ())
+        possible = {*letter.electors, *sharing, *filter(None, [marked])}
         chosen = Chosen(letter, 0, typed)
         if possible and chosen.elector not in possible:
             words = f"neither its sender nor a line of {name} is of {chosen.elector}"

@@ -20,13 +20,13 @@ from debvote_tools.files import sha256_of
 from debvote_tools.inbox import letter_words, plan
 from debvote_tools.inbox.known import Ballot, Decision, Known, Names
 from debvote_tools.inbox.files import CameFile, safe
-from debvote_tools.inbox.judge import JudgedLetter, Outcome, judge_all
+from debvote_tools.inbox.rules import JudgedLetter, Outcome, judge_all
 from debvote_tools.inbox.lines import NOTHING_ADDED
-from debvote_tools.inbox.parse import ParsedLetter, as_json, from_json, parse
-from debvote_tools.inbox.readings import answers_in, read_all
+from debvote_tools.inbox.letter import ParsedLetter, as_json, from_json, parse
+from debvote_tools.inbox.candidates import answers_in, read_all
 from debvote_tools.inbox.reasons import Reason
-from debvote_tools.inbox.signatures import find_gpgv, verified
-from debvote_tools.inbox.sources import PassedOver, RawLetter, letters_of_file, letters_of_folder
+from debvote_tools.inbox.signature import find_gpgv, verified
+from debvote_tools.inbox.mailbox import PassedOver, RawLetter, letters_of_file, letters_of_folder
 from debvote_tools.inbox.vote import Vote
 from debvote_tools.poll.call_data import SUBJECT
 from debvote_tools.text import times
