@@ -403,8 +403,9 @@ class Receipts(OutTest):
         self.assertTrue(output.startswith(said), output)
         self.assertEqual([file.stem for file in self.files("receipts")], ["cleo", "eve"])
         self.assertEqual(self.done("letters", "receipts").output, f"{said}There is no letter to send.\n")
-        self.assertIn("no ballot found\n  other words: Who are you?\n", self.done("held").output)
-        self.assertIn(f"no ballot found\n  other words: Benjamin Lind {RANKS}\n  same address: ada, ben\n", self.done("held").output)
+        held = self.done("held").output.replace("\n        ", "\n")
+        self.assertIn("no ballot found\nother words: Who are you?\n", held)
+        self.assertIn(f"no ballot found\nother words: Benjamin Lind {RANKS}\nsame address: ada, ben\n", held)
         self.done("held", 1, 2, "--set-aside")
         self.assertEqual(self.done("letters", "receipts").output, "There is no letter to send.\n")
 

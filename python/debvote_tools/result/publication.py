@@ -308,7 +308,7 @@ def acts_of_page(act: DoneAct, book: Book, history: History, *, is_secret: bool)
             yield Act(time, Done.ROLL_CHANGED, {"number": detail["electors"]})
         case "strike":
             done = Done.STRUCK_IN_SECRET if is_secret else Done.STRUCK
-            for envelope in queries.envelopes(book, "struck.act = ?", act.number):
+            for envelope in queries.envelopes(book, "struck = ?", act.number):
                 yield Act(time, done, {"envelope": envelope.number}, reason)
         case "close":
             yield close_of(act, book, history)
