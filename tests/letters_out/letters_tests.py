@@ -722,7 +722,8 @@ class Result(OutTest):
         self.published()
         texts = self.texts("result")
         self.assertEqual(sorted(texts), support.NAMES)
-        self.assertIn(f"Dear Ada, {TITLE} Winner: Option 1: At the lake The result is published at: {AT} ", texts["ada"])
+        begin = f"Dear Ada, {TITLE} Winner: Option 1: At the lake. It beats each option that was not dropped: Option 2: In the town hall by 2 to 0"
+        self.assertIn(f"{begin} and Option 4: Further discussion by 2 to 0. The result is published at: {AT} ", texts["ada"])
         self.assertIn(f"Your own ballot, in words: {AT}#ada What is doubtful", texts["ada"])
         self.assertIn(f"{AT}#ben", texts["ben"])
         self.assertIn("It has no ballot of yours that counts.", texts["cleo"])

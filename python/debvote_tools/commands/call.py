@@ -16,8 +16,7 @@ from debvote_tools.poll.call_data import (
 )
 from debvote_tools.cli.console import tell
 from debvote_tools.book import acting
-from debvote_tools.result.agreed_texts import agreed_texts, texts_of_poll
-from debvote_tools.result.publication import current_data, until_of
+from debvote_tools.result.publication import agreed_texts, current_data, texts_of_poll, until_of
 from debvote_tools.commands.codes import CODES, SLIPS, write_slips
 from debvote_tools.commands.roll import demand_read
 from debvote_tools.book.election import (
@@ -38,7 +37,7 @@ from debvote_tools.book.reporting import act_time
 from debvote_tools.poll.until import demand_future, parse_until
 from debvote_tools.cli.faults import Fault, Status, stop_at
 from debvote_tools.files import read_at_most
-from debvote_tools.inbox.signatures import read_keyring
+from debvote_tools.inbox.signature import read_keyring
 from debvote_tools.poll.aliases import aliased_poll
 from debvote_tools.poll.codes import demand_no_code
 from debvote_tools.poll.marks import new_own_mark

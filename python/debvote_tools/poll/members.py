@@ -8,7 +8,7 @@ import unicodedata
 from collections.abc import Callable, Hashable, Iterable, Iterator, Mapping, Sequence
 from typing import NamedTuple, TypeVar
 
-from debvote_tools.inbox.addresses import ADDRESS, address_key
+from debvote_tools.inbox.mime import ADDRESS, address_key
 from debvote_tools.book.queries import Elector
 from debvote_tools.inbox.tables import Row, read_table
 from debvote_tools.book.reporting import listed
