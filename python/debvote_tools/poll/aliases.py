@@ -14,16 +14,12 @@ from debvote_tools.poll.sealed_poll import SealedPoll, with_roll
 
 
 def alias_of(code: str, name: str) -> str:
-    """The alias of an elector: the first 32 hex digits of HMAC-SHA-256, with the code's text as key
-    and the name as message.
-    """
+    """The first 32 hex digits of HMAC-SHA-256, with the code's text as key and the name as message."""
     return hmac.new(code.encode(), name.encode(), "sha256").hexdigest()[:32]
 
 
 def aliased_poll(poll: SealedPoll, aliases: Mapping[str, str]) -> SealedPoll:
-    """The poll with aliases on its roll, in the order of their bytes, so that the order tells no
-    name.
-    """
+    """The poll with aliases on its roll, sorted, so that their order tells no name."""
     return with_roll(poll, sorted(aliases[name] for name in poll.roll))
 
 

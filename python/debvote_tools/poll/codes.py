@@ -27,10 +27,8 @@ FORMULA = re.compile(
 
 
 def new_code(name: str = "") -> str:
-    """Draws the code of an elector: 16 random bytes in hex digits.
-
-    It draws again if a spreadsheet would take the code or the alias for a number, which is one code
-    in a million.
+    """Draws 16 random bytes in hex digits, again if a spreadsheet would take the code or the alias
+    for a number.
     """
     while True:
         code = secrets.token_hex(16)
@@ -39,9 +37,7 @@ def new_code(name: str = "") -> str:
 
 
 def demand_no_code(name: str, data: bytes, codes: Collection[str], done: str) -> None:
-    """Stops if a file for everybody would have the code of an elector: somebody may have given the
-    list of codes as a text.
-    """
+    """Stops if a file for everybody would have a code: the list of codes may be one of the texts."""
     if codes and not {code.decode() for code in CODE_WITHIN.findall(data)}.isdisjoint(codes):
         raise Fault(
             None,
@@ -53,9 +49,7 @@ def demand_no_code(name: str, data: bytes, codes: Collection[str], done: str) ->
 
 
 def codes_csv(electors: Iterable[Elector]) -> bytes:
-    """The table of the codes, for a spreadsheet or a mail merge. Electors give their names, so each
-    cell is made harmless.
-    """
+    """The table of the codes, for a spreadsheet or a mail merge, with harmless cells."""
     text = io.StringIO()
     table = csv.writer(text, lineterminator="\n")
     table.writerow(("name", "who", "mail", "code", "alias"))
@@ -65,8 +59,8 @@ def codes_csv(electors: Iterable[Elector]) -> bytes:
 
 
 def harmless(cell: str) -> str:
-    """A cell on one line, with an apostrophe before whatever a spreadsheet would run. It may split
-    a cell at another delimiter.
+    """A cell on one line, with an apostrophe before what a spreadsheet would run, also if it splits
+    the cell at another delimiter.
     """
     return FORMULA.sub(r"\1'", " ".join(cell.splitlines()))
 
