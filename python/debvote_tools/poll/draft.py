@@ -13,7 +13,7 @@ from debvote_tools.book import queries
 from debvote_tools.cli.console import tell, tell_as_it_is
 from debvote_tools.book.election import LETTER_TEXT, POLL_FILE, TEXTS, Election, History
 from debvote_tools.book.reporting import count_of
-from debvote_tools.cli.faults import Fault, Status, stop_at
+from debvote_tools.cli.faults import Fault, Status, kept_in, stop_at
 from debvote_tools.files import POLL_LIMIT, file_text, read_whole
 from debvote_tools.poll.plain_names import bad_options, bad_title, plain_options, plain_title
 from debvote_tools.poll.sealed_poll import KEYS, SealedPoll, is_set, plain_form, read_plain
@@ -130,10 +130,8 @@ def texts_in(folder: pathlib.Path, option_count: int) -> tuple[dict[int, str], l
             reason = "it is not the text of an option of this poll"
             faults.append(Fault(file, reason, cure, Status.BAD_WORDS, None))
             continue
-        try:
+        with kept_in(faults):
             texts[int(number[1])] = text_in(file, TEXTS_LIMIT)
-        except Fault as fault:
-            faults.append(fault)
     size = sum(len(text.encode()) for text in texts.values())
     if size > TEXTS_LIMIT:
         reason = f"the texts have {size} bytes together; at most {TEXTS_LIMIT} are allowed"
@@ -236,10 +234,8 @@ def checked(
         cure = f"run {election.command('roll')} first"
         faults.append(Fault(None, "there are no electors yet", cure, done=None))
     letter_text = ""
-    try:
+    with kept_in(faults):
         letter_text = letter_text_in(election.folder)
-    except Fault as fault:
-        faults.append(fault)
     data = sealed_form(draft, roll or ["nobody"], language, deadline=deadline, address=address)
     stop_at([*faults, *faults_by_debvote(election, data)])
     sheet = sheet_in(election.debvote.answer("count", data).text)
