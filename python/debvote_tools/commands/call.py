@@ -227,7 +227,7 @@ def sealed_by(
         files[f"{LETTERS}/{EXTENSION}"] = extension_letter(data).encode()
     if data.poll.secret:
         codes = {elector.code or elector.name for elector in queries.electors(election.book)}
-        for name, content in reversed(files.items()):
+        for name, content in files.items():
             demand_no_code(name, content, codes, "nothing was changed")
     return files if keyring is None else {**files, KEYRING: keyring}
 
