@@ -16,7 +16,7 @@ from debvote_tools.book import queries  # noqa: E402
 from debvote_tools.book.book import Book, open_book  # noqa: E402
 from debvote_tools.book.election import LETTER_TEXT, History  # noqa: E402
 from debvote_tools.poll.sealed_poll import read_plain  # noqa: E402
-from debvote_tools.poll.aliases import alias_of  # noqa: E402
+from debvote_tools.poll.secret import alias_of  # noqa: E402
 
 UNTIL = ("--until", "2026-12-04 18:00", "--zone", "Europe/Berlin")
 FIRST = "Friday, 4 December 2026, 18:00 (UTC+01:00)"

@@ -38,8 +38,7 @@ from debvote_tools.poll.until import demand_future, parse_until
 from debvote_tools.cli.faults import Fault, Status, kept_in, stop_at
 from debvote_tools.files import read_at_most
 from debvote_tools.inbox.signature import read_keyring
-from debvote_tools.poll.aliases import aliased_poll
-from debvote_tools.poll.codes import demand_no_code
+from debvote_tools.poll.secret import aliased_poll, demand_no_code
 from debvote_tools.poll.marks import new_own_mark
 
 EXTENSION = "extension.txt"
