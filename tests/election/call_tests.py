@@ -239,7 +239,8 @@ class Letters(CallTest):
         self.assertRegex(after["ada"].mark, "^[2-9a-z]{10}$")
 
     def test_with_marks_alone(self) -> None:
-        self.done("call", *UNTIL, "--to", "vote@club.example", "--at", "https://club.example/vote/", "--marked")
+        ended = self.done("call", *UNTIL, "--to", "vote@club.example", "--at", "https://club.example/vote/", "--marked")
+        self.assertIn("A letter goes in by itself only with the own mark of its elector.\n", ended.output)
         self.assertIs(self.announced("marked"), True)
         said = "Open the link in your letter, or answer that letter: then the subject has your own mark"
         self.assertIn(said, " ".join(self.read("call/index.html").decode().split()))

@@ -325,6 +325,8 @@ def report(election: Election, data: CallData) -> None:
         f"Checksum of the poll: {data.poll.checksum}",
         f"Mark of the poll, at the end of each subject: {data.mark}",
     ]
+    if data.is_marked:
+        lines.append("A letter goes in by itself only with the own mark of its elector.")
     if data.until is not None:
         lines.append(f"End of the vote: {times.time_in_words(data.until)}")
     if data.is_extended:
