@@ -21,9 +21,9 @@ from tests.support.at_browser import BROWSER, Window
 sys.path.insert(0, str(pathlib.Path(__file__).resolve().parents[2] / "python"))
 
 from debvote_tools.book.queries import Elector  # noqa: E402
-from debvote_tools.poll.call_data import CallData  # noqa: E402
+from debvote_tools.poll.call import CallData  # noqa: E402
 from debvote_tools.text.language import LANGUAGES, language_of  # noqa: E402
-from debvote_tools.poll.sealed_poll import SealedPoll, read_plain  # noqa: E402
+from debvote_tools.poll.sealed import SealedPoll, read_plain  # noqa: E402
 from debvote_tools.poll.secret import BY_OPENSSL, BY_PYTHON, NUMBER, alias_of, aliased_ballots, aliased_poll, codes_csv, new_code, seal_line, sealed_checksum, slips  # noqa: E402
 from debvote_tools.inbox.lines import has_code  # noqa: E402
 

@@ -15,7 +15,7 @@ sys.path.insert(0, str(support.ROOT / "python"))
 from debvote_tools.book import queries  # noqa: E402
 from debvote_tools.book.book import Book, open_book  # noqa: E402
 from debvote_tools.book.election import LETTER_TEXT, History  # noqa: E402
-from debvote_tools.poll.sealed_poll import read_plain  # noqa: E402
+from debvote_tools.poll.sealed import read_plain  # noqa: E402
 from debvote_tools.poll.secret import alias_of  # noqa: E402
 
 UNTIL = ("--until", "2026-12-04 18:00", "--zone", "Europe/Berlin")

@@ -21,11 +21,11 @@ from tests.support.at_browser import BROWSER, Window
 
 sys.path.insert(0, str(pathlib.Path(__file__).resolve().parents[2] / "python"))
 
-from debvote_tools.poll.call_data import CallData, call_files, call_letter, demand_mail_address, demand_web_address, extension_letter  # noqa: E402
+from debvote_tools.poll.call import CallData, call_files, call_letter, demand_mail_address, demand_web_address, extension_letter  # noqa: E402
 from debvote_tools.cli.faults import Fault, Status  # noqa: E402
 from debvote_tools.text.language import LANGUAGES, language_of  # noqa: E402
 from debvote_tools.inbox.lines import changed  # noqa: E402
-from debvote_tools.poll.sealed_poll import SealedPoll, read_plain, with_roll  # noqa: E402
+from debvote_tools.poll.sealed import SealedPoll, read_plain, with_roll  # noqa: E402
 
 BERLIN = datetime.timezone(datetime.timedelta(hours=1))
 FIRST, LATER = (datetime.datetime(2026, 12, day, 18, tzinfo=BERLIN) for day in (4, 6))

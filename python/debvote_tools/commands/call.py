@@ -7,7 +7,7 @@ from debvote_tools.text import times
 from debvote_tools.cli.arguments import flag, option
 from debvote_tools.book import queries
 from debvote_tools.book.acts import Detail
-from debvote_tools.poll.call_data import (
+from debvote_tools.poll.call import (
     call_files,
     CallData,
     demand_web_address,

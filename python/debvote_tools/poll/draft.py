@@ -16,7 +16,7 @@ from debvote_tools.book.reporting import count_of
 from debvote_tools.cli.faults import Fault, Status, kept_in, stop_at
 from debvote_tools.files import POLL_LIMIT, file_text, read_whole
 from debvote_tools.poll.plain_names import bad_options, bad_title, plain_options, plain_title
-from debvote_tools.poll.sealed_poll import KEYS, SealedPoll, is_set, plain_form, read_plain
+from debvote_tools.poll.sealed import KEYS, SealedPoll, is_set, plain_form, read_plain
 from debvote_tools.result.sheet import Sheet, sheet_in
 from debvote_tools.cli.terminal_text import LINE_ENDS, shown_text
 

@@ -13,8 +13,8 @@ from debvote_tools.book.queries import Elector
 from debvote_tools.cli.faults import Fault, Status
 from debvote_tools.files import sha256_of
 from debvote_tools.inbox.lines import CODE_WITHIN
-from debvote_tools.poll.call_data import PACKAGE, CallData
-from debvote_tools.poll.sealed_poll import SealedPoll, with_roll
+from debvote_tools.poll.call import PACKAGE, CallData
+from debvote_tools.poll.sealed import SealedPoll, with_roll
 from debvote_tools.text.ballots import in_normal_form
 from debvote_tools.text.language import marked
 from debvote_tools.text.rendering import render_page, resources
