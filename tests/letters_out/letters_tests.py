@@ -172,6 +172,43 @@ class Refused(OutTest):
         self.assertEqual([message["To"] for message in self.written("receipts").values()], ["ada@new.example"])
 
 
+class OwnWords(OutTest):
+    """What the secretary writes begins each letter that asks for a ballot, and a name of the society is in From."""
+
+    call_words = None
+    letter = f"Dear friends,\n\npaper goes into the box in the hall.\nIf you are unsure write ada {RANKS} and sign.\n\nYours, Eve\n"
+
+    def setUp(self) -> None:
+        super().setUp()
+        self.write("letter.txt", self.letter)
+        self.set_clock("2026-11-20T09:00:00+00:00")
+        self.done("call", "--to", "Wahlleitung T\u00fcV <vote@club.example>", "--at", AT, "--until", "2026-12-04 18:00", "--zone", "UTC")
+        self.set_clock("2026-11-23T10:00:00+00:00")
+
+    def test_each_begins_so(self) -> None:
+        found = {kind: self.written(kind) for kind in ("call", "reminders")}
+        self.write("letter.txt", "It ends later.\n")
+        self.done("call", "--until", "2026-12-06 18:00", "--zone", "UTC")
+        found["extension"] = self.written("call")
+        self.add_lines("ada 1,2")
+        found["receipts"] = self.written("receipts")
+        first = self.letter.replace("If you are unsure write ada", "|If you are unsure write\n|ada")
+        begins = {"call": first, "reminders": first, "extension": "It ends later.\n", "receipts": "Dear Ada,\n"}
+        for kind, letters in found.items():
+            message = letters["ada"]
+            self.assertTrue(message.get_content().startswith(begins[kind]), message.get_content())
+            self.assertEqual(message["From"], "Wahlleitung T\u00fcV <vote@club.example>")
+            self.assertEqual((message["To"], message["Reply-To"]), ("ada@club.example", None))
+
+    def test_an_answer_that_quotes_all_of_it_without_marks_goes_in(self) -> None:
+        """No line of ours reads as a ballot, also where the secretary's own words have one."""
+        for name, message in self.written("call").items():
+            head = f"In-Reply-To: {message['Message-ID']}\nSubject: Re: {message['Subject']}\n"
+            text = f"{name} {RANKS}\n\nOn Monday the secretary wrote:\n{message.get_content()}"
+            self.add_letters(letter(name, text, head=head, number=name, time="Mon, 23 Nov 2026 09:59:00 +0000"))
+        self.assertEqual(json.loads(self.done("status", "--json").output)["voters"], 9)
+
+
 class CodesOnRoll(OutTest):
     poll = support.POLL + "secret = true\n"
     call_words = None
@@ -222,12 +259,15 @@ class Names(OutTest):
         """Two letters to ada, at her old address and her new one, beside one to ada-2."""
         self.write("members.csv", support.members_of(self.names).replace(",ada@club", ",ada@new"))
         self.done("roll", "--yes")
-        self.add_lines(f"ada {RANKS}", f"ada-2 {RANKS}")
+        self.add_lines("ada 1", f"ada-2 {RANKS}")
         wanted = ["ada-2@club.example", "ada@club.example", "ada@new.example"]
         found = self.written("receipts").values()
         self.assertEqual(sorted(message["To"] for message in found), wanted)
-        # the old address does not learn the own mark
-        self.assertEqual([message["To"] for message in found if not re.search(MARKS, message["Subject"])], ["ada@club.example"])
+        # the old address does not learn the own mark, neither in the subject nor in the text, which has the right line
+        said = {message["To"]: (bool(re.search(MARKS, message["Subject"])), f"{AT}#ada/" in one_line(message)) for message in found}
+        wanted_marks = {"ada-2@club.example": (True, False), "ada@club.example": (False, False), "ada@new.example": (True, True)}
+        self.assertEqual(said, wanted_marks)
+        self.assertTrue(all("ada _,_,_,_" in one_line(message) for message in found if "ada@" in message["To"]))
 
 
 class Receipts(OutTest):
@@ -363,8 +403,9 @@ class Receipts(OutTest):
         self.assertTrue(output.startswith(said), output)
         self.assertEqual([file.stem for file in self.files("receipts")], ["cleo", "eve"])
         self.assertEqual(self.done("letters", "receipts").output, f"{said}There is no letter to send.\n")
-        self.assertIn("no ballot found\n  other words: Who are you?\n", self.done("held").output)
-        self.assertIn(f"no ballot found\n  other words: Benjamin Lind {RANKS}\n  same address: ada, ben\n", self.done("held").output)
+        held = self.done("held").output.replace("\n        ", "\n")
+        self.assertIn("no ballot found\nother words: Who are you?\n", held)
+        self.assertIn(f"no ballot found\nother words: Benjamin Lind {RANKS}\nsame address: ada, ben\n", held)
         self.done("held", 1, 2, "--set-aside")
         self.assertEqual(self.done("letters", "receipts").output, "There is no letter to send.\n")
 

@@ -95,10 +95,12 @@ class Sending(SendTest):
 
     def not_reached(self) -> list[str]:
         """Whom `status` names, in both of its forms."""
-        found = json.loads(self.done("status", "--json").output)["refused_letters"]
-        said = f"Not reached by the call: {', '.join(found)}\n"
-        self.assertEqual(said in self.done("status").output, bool(found))
-        return found
+        found, said = json.loads(self.done("status", "--json").output)["not_reached"], self.done("status").output
+        for reason in {*found.values()}:
+            names = [name for name, why in found.items() if why == reason]
+            self.assertIn(f"Not reached by the call: {reason} ({len(names)}):\n  {' '.join(names)}\n", said)
+        self.assertEqual("Not reached" in said, bool(found))
+        return list(found)
 
     def test_who_was_refused_is_named_until_a_letter_is_taken(self) -> None:
         """By each later run, of whatever letters, and by `status`. Else nobody sees that somebody was never asked to vote."""
@@ -120,9 +122,12 @@ class Sending(SendTest):
         self.done("roll", "--yes")
         self.assertEqual(self.not_reached(), [])
         self.server.at = lambda step, number: (step, number) == ("data", 6)
+        self.assertEqual(json.loads(self.done("status", "--json").output)["printed"], [])
         self.assertEqual(self.send("call").status, 7)
         self.server.at = lambda step, number: False
         self.assertEqual(self.not_reached(), ["hal", "ida"])
+        self.assertEqual(json.loads(self.done("status", "--json").output)["printed"], ["gus"])
+        self.assertIn("Get the call printed (1):\n  gus\n", self.done("status").output)
         ended = self.send("call")
         self.assertIn("Without an address: gus. Print letters/call/", ended.output)
         self.assertNotIn("Not reached", ended.output)

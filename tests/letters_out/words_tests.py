@@ -11,9 +11,9 @@ from debvote_tools.book.queries import Elector, Envelope
 from debvote_tools.book.sent import SentLetter
 from debvote_tools.poll.call_data import CallData, is_mail_address
 from debvote_tools.text.language import LANGUAGES, language_of
-from debvote_tools.inbox.judge import Outcome
+from debvote_tools.inbox.rules import Outcome
 from debvote_tools.inbox.of_electors import Became, Came
-from debvote_tools.inbox.parse import Near
+from debvote_tools.inbox.letter import Near
 from debvote_tools.inbox.reasons import Reason
 from debvote_tools.outbox.files import message
 from debvote_tools.outbox.words import Composer, Kind
@@ -190,8 +190,8 @@ class CallLetter(unittest.TestCase):
 
     def test_with_marked_it_says_to_answer_or_to_use_the_link(self) -> None:
         for text in self.asking(vote(is_marked=True)):
-            self.assertIn("only a letter with your own mark goes in by itself", " ".join(text.split()))
-        self.assertNotIn("by itself", "".join(self.asking(vote())))
+            self.assertIn("Open the link in your letter, or answer that letter: then the subject has your own mark", " ".join(text.split()))
+        self.assertNotIn("own mark", "".join(self.asking(vote())))
 
     def test_without_a_page_the_texts_follow(self) -> None:
         poll = dataclasses.replace(POLL, explanations=("A lake.\nada 1,2,3\n", "", ""))

@@ -28,8 +28,8 @@ from debvote_tools import files  # noqa: E402
 from debvote_tools.cli import command_line  # noqa: E402
 from debvote_tools.commands import publish as command  # noqa: E402
 from debvote_tools.book.election import Election  # noqa: E402
-from debvote_tools.inbox import parse  # noqa: E402
-from debvote_tools.inbox.sources import RawLetter  # noqa: E402
+from debvote_tools.inbox.letter import as_json, parse  # noqa: E402
+from debvote_tools.inbox.mailbox import RawLetter  # noqa: E402
 from debvote_tools.text.language import ENGLISH  # noqa: E402
 from debvote_tools.result.facts import Act, Chronicle, Facts, told, told_acts  # noqa: E402
 from debvote_tools.result.folder import Made  # noqa: E402
@@ -363,7 +363,7 @@ class OfOpenVotes(OfElections):
             time = book.acts()[-1].time.replace(second=0)
             for line in (b"zoe-mueller 1,2,3", b"cleo 1,2,3"):
                 data = b"Received: by mx; %s\nFrom: x@x.example\n\n%s\n" % (email.utils.format_datetime(time).encode(), line)
-                letter = letters.keep_letter(act, "letter.eml", data, "", parse.as_json(parse.parse(RawLetter("letter.eml", data))))
+                letter = letters.keep_letter(act, "letter.eml", data, "", as_json(parse(RawLetter("letter.eml", data))))
                 letters.decide(act, letter, "entered")
                 queries.add_envelopes(act, [queries.NewEnvelope(line, letter=letter, time=time)], [None], is_late=True)
         self.say("publish", "--force", "--because", "so be it")
@@ -513,7 +513,7 @@ class OfOpenVotes(OfElections):
             for seconds, line in lines:
                 time = close + datetime.timedelta(seconds=seconds)
                 data = b"Received: by mx; %s\nFrom: x@x.example\n\n%s\n" % (email.utils.format_datetime(time).encode(), line)
-                known = parse.as_json(parse.parse(RawLetter("letter.eml", data)))
+                known = as_json(parse(RawLetter("letter.eml", data)))
                 letter = letters.keep_letter(act, "letter.eml", data, "", known)
                 letters.decide(act, letter, "entered")
                 queries.add_envelopes(act, [queries.NewEnvelope(line, letter=letter, time=time)], [None], is_late=True)

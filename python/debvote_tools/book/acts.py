@@ -23,8 +23,6 @@ class Detail(TypedDict, total=False):
     electors: int
     codes: int
     on_roll: bool
-    # addresses: the electors with another address, and so another own mark
-    new_addresses: list[int]
     # call, extend and announce; times, the zone of --until and addresses as the command line names
     # them
     until: str
@@ -44,7 +42,8 @@ class Detail(TypedDict, total=False):
     agreed: list[str]
     # take back: the act of the call; its `codes` have lapsed
     call: int
-    # what comes: how many letters and lines; of set aside, put back and enter their numbers
+    # what comes: how many letters and lines; of set aside, put back and enter their numbers (of enter
+    # `letter` if it is one; a ballot that was typed has no line)
     letter: int
     letters: Any
     lines: Any

@@ -35,7 +35,7 @@ TEXT_LIMIT, NAME_LIMIT = 65_536, 200
 REFUSED_IN_NAME = '"\u201c\u201d\u201e\u201f\u2033\uff02\u00ab\u00bb'
 
 
-class Arguments(acting.Arguments):
+class Arguments(acting.Arguments, checks=True):
     casting: str | None = option(*count.CASTING)
     cast_by: str | None = option("NAME", "Who had the casting vote; the page says so in your name")
     cast_on: str | None = option("DATE", "The day of the casting vote, as 2026-12-05")

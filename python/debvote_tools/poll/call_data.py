@@ -1,4 +1,4 @@
-"""What a call says, as one value, and which addresses it can say."""
+"""What a call says, as one value, which addresses it can say, and the files that are made from it."""
 
 import dataclasses
 import datetime
@@ -7,10 +7,12 @@ import re
 import urllib.parse
 from collections.abc import Mapping
 
-from debvote_tools.text.ballots import UNRANKED, ranks_in_words
+from debvote_tools.text.ballots import IN_A_LIST, without_ballots
 from debvote_tools.cli.faults import Fault, Status
 from debvote_tools.cli.terminal_text import LINE_ENDS, odd_sign
+from debvote_tools.files import sha256_of
 from debvote_tools.text.language import Language, marked
+from debvote_tools.text.rendering import render_letter, render_page, resources
 from debvote_tools.poll.marks import in_brackets
 from debvote_tools.poll.sealed_poll import SealedPoll
 
@@ -21,14 +23,39 @@ MAIL_LIMIT = 254
 NAMED = re.compile(r"(?P<quote>\"?)(?P<name>.*?)(?P=quote)\s*<(?P<address>[^<>]*)>", re.DOTALL)
 NAME_LIMIT = 100
 
-# printable ASCII without blanks, without what ends an address in a letter, and without the # that
-# an own ballot's link adds
+# printable ASCII without blanks, what ends an address in a letter, and the # of a personal link
 WEB = re.compile(r"[!$-;=?-_a-z~]+")
 WEB_LIMIT = 500
+HOST = re.compile(r"[A-Za-z0-9.-]*[A-Za-z0-9]|\[[0-9A-Fa-f:.]+\]")
 
 # an option in a sentence: its number and its name do not run into each other
 OPTION = marked("Option {number}: {name}")
 SUBJECT = marked("Ballot: {title}")
+
+
+PACKAGE = "debvote_tools.poll"
+
+# the sentences of the script on the page
+SENTENCES = {
+    "option": OPTION,
+    "subject": SUBJECT,
+    "type_name": marked("Type your name as it is on the roll."),
+    "on_roll": marked("On the roll: {names}"),
+    "not_on_roll": marked(
+        "{name} is not on the roll of this poll; the names on the roll are below."
+    ),
+    "no_name": marked(
+        "Names on the roll have only small letters without accents, digits, points and hyphens, and at most 32 of them."
+    ),
+    "then": IN_A_LIST.then,
+    "equally": IN_A_LIST.equally,
+    "unranked": IN_A_LIST.unranked,
+    "and": marked("{entries} and {last}"),
+    "rank_missing": marked("Give at least one option a rank."),
+    "more": marked("Read on"),
+    "selected": marked("The line is selected. Copy it with Ctrl+C, or Cmd+C on a Mac."),
+    "copied": marked("The line is copied."),
+}
 
 
 @dataclasses.dataclass(frozen=True)
@@ -98,24 +125,12 @@ class CallData:
     @functools.cached_property
     def option_names(self) -> list[str]:
         """The options in plain text, each with its number."""
-        return [
-            self.language.say(OPTION, number=number, name=name)
-            for number, name in enumerate(self.poll.names, start=1)
-        ]
+        options = enumerate(self.poll.names, start=1)
+        return [self.language.say(OPTION, number=number, name=name) for number, name in options]
 
     @property
     def explanations(self) -> list[tuple[int, list[str]]]:
         return explanations_of(self.poll)
-
-    @property
-    def example(self) -> str:
-        """Ranks that show the order, and with four options or more one that is not ranked."""
-        count = len(self.poll.names)
-        return "1,2" if count == 2 else ",".join(["2", "1", *[UNRANKED] * (count - 3), "3"])
-
-    @property
-    def example_in_words(self) -> str:
-        return ranks_in_words(self.example, self.option_names, self.language)
 
     @property
     def name_gap(self) -> str:
@@ -134,11 +149,8 @@ def explanations_of(poll: SealedPoll) -> list[tuple[int, list[str]]]:
     """The texts of the options, in paragraphs, each with the number of its option. They are not the
     program's words.
     """
-    return [
-        (number, paragraphs_of(text))
-        for number, text in enumerate(poll.explanations, start=1)
-        if text.strip()
-    ]
+    texts = enumerate(poll.explanations, start=1)
+    return [(number, paragraphs_of(text)) for number, text in texts if text.strip()]
 
 
 def paragraphs_of(text: str) -> list[str]:
@@ -170,24 +182,58 @@ def is_mail_address(text: str) -> bool:
 
 
 def demand_web_address(text: str) -> None:
-    if not is_web_address(text):
-        reason = (
-            "it must be the address of a page, as https://example.org/vote/, without a part after #"
-        )
-        raise Fault("--at", reason, "write it as a browser shows it", Status.BAD_WORDS)
-
-
-def is_web_address(text: str) -> bool:
-    """Whether a text is a web address by http or https, without user, password and fragment."""
-    if len(text) > WEB_LIMIT or not WEB.fullmatch(text):
-        return False
+    """Stops at what is no address by http or https, or has a user, a password or a fragment."""
     try:
-        parts = urllib.parse.urlsplit(text)
-        is_port = parts.port != 0
+        parts = urllib.parse.urlsplit(
+            text if len(text) <= WEB_LIMIT and WEB.fullmatch(text) else ""
+        )
+        host = parts.netloc.rpartition(":")[0] or parts.netloc
+        if parts.scheme in ("http", "https") and parts.port != 0 and HOST.fullmatch(host):
+            return
     except ValueError:
-        return False
-    is_host = re.fullmatch(
-        r"[A-Za-z0-9.-]*[A-Za-z0-9]|\[[0-9A-Fa-f:.]+\]",
-        parts.netloc.rpartition(":")[0] or parts.netloc,
+        pass
+    reason = (
+        "it must be the address of a page, as https://example.org/vote/, without a part after #"
     )
-    return parts.scheme in ("http", "https") and is_port and is_host is not None
+    raise Fault("--at", reason, "write it as a browser shows it", Status.BAD_WORDS)
+
+
+# ---------------------------------------------------------------- the files
+def call_letter(call: CallData) -> str:
+    """The letter of the call to all, with a gap in place of a name."""
+    return letter_to_all(call, is_extension=False)
+
+
+def extension_letter(call: CallData) -> str:
+    """The letter about a later end: the old one, the new one, and that all else is as it was."""
+    return letter_to_all(call, is_extension=True)
+
+
+def letter_to_all(call: CallData, *, is_extension: bool) -> str:
+    text = render_letter(
+        PACKAGE, "call.txt", call.language, call=call, elector=None, is_extension=is_extension
+    )
+    return without_ballots(text, len(call.poll.names), lambda word: True)
+
+
+def call_page(call: CallData) -> bytes:
+    return render_page(
+        PACKAGE,
+        "page.html",
+        call.language,
+        style=resources(PACKAGE, "fields.css", "given.css", "ballot.css"),
+        script=resources(PACKAGE, "fold.js", "ballot.js"),
+        call=call,
+        script_words=call.language.words(SENTENCES),
+    )
+
+
+def call_files(call: CallData) -> dict[str, bytes]:
+    """The files of a call by name, the checksums last. The poll is the sealed one, byte for byte;
+    if it has codes, it stays out.
+    """
+    files = {"index.html": call_page(call), "call.txt": call_letter(call).encode()}
+    if not call.has_codes_on_roll:
+        files["poll.toml"] = call.poll.as_bytes()
+    checksums = "".join(f"{sha256_of(files[name])}  {name}\n" for name in sorted(files))
+    return files | {"SHA256SUMS": checksums.encode()}

@@ -273,7 +273,7 @@ def chronicle_of(book: Book, history: History, *, is_secret: bool) -> Chronicle:
     # close had come before it, as its act says
     after_the_end = 0
     if history.until is not None:
-        condition = f"{queries.IN_TIME} AND letter IS NULL AND time > ? AND envelope.act < ?"
+        condition = f"{queries.IN_TIME} AND letter IS NULL AND time > ? AND act < ?"
         first_close = history.closes[0].number if history.closes else history.last.number + 1
         after_the_end = len(queries.lines(book, condition, as_text(history.until), first_close))
     return Chronicle(tuple(acts), history.until, after_the_end)
@@ -296,7 +296,7 @@ def acts_of_page(act: DoneAct, book: Book, history: History, *, is_secret: bool)
         case "addresses":
             yield Act(time, "roll changed", {"number": detail["electors"]})
         case "strike":
-            for envelope in queries.envelopes(book, "struck.act = ?", act.number):
+            for envelope in queries.envelopes(book, "struck = ?", act.number):
                 done = "struck in secret" if is_secret else "struck"
                 yield Act(time, done, {"envelope": envelope.number}, reason)
         case "close":
@@ -318,10 +318,10 @@ def close_of(act: DoneAct, book: Book, history: History) -> dict[str, Any]:
     earlier = [close.number for close in history.closes if close.number < act.number]
     came = struck = None
     if earlier:
-        between = "late = 0 AND {0}.act > ? AND {0}.act < ?"
+        between = "late = 0 AND {0} > ? AND {0} < ?"
         came, struck = (
-            len(queries.lines(book, between.format(table), earlier[-1], act.number))
-            for table in ("envelope", "struck")
+            len(queries.lines(book, between.format(column), earlier[-1], act.number))
+            for column in ("act", "struck")
         )
     return places | {"came": came, "struck": struck}
 
