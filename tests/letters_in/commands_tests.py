@@ -774,7 +774,6 @@ class TakenBack(LettersTest):
         self.assertIn("Set aside: 1", self.done("held").output)
         self.assertIn("its ballot was struck", self.done("held", "1").output)
 
-
     def test_all_come_back_by_one_command(self) -> None:
         """But for those that somebody has to look at, as before."""
         box = (letter("ada", f"ada {RANKS}"), letter("ben", f"ben {RANKS}"), letter("cleo", f"cleo {RANKS}"), letter("dan", "hello"))

@@ -71,7 +71,6 @@ def run(election: Election, arguments: Arguments) -> None:
                 yield f"Envelope {number}, entered anew from late envelope {envelope.number}: {line}"
 
         plans.enter(
-            book,
             vote,
             "reopen",
             detail,
@@ -84,7 +83,7 @@ def run(election: Election, arguments: Arguments) -> None:
             is_late=False,
         )
 
-    plans.agreed_act(book, plan, lambda _: True, act)
+    plans.agreed_act(vote, plan, lambda _: True, act)
     if left := [envelope.number for envelope in late_left(book)]:
         again_command = election.command("reopen", "--in-time", "NUMBER", "--because", "TEXT")
         cure = f"if one of them came before the first close, close again and run {again_command}"

@@ -52,7 +52,7 @@ def run(election: Election, arguments: Arguments) -> None:
                 letters.decide(act, letter, letters.STRUCK)
 
     number = arguments.number
-    envelope = agreed_act(book, lambda: demand_envelope(election, book, number), show, act)
+    envelope = agreed_act(vote, lambda: demand_envelope(election, book, number), show, act)
     tell(f"Struck {in_words(envelope, vote)}, because: {because}")
     if envelope.elector is not None:
         elector = name_in(envelope.line).decode("ascii")

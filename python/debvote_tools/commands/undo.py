@@ -4,7 +4,7 @@ from collections.abc import Iterator
 from typing import NamedTuple
 
 from debvote_tools.book import acting, letters, queries, sent
-from debvote_tools.book.book import Book, DoneAct
+from debvote_tools.book.book import DoneAct
 from debvote_tools.book.election import Election, History
 from debvote_tools.book.reporting import act_time, count_of
 from debvote_tools.cli.arguments import flag
@@ -60,7 +60,7 @@ def run(election: Election, arguments: Arguments) -> None:
             for letter in found.letters:
                 letters.decide(act, letter, letters.TAKEN_BACK)
 
-    undone = agreed_act(book, lambda: what_is_taken_back(election, book, vote), show, act)
+    undone = agreed_act(vote, lambda: what_is_taken_back(vote), show, act)
     none = None if is_asked else "no ballot is left"
     tell(f"Took back {undone.what}.", *consequences(vote, undone, none))
     again = f"; {election.command('held', '--enter')} enters these letters again"
@@ -74,10 +74,11 @@ def demand_yes(command: str, question: str, when: str) -> None:
         raise Fault(command, "you did not say yes", f"run the command again when {when}")
 
 
-def what_is_taken_back(election: Election, book: Book, vote: Vote) -> Plan:
+def what_is_taken_back(vote: Vote) -> Plan:
     """The last act that entered lines, and what it changes to take it back. Stops if there is none,
     or if the vote is closed.
     """
+    book, election = vote.book, vote.election
     with book.snapshot():
         history = History(book.acts())
         demand_open(election, history)

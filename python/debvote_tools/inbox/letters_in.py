@@ -36,30 +36,26 @@ SLOW = Reason.SLOW_SIGNATURE()
 
 # ---------------------------------------------------------------- what `add` does with them
 def take_letters(
-    election: Election,
-    vote: Vote,
-    files: Mapping[str, CameFile | None],
-    *,
-    is_look: bool,
-    is_agreed: bool,
+    vote: Vote, files: Mapping[str, CameFile | None], *, is_look: bool, is_agreed: bool
 ) -> None:
     """Keeps the letters that are new, and enters the ballots that go in; or tells what would become
     of them.
     """
     raws, passed_over = read(files)
-    new = new_of(election, raws)
-    found = parsed(election, vote, new)
+    new = new_of(vote, raws)
+    found = parsed(vote, new)
     if not is_look:
-        keep(election, vote, new, found)
+        keep(vote, new, found)
     for one in passed_over:
         tell(f"{shown_text(one.where)}: {one.why.what}, and was passed over; {one.why.cure}")
     if not is_look:
         tell(f"{count_of(len(new), 'new letter')}; {len(raws) - len(new)} came before.")
-        enter_letters(election, vote, is_agreed=is_agreed)
+        enter_letters(vote, is_agreed=is_agreed)
         return
-    history = election.history()
-    all_letters = judged(election, history, letters.letters(election.book), found, vote=vote)
-    tell_letters(election, vote, history, all_letters)
+    history = vote.election.history()
+    kept = letters.letters(vote.book)
+    all_letters = judged(vote.election, history, kept, found, vote=vote)
+    tell_letters(vote, history, all_letters)
     keys = {letter.key for letter in found}
     number = sum(letter.parsed.key in keys for letter in all_letters)
     would = letter_words.counts(all_letters, len(going_in(all_letters)))
@@ -87,8 +83,8 @@ def read(files: Mapping[str, CameFile | None]) -> tuple[list[RawLetter], list[Pa
     return found, passed_over
 
 
-def new_of(election: Election, raws: Sequence[RawLetter]) -> list[RawLetter]:
-    known = letters.known_digests(election.book)
+def new_of(vote: Vote, raws: Sequence[RawLetter]) -> list[RawLetter]:
+    known = letters.known_digests(vote.book)
     # of letters with the same bytes the first that is not parted off, or else the first
     chosen: dict[str, RawLetter] = {}
     for raw in raws:
@@ -105,16 +101,14 @@ def is_new(digest: str, is_parted_off: bool, known: Collection[tuple[str, bool]]
     return (digest, False) not in known and not (is_parted_off and (digest, True) in known)
 
 
-def keep(
-    election: Election, vote: Vote, raws: Sequence[RawLetter], found: Sequence[ParsedLetter]
-) -> None:
+def keep(vote: Vote, raws: Sequence[RawLetter], found: Sequence[ParsedLetter]) -> None:
     if not raws:
         return
-    with election.book.act("letters", {"letters": len(raws)}) as act:
+    with vote.book.act("letters", {"letters": len(raws)}) as act:
         # their lines were read by the poll of this call
         cure = "run the command again"
-        plan.demand_same_call(vote, election.history(), cure, NOTHING_ADDED)
-        known = letters.known_digests(election.book)
+        plan.demand_same_call(vote, vote.election.history(), cure, NOTHING_ADDED)
+        known = letters.known_digests(vote.book)
         for raw, letter in zip(raws, found):
             # another command may have kept it meanwhile
             if is_new(letter.digest, letter.is_parted_off, known):
@@ -136,7 +130,6 @@ def envelope_of(letter: JudgedLetter, ballot: str) -> NewEnvelope:
 
 
 def enter(
-    election: Election,
     vote: Vote,
     name: ActName,
     detail: Detail,
@@ -157,27 +150,28 @@ def enter(
         yield from end
 
     late = now.is_late
-    plan.enter(election.book, vote, name, detail, envelopes, report, seen, is_late=late)
+    plan.enter(vote, name, detail, envelopes, report, seen, is_late=late)
 
 
 def going_in(found: Iterable[JudgedLetter]) -> list[JudgedLetter]:
     return [letter for letter in found if letter.outcome is Outcome.GOES_IN]
 
 
-def enter_letters(election: Election, vote: Vote, *, is_agreed: bool) -> None:
+def enter_letters(vote: Vote, *, is_agreed: bool) -> None:
     """Enters the ballots that go in, once they are agreed to."""
-    history, found = election.history(), list[JudgedLetter]()
+    election, found = vote.election, list[JudgedLetter]()
+    history = election.history()
 
     def plan_now() -> Plan:
         nonlocal history, found
         history = election.history()
         plan.demand_same_call(vote, history, "run the command again", NOTHING_ADDED)
-        found = judged(election, history, letters.letters(election.book), vote=vote)
+        found = judged(election, history, letters.letters(vote.book), vote=vote)
         new = [envelope_of(letter, letter.ballots[0].ballot) for letter in going_in(found)]
         return Plan(new, [letter.number for letter in going_in(found)], history.is_closed)
 
     def show(now: Plan) -> bool:
-        tell_letters(election, vote, history, found)
+        tell_letters(vote, history, found)
         if not now.done:
             tell(letter_words.counts(found, 0))
         elif is_agreed or agreed(count_of(len(now.done), "ballot")):
@@ -191,9 +185,9 @@ def enter_letters(election: Election, vote: Vote, *, is_agreed: bool) -> None:
         number = len(now.done)
         detail: Detail = {"letters": number, "lines": number}
         end = letter_words.counts(found, number)
-        enter(election, vote, "add", detail, now, seen, [end])
+        enter(vote, "add", detail, now, seen, [end])
 
-    plan.agreed_act(election.book, plan_now, show, act)
+    plan.agreed_act(vote, plan_now, show, act)
     undo = f"; {election.command('undo')} takes back what was entered last"
     waiting = f"{election.command('held')}, which lists the letters that wait"
     is_waiting = any(letter.outcome is Outcome.WAITS for letter in found)
@@ -209,30 +203,25 @@ def agreed(ballots: str) -> bool:
     return bool(is_yes(f"Enter {ballots}?"))
 
 
-def tell_letters(
-    election: Election, vote: Vote, history: History, found: Sequence[JudgedLetter]
-) -> None:
+def tell_letters(vote: Vote, history: History, found: Sequence[JudgedLetter]) -> None:
     if new := going_in(found):
         if history.is_closed:
-            tell(*plan.notes(election, history, "what is added"))
+            tell(*plan.notes(vote.election, history, "what is added"))
         tell(*letter_words.going_in(new, vote))
     tell(*letter_words.table([one for one in found if one.outcome is Outcome.WAITS]))
 
 
 # ---------------------------------------------------------------- how they are judged
 def parsed(
-    election: Election,
-    vote: Vote,
-    raws: Sequence[RawLetter],
-    known: Mapping[str, str | None] | None = None,
+    vote: Vote, raws: Sequence[RawLetter], known: Mapping[str, str | None] | None = None
 ) -> list[ParsedLetter]:
     """What letters say, with their signatures if letters have to be signed. Debvote is asked about
     lines of which it is not `known` yet what it says.
     """
-    found, keyring = [parse(raw) for raw in raws], keyring_of(election)
+    found, keyring = [parse(raw) for raw in raws], keyring_of(vote.election)
     if keyring is not None and found:
         found = verified(raws, found, keyring, find_gpgv())
-    return read_all(found, names_of(election), vote, known) if found else []
+    return read_all(found, names_of(vote.election), vote, known) if found else []
 
 
 def names_of(election: Election) -> Names:
@@ -260,12 +249,12 @@ def judged(
     if not kept and not looked_at:
         return []
     asked = vote or Vote(election, history)
-    found = kept_letters(election, asked, kept)
+    found = kept_letters(asked, kept)
     by_key = {letter.key: kept_letter for letter, kept_letter in zip(found, kept)}
     all_letters = [*found, *looked_at]
 
     def ballots_of(names: Collection[str]) -> dict[str, list[Ballot]]:
-        return ballots_in(election, asked, names, all_letters)
+        return ballots_in(asked, names, all_letters)
 
     letters_now = judge_all(all_letters, known_of(election, history, by_key), ballots_of)
     no_codes_expected = election.sealed().counted.secret and not asked.has_codes
@@ -277,7 +266,7 @@ def judged(
     return letters_now
 
 
-def kept_letters(election: Election, vote: Vote, kept: Sequence[KeptLetter]) -> list[ParsedLetter]:
+def kept_letters(vote: Vote, kept: Sequence[KeptLetter]) -> list[ParsedLetter]:
     """What is known of the letters.
 
     A signature is checked anew if the letter came before the present keyring, or gpgv was too slow:
@@ -285,22 +274,21 @@ def kept_letters(election: Election, vote: Vote, kept: Sequence[KeptLetter]) -> 
     signature, since only then a copy is known as one.
     """
     found = [from_json(letter.known) for letter in kept]
-    sealed = queries.last_act_that_sealed(election.book, KEYRING)
+    sealed = queries.last_act_that_sealed(vote.book, KEYRING)
     old = [
         index
         for index, (letter, one) in enumerate(zip(found, kept))
         if (one.act < sealed and not letter.is_never_signed) or letter.why_unsigned == SLOW
     ]
-    check_again(election, vote, kept, found, [index for index in old if kept[index].is_undecided])
+    check_again(vote, kept, found, [index for index in old if kept[index].is_undecided])
     if any(letter.signature is not None and one.is_undecided for letter, one in zip(found, kept)):
         decided = [index for index in old if not kept[index].is_undecided]
         unsigned = [index for index in decided if found[index].signature is None]
-        check_again(election, vote, kept, found, unsigned)
+        check_again(vote, kept, found, unsigned)
     return found
 
 
 def check_again(
-    election: Election,
     vote: Vote,
     kept: Sequence[KeptLetter],
     found: list[ParsedLetter],
@@ -312,26 +300,26 @@ def check_again(
     raws = [
         RawLetter(
             found[index].where,
-            letters.source_of(election.book, kept[index].source),
+            letters.source_of(vote.book, kept[index].source),
             found[index].is_parted_off,
         )
         for index in indices
     ]
     known = answers_in(found, vote.roll) if indices else {}
-    for index, letter in zip(indices, parsed(election, vote, raws, known)):
+    for index, letter in zip(indices, parsed(vote, raws, known)):
         found[index] = letter
 
 
 def ballots_in(
-    election: Election, vote: Vote, names: Collection[str], found: Sequence[ParsedLetter]
+    vote: Vote, names: Collection[str], found: Sequence[ParsedLetter]
 ) -> dict[str, list[Ballot]]:
     """The ballots of some electors that are in and not struck. A line with an elector's name that
     debvote refuses is no ballot of theirs. What it has said of the lines of letters it is not asked
     again.
     """
-    numbers = queries.elector_numbers(election.book, names)
+    numbers = queries.elector_numbers(vote.book, names)
     by_number = {number: name for name, number in numbers.items()}
-    envelopes = queries.envelopes_of(election.book, by_number)
+    envelopes = queries.envelopes_of(vote.book, by_number)
     known = answers_in(found, vote.roll) if envelopes else {}
     lines = {envelope.line: envelope.line.decode("utf-8", "replace") for envelope in envelopes}
     answers = {line: known[text] for line, text in lines.items() if text in known}

@@ -44,7 +44,7 @@ class Arguments(acting.Arguments):
 
 # ---------------------------------------------------------------- plan, question, act
 def agreed_act(
-    book: Book,
+    vote: Vote,
     plan: Callable[[], Plan],
     show: Callable[[Plan], bool],
     act: Callable[[Plan, int], object],
@@ -56,7 +56,7 @@ def agreed_act(
     """
     shown: Plan | None = None
     while True:
-        seen, found = book.last_number(), plan()
+        seen, found = vote.book.last_number(), plan()
         if found != shown:
             if shown is not None and is_terminal():
                 tell(MEANWHILE)
@@ -69,7 +69,6 @@ def agreed_act(
 
 
 def enter(
-    book: Book,
     vote: Vote,
     name: ActName,
     detail: Detail,
@@ -87,6 +86,7 @@ def enter(
     If other acts came since the one that was seen, `is_same` says within the act whether the plan
     would be the same.
     """
+    book = vote.book
     with contextlib.ExitStack() as stack:
         with book.act(name, detail) as act:
             if act.number != seen + 1 and not (is_same and is_same()):
@@ -97,7 +97,7 @@ def enter(
             # whoever enters a ballot sees the reply to it: until then interrupts wait
             stack.enter_context(uninterrupted())
             first, lines = queries.last_envelope(book) + 1, [envelope.line for envelope in new]
-            electors = electors_of(book, vote, lines)
+            electors = electors_of(vote, lines)
             queries.add_envelopes(act, new, electors, is_late=is_late)
         numbers, replies = range(first, first + len(new)), [LATE_REPLY] * len(new)
         done = f"were entered nevertheless ({envelope_words(numbers)})"
@@ -115,11 +115,11 @@ def enter(
             raise fault.with_done(f"the lines {done}") from None
 
 
-def electors_of(book: Book, vote: Vote, lines: Sequence[bytes]) -> list[int | None]:
+def electors_of(vote: Vote, lines: Sequence[bytes]) -> list[int | None]:
     """For each line, the elector whose name it begins with."""
     names = list(map(name_in, lines))
     on_roll = vote.names_on_roll & {name.decode("ascii") for name in set(names)}
-    numbers = queries.elector_numbers(book, on_roll)
+    numbers = queries.elector_numbers(vote.book, on_roll)
     return list(map({name.encode(): number for name, number in numbers.items()}.get, names))
 
 

@@ -15,7 +15,6 @@ import re
 import unicodedata
 from collections.abc import Callable, Collection, Mapping, Sequence
 
-from debvote_tools.cli.terminal_text import shown_text
 from debvote_tools.inbox.candidates import MAX_BALLOTS, BallotLine, view_of
 from debvote_tools.inbox.known import Ballot, Decision, Known
 from debvote_tools.inbox.letter import END, Body, Near, ParsedLetter, is_quoted
@@ -138,14 +137,6 @@ class JudgedLetter:
         """The other electors who have the sender's address."""
         sharing = self.known.electors_by_address.get(self.parsed.sender, [])
         return tuple(name for name in sharing if name not in self.electors)
-
-    @property
-    def other_words(self) -> str:
-        """The beginning of the sender's own words beside their ballots."""
-        lines = self.parsed.body.lines
-        own = itertools.chain(*paragraphs_of(self.parsed.body, self.known.passes_over, ()))
-        words = (lines[index] for index in own if index not in self.view.lines)
-        return shown_text(" ".join(line for line in words if not is_quoted(line)))
 
 
 Rule = Callable[[JudgedLetter, Known], Because | None]
@@ -295,10 +286,11 @@ def paragraphs_of(
     """
     paragraphs: list[list[int]] = [[]]
     for index, line in enumerate(body.lines[: above_end(body.lines)]):
-        is_empty = not line.strip()
-        if is_empty and index not in joined or line == STROKE:
+        # a line of blanks is empty, no-break ones too
+        has_text = bool(line.strip())
+        if line == STROKE or not (has_text or index in joined):
             paragraphs.append([])
-        elif not is_empty and not passes_over(line):
+        elif has_text and not passes_over(line):
             paragraphs[-1].append(index)
     return [paragraph for paragraph in paragraphs if paragraph]
 
