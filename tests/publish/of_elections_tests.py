@@ -887,7 +887,7 @@ class OfSecretVotes(OfElections):
         self.expect("nothing is made", (len(self.acts()), (self.folder / "call").exists()), (acts, False))
         code = self.secrets()[0].code
         (self.folder / "texts" / "2.txt").write_text(f"x {code}\n")
-        self.expect("a code", "index.html would have the code of an elector in it" in self.run_words("call", "--yes")[1], True)
+        self.expect("a code", " would have the code of an elector in it" in self.run_words("call", "--yes")[1], True)
         (self.folder / "texts" / "2.txt").unlink()
         self.say("call", "--yes")
         self.expect("the act", self.acts()[-1].detail["agreed"], [hashlib.sha256("Zoë is for it.\n".encode()).hexdigest()])
