@@ -114,6 +114,8 @@ class Book:
     ) -> None:
         self.path, self.connection, self.is_read_only = path, connection, is_read_only
         self.file, self.read_acts = file_at(path), list[DoneAct]()
+        # what `queries.all_electors` has read, and when
+        self.electors_at: tuple[object, list[Any]] = (None, [])
         # the acts of this process, each as `act 7 (add)`
         self.own_acts: list[str] = []
 
