@@ -226,15 +226,6 @@ class Election:
         except Fault:
             raise damaged(self.path(NAME), "its sealed poll is not in plain form") from None
 
-    def demand_private(self, target: pathlib.Path) -> None:
-        """Stops if what is written there would be in a folder for electors or the web site."""
-        place = target.absolute().resolve()
-        for name in (CALL, LETTERS, RESULT, PRIVATE):
-            if place.is_relative_to(self.path(name).absolute().resolve()):
-                words = f"it would be in the folder {name}, whose files go to others"
-                cure, done = "name a place outside that folder", "nothing was written"
-                raise Fault(target, words, cure, Status.BAD_WORDS, done)
-
     def called(self, history: History) -> DoneAct:
         """The act of the call. Stops before it."""
         if history.call is None:
