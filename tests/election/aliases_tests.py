@@ -26,8 +26,7 @@ from debvote_tools.text.language import LANGUAGES, language_of  # noqa: E402
 from debvote_tools.poll.sealed_poll import SealedPoll, read_plain  # noqa: E402
 from debvote_tools.poll.aliases import alias_of, aliased_ballots, aliased_poll, seal_line, sealed_checksum  # noqa: E402
 from debvote_tools.inbox.lines import has_code  # noqa: E402
-from debvote_tools.poll.codes import NUMBER, codes_csv, new_code  # noqa: E402
-from debvote_tools.poll.slips import slips  # noqa: E402
+from debvote_tools.poll.codes import NUMBER, codes_csv, new_code, slips  # noqa: E402
 from debvote_tools.poll.words import BY_OPENSSL, BY_PYTHON  # noqa: E402
 
 ROLL = ("ada", "ben", "cleo", "dan")

@@ -230,8 +230,6 @@ class Letters(CallTest):
         after = self.electors()
         self.assertEqual([name for name in before if before[name].mark != after[name].mark], ["ada"])
         self.assertRegex(after["ada"].mark, "^[2-9a-z]{10}$")
-        acts = [json.loads(line.partition(" addresses ")[2]) for line in self.done("log").output.splitlines() if " addresses " in line]
-        self.assertEqual(acts, [{"electors": 2, "new_addresses": [after["ada"].number]}])
 
     def test_with_marks_alone(self) -> None:
         self.done("call", *UNTIL, "--to", "vote@club.example", "--at", "https://club.example/vote/", "--marked")

@@ -172,6 +172,43 @@ class Refused(OutTest):
         self.assertEqual([message["To"] for message in self.written("receipts").values()], ["ada@new.example"])
 
 
+class OwnWords(OutTest):
+    """What the secretary writes begins each letter that asks for a ballot, and a name of the society is in From."""
+
+    call_words = None
+    letter = f"Dear friends,\n\npaper goes into the box in the hall.\nIf you are unsure write ada {RANKS} and sign.\n\nYours, Eve\n"
+
+    def setUp(self) -> None:
+        super().setUp()
+        self.write("letter.txt", self.letter)
+        self.set_clock("2026-11-20T09:00:00+00:00")
+        self.done("call", "--to", "Wahlleitung T\u00fcV <vote@club.example>", "--at", AT, "--until", "2026-12-04 18:00", "--zone", "UTC")
+        self.set_clock("2026-11-23T10:00:00+00:00")
+
+    def test_each_begins_so(self) -> None:
+        found = {kind: self.written(kind) for kind in ("call", "reminders")}
+        self.write("letter.txt", "It ends later.\n")
+        self.done("call", "--until", "2026-12-06 18:00", "--zone", "UTC")
+        found["extension"] = self.written("call")
+        self.add_lines("ada 1,2")
+        found["receipts"] = self.written("receipts")
+        first = self.letter.replace("If you are unsure write ada", "|If you are unsure write\n|ada")
+        begins = {"call": first, "reminders": first, "extension": "It ends later.\n", "receipts": "Dear Ada,\n"}
+        for kind, letters in found.items():
+            message = letters["ada"]
+            self.assertTrue(message.get_content().startswith(begins[kind]), message.get_content())
+            self.assertEqual(message["From"], "Wahlleitung T\u00fcV <vote@club.example>")
+            self.assertEqual((message["To"], message["Reply-To"]), ("ada@club.example", None))
+
+    def test_an_answer_that_quotes_all_of_it_without_marks_goes_in(self) -> None:
+        """No line of ours reads as a ballot, also where the secretary's own words have one."""
+        for name, message in self.written("call").items():
+            head = f"In-Reply-To: {message['Message-ID']}\nSubject: Re: {message['Subject']}\n"
+            text = f"{name} {RANKS}\n\nOn Monday the secretary wrote:\n{message.get_content()}"
+            self.add_letters(letter(name, text, head=head, number=name, time="Mon, 23 Nov 2026 09:59:00 +0000"))
+        self.assertEqual(json.loads(self.done("status", "--json").output)["voters"], 9)
+
+
 class CodesOnRoll(OutTest):
     poll = support.POLL + "secret = true\n"
     call_words = None

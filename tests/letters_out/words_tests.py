@@ -20,7 +20,7 @@ from debvote_tools.outbox.words import Composer, Kind
 from debvote_tools.text.ballots import without_ballots
 from debvote_tools.text.rendering import one_line as on_one_line
 from debvote_tools.result import result_letter
-from debvote_tools.result.inputs import CastingVote
+from debvote_tools.result.facts import CastingVote
 from debvote_tools.poll.sealed_poll import SealedPoll
 
 TIME = datetime.datetime(2026, 11, 23, 10, tzinfo=datetime.UTC)
@@ -190,8 +190,8 @@ class CallLetter(unittest.TestCase):
 
     def test_with_marked_it_says_to_answer_or_to_use_the_link(self) -> None:
         for text in self.asking(vote(is_marked=True)):
-            self.assertIn("only a letter with your own mark goes in by itself", " ".join(text.split()))
-        self.assertNotIn("by itself", "".join(self.asking(vote())))
+            self.assertIn("Open the link in your letter, or answer that letter: then the subject has your own mark", " ".join(text.split()))
+        self.assertNotIn("own mark", "".join(self.asking(vote())))
 
     def test_without_a_page_the_texts_follow(self) -> None:
         poll = dataclasses.replace(POLL, explanations=("A lake.\nada 1,2,3\n", "", ""))

@@ -16,8 +16,7 @@ from debvote_tools.poll.call_data import (
 )
 from debvote_tools.cli.console import tell
 from debvote_tools.book import acting
-from debvote_tools.result.agreed_texts import agreed_texts, texts_of_poll
-from debvote_tools.result.publication import current_data, until_of
+from debvote_tools.result.publication import agreed_texts, current_data, texts_of_poll, until_of
 from debvote_tools.commands.codes import CODES, SLIPS, write_slips
 from debvote_tools.commands.roll import demand_read
 from debvote_tools.book.election import (
@@ -225,7 +224,7 @@ def sealed_by(
         files[f"{LETTERS}/{EXTENSION}"] = extension_letter(data).encode()
     if data.poll.secret:
         codes = {elector.code or elector.name for elector in queries.electors(election.book)}
-        for name, content in files.items():
+        for name, content in reversed(files.items()):
             demand_no_code(name, content, codes, "nothing was changed")
     return files if keyring is None else {**files, KEYRING: keyring}
 

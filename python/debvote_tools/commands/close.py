@@ -19,7 +19,7 @@ from debvote_tools.result.publication import closing_letter
 from debvote_tools.cli.faults import Fault, stop_at
 from debvote_tools.files import sha256_of
 from debvote_tools.inbox.lines import ballot_file
-from debvote_tools.result.names import CLOSED
+from debvote_tools.result.facts import CLOSED
 from debvote_tools.poll.aliases import aliased_ballots, seal_line, sealed_checksum
 
 

@@ -16,8 +16,7 @@ from debvote_tools.book.reporting import count_of
 from debvote_tools.cli.faults import Fault
 from debvote_tools.poll.sealed_poll import SealedPoll
 from debvote_tools.poll.aliases import alias_of
-from debvote_tools.poll.codes import codes_csv, new_code
-from debvote_tools.poll.slips import slips
+from debvote_tools.poll.codes import codes_csv, new_code, slips
 
 SLIPS, CODES = "slips.html", "codes.csv"
 NOT_SECRET = "the vote is not secret, so it needs no codes"

@@ -15,7 +15,6 @@ import re
 import unicodedata
 from collections.abc import Callable, Collection, Mapping, Sequence
 
-from debvote_tools.cli.terminal_text import shown_text
 from debvote_tools.inbox.candidates import MAX_BALLOTS, BallotLine, view_of
 from debvote_tools.inbox.known import Ballot, Decision, Known
 from debvote_tools.inbox.letter import END, Body, Near, ParsedLetter, is_quoted
@@ -52,13 +51,11 @@ class Outcome(enum.Enum):
     SET_ASIDE = "set aside"
 
 
-# what an act decided holds, whatever the rules say
-DECIDED: dict[Decision, tuple[Outcome, Because | None]] = {
-    Decision.ENTERED: (Outcome.ENTERED, None),
-    Decision.TAKEN_BACK: (Outcome.WAITS, Reason.TAKEN_BACK()),
-    Decision.PUT_BACK: (Outcome.WAITS, Reason.PUT_BACK()),
-    Decision.SET_ASIDE: (Outcome.SET_ASIDE, Reason.SET_ASIDE()),
-    Decision.STRUCK: (Outcome.SET_ASIDE, Reason.STRUCK()),
+# what an act decided holds, whatever the rules say; else a letter waits, as one that was put back
+DECIDED = {
+    Decision.ENTERED: Outcome.ENTERED,
+    Decision.SET_ASIDE: Outcome.SET_ASIDE,
+    Decision.STRUCK: Outcome.SET_ASIDE,
 }
 
 
@@ -140,14 +137,6 @@ class JudgedLetter:
         """The other electors who have the sender's address."""
         sharing = self.known.electors_by_address.get(self.parsed.sender, [])
         return tuple(name for name in sharing if name not in self.electors)
-
-    @property
-    def other_words(self) -> str:
-        """The beginning of the sender's own words beside their ballots."""
-        lines = self.parsed.body.lines
-        own = itertools.chain(*paragraphs_of(self.parsed.body, self.known.passes_over, ()))
-        words = (lines[index] for index in own if index not in self.view.lines)
-        return shown_text(" ".join(line for line in words if not is_quoted(line)))
 
 
 Rule = Callable[[JudgedLetter, Known], Because | None]
@@ -241,7 +230,7 @@ def ballot_is_first(case: JudgedLetter, known: Known) -> Because | None:
     """The ballot is the first line, but for a greeting. In an answer to a letter that only this
     elector has, a quotation of it may be above the ballot.
     """
-    letter, body, ballot = case.parsed, case.parsed.body, case.ballot
+    body, ballot = case.parsed.body, case.ballot
     if ballot is None or case.index is None:
         if not case.ballots:
             return (case.view.offered_for or Reason.NO_BALLOT)()
@@ -250,22 +239,9 @@ def ballot_is_first(case: JudgedLetter, known: Known) -> Because | None:
         return Reason.JOINED()
     if ballot.has_high_rank:
         return Reason.HIGH_RANK(number=ballot.number, options=len(ballot.ranks))
-    is_answer = case.has_own_mark and letter.in_reply_to in known.our_letters.get(case.elector, ())
-    is_by_page = case.has_own_mark and letter.is_new and known.is_subject_of_page(letter.subject)
     # lines that flow are judged as they stand, and joined
-    for joined in dict.fromkeys((frozenset(body.flowing), frozenset[int]())):
-        because = why_not_first(
-            body.lines,
-            case.index,
-            paragraphs_of(body, known.passes_over, joined),
-            joined,
-            is_answer=is_answer,
-            may_end_in_colon=is_answer or is_by_page,
-            most_above=0 if body.is_html and not case.has_own_mark else MAX_ABOVE,
-        )
-        if because is not None:
-            return because
-    return None
+    views = dict.fromkeys((frozenset(body.flowing), frozenset[int]()))
+    return next(filter(None, (why_not_first(case, case.index, joined) for joined in views)), None)
 
 
 def is_of_this_vote(case: JudgedLetter, known: Known) -> Because | None:
@@ -310,25 +286,22 @@ def paragraphs_of(
     """
     paragraphs: list[list[int]] = [[]]
     for index, line in enumerate(body.lines[: above_end(body.lines)]):
-        is_empty = not line.strip()
-        if is_empty and index not in joined or line == STROKE:
+        # a line of blanks is empty, no-break ones too
+        has_text = bool(line.strip())
+        if line == STROKE or not (has_text or index in joined):
             paragraphs.append([])
-        elif not is_empty and not passes_over(line):
+        elif has_text and not passes_over(line):
             paragraphs[-1].append(index)
     return [paragraph for paragraph in paragraphs if paragraph]
 
 
-def why_not_first(
-    lines: Sequence[str],
-    ballot: int,
-    paragraphs: Sequence[Sequence[int]],
-    joined: Collection[int],
-    *,
-    is_answer: bool,
-    may_end_in_colon: bool,
-    most_above: int,
-) -> Because | None:
+def why_not_first(case: JudgedLetter, ballot: int, joined: Collection[int]) -> Because | None:
     """Why the ballot with this index among the lines is not the first line; None if it is."""
+    letter, known, lines = case.parsed, case.known, case.parsed.body.lines
+    is_ours = case.has_own_mark
+    is_answer = is_ours and letter.in_reply_to in known.our_letters.get(case.elector, ())
+    is_by_page = is_ours and letter.is_new and known.is_subject_of_page(letter.subject)
+    paragraphs = paragraphs_of(letter.body, known.passes_over, joined)
     place = next(place for place, own in enumerate(paragraphs) if ballot in own)
     quoted = [any(is_quoted(lines[index]) for index in one) for one in paragraphs]
     first = quoted.index(True) if True in quoted[:place] else -1
@@ -336,17 +309,21 @@ def why_not_first(
         return Reason.QUOTED()
     if first >= 0 and not has_only_a_head(lines, paragraphs[: first + 1]):
         return Reason.MUCH_QUOTED()
-    own = [index for index in paragraphs[place] if index != ballot]
-    between = range(first + 1, place)
-    greetings = [index for one in between if not quoted[one] for index in paragraphs[one]] + own
+    between = [one for one in range(first + 1, place) if not quoted[one]]
+    others = [index for one in (*between, place) for index in paragraphs[one] if index != ballot]
+    # in an answer, what is beside the ballot below it is free, unless it may be the head of a
+    # quotation
     if is_answer and True not in quoted[place + 1 : place + 2]:
-        greetings = [index for index in greetings if index < ballot]
-    for index in greetings:
+        others = [index for index in others if index < ballot]
+    for index in others:
         line = lines[index] if index in joined else lines[index].rstrip()
-        if not is_greeting(line, may_end_in_colon=may_end_in_colon and index < ballot):
+        if (is_answer or is_by_page) and index < ballot and line.endswith(COLONS):
+            line = line[:-1]
+        if not is_greeting(line):
             return Reason.NOT_FIRST(number=index + 1)
-    above = [lines[index].strip() for index in greetings if index < ballot]
-    is_much = len(above) > most_above or len("".join(above)) > MAX_CHARACTERS
+    above = [lines[index].strip() for index in others if index < ballot]
+    most = 0 if letter.body.is_html and not is_ours else MAX_ABOVE
+    is_much = len(above) > most or len("".join(above)) > MAX_CHARACTERS
     return Reason.MUCH_ABOVE() if is_much else None
 
 
@@ -364,10 +341,10 @@ def has_only_a_head(lines: Sequence[str], paragraphs: Sequence[Sequence[int]]) -
     return is_one and lines[heads[0][-1]].rstrip().endswith(COLONS)
 
 
-def is_greeting(line: str, *, may_end_in_colon: bool) -> bool:
+def is_greeting(line: str) -> bool:
     """Whether a line begins with a letter, and has only what greetings have: no digit, no colon."""
-    bare = line[:-1] if may_end_in_colon and line.endswith(COLONS) else line
-    begins = bare.lstrip()[:1].isalpha() or bare.lstrip().startswith(OPENING)
+    bare = line.lstrip()
+    begins = bare[:1].isalpha() or bare.startswith(OPENING)
     return begins and all(map(is_plain, set(bare)))
 
 
@@ -409,7 +386,9 @@ def set_outcomes(cases: Sequence[JudgedLetter], box: Box) -> None:
     for case in cases:
         groups[case.parsed.identity].append(case)
         if case.decision is not None:
-            case.outcome, case.reason = DECIDED[case.decision]
+            case.outcome = DECIDED.get(case.decision, Outcome.WAITS)
+            if case.decision is not Decision.ENTERED:
+                case.reason = Reason[case.decision.name]()
     firsts: dict[JudgedLetter, None] = {}
     undecided = [group for group in groups.values() if any(case.decision is None for case in group)]
     for group in undecided:

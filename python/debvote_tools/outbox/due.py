@@ -23,8 +23,7 @@ from debvote_tools.inbox.mime import MAX_PARTS, Part
 from debvote_tools.outbox.words import Composer, Kind
 from debvote_tools.poll.call_data import is_mail_address
 from debvote_tools.poll.marks import OWN_LENGTH, OWN_SIGNS
-from debvote_tools.result.doubts import Doubt
-from debvote_tools.result.inputs import Publication
+from debvote_tools.result.facts import Doubt, Facts
 from debvote_tools.result.publication import (
     Words,
     chronicle_of,
@@ -272,7 +271,7 @@ class LettersDue:
         sheet = sheet_in(debvote.answer("count", poll, ballots, *casting_words(words.casting)).text)
         standing = debvote.standing(poll, ballots)
         before = History(self.history.acts[: act.number])
-        publication = Publication(
+        facts = Facts(
             sealed.public,
             b"",
             self.election.language,
@@ -283,7 +282,7 @@ class LettersDue:
             at=self.composer.call.at,
         )
         doubts = map(Doubt.from_data, act.detail["doubts"])
-        values = letter_values(publication, sheet, doubts, act.detail["checksums"])
+        values = letter_values(facts, sheet, doubts, act.detail["checksums"])
         self.to_each(act.number)
         return lambda elector, _: self.composer.text(
             self.kind, elector, has_ballot=elector.name in standing, **values

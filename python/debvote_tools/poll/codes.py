@@ -1,15 +1,17 @@
-"""The codes of a secret vote: how one is drawn, how one is recognised, and the table of them."""
+"""The codes of a secret vote: how one is drawn and recognised, their table, and their slips."""
 
 import csv
 import io
 import re
 import secrets
-from collections.abc import Collection, Iterable
+from collections.abc import Collection, Iterable, Sequence
 
 from debvote_tools.book.queries import Elector
 from debvote_tools.cli.faults import Fault, Status
 from debvote_tools.inbox.lines import CODE_WITHIN
 from debvote_tools.poll.aliases import alias_of
+from debvote_tools.poll.call_data import PACKAGE, CallData
+from debvote_tools.text.rendering import render_page, resources
 
 # what a code and an alias look like
 CODE = re.compile(r"[0-9a-f]{32}")
@@ -67,3 +69,9 @@ def harmless(cell: str) -> str:
     a cell at another delimiter.
     """
     return FORMULA.sub(r"\1'", " ".join(cell.splitlines()))
+
+
+def slips(call: CallData, electors: Sequence[Elector]) -> bytes:
+    """The page of slips, to be printed and cut. With codes on the roll the name is the code."""
+    style, language = resources(PACKAGE, "slips.css"), call.language
+    return render_page(PACKAGE, "slips.html", language, style=style, call=call, electors=electors)
