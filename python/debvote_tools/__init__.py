@@ -4,3 +4,6 @@ Nothing here counts, and nothing judges a ballot: whether a line is valid, what 
 a ballot and what the sheet is, all of that `debvote` is asked, and its answers are read by
 docs/FORMATS.md.
 """
+
+# that of debvote, with which these programs come in one package
+VERSION = "2.1.0"

@@ -59,35 +59,31 @@ class Debvote:
     """
 
     def __init__(self, folder: pathlib.Path, program_folder: pathlib.Path | None = None) -> None:
-        path = (
-            shutil.which("debvote", path=str(program_folder)) if program_folder else None
-        ) or shutil.which("debvote")
+        beside = shutil.which("debvote", path=str(program_folder)) if program_folder else None
+        path = beside or shutil.which("debvote")
         if path is None:
             words = "the program is neither beside this one nor in the PATH"
             raise Fault("debvote", words, "install the package debvote", Status.NOT_FOUND, None)
-        self.path = os.path.abspath(path)
-        self.folder = folder
+        self.path, self.folder = os.path.abspath(path), folder
 
-    def run(self, *words: str | os.PathLike[str], given: bytes | None = None) -> Answer:
+    def run(self, *words: str | os.PathLike[str], given: bytes = b"") -> Answer:
         """Runs debvote, with these bytes as its standard input."""
-        if given is not None and not os.path.isdir(OWN_FILES):
+        if given and not os.path.isdir(OWN_FILES):
             reason = "it is missing, and debvote gets its input through it"
             cure = "mount /proc, then run the command again"
             raise Fault(OWN_FILES, reason, cure, Status.BAD_OUTPUT, "nothing was counted")
         try:
             ended = subprocess.run(
-                [self.path, *words], cwd=self.folder, capture_output=True, input=given or b""
+                [self.path, *words], cwd=self.folder, capture_output=True, input=given
             )
         except OSError as error:
-            done = "nothing was counted, and no file was changed"
             reason = f"it can't be started ({error.strerror})"
-            raise Fault(
-                self.path, reason, "run the command again", Status.BAD_OUTPUT, done
-            ) from None
+            done = "nothing was counted, and no file was changed"
+            cure = "run the command again"
+            raise Fault(self.path, reason, cure, Status.BAD_OUTPUT, done) from None
         status = ended.returncode if ended.returncode >= 0 else 128 - ended.returncode
-        return Answer(
-            ended.stdout.decode("ascii", "replace"), ended.stderr.decode("utf-8", "replace"), status
-        )
+        text, faults = ended.stdout.decode("ascii", "replace"), ended.stderr
+        return Answer(text, faults.decode("utf-8", "replace"), status)
 
     def answer(
         self, task: str, poll_bytes: bytes, ballots_bytes: bytes = b"", *words: str
@@ -96,19 +92,16 @@ class Debvote:
         whole.
         """
         with in_memory(poll_bytes) as poll_path:
-            answer = self.run(
-                task, "--poll", poll_path, "--ballots", "/dev/stdin", *words, given=ballots_bytes
-            )
+            files = ("--poll", poll_path, "--ballots", "/dev/stdin")
+            answer = self.run(task, *files, *words, given=ballots_bytes)
         if answer.text or not answer.faults:
             return answer
         raise refusal(answer)
 
     def replies(self, poll_bytes: bytes, ballots_bytes: bytes) -> list[str]:
         """The reply of the box to each line, that to line i at index i - 1."""
-        return [
-            line.partition(" ")[2]
-            for line in self.answer("steps", poll_bytes, ballots_bytes).text.splitlines()
-        ]
+        lines = self.answer("steps", poll_bytes, ballots_bytes).text.splitlines()
+        return [line.partition(" ")[2] for line in lines]
 
     def findings(self, poll_bytes: bytes, ballots_bytes: bytes) -> Findings:
         return findings_in(self.answer("explain", poll_bytes, ballots_bytes).text)
@@ -122,14 +115,13 @@ class Debvote:
 
 
 def refusal(answer: Answer) -> Fault:
-    said = (
-        answer.faults.strip().removeprefix("debvote: ") or f"it ended with status {answer.status}"
-    )
+    said = answer.faults.strip().removeprefix("debvote: ")
     cures: dict[int, str] = {
         Status.BAD_POLL: f"a poll has at most {POLL_LIMIT} bytes; debvote-election check says what is wrong with it",
         Status.BAD_BALLOTS: f"debvote takes at most {LINES_LIMIT} lines and {BALLOTS_LIMIT} bytes of ballots: add fewer",
     }
-    return Fault("debvote", said, cures.get(answer.status, "run the command again"), answer.status)
+    cure = cures.get(answer.status, "run the command again")
+    return Fault("debvote", said or f"it ended with status {answer.status}", cure, answer.status)
 
 
 def casting_words(name: str | None) -> list[str]:
@@ -142,9 +134,7 @@ def casting_words(name: str | None) -> list[str]:
 
 
 FINDING = re.compile(r"ballots:(\d+): (late|bad shape|bad rank count|bad not on roll): (.*)")
-NEAR = re.compile(
-    r"(?P<said>\S+ is not on the roll); did you mean (?P<near>\S+(?: or \S+)*)\?(?P<remark>.*)"
-)
+NEAR = re.compile(r"(\S+ is not on the roll); did you mean (\S+(?: or \S+)*)\?(.*)")
 TOTALS = re.compile(
     r"(\d+) lines: (\d+) valid, (\d+) refused, (\d+) of them late; (\d+) of (\d+) electors have a ballot"
 )
@@ -155,21 +145,14 @@ def findings_in(text: str) -> Findings:
     totals = TOTALS.fullmatch(lines[-1]) if lines else None
     if totals is None:
         raise other_format("the list of findings of this debvote")
-    refused = [
-        finding_in(int(parts[1]), parts[2], parts[3])
-        for parts in map(FINDING.fullmatch, lines)
-        if parts
-    ]
+    refused = []
+    for number, word, said in (found.groups() for found in map(FINDING.fullmatch, lines) if found):
+        finding = Finding(int(number), word, said)
+        if found := NEAR.fullmatch(said):
+            near = tuple(found[2].split(" or "))
+            finding = finding._replace(said=found[1], near=near, remark=found[3])
+        refused.append(finding)
     return Findings(refused, Totals(*map(int, totals.groups())))
-
-
-def finding_in(envelope: int, word: str, hint: str) -> Finding:
-    near = NEAR.fullmatch(hint)
-    return (
-        Finding(envelope, word, hint)
-        if near is None
-        else Finding(envelope, word, near[1], tuple(near[2].split(" or ")), near[3])
-    )
 
 
 def standing_in(text: str) -> dict[str, str]:

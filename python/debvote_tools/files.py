@@ -29,10 +29,6 @@ OWN_FILES = "/proc/self/fd"
 TEMPORARY = ".debvote-"
 
 
-class Written(OSError):
-    """A file is written, but its name may not be on the disk yet, and be gone after a power cut."""
-
-
 def sha256_of(data: bytes) -> str:
     return hashlib.sha256(data).hexdigest()
 
@@ -92,9 +88,7 @@ def sync_folder(folder: pathlib.Path) -> None:
 
 def write_whole(file: pathlib.Path, data: bytes, mode: int) -> None:
     """Writes a file with this mode, whole or not at all: a temporary beside it is brought to the
-    disk, and takes its place.
-
-    Raises OSError, and then the file is as it was, unless the error is `Written`.
+    disk, and takes its place. Raises OSError, and then the file is as it was.
     """
     handle, name = tempfile.mkstemp(prefix=TEMPORARY, dir=file.parent)
     try:
@@ -110,7 +104,10 @@ def write_whole(file: pathlib.Path, data: bytes, mode: int) -> None:
     try:
         sync_folder(file.parent)
     except OSError as error:
-        raise Written(error.errno, error.strerror, str(file)) from None
+        # after a power cut its name may be gone
+        done = "it was written, but may not be on the disk yet"
+        cure = "put this right, then run the command again"
+        raise Fault(file, error.strerror, cure, Status.BAD_OUTPUT, done) from None
 
 
 def temporary_folder(place: pathlib.Path) -> pathlib.Path:

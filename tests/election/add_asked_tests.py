@@ -176,4 +176,4 @@ class Look(CalledTest):
 
     def test_a_refused_line_would_go_in_as_it_came(self) -> None:
         output = self.told("add", "--look", given="Gsu 1,2,3,4\n")
-        self.assertIn("  it would go in as it came; written as `gsu 1,2,3,4` it is refused too: ", output)
+        self.assertIn("  it goes in as it came; written as `gsu 1,2,3,4` it is refused too: ", output)

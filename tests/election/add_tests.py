@@ -374,12 +374,12 @@ class Changed(CalledTest):
         output = self.told("add", "--force", given=came)
         self.assertIn(
             "1 bad shape   Cleo 1,2,3 : column 1: space; a ballot has the name there: a to z, 0 to 9, . or -\n"
-            "  it went in as it came; written as `cleo 1,2,3` it is refused too: bad rank count: 3 ranks, the poll has 4 options\n",
+            "  it goes in as it came; written as `cleo 1,2,3` it is refused too: bad rank count: 3 ranks, the poll has 4 options\n",
             output,
         )
         self.assertIn(
             '3 bad shape  Gsu 1,2,4,3: column 1: "G"; a ballot has the name there: a to z, 0 to 9, . or -\n'
-            "  it went in as it came; written as `gsu 1,2,4,3` it is refused too: bad not on roll: gsu is not on the roll\n",
+            "  it goes in as it came; written as `gsu 1,2,4,3` it is refused too: bad not on roll: gsu is not on the roll\n",
             output,
         )
         self.assertIn(f"{RIGHT}\nAdded 3 lines (2 bad shape, 1 counted).\n", output)
@@ -393,7 +393,7 @@ class Changed(CalledTest):
             "standard input:2: `ben\\u00A01,2,4,3` was changed to `ben 1,2,4,3` (no-break spaces)\n2 counted  ben: ",
             "standard input:3: `cleo 1,2,–,3` was changed to `cleo 1,2,-,3` (dashes)\n3 counted  cleo: ",
             '5 bad shape  dan 1.: column 6: "."; a ballot has a comma or its end there, or a second digit of the rank\n'
-            "  it went in as it came; written as `dan 1` it is refused too: bad rank count: 1 ranks, the poll has 4 options\n",
+            "  it goes in as it came; written as `dan 1` it is refused too: bad rank count: 1 ranks, the poll has 4 options\n",
             '6 bad shape  1,2,3,4: column 2: ","; a ballot has a space there, or more of the name: a to z, 0 to 9, . or -\n',
         ):
             self.assertIn(told, output)

@@ -301,10 +301,12 @@ class Copies(BookTest):
         self.assertEqual((self.folder / "copy.db").stat().st_mode & 0o777, 0o600)
 
 
-def as_json(table: str, *row: object) -> str:
-    """A row as FORMATS has it."""
-    values = [hashlib.sha256(value).hexdigest() if isinstance(value, bytes) else value for value in row]
-    return json.dumps([table, *values], separators=(",", ":"), ensure_ascii=False)
+def as_json(*row: object, line: int | None = None) -> str:
+    """A row as FORMATS has it, without the number of the act; `line` is the place of what came."""
+    in_text = {value: hashlib.sha256(value).hexdigest() for value in row if isinstance(value, bytes)}
+    if line is not None:
+        in_text[row[line]] = row[line].decode(errors="surrogateescape")
+    return json.dumps([in_text.get(value, value) for value in row], separators=(",", ":"), ensure_ascii=False)
 
 
 class Rewritten(BookTest):
@@ -338,25 +340,41 @@ class Rewritten(BookTest):
         with contextlib.closing(sqlite3.connect(self.book)) as connection:
             before, digests = "", []
             for *act, digest in connection.execute("SELECT * FROM act").fetchall():
-                lines = [before, as_json("act", *act)]
+                lines, count = [before, as_json(*act)], 0
                 for table in ("elector", "elector_state", "sealed", "source", "envelope"):
-                    lines += [as_json(table, *row) for row in connection.execute(f"SELECT * FROM {table} WHERE act = ?", act[:1])]
+                    names = [name for _, name, *_ in connection.execute(f"PRAGMA table_info({table})") if name != "act"]
+                    place = names.index("line") if "line" in names else None
+                    rows = connection.execute(f"SELECT {', '.join(names)} FROM {table} WHERE act = ?", act[:1]).fetchall()
+                    lines += [table, *(as_json(*row, line=place) for row in rows)] if rows else []
+                    count += len(rows)
                 before = hashlib.sha256("\n".join(lines).encode()).hexdigest()
-                digests.append((digest, before, len(lines)))
+                digests.append((digest, before, count))
         self.assertEqual([found for found, _, _ in digests], [computed for _, computed, _ in digests])
-        self.assertEqual([lines for _, _, lines in digests], [2, 2 + 9 + 9, 2 + 9 + 5, 2 + 1 + 2])
+        self.assertEqual([count for _, _, count in digests], [0, 9 + 9, 9 + 5, 1 + 2])
+
+    def test_lines_of_any_bytes(self) -> None:
+        """They stay as they are in what the digest is over, and none can be taken for the rows of two."""
+        odd = [b"ada \"1\\", b"\xff\xfe\x00\x7f", b"\xed\xa0\x80 \xe2\x80\xa8\t", b'x\n[3,1,"ada 1,2,3,4"]', b"", b"\xc3\xa9"]
+        with mock.patch.dict(os.environ, {"XDG_STATE_HOME": str(self.state)}):
+            book = open_book(self.book)
+            with contextlib.closing(book.connection), book.act("desk") as act:
+                queries.add_envelopes(act, map(queries.NewEnvelope, odd), [None] * len(odd), is_late=False)
+        self.assertIn("The chain is whole: 5 acts", self.done("log", "--check").output)
+        self.assertEqual(len(self.formats()), 1)
 
     def test_an_act_with_its_digest_made_anew(self) -> None:
         """Whoever changes an act can compute its digest, but then the next act does not match."""
         self.add("cleo 1,2,3,4")
+        columns = "envelope, elector, line, source, letter, place, time, late"
         with contextlib.closing(sqlite3.connect(self.book)) as connection:
             [(before,)] = connection.execute("SELECT digest FROM act WHERE act = 3")
             [[*act, _]] = connection.execute("SELECT * FROM act WHERE act = 4").fetchall()
-            sources = connection.execute("SELECT * FROM source WHERE act = 4").fetchall()
-            first, *others = connection.execute("SELECT * FROM envelope WHERE act = 4").fetchall()
-        changed = (*first[:3], b"ada 4,3,2,1", *first[4:])
-        rows = [*(as_json("source", *row) for row in sources), *(as_json("envelope", *row) for row in (changed, *others))]
-        digest = hashlib.sha256("\n".join([before, as_json("act", *act), *rows]).encode()).hexdigest()
+            sources = connection.execute("SELECT source, name, data FROM source WHERE act = 4").fetchall()
+            first, *others = connection.execute(f"SELECT {columns} FROM envelope WHERE act = 4").fetchall()
+        changed = (*first[:2], b"ada 4,3,2,1", *first[3:])
+        envelopes = [as_json(*row, line=2) for row in (changed, *others)]
+        rows = ["source", *(as_json(*row) for row in sources), "envelope", *envelopes]
+        digest = hashlib.sha256("\n".join([before, as_json(*act), *rows]).encode()).hexdigest()
         self.sql(
             "UPDATE envelope SET line = CAST('ada 4,3,2,1' AS BLOB) WHERE envelope = 1",
             f"UPDATE act SET digest = '{digest}' WHERE act = 4",
@@ -452,7 +470,8 @@ class Rewritten(BookTest):
     def test_the_chain_reads_no_index(self) -> None:
         with contextlib.closing(sqlite3.connect(self.book)) as connection:
             chain.prepare(connection)
-            plans = [connection.execute(f"EXPLAIN QUERY PLAN {words}").fetchall() for words in chain.queries().of_all_acts()]
+            queries_of_all = map(chain.query_of_all, chain.schema().lines)
+            plans = [connection.execute(f"EXPLAIN QUERY PLAN {words}").fetchall() for words in queries_of_all]
         self.assertEqual(len(plans), 10)
         for plan in plans:
             self.assertEqual([step for *_, step in plan if "INDEX" in step], [])

@@ -16,8 +16,7 @@ import urllib.parse
 ROOT = pathlib.Path(__file__).resolve().parents[2]
 sys.path.insert(0, str(ROOT / "python"))
 
-from debvote_tools.poll.call_data import CallData  # noqa: E402
-from debvote_tools.poll.call_files import call_files  # noqa: E402
+from debvote_tools.poll.call_data import CallData, call_files  # noqa: E402
 from debvote_tools.text.language import ENGLISH  # noqa: E402
 from debvote_tools.poll.sealed_poll import SealedPoll, with_roll  # noqa: E402
 

@@ -21,8 +21,7 @@ from tests.support.at_browser import BROWSER, Window
 
 sys.path.insert(0, str(pathlib.Path(__file__).resolve().parents[2] / "python"))
 
-from debvote_tools.poll.call_data import CallData, demand_mail_address, demand_web_address  # noqa: E402
-from debvote_tools.poll.call_files import call_files, call_letter, extension_letter  # noqa: E402
+from debvote_tools.poll.call_data import CallData, call_files, call_letter, demand_mail_address, demand_web_address, extension_letter  # noqa: E402
 from debvote_tools.cli.faults import Fault, Status  # noqa: E402
 from debvote_tools.text.language import LANGUAGES, language_of  # noqa: E402
 from debvote_tools.inbox.lines import changed  # noqa: E402
@@ -149,7 +148,7 @@ class Files(unittest.TestCase):
 
     def test_where_to(self) -> None:
         for data, wanted in {
-            CALL: f"Send your ballot to: {ADDRESS} ",
+            CALL: f"Send it to {ADDRESS} in a letter whose subject ends with ",
             dataclasses.replace(CALL, at=None, to=None): "Send your ballot as the secretary announces. ",
         }.items():
             for text in texts_of(data).values():
@@ -164,7 +163,7 @@ class Files(unittest.TestCase):
         self.assertEqual([urllib.parse.parse_qs(letter.query)["subject"] for letter in letters], [[f"Ballot: Where we meet {mark}"]])
         self.assertEqual(page.attributes_of("Ballot")["data-mark"], POLL.mark)
         for text in texts_of(CALL).values():
-            self.assertIn(f"Let the subject of your letter end with {mark}, which is the mark of this vote", text)
+            self.assertIn(f"in a letter whose subject ends with {mark}.", text)
         for text in texts_of(KINDS["signed"]).values():
             self.assertIn(f"your ballot, and below it the mark of this vote, {mark}, so that", text)
             self.assertIn("In a web form an empty field is a hyphen", text)
@@ -175,18 +174,15 @@ class Files(unittest.TestCase):
             files = texts_of(dataclasses.replace(CALL, poll=poll))
             numbered = [f"Option {number}: {name}" for number, name in enumerate(names, start=1)]
             ratios = [f"majority ratio {ratio}" for ratio in (1, 1, 3)] + ["the default option"]
-            said = f"This ballot says: {numbered[1]}, then {numbered[0]}, then {numbered[3]}; not ranked, and so behind all others: {numbered[2]}."
-            rules = "Majority ratio 3: at least three times as many electors", "The quorum is 2 votes: at least 2 electors", "The roll has 4 electors."
+            rules = "Majority ratio 3: at least 3 times as many electors", "The quorum is 2 votes: at least 2 electors", "The roll has 4 electors."
             page = Elements(call_files(dataclasses.replace(CALL, poll=poll))["index.html"])
             self.assertIn(f"Ballot%3A%20{urllib.parse.quote(poll.name)}%20%5B{poll.mark}%5D", str(page.found))
             self.assertEqual((page.texts["title"], page.texts["h1"]), ([f"Vote: {poll.name}"], [poll.name]))
-            for name, form in (("index.html", "{}, {}"),):
-                for part in (*map(form.format, numbered, ratios), said, *rules, f"The default option is {numbered[3]}."):
-                    self.assertIn(part, files[name])
-                self.assertIn("(name 2,1,-,3)", files[name])
+            for part in (*map("{}, {}".format, numbered, ratios), *rules, f"The default option is {numbered[3]}.", "NAME _,_,_,_ "):
+                self.assertIn(part, files["index.html"])
         more_than = dataclasses.replace(CALL, poll=dataclasses.replace(POLL, wording="more_than", quorum=0))
         for text in texts_of(more_than).values():
-            self.assertIn("Majority ratio 3: more than three times as many electors", text)
+            self.assertIn("Majority ratio 3: more than 3 times as many electors", text)
             self.assertIn("There is no quorum. The roll has 4 electors.", text)
 
     def test_texts_of_options(self) -> None:
@@ -238,15 +234,14 @@ class Files(unittest.TestCase):
                     self.assertEqual(real in text, kind == "open" and real_names is not None)
 
     def test_each_kind_says_its_own(self) -> None:
-        receipts = ["a letter that says how your ballot was read", "a letter that says that your ballot has come"]
-        polls = ["ratios, quorum and roll. It", "ratios, quorum, and an alias for each elector. It"]
-        compared = ["Now, and again when the result is published, everybody can", "When the result is published, everybody can"]
-        for kind, own in {"open": (0, 0, 0), "secret": (1, 1, 0), "codes": (1, 0, 1), "signed": (0, 0, 0)}.items():
+        gaps = ["Write your name on the roll in the place of NAME.", "as it is on the slip with your code.", "Write your code in the place of CODE."]
+        polls = ["It lies beside this page.", "It has all codes, so it is published with the result."]
+        for kind, own in {"open": (0, 0), "secret": (1, 0), "codes": (2, 1), "signed": (0, 0)}.items():
             for text in texts_of(KINDS[kind]).values():
                 with self.subTest(kind=kind):
-                    for sentences, wanted in zip((receipts, polls, compared), own):
-                        self.assertEqual([sentence in text for sentence in sentences].index(True), wanted)
-                        self.assertEqual(sum(sentence in text for sentence in sentences), 1)
+                    for sentences, wanted in zip((gaps, polls), own):
+                        self.assertEqual([sentence for sentence in sentences if sentence in text], [sentences[wanted]])
+                    self.assertEqual("The code is no part of your ballot: keep it, and send it to nobody." in text, kind == "secret")
 
     def test_parts_have_their_headings(self) -> None:
         names = ["What is voted on", "The roll", "How a ballot is written", "What will be public", "The poll"]
@@ -264,12 +259,9 @@ class Files(unittest.TestCase):
         self.assertEqual(set(call_files(SECRET)), {"index.html", "call.txt", "poll.toml", "SHA256SUMS"})
         self.assertEqual(set(call_files(WITH_CODES)), {"index.html", "call.txt", "SHA256SUMS"})
         for text in texts_of(SECRET).values():
-            self.assertIn("your name as it is on the slip with your code", text)
-            self.assertIn("This file never changes: the result has the same one, byte for byte.", text)
+            self.assertIn("that of the result, which is the same one, byte for byte", text)
         for text in texts_of(WITH_CODES).values():
-            self.assertIn("A ballot is one line: your code, a space", text)
-            self.assertIn("It has all codes, so it is published with the result.", text)
-            self.assertIn("(code 2,1,-,3)", text)
+            self.assertIn("CODE _,_,_,_ ", text)
             self.assertNotIn("your name", text.lower())
         self.assertNotIn('href="poll.toml"', call_files(WITH_CODES)["index.html"].decode())
 

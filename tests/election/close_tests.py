@@ -44,7 +44,7 @@ class Close(CloseTest):
         self.assertEqual(
             {key: value for key, value in self.numbers().items() if key not in ("act", "digest", "without_ballot")},
             {"stage": "closed", "electors": 9, "lines": 3, "valid": 2, "refused": 1, "late": 1, "voters": 2, "waiting": 0}
-            | {"stopping": [], "refused_letters": []},
+            | {"stopping": [], "not_reached": {}, "printed": []},
         )
 
     def test_letter(self) -> None:

@@ -9,7 +9,7 @@ import support
 
 sys.path.insert(0, str(support.ROOT / "python"))
 
-from debvote_tools.inbox.csv_ballots import columns_of, lines_of_table  # noqa: E402
+from debvote_tools.inbox.tables import columns_of, lines_of_table  # noqa: E402
 from debvote_tools.cli.faults import Fault, Status  # noqa: E402
 from debvote_tools.poll.sealed_poll import SealedPoll  # noqa: E402
 

@@ -105,7 +105,7 @@ class AtATerminal(CalledTest):
         # what was agreed to is another thing now, so it is asked anew
         first.type("y\n")
         shown = first.until(CAST)
-        self.assertIn("It was not entered: another command changed the election meanwhile. Now it looks like this:\n", shown)
+        self.assertIn("Nothing was done: another command changed the election meanwhile. Now it is so:\n", shown)
         self.assertIn(f"ada has a ballot: {LAKE}. It will be replaced.\n", shown)
         self.assertEqual(self.lines(), [f"ada {RANKS}"])
         first.type("y\n")

@@ -226,13 +226,15 @@ class Texts(DraftTest):
 
 
 class Confusing(DraftTest):
-    def faults(self, poll: str = GERMAN, names: list[str] | None = None, **texts: str) -> list[object]:
-        draft = self.draft(poll, {f"{name[1:]}.txt": text for name, text in texts.items()})
+    def faults(self, poll: str = GERMAN) -> list[object]:
+        draft = self.draft(poll)
         self.assertEqual(draft.faults, [])
-        return faults_when_sealed(draft, ROLL if names is None else names, "de")
+        return faults_when_sealed(draft, "de")
 
     def test_nothing_is_wrong(self) -> None:
-        self.assertEqual(self.faults(_1="See ada and ben, 1,2,3,4. Ada 1,2,3 of us. ad 1,2,3,4 xada 1,2,3,4 ada 1,2,3,456"), [])
+        self.assertEqual(self.faults(), [])
+        # a line that reads as a ballot is parted off where it goes out
+        self.assertEqual(self.faults(GERMAN.replace("Am See", "ben 1,2,3,4")), [])
 
     def test_names_of_options_and_of_the_title(self) -> None:
         poll = GERMAN.replace('"李"', '"ueber der BRUCKE", "UBER DER BRÜCKE"').replace("treffen", "\\u202e").replace("Weiter", "x" * 200)
@@ -242,31 +244,6 @@ class Confusing(DraftTest):
             ("option 4, `UBER DER BRÜCKE`: it looks like option 2, `Über der Brücke`",),
         ]
         self.assert_faults(self.faults(poll), *wanted)
-
-    def test_a_line_that_would_read_as_a_ballot(self) -> None:
-        for text in (
-            "ada 1,2,3,4", "Write:\nADA 1,-,3,4\n", "as in ada\n1, 2,\n3 ,4 and", "ben: 4;3;2;1.", "»ben« *1,2,3,4*", "zoe-müller 1,2,3,4",
-            "Zoe-Mueller 1,2,3,4,5", "áda\u00a01,2,3,–", "(ada 1,2,3,4)", "ada\t99,1,1,1", "x 1,2,3,4 ben 1,2,3,4",
-        ):  # fmt: skip
-            with self.subTest(text=text):
-                self.assert_faults(self.faults(_2=text), ("texts/2.txt: `", "would be read as a ballot"))
-
-    def test_real_names_count_too(self) -> None:
-        names = [*ROLL, "Ada Maria Lovelace", "", "李"]
-        self.assert_faults(self.faults(names=names, _1="李 1,2,3,4"), ("`李 1,2,3,4` in it",))
-        self.assertEqual(self.faults(names=names, _1="1,2,3,4"), [])
-        self.assert_faults(self.faults(names=names, _1="So: ada  María\nLovelace 1,2,3,4"), ("`ada maria lovelace 1,2,3,4` in it",))
-        self.assertEqual(self.faults(names=names, _1="Maria Lovelace 1,2,3,4; Xada Maria Lovelace 1,2,3,4"), [])
-        self.assertEqual(len(self.faults(names=["zoe-muller"], _1="zoe-müller 1,2,3,4")), 1)
-
-    def test_a_title_or_an_option_that_reads_as_one(self) -> None:
-        poll = GERMAN.replace("Am See", "ben 1,2,3,4")
-        self.assert_faults(self.faults(poll), ("poll.toml: `ben 1,2,3,4` in it would be read as a ballot",))
-        self.assertEqual(self.faults(GERMAN.replace("Am See", "zu ben").replace("Über der Brücke", "1,2,3,4")), [])
-
-    def test_many_names_and_much_text(self) -> None:
-        names = [f"elector-{number}" for number in range(10_000)]
-        self.assert_faults(self.faults(names=names, _1="1,2,3,4 " * 60_000 + "elector-9999 1,2,3,4"), ("elector-9999",))
 
 
 class NewPoll(DraftTest):

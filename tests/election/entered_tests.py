@@ -111,7 +111,7 @@ class WhenDebvoteRuns(CalledTest):
         self.assertEqual(self.asked("add", given=lines), ["explain", "explain", "steps"])
         self.assertEqual(self.asked("add", given=f"cleo {RANKS}\n"), ["explain", "steps"])
         self.assertEqual(self.asked("desk", given=f"ada {OTHER_RANKS}\n"), ["explain", "steps"])
-        self.assertEqual(self.asked("show", "ada"), ["explain", "standing"])
+        self.assertEqual(self.asked("show", "ada"), ["explain"])
         self.assertEqual(self.asked("strike", 1, "--because", "a test"), ["standing"])
         self.assertEqual(self.asked("undo"), ["standing"])
         self.assertEqual(self.asked("undo"), ["standing"])

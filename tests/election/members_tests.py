@@ -11,7 +11,7 @@ import support
 sys.path.insert(0, str(support.ROOT / "python"))
 
 from debvote_tools.poll import members  # noqa: E402
-from debvote_tools.cli.faults import Fault, Several, Status  # noqa: E402
+from debvote_tools.cli.faults import Fault, Status  # noqa: E402
 from debvote_tools.files import TABLE_LIMIT  # noqa: E402
 
 KEY = "0123456789ABCDEF0123456789ABCDEF01234567"
@@ -33,10 +33,8 @@ class MembersTest(unittest.TestCase):
         """The parts of each fault, all of which stop the run."""
         try:
             faults = self.read(content).faults
-        except Several as several:
-            faults = several.faults
         except Fault as fault:
-            faults = (fault,)
+            faults = (fault, *fault.others)
         self.assertEqual(len(faults), len(wanted), [fault.words for fault in faults])
         for fault, parts in zip(faults, wanted):
             self.assertEqual(fault.status, Status.DOUBT)

@@ -66,6 +66,11 @@ class New(support.ElectionTest):
             self.assertEqual(ended.returncode, 7, ended)
             self.assertEqual(list(self.folder.iterdir()), [])
 
+    def test_a_misspelt_command(self) -> None:
+        for word, said in {"stauts": "'stauts'; did you mean status?", "Counts": "'Counts'; did you mean count?", "x": "'x'"}.items():
+            ended = self.election(word, cwd=self.scratch)
+            self.assertEqual((ended.status, ended.faults.splitlines()[-1]), (2, f"debvote-election: error: there is no command {said}"))
+
     def test_commands_before_the_call(self) -> None:
         self.done("new", "spring")
         folder = self.folder / "spring"

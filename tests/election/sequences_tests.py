@@ -1,7 +1,8 @@
 """Random sequences of acts against a small model: killed between any two system calls, on a full disk, by eight desks at once.
 
-The model is a list of lines. After each command what `export` writes has to be the model's, and the numbers of `status` those that
-debvote gives for the exported files. A command that was killed has done all of its act or nothing, and all that it told.
+The model is a list of lines, and of letters that wait. After each command what `export` writes has to be the model's, and the numbers of
+`status` those that debvote gives for the exported files. A command that was killed has done all of its act or nothing, and all that it
+told.
 """
 
 import collections
@@ -44,6 +45,18 @@ class Line:
     text: str
     is_late: bool
     is_struck: bool = False
+    # the number of the letter that it is of
+    letter: int | None = None
+
+
+@dataclasses.dataclass
+class Letter:
+    """A letter of the model. None goes in by itself; one with `ranks` has one ballot."""
+
+    elector: str
+    ranks: str
+    is_taken_back: bool = False
+    waits: bool = True
 
 
 @dataclasses.dataclass
@@ -51,6 +64,7 @@ class Model:
     """What is in the book: the envelopes in their order, how often each line came in files, and the acts that entered."""
 
     lines: list[Line] = dataclasses.field(default_factory=list)
+    letters: list[Letter] = dataclasses.field(default_factory=list)
     came: collections.Counter = dataclasses.field(default_factory=collections.Counter)
     entered: list[tuple[list[int], list[str]]] = dataclasses.field(default_factory=list)
     # the late lines that a reopen entered anew, by the numbers of their new envelopes
@@ -58,10 +72,10 @@ class Model:
     is_closed: bool = False
     is_reopened: bool = False
 
-    def enter(self, texts: list[str], *, is_late: bool, from_file: bool) -> None:
-        """One act that enters these lines."""
+    def enter(self, texts: list[str], *, is_late: bool, from_file: bool, letters: list[int | None] | None = None) -> None:
+        """One act that enters these lines, perhaps of letters."""
         numbers = range(len(self.lines) + 1, len(self.lines) + len(texts) + 1)
-        self.lines += [Line(text, is_late) for text in texts]
+        self.lines += [Line(text, is_late, letter=letter) for text, letter in zip(texts, letters or [None] * len(texts))]
         self.came.update(texts if from_file else [])
         self.entered.append((list(numbers), texts if from_file else []))
 
@@ -79,8 +93,24 @@ class Model:
         numbers, texts = self.entered.pop()
         self.came -= collections.Counter(texts)
         for number in numbers:
-            self.lines[number - 1].is_struck = True
+            line = self.lines[number - 1]
+            if line.letter is not None and not line.is_struck:
+                letter = self.letters[line.letter - 1]
+                letter.is_taken_back = letter.waits = True
+            line.is_struck = True
             self.anew.pop(number, None)
+
+    def enter_letters(self, ballots: dict[int, str]) -> None:
+        """One act that enters these ballots of letters, in their order. All arrived before any close."""
+        for number in ballots:
+            letter = self.letters[number - 1]
+            letter.is_taken_back = letter.waits = False
+        self.enter([*ballots.values()], is_late=self.is_closed, from_file=False, letters=[*ballots])
+
+    @property
+    def waiting(self) -> list[int]:
+        """The letters that wait."""
+        return [number for number, letter in enumerate(self.letters, start=1) if letter.waits]
 
     def exported(self) -> tuple[str, str]:
         """The files of the lines in time and of the late ones."""
@@ -100,13 +130,20 @@ class Step:
 class SequencesTest(support.ElectionTest):
     def setUp(self) -> None:
         super().setUp()
+        self.set_clock("2026-11-25T09:00:00+00:00")
         if shutil.which("strace") is None:
             self.skipTest("strace is not installed")
+
+    def made(self) -> pathlib.Path:
+        """The call is older than the letters."""
+        self.set_clock("2026-11-20T09:00:00+00:00")
+        return super().made()
 
     # ------------------------------------------------------------ the steps
     def step(self, model: Model, chance: random.Random) -> Step:
         """A command that can be given now, with what it does."""
-        steps = [self.adding] * 4 + [self.desk] * 3 + [self.undoing, self.striking, self.closing, self.reopening]
+        steps = [self.adding] * 4 + [self.desk] * 3 + [self.mailing, self.typing, self.entering] * 2
+        steps += [self.undoing, self.striking, self.closing, self.reopening, self.bringing_back]
         while True:
             after = copy.deepcopy(model)
             step = chance.choice(steps)(after, chance)
@@ -142,6 +179,49 @@ class SequencesTest(support.ElectionTest):
         model.enter(texts, is_late=is_late, from_file=False)
         return Step(["desk", *words], "".join(f"{text}\n" for text in texts), [model])
 
+    def mailing(self, model: Model, chance: random.Random) -> Step:
+        """Letters that wait: a colon is above the ballot, or there is none. Each has a second of its own."""
+        box = ""
+        for number in range(len(model.letters) + 1, len(model.letters) + chance.randint(1, 3) + 1):
+            letter = Letter(chance.choice(support.NAMES), chance.choice([*RANKS, ""]))
+            text = f"My ballot:\n\n{letter.elector} {letter.ranks}" if letter.ranks else "I am for the lake."
+            time = f"Mon, 23 Nov 2026 10:{number // 60:02}:{number % 60:02} +0000"
+            head = f"Received: from a by b; {time}\nFrom: {letter.elector}@club.example\nMessage-ID: <{number}@mail.example>\n"
+            box += f"From x@club.example Mon Nov 23 10:00:00 2026\n{head}\n{text}\n\n"
+            model.letters.append(letter)
+        self.write("box", box)
+        return Step(["add", "--yes", "box"], None, [model])
+
+    def entering(self, model: Model, chance: random.Random) -> Step | None:
+        """The one ballot of each of some letters."""
+        numbers = [number for number in model.waiting if model.letters[number - 1].ranks]
+        chosen = chance.sample(numbers, chance.randint(0, len(numbers)))
+        if not chosen:
+            return None
+        model.enter_letters({number: self.ballot(model, number) for number in sorted(chosen)})
+        return Step(["held", *map(str, chosen), "--enter", "--force"], None, [model])
+
+    def bringing_back(self, model: Model, chance: random.Random) -> Step | None:
+        """All letters that were taken back, but for those in which a ballot was read that is not there."""
+        numbers = [number for number in model.waiting if model.letters[number - 1].ranks and model.letters[number - 1].is_taken_back]
+        if not numbers:
+            return None
+        model.enter_letters({number: self.ballot(model, number) for number in numbers})
+        return Step(["held", "--enter", "--force"], None, [model])
+
+    def typing(self, model: Model, chance: random.Random) -> Step | None:
+        """What the secretary reads in a letter."""
+        if not model.waiting:
+            return None
+        number = chance.choice(model.waiting)
+        ballot = f"{model.letters[number - 1].elector} {chance.choice(RANKS)}"
+        model.enter_letters({number: ballot})
+        return Step(["held", str(number), "--as", ballot, "--force"], None, [model])
+
+    def ballot(self, model: Model, number: int) -> str:
+        letter = model.letters[number - 1]
+        return f"{letter.elector} {letter.ranks}"
+
     def undoing(self, model: Model, chance: random.Random) -> Step | None:
         if model.is_closed or not model.entered:
             return None
@@ -160,7 +240,7 @@ class SequencesTest(support.ElectionTest):
         if model.is_closed:
             return None
         model.is_closed = True
-        return Step(["close"], None, [model])
+        return Step(["close", "--force", "--because", "nobody answers"], None, [model])
 
     def reopening(self, model: Model, chance: random.Random) -> Step | None:
         if not model.is_closed:
@@ -169,9 +249,11 @@ class SequencesTest(support.ElectionTest):
         late = [number for number in late if number not in model.anew.values()]
         numbers = chance.sample(late, chance.randint(0, len(late)))
         if numbers:
-            # they go in in the order in which they came, however they are named
-            model.anew |= {len(model.lines) + index: number for index, number in enumerate(sorted(numbers), start=1)}
-            model.enter([model.lines[number - 1].text for number in sorted(numbers)], is_late=False, from_file=False)
+            # they go in in the order of their times, however they are named: letters came before all acts
+            ordered = sorted(numbers, key=lambda number: (model.lines[number - 1].letter or len(model.letters) + 1, number))
+            model.anew |= {len(model.lines) + index: number for index, number in enumerate(ordered, start=1)}
+            lines = [model.lines[number - 1] for number in ordered]
+            model.enter([line.text for line in lines], is_late=False, from_file=False, letters=[line.letter for line in lines])
         model.is_closed, model.is_reopened = False, True
         words = ["--force", "--in-time", *map(str, numbers)] if numbers else []
         return Step(["reopen", "--because", "a letter was forgotten", *words], None, [model])
@@ -180,7 +262,7 @@ class SequencesTest(support.ElectionTest):
     def injected(self, step: Step, inject: str) -> support.Ended:
         """Runs a command under strace, which does something to one of its system calls."""
         words = ["strace", "-o", "/dev/null", "-e", f"inject={inject}", sys.executable, support.ELECTION, *step.words]
-        env = support.environment() | {"XDG_STATE_HOME": str(self.state)}
+        env = support.environment() | self.clock | {"XDG_STATE_HOME": str(self.state)}
         given = (step.given or "").encode()
         ended = subprocess.run(words, cwd=self.folder, env=env, input=given, capture_output=True, timeout=support.SECONDS)
         return support.Ended(ended.stdout.decode(), ended.stderr.decode(), ended.returncode)
@@ -192,6 +274,7 @@ class SequencesTest(support.ElectionTest):
             ended = self.election(*step.words, given=step.given)
             self.assertIn(ended.status, (0, 9), ended)
             self.assertEqual(self.exported(), step.models[-1].exported(), (step, ended))
+            self.assertEqual(self.numbers()["waiting"], len(step.models[-1].waiting), (step, ended))
             return step.models[-1], False
         when = chance.randint(1, MAX_CALLS)
         if kind < 0.8:
@@ -208,19 +291,19 @@ class SequencesTest(support.ElectionTest):
 
     def held(self, step: Step, ended: support.Ended) -> Model:
         """The model that the book is in after a command that may have been cut off; what it told is in it."""
-        exported = self.exported()
+        exported, numbers = self.exported(), self.numbers()
         told = {int(number) for number, _ in REPLY.findall(ended.output)}
-        fitting = [model for model in step.models if model.exported() == exported]
-        self.assertTrue(fitting, (step, ended, exported))
+        fitting = [model for model in step.models if (model.exported(), len(model.waiting)) == (exported, numbers["waiting"])]
+        self.assertTrue(fitting, (step, ended, exported, numbers))
         # of models with the same lines the last one: a close that was killed is asked of the book below
-        held = next((model for model in reversed(fitting) if model.is_closed == self.is_closed()), None)
+        held = next((model for model in reversed(fitting) if model.is_closed == (numbers["stage"] in ("closed", "published"))), None)
         self.assertIsNotNone(held, (step, ended))
         if told:
             self.assertLessEqual(max(told), len(held.lines), (step, ended))
         return held
 
-    def is_closed(self) -> bool:
-        return json.loads(self.done("status", "--json").output)["stage"] in ("closed", "published")
+    def numbers(self) -> dict[str, object]:
+        return json.loads(self.done("status", "--json").output)
 
     def exported(self) -> tuple[str, str]:
         out = self.scratch / "out"
@@ -232,7 +315,7 @@ class SequencesTest(support.ElectionTest):
 
     def check_numbers(self) -> None:
         """The numbers of `status` are those that debvote gives for the exported files, and the chain is whole."""
-        status = json.loads(self.done("status", "--json").output)
+        status = self.numbers()
         out = self.scratch / "out"
         files = ["--poll", out / "poll.toml", "--ballots", out / "ballots.txt"]
         standing = self.debvote("standing", *files).output.splitlines()

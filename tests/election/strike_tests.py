@@ -1,6 +1,7 @@
 """`strike`: one envelope is taken out, before the close, with a reason that the log keeps."""
 
 from called import LAKE, OTHER_RANKS, RANKS, CalledTest
+from terminal import Terminal
 
 from debvote_tools.book import letters, queries
 
@@ -73,6 +74,36 @@ class Strike(CalledTest):
             letters.decide(act, letter, letters.ENTERED)
         self.told("strike", 5, *WHY)
         self.assertEqual(self.book.rows("SELECT letter, state FROM letter_state WHERE act = ?", self.last_act()), [(1, "struck")])
+
+
+class AtATerminal(CalledTest):
+    def test_it_asks(self) -> None:
+        self.told("add", given=f"ada {RANKS}\nben {RANKS}\n")
+        before, terminal = self.last_act(), Terminal(self, "strike", "1", *WHY)
+        terminal.until(f"Strike envelope 1: `ada {RANKS}`? This cannot be undone. [y/n] ")
+        terminal.type("n\n")
+        output, status = terminal.end()
+        self.assertIn("strike: you did not say yes; nothing was changed: ", output)
+        self.assertEqual((status, self.last_act()), (9, before))
+        terminal = Terminal(self, "strike", "1", *WHY)
+        terminal.until("[y/n] ")
+        # another act changes nothing of it
+        self.told("desk", given=f"cleo {RANKS}\n")
+        terminal.type("y\n")
+        output, status = terminal.end()
+        self.assertNotIn("[y/n]", output)
+        self.assertEqual((status, self.lines()), (0, [f"ben {RANKS}", f"cleo {RANKS}"]))
+
+    def test_another_one_strikes_it_meanwhile(self) -> None:
+        self.told("add", given=f"ada {RANKS}\n")
+        terminal = Terminal(self, "strike", "1", *WHY)
+        terminal.until("[y/n] ")
+        self.told("strike", "1", *WHY)
+        terminal.type("y\n")
+        output, status = terminal.end()
+        self.assertIn("envelope 1 is struck already", output)
+        self.assertEqual(status, 9)
+        self.assertNotIn("[y/n]", Terminal(self, "strike", "9", "--yes", *WHY).end()[0])
 
 
 class NoBallots(CalledTest):

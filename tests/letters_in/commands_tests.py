@@ -6,6 +6,7 @@ import io
 import json
 import os
 import pathlib
+import re
 import shutil
 import sys
 import unittest
@@ -18,14 +19,21 @@ import pgp  # noqa: E402
 import support  # noqa: E402
 from terminal import Terminal  # noqa: E402
 
+from debvote_tools.book import queries  # noqa: E402
 from debvote_tools.book.book import open_book  # noqa: E402
+from debvote_tools.book.election import POLL_WITH_NAMES  # noqa: E402
 from debvote_tools.cli import command_line  # noqa: E402
 from debvote_tools.outbox import files as letter_files  # noqa: E402
 from debvote_tools.commands import held  # noqa: E402
-from debvote_tools.inbox import signatures  # noqa: E402
+from debvote_tools.inbox import signature  # noqa: E402
 
 RANKS, OTHER = "1,2,4,3", "2,1,4,3"
 LAKE = "At the lake, then In the town hall, then Further discussion, then Sell the house and meet there"
+
+
+def without_marks(text: str) -> str:
+    """What is told of letters, without the marks of the vote in their subjects."""
+    return re.sub(r" \[[0-9a-f]{16}\]", "", text)
 
 
 def letter(name: str, text: str, arrived: str = "Mon, 23 Nov 2026 10:00:00 +0000", sender: str = "", number: int = 1) -> str:
@@ -77,7 +85,8 @@ class Adding(LettersTest):
         ended = self.add(letter("ada", f"ada {RANKS}"), letter("ben", "I vote for the lake."), letter("cleo", f"cleo {OTHER}"))
         self.assertEqual(ended.status, 0, ended)
         self.assertIn(f"1 counted  ada: {LAKE}\n", ended.output)
-        self.assertIn("letter 2, from Ben <ben@club.example>, 2026-11-23 10:00:00 UTC: no ballot found", ended.output)
+        row = "     2  2026-11-23 10:00:00 UTC  Ben <ben@club.example>  my ballot\n        no ballot found\n"
+        self.assertIn(row + "        other words: I vote for the lake.\n", without_marks(ended.output))
         self.assertEqual(self.exported()[0], f"ada {RANKS}\ncleo {OTHER}\n")
         self.assertEqual(self.numbers()["waiting"], 1)
         self.assertIn("1 letter waits", self.done("status").output)
@@ -105,6 +114,26 @@ class Adding(LettersTest):
             ended = self.add(*long, letter("ada", f"ada {RANKS}")) if given is None else self.election("add", "--yes", given=self.of_this_vote(given.encode()))
             self.assertIn("1 ballot of letters went in; 5 letters wait.", ended.output, ended)
         self.assertEqual(self.exported()[0], f"ada {RANKS}\nben {RANKS}\n")
+
+    def test_a_line_for_each_ballot_and_those_with_other_words_last(self) -> None:
+        """Greetings, quotations and what a telephone adds are no words to be read."""
+        usual = (
+            f"Dear Anna,\n\nAda: 1; 2; 4; 3.\n\nMany thanks and best wishes\nAda\n\nSent from my iPhone\n\n"
+            "On Mon, 23 Nov 2026 at 09:00, Vote <vote@club.example> wrote:\n> Vote now\n> ada 2,1,4,3"
+        )
+        worded = f"ben {RANKS}\n\nBut if it rains I am for the town hall, since the lake is no place to go then"
+        outlook = f"cleo {RANKS}\n\nVon: Vote <vote@club.example>\nGesendet: Montag\nAn: Cleo\nBetreff: Vote\n\nVote now"
+        said = self.add(letter("ben", worded), letter("ada", usual), letter("cleo", outlook)).output
+        self.assertIn(
+            f"\nada (letter 2, written `Ada: 1; 2; 4; 3.`): {LAKE}\ncleo (letter 3): {LAKE}\n"
+            "Read these: they have other words, or more to look at.\n"
+            f"ben (letter 1): {LAKE}; other words: But if it rains I am for the town hall, since the lake is no..\n",
+            said,
+        )
+
+    def test_the_subject_of_a_letter_that_waits(self) -> None:
+        said = self.add(letter("ben", "hello").replace("my ballot", "=?utf-8?q?f=C3=BCr_den_See?=")).output
+        self.assertIn("letter  arrived                  from                    subject\n     1  2026-11-23 10:00:00 UTC  Ben <ben@club.example>  für den See\n        no ballot found\n", without_marks(said))
 
     def test_look_keeps_nothing(self) -> None:
         before = self.contents()
@@ -139,7 +168,7 @@ class Adding(LettersTest):
         desk.until("Enter 1 ballot?")
         self.done("close", "--force", "--because", "nobody answers")
         desk.type("y\n")
-        self.assertIn("goes in, and is late", desk.until("Enter 1 ballot?"))
+        self.assertIn("what is added now is late.\nada (letter 1): At the lake", desk.until("Enter 1 ballot?"))
         desk.type("n\n")
         desk.end()
         self.assertEqual(self.exported(), ("", ""))
@@ -296,7 +325,7 @@ class Held(LettersTest):
 
     def test_listed_shown_and_entered(self) -> None:
         listed = self.done("held").output
-        self.assertIn("letter 1, from Ada <ada@club.example>", listed)
+        self.assertIn("\n     1  2026-11-23 10:00:00 UTC  Ada <ada@club.example>  my ballot\n", without_marks(listed))
         self.assertIn(f"line 5: ada {RANKS}", listed)
         self.assertIn("2 letters wait.", listed)
         self.assertIn(f"   5  ada {RANKS}\n", self.done("held", "1").output)
@@ -331,7 +360,7 @@ class Held(LettersTest):
             parts = f"{head}\n\n--b\n\n{text}\n--b\nContent-Type: text/html\n\n{marked}\n--b--"
             self.add(letter(name, parts).replace("\n\n", "\n", 1))
         listed = self.done("held").output
-        self.assertIn(f"\n  line 2: cleo {RANKS}\n  line 3: eve {OTHER}\n", listed)
+        self.assertIn(f"\n        line 2: cleo {RANKS}\n        line 3: eve {OTHER}\n", listed)
         self.assertEqual((listed.count(f": cleo {RANKS}"), listed.count("`dan 1,2`")), (1, 1), listed)
         self.done("held", "3", "--enter", "2,3", "--force")
 
@@ -359,8 +388,101 @@ class Held(LettersTest):
         self.add(letter("ada", f"ada {RANKS}", "Mon, 9 Nov 2026 10:00:00 +0000", number=2))
         self.assertIn("1 letter that arrived before the call did not go in.", self.done("close").output)
 
+    def test_what_it_quotes_of_ours_is_not_shown(self) -> None:
+        """But for a line that may be a ballot, each line keeps its number. What others wrote is shown."""
+        mark = hashlib.sha256((self.folder / "call" / "poll.toml").read_bytes()).hexdigest()[:16]
+        ours = f"> Vote on\n> the mark [{mark}]\n>\n> cleo 1,2\n> until Friday"
+        self.add(letter("cleo", f"I am for the lake.\n\nVote wrote:\n\n{ours}\n\nAnd Dan wrote:\n> I am not"))
+        shown = self.done("held", 3).output
+        lines = "   1  I am for the lake.\n   2  \n      .. 7 lines of a letter of ours, which it quotes\n  10  \n  11  And Dan wrote:\n  12  > I am not\n"
+        self.assertIn(lines, shown)
+        self.assertTrue(without_marks(shown).startswith("letter 3, from Cleo <cleo@club.example>, 2026-11-23 10:00:00 UTC\n  subject: my ballot\n"), shown)
+
+    def test_several_with_one_ballot_each(self) -> None:
+        """They go in in the order of their times, those of one elector too."""
+        early = letter("cleo", f"We are 4:\n\ncleo {RANKS}", "Mon, 23 Nov 2026 08:00:00 +0000", number=2)
+        self.add(letter("cleo", OTHER), letter("dan", OTHER), early, letter("eve", f"eve {RANKS} or eve {OTHER}"), letter("fay", f"1 of us\nfay {RANKS}\ngus {RANKS}"))
+        ended = self.election("held", 1, 2, 6, 7, "--enter")
+        self.assertEqual(ended.status, 9)
+        for part in ("letter 2: it has 0 lines that can be entered", "letter 6: it has 0 lines", "letter 7: it has 2 lines that can be entered; nothing"):
+            self.assertIn(part, ended.faults)
+        self.assertEqual(self.exported()[0], "")
+        said = self.done("held", 3, 4, 1, 5, "--enter").output
+        self.assertIn(f"letter 5, from Cleo <cleo@club.example>, 2026-11-23 08:00:00 UTC: cleo: {LAKE}\n", said)
+        self.assertIn("\n3 counted  dan: In the town hall", said)
+        self.assertIn("\n3 letters wait.\n", said)
+        self.assertEqual(self.exported()[0], f"cleo {RANKS}\ncleo {OTHER}\ndan {OTHER}\nada {RANKS}\n")
+        self.assertIn("It was entered.", self.done("held", 4).output)
+
+    def test_two_of_one_time_that_differ(self) -> None:
+        self.add(letter("cleo", RANKS), letter("cleo", OTHER, number=2))
+        self.assert_fault(self.election("held", 3, 4, "--enter"), 9, "letters 3 and 4: they have different ballots of cleo, and the same time")
+        self.done("held", 4, "--enter")
+        self.assertEqual(self.exported()[0], f"cleo {OTHER}\n")
+
+    def test_what_the_secretary_types(self) -> None:
+        """The ballot has the time of the letter, and is tied to it, so nobody is told that the letter waits."""
+        said = self.done("held", 2, "--as", "Ben: 2; 1; 4; 3").output
+        self.assertIn("letter 2, from Ben <ben@club.example>, 2026-11-23 10:00:00 UTC: ben: In the town hall", said)
+        self.assertIn("\n1 counted  ben: In the town hall", said)
+        book = open_book(self.folder / "election.db")
+        self.addCleanup(book.connection.close)
+        [envelope] = queries.envelopes(book)
+        self.assertEqual((envelope.line.decode(), envelope.letter, envelope.time.hour), (f"ben {OTHER}", 2, 10))
+        self.assertEqual(book.last_act().detail, {"letter": 2, "lines": []})
+        self.assertIn("It was entered.", self.done("held", 2).output)
+        self.done("letters", "receipts")
+        [receipt] = (self.folder / "letters" / "receipts").rglob("ben*")
+        self.assertIn("In the town hall, then At the lake", receipt.read_text())
+        self.assertNotIn("waits", receipt.read_text())
+
+    def test_what_can_not_be_the_ballot_of_a_letter(self) -> None:
+        before = self.contents()
+        for line, *parts in (
+            ("ben 1,2", "--as: `ben 1,2` is no ballot of this poll: bad rank count: 2 ranks, the poll has 4 options", "A valid line in this poll"),
+            ("bne 1,2,4,3", "bad not on roll: bne is not on the roll"),
+            ("ben 1,2,4,3\nada 1,2,4,3", "it is not one line"),
+            ("", "it is not one line"),
+            (f"ada {RANKS}", "--as: neither its sender nor a line of letter 2 is of ada"),
+        ):
+            with self.subTest(line):
+                self.assert_fault(self.election("held", 2, "--as", line), 9, *parts)
+        self.assertEqual(self.contents(), before)
+        # a letter of somebody whom no list names may be anybody's
+        self.add(letter("eve", "I am for the lake", sender="e@elsewhere.example"))
+        self.done("held", 3, "--as", f"eve {RANKS}")
+        self.assertEqual(self.exported()[0], f"eve {RANKS}\n")
+
+    def test_typed_for_one_who_has_voted_since(self) -> None:
+        self.add(letter("eve", "I am for the lake", sender="e@elsewhere.example"))
+        self.done("desk", given=f"eve {OTHER}\nben 1,2\n")
+        self.assert_fault(self.election("held", 3, "--as", f"eve {RANKS}"), 9, "letter 3: its elector has voted since", "--force")
+        self.done("held", 3, "--as", f"eve {RANKS}", "--force")
+        self.done("held", 2, "--as", f"ben {RANKS}")
+        self.assertEqual(self.exported()[0], f"eve {OTHER}\nben 1,2\neve {RANKS}\nben {RANKS}\n")
+
+    def test_it_asks_once_at_a_terminal(self) -> None:
+        self.add(letter("cleo", OTHER))
+        desk = Terminal(self, "held", "1", "3", "--enter")
+        shown = desk.until("Enter 2 ballots? [y/n] ")
+        self.assertIn("letter 3, from Cleo", shown)
+        # what was agreed to is what goes in
+        self.done("desk", given=f"dan {RANKS}\ncleo {RANKS}\n")
+        desk.type("y\n")
+        self.assertIn("letter 3: its elector has voted since; nothing was changed", desk.until("--force"))
+        desk.end()
+        desk = Terminal(self, "held", "1", "3", "--enter", "--force")
+        desk.until("Enter 2 ballots? [y/n] ")
+        desk.type("n\n")
+        self.assertIn("held: you did not say yes; nothing was changed", desk.until("when you agree"))
+        desk.end()
+        self.assertEqual(self.exported()[0], f"dan {RANKS}\ncleo {RANKS}\n")
+        shown, status = Terminal(self, "held", "1", "--enter", "--yes").end()
+        self.assertEqual((status, "[y/n]" in shown), (0, False), shown)
+
     def test_wrong_words(self) -> None:
-        for words in (("--set-aside",), ("1", "2", "--enter", "5"), ("1", "--enter", "5", "--wait"), ("9",)):
+        wrong = [("--set-aside",), ("1", "2", "--enter", "5"), ("1", "--enter", "5", "--wait"), ("9",), ("--enter", "5"), ("1", "2", "--as", "ada 1")]
+        for words in (*wrong, ("--as", "ada 1,2,4,3"), ("1", "--enter", "--as", "ada 1")):
             with self.subTest(words):
                 self.assertEqual(self.election("held", *words).status, 2)
 
@@ -601,7 +723,7 @@ class Signed(LettersTest):
         (place / "gpgv").chmod(0o755)
         self.write("inbox.mbox", mailbox(self.signed("ada")))
         env = {"PATH": f"{place}:{support.environment()['PATH']}", "XDG_STATE_HOME": str(self.state)}
-        with mock.patch.object(signatures, "SECONDS", 0.2), mock.patch.dict(os.environ, env), contextlib.chdir(self.folder):
+        with mock.patch.object(signature, "SECONDS", 0.2), mock.patch.dict(os.environ, env), contextlib.chdir(self.folder):
             with contextlib.redirect_stdout(io.StringIO()) as said, contextlib.redirect_stderr(io.StringIO()):
                 command_line.main(support.ELECTION.parent, ["add", "--yes", "inbox.mbox"])
         self.assertIn("gpgv did not answer about its signature in time", said.getvalue())
@@ -645,11 +767,83 @@ class TakenBack(LettersTest):
         self.assertIn("0 ballots of letters went in; 2 letters wait", self.add(*box).output)
         self.done("held", "1", "--enter", "1")
         self.done("strike", "3", "--because", "she asked for it")
+        self.assertIn("1 letter waits", self.done("held").output)
         self.assertIn("Set aside: 1", self.done("held").output)
         self.assertIn("its ballot was struck", self.done("held", "1").output)
 
 
+    def test_all_come_back_by_one_command(self) -> None:
+        """But for those that somebody has to look at, as before."""
+        box = (letter("ada", f"ada {RANKS}"), letter("ben", f"ben {RANKS}"), letter("cleo", f"cleo {RANKS}"), letter("dan", "hello"))
+        self.add(*box)
+        self.assertIn("debvote-election held --enter enters these letters again\n", self.done("undo", "--yes").output)
+        self.done("desk", given=f"ben {OTHER}\n")
+        said = self.done("held", "--enter").output
+        self.assertIn("Waits on: letter 2: its elector has voted since\n", said)
+        self.assertIn("\n5 counted  ada: At the lake", said)
+        self.assertIn("\n2 letters wait.\n", said)
+        self.assertEqual(self.exported()[0], f"ben {OTHER}\nada {RANKS}\ncleo {RANKS}\n")
+        self.assert_fault(self.election("held", "--enter"), 9, "--enter: no letter was taken back that has one ballot")
+
+
+class OwnMarks(LettersTest):
+    """What an election knows of its electors' own marks."""
+
+    call_words = ("--to", "vote@club.example", "--marked")
+
+    def marked(self, name: str, text: str, of: str = "", **how: object) -> str:
+        """A letter with an own mark in its subject."""
+        book = open_book(self.folder / "election.db")
+        self.addCleanup(book.connection.close)
+        own = {elector.name: elector.mark for elector in queries.electors(book)}[of or name]
+        return letter(name, text, **how).replace("]", f"-{own}]", 1)  # type: ignore[arg-type]
+
+    def test_a_letter_needs_that_of_its_elector(self) -> None:
+        others = (letter("ben", f"ben {RANKS}"), self.marked("cleo", f"cleo {RANKS}", of="ada"))
+        said = self.add(self.marked("ada", f"ada {RANKS}"), *others, self.marked("dan", f"dan {RANKS}", sender="x@y.example")).output
+        self.assertEqual(self.exported()[0], f"ada {RANKS}\n")
+        self.assertEqual(said.count("its subject lacks the own mark of"), 2, said)
+        self.assertIn("its subject has the own mark of dan", said)
+
+    def test_a_new_letter_with_the_subject_of_the_page(self) -> None:
+        by_page = self.marked("ada", f"I vote:\n\nada {RANKS}").replace("my ballot", "Ballot: Where we meet in spring")
+        self.add(by_page, self.marked("ben", f"I vote:\n\nben {RANKS}"))
+        self.assertEqual(self.exported()[0], f"ada {RANKS}\n")
+
+    def test_lines_that_are_offered(self) -> None:
+        self.add(self.marked("ada", RANKS, sender="x@y.example"), letter("ben", "ben 1 2 4 3"), self.marked("cleo", "> cleo 2,1,3,-"))
+        listed = self.done("held").output
+        for number, line in enumerate((f"ada {RANKS}", f"ben {RANKS}", "cleo 2,1,3,-"), start=1):
+            self.assertIn(f"line 1: {line}\n", listed)
+            self.done("held", number, "--enter", 1)
+        self.assertEqual(self.exported()[0], f"ada {RANKS}\nben {RANKS}\ncleo 2,1,3,-\n")
+
+
+class Secret(OwnMarks):
+    """Ballots come under names, and the mark is that of the poll that everybody sees."""
+
+    poll = support.POLL + "secret = true\n"
+
+    def test_the_mark_of_the_poll_with_names_is_that_of_another_vote(self) -> None:
+        book = open_book(self.folder / "election.db")
+        self.addCleanup(book.connection.close)
+        of_names = hashlib.sha256(queries.sealed(book, POLL_WITH_NAMES) or b"").hexdigest()[:16]
+        self.assertIn("it has the mark of another vote", self.add(letter("ada", f"ada {RANKS}").replace(support.ANY_MARK, of_names)).output)
+        self.add(self.marked("ada", f"ada {RANKS}", number=2))
+        self.assertEqual(self.exported()[0], f"ada {RANKS}\n")
+
+
 class Family(LettersTest):
+    def test_one_is_entered_by_its_line_and_one_is_typed(self) -> None:
+        self.write("members.csv", support.members_of(support.NAMES).replace("ben@", "ada@"))
+        self.done("roll", "--yes")
+        self.add(letter("ada", f"ada {RANKS}\nben {OTHER}\nben says no to the lake"))
+        self.done("held", 1, "--enter", 1)
+        self.assertEqual(self.numbers()["waiting"], 1)
+        self.done("held", 1, "--as", "ben 2,-,1,-")
+        self.assertEqual(self.numbers()["waiting"], 0)
+        self.assertEqual(self.exported()[0], f"ada {RANKS}\nben 2,-,1,-\n")
+
     def test_each_elector_has_one_entered(self) -> None:
         self.write("members.csv", support.members_of(support.NAMES).replace("ben@", "ada@"))
         self.done("roll", "--yes")

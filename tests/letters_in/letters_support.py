@@ -16,11 +16,11 @@ sys.path.insert(0, str(ROOT / "python"))
 
 from debvote_tools.debvote import findings_in  # noqa: E402
 from debvote_tools.inbox.known import Ballot, Known, Names  # noqa: E402
-from debvote_tools.inbox.judge import JudgedLetter, Outcome, judge_all  # noqa: E402
-from debvote_tools.inbox.parse import ParsedLetter, as_json, from_json, parse  # noqa: E402
-from debvote_tools.inbox.readings import read_all  # noqa: E402
+from debvote_tools.inbox.rules import JudgedLetter, Outcome, judge_all  # noqa: E402
+from debvote_tools.inbox.letter import ParsedLetter, as_json, from_json, parse  # noqa: E402
+from debvote_tools.inbox.candidates import read_all  # noqa: E402
 from debvote_tools.inbox.reasons import Because  # noqa: E402
-from debvote_tools.inbox.sources import RawLetter  # noqa: E402
+from debvote_tools.inbox.mailbox import RawLetter  # noqa: E402
 
 NAMES = ("ada", "ben", "cleo", "dan", "eve", "fay", "gus", "hal", "ida")
 POLL = f"""title = "Where we meet in spring"

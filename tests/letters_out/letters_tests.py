@@ -222,12 +222,15 @@ class Names(OutTest):
         """Two letters to ada, at her old address and her new one, beside one to ada-2."""
         self.write("members.csv", support.members_of(self.names).replace(",ada@club", ",ada@new"))
         self.done("roll", "--yes")
-        self.add_lines(f"ada {RANKS}", f"ada-2 {RANKS}")
+        self.add_lines("ada 1", f"ada-2 {RANKS}")
         wanted = ["ada-2@club.example", "ada@club.example", "ada@new.example"]
         found = self.written("receipts").values()
         self.assertEqual(sorted(message["To"] for message in found), wanted)
-        # the old address does not learn the own mark
-        self.assertEqual([message["To"] for message in found if not re.search(MARKS, message["Subject"])], ["ada@club.example"])
+        # the old address does not learn the own mark, neither in the subject nor in the text, which has the right line
+        said = {message["To"]: (bool(re.search(MARKS, message["Subject"])), f"{AT}#ada/" in one_line(message)) for message in found}
+        wanted_marks = {"ada-2@club.example": (True, False), "ada@club.example": (False, False), "ada@new.example": (True, True)}
+        self.assertEqual(said, wanted_marks)
+        self.assertTrue(all("ada _,_,_,_" in one_line(message) for message in found if "ada@" in message["To"]))
 
 
 class Receipts(OutTest):
@@ -363,8 +366,9 @@ class Receipts(OutTest):
         self.assertTrue(output.startswith(said), output)
         self.assertEqual([file.stem for file in self.files("receipts")], ["cleo", "eve"])
         self.assertEqual(self.done("letters", "receipts").output, f"{said}There is no letter to send.\n")
-        self.assertIn("no ballot found\n  other words: Who are you?\n", self.done("held").output)
-        self.assertIn(f"no ballot found\n  other words: Benjamin Lind {RANKS}\n  same address: ada, ben\n", self.done("held").output)
+        held = self.done("held").output.replace("\n        ", "\n")
+        self.assertIn("no ballot found\nother words: Who are you?\n", held)
+        self.assertIn(f"no ballot found\nother words: Benjamin Lind {RANKS}\nsame address: ada, ben\n", held)
         self.done("held", 1, 2, "--set-aside")
         self.assertEqual(self.done("letters", "receipts").output, "There is no letter to send.\n")
 

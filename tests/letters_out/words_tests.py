@@ -11,9 +11,9 @@ from debvote_tools.book.queries import Elector, Envelope
 from debvote_tools.book.sent import SentLetter
 from debvote_tools.poll.call_data import CallData, is_mail_address
 from debvote_tools.text.language import LANGUAGES, language_of
-from debvote_tools.inbox.judge import Outcome
+from debvote_tools.inbox.rules import Outcome
 from debvote_tools.inbox.of_electors import Became, Came
-from debvote_tools.inbox.parse import Near
+from debvote_tools.inbox.letter import Near
 from debvote_tools.inbox.reasons import Reason
 from debvote_tools.outbox.files import message
 from debvote_tools.outbox.words import Composer, Kind

@@ -24,8 +24,8 @@ from debvote_tools.book import letters, queries  # noqa: E402
 from debvote_tools.book.book import open_book  # noqa: E402
 from debvote_tools.commands import publish as command  # noqa: E402
 from debvote_tools.book.election import Election  # noqa: E402
-from debvote_tools.inbox import parse  # noqa: E402
-from debvote_tools.inbox.sources import RawLetter  # noqa: E402
+from debvote_tools.inbox.letter import as_json, parse  # noqa: E402
+from debvote_tools.inbox.mailbox import RawLetter  # noqa: E402
 from debvote_tools.text.language import ENGLISH  # noqa: E402
 from debvote_tools.result.done import told_acts  # noqa: E402
 from debvote_tools.result.inputs import Act, Chronicle, Done, Publication  # noqa: E402
@@ -337,7 +337,7 @@ class OfOpenVotes(OfElections):
             time = book.acts()[-1].time.replace(second=0)
             for line in (b"zoe-mueller 1,2,3", b"cleo 1,2,3"):
                 data = b"Received: by mx; %s\nFrom: x@x.example\n\n%s\n" % (email.utils.format_datetime(time).encode(), line)
-                letter = letters.keep_letter(act, "letter.eml", data, "", parse.as_json(parse.parse(RawLetter("letter.eml", data))))
+                letter = letters.keep_letter(act, "letter.eml", data, "", as_json(parse(RawLetter("letter.eml", data))))
                 letters.decide(act, letter, "entered")
                 queries.add_envelopes(act, [queries.NewEnvelope(line, letter=letter, time=time)], [None], is_late=True)
         self.say("publish", "--force", "--because", "so be it")
@@ -485,7 +485,7 @@ class OfOpenVotes(OfElections):
             for seconds, line in lines:
                 time = close + datetime.timedelta(seconds=seconds)
                 data = b"Received: by mx; %s\nFrom: x@x.example\n\n%s\n" % (email.utils.format_datetime(time).encode(), line)
-                known = parse.as_json(parse.parse(RawLetter("letter.eml", data)))
+                known = as_json(parse(RawLetter("letter.eml", data)))
                 letter = letters.keep_letter(act, "letter.eml", data, "", known)
                 letters.decide(act, letter, "entered")
                 queries.add_envelopes(act, [queries.NewEnvelope(line, letter=letter, time=time)], [None], is_late=True)

@@ -44,7 +44,8 @@ class Detail(TypedDict, total=False):
     agreed: list[str]
     # take back: the act of the call; its `codes` have lapsed
     call: int
-    # what comes: how many letters and lines; of set aside, put back and enter their numbers
+    # what comes: how many letters and lines; of set aside, put back and enter their numbers (of enter
+    # `letter` if it is one; a ballot that was typed has no line)
     letter: int
     letters: Any
     lines: Any

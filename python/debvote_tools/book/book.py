@@ -1,8 +1,7 @@
-"""The book: one SQLite database that has everything an election knows. This package alone knows
-SQL, but for conditions on envelopes.
+"""The book: one SQLite database with everything that an election knows.
 
-An act adds rows, in one transaction, and is reported only after its commit. Triggers refuse
-whatever would change or remove a row.
+An act adds rows, in one transaction, and is reported only after its commit. Triggers refuse what
+would change or remove a row.
 """
 
 import contextlib
@@ -17,31 +16,28 @@ import sqlite3
 from collections.abc import Iterable, Iterator, Sequence
 from typing import Any, Final, NamedTuple
 
-from debvote_tools.text import times
-from debvote_tools.book import chain, schema
+from debvote_tools.book import chain
 from debvote_tools.book.acts import ActName, Detail
 from debvote_tools.book.machine_note import MachineNote, Note, machine_of
 from debvote_tools.cli.faults import Fault, Status
 from debvote_tools.files import read_at_most, uninterrupted
+from debvote_tools.text import times
 
 NAME = "election.db"
 
-# the act that takes another book than that of the note, and why it is there if this machine knew
-# the book
+# the act that takes another book than that of the note, and why if it is that of the note
 MOVED: Final = "moved"
 RESTORED = "it was restored, as the secretary says"
 
-# "dbvt": what tells a book from other databases of SQLite; and the version of its schema, and of
-# what it keeps of letters as JSON
+# "dbvt"; the version of the schema, and of what is kept of letters as JSON
 APPLICATION_ID, VERSION = 0x64627674, 4
 
 # the program that wrote the books of an earlier version
 PROGRAMS = {3: "debvote-election 2.0.0"}
 
-# a database of SQLite begins with these bytes; and where its head has the application id and the
-# version
+# how a database of SQLite begins, and where its head has the version and the application id
 SQLITE, HEAD = b"SQLite format 3\0", 72
-ID_AT, VERSION_AT = slice(68, 72), slice(60, 64)
+VERSION_AT, ID_AT = slice(60, 64), slice(68, 72)
 
 # how many seconds an act waits for those of others
 PATIENCE = 120
@@ -60,13 +56,17 @@ ROWS_AT_ONCE = 100
 # the byte of the file that SQLite locks for an act
 RESERVED_BYTE = 0x40000001
 
-# an act that is more seconds earlier than the one before it shows that the clock was put back;
-# clocks are set by some seconds
+# clocks are set by some seconds: an act that is earlier than the one before by more shows that the
+# clock was put back
 SECONDS_BACK = 60
 
 
-class Overtaken(Exception):
+class Overtaken(Fault):
     """Another act came between, and may have changed what this act was decided by."""
+
+    def __init__(self) -> None:
+        words = "another command changed the election meanwhile"
+        super().__init__(None, words, "run the command again")
 
 
 class DoneAct(NamedTuple):
@@ -131,37 +131,27 @@ class Book:
             return self.connection.execute(words, values).fetchall()
 
     def acts(self) -> Sequence[DoneAct]:
-        """All acts, in their order."""
-        self.read_new_acts()
-        return tuple(self.read_acts)
-
-    def read_new_acts(self) -> None:
-        """An act never changes, so only those are read that came since the last call."""
-        words = (
-            "SELECT act, time, name, machine, detail, digest FROM act WHERE act > ? ORDER BY act"
-        )
-        for number, time, *others in self.rows(
-            words, self.read_acts[-1].number if self.read_acts else 0
-        ):
+        """All acts, in their order. They never change, so only new ones are read."""
+        words = "SELECT act, time, name, machine, detail, digest FROM act WHERE act > ? ORDER BY 1"
+        last = self.read_acts[-1].number if self.read_acts else 0
+        for number, time, *others in self.rows(words, last):
             try:
                 self.read_acts.append(DoneAct(number, from_text(time), *others))
             except (ValueError, TypeError):
                 raise damaged(self.path, f"act {number} has no time") from None
+        return tuple(self.read_acts)
 
     def last_act(self) -> DoneAct:
-        """The last act. There always is one: that of `new`."""
-        self.read_new_acts()
-        return self.read_acts[-1]
+        """There always is one: that of `new`."""
+        return self.acts()[-1]
 
     def last_number(self) -> int:
         return self.last_act().number
 
     def size(self) -> int:
         """How many bytes its file has."""
-        [(pages, size)] = self.rows(
-            "SELECT page_count, page_size FROM pragma_page_count, pragma_page_size"
-        )
-        return int(pages) * int(size)
+        words = "SELECT page_count * page_size FROM pragma_page_count, pragma_page_size"
+        return int(self.rows(words)[0][0])
 
     def digest_at(self, act: int) -> str | None:
         """The digest of an act; None if the book has no such act."""
@@ -206,7 +196,11 @@ class Book:
             before = self.last_act()
             if seen not in (None, before.number):
                 raise Overtaken
-            self.demand_in_place()
+            if file_at(self.path) != self.file:
+                # what is written into the open file, nobody finds again
+                words = "another file took its place while this command was running"
+                cure = "find out which of both is right, then run the command again"
+                raise Fault(self.path, words, cure)
             if name != MOVED:
                 self.demand_noted()
             if not chain.is_whole(self.connection, before.number):
@@ -221,52 +215,36 @@ class Book:
 
     def finish(self, act: NewAct, digest_before: str) -> str:
         """Adds the row of the act, with its digest, and commits."""
-        salt = os.urandom(16)
+        salt, detail = os.urandom(16), json.dumps(act.detail, ensure_ascii=False)
         machine = machine_of(salt) if act.number == 1 else self.machine
-        row = (
-            act.number,
-            as_text(act.time),
-            act.name,
-            machine,
-            json.dumps(act.detail, ensure_ascii=False),
-            salt,
-        )
+        row = (act.number, as_text(act.time), act.name, machine, detail, salt)
         digest = chain.digest_of(self.connection, digest_before, row)
         self.connection.execute("INSERT INTO act VALUES (?, ?, ?, ?, ?, ?, ?)", (*row, digest))
-        self.commit(act)
-        self.own_acts.append(f"act {act.number} ({act.name})")
-        return digest
-
-    def commit(self, act: NewAct) -> None:
-        """Commits an act. If SQLite says that it failed, and the act is there nevertheless, nobody
-        knows whether it stays.
-        """
         try:
             self.connection.execute("COMMIT")
         except sqlite3.Error as error:
-            try:
-                self.connection.rollback()
-                is_there = bool(
-                    self.connection.execute(
-                        "SELECT 1 FROM act WHERE act = ?", (act.number,)
-                    ).fetchall()
-                )
-            except sqlite3.Error:
-                # by the journal, the next command that can write takes the act back
-                is_there = not self.path.with_name(f"{self.path.name}-journal").exists()
-            if not is_there:
+            if not self.is_there(act.number):
                 raise
-            words, cure = (
-                f"the commit failed ({error})",
-                "see debvote-election status, which tells the last act",
-            )
             raise Fault(
                 self.path,
-                words,
-                cure,
+                f"the commit failed ({error})",
+                "see debvote-election status, which tells the last act",
                 Status.BAD_OUTPUT,
                 f"nobody knows whether act {act.number} was done",
             ) from None
+        self.own_acts.append(f"act {act.number} ({act.name})")
+        return digest
+
+    def is_there(self, act: int) -> bool:
+        """Whether an act is in the book although SQLite says that its commit failed. Then nobody
+        knows whether it stays.
+        """
+        try:
+            self.connection.rollback()
+            return self.digest_at(act) is not None
+        except (sqlite3.Error, Fault):
+            # by the journal, the next command that can write takes the act back
+            return not self.path.with_name(f"{self.path.name}-journal").exists()
 
     # ------------------------------------------------------------ this machine's note
     @functools.cached_property
@@ -294,7 +272,8 @@ class Book:
             return "this computer has never seen this election in this folder"
         digest = self.digest_at(noted.act)
         if digest is None:
-            return f"it ends with act {last.number}, and this computer has seen act {noted.act}: it is an older copy"
+            seen = f"this computer has seen act {noted.act}: it is an older copy"
+            return f"it ends with act {last.number}, and {seen}"
         if digest != noted.digest:
             how = "somebody went on from a copy, or made the book anew"
             return f"its act {noted.act} is not the one that this computer saw: {how}"
@@ -306,8 +285,8 @@ class Book:
         why = self.strangeness()
         if why is not None:
             right = "if it is the right book, as after a move to this computer or folder"
-            cure = f"find out how that came about; {right}, repeat the command with --moved --because TEXT (the result page says so)"
-            raise Fault(self.path, why, cure)
+            repeat = "repeat the command with --moved --because TEXT (the result page says so)"
+            raise Fault(self.path, why, f"find out how that came about; {right}, {repeat}")
 
     def accept(self, because: str) -> None:
         """The act `moved`: from now on this machine takes this book for the right one. If a whole
@@ -315,35 +294,29 @@ class Book:
         """
         noted, last, why = self.note().read(), self.last_act(), self.strangeness() or RESTORED
         self.demand_locks()
-        there = {"act": last.number, "digest": last.digest}
-        with self.act(
-            MOVED,
-            {"why": why, "noted": noted and noted._asdict(), "there": there, "because": because},
-        ):
+        detail: Detail = {
+            "why": why,
+            "noted": noted and noted._asdict(),
+            "there": {"act": last.number, "digest": last.digest},
+            "because": because,
+        }
+        with self.act(MOVED, detail):
             pass
 
     # ------------------------------------------------------------ the file
     def doubts(self, *, is_accepted: bool = False) -> list[Fault]:
-        """Why this may not be the book to work on: this machine knows another one, unless this one
-        is accepted now, or a copy lies beside it.
+        """Why this may not be the book to work on: a copy lies beside it, or this machine knows
+        another one, unless this one is accepted now.
         """
-        found = [other_book(file) for file in self.other_books()]
+        words = f"it is another book of this election, with acts that {NAME} lacks; a sync tool may have left it"
+        cure = "find out which book is right, and move the other out of the folder"
+        found = [Fault(file, words, cure) for file in self.other_books()]
         try:
             if not is_accepted:
                 self.demand_noted()
         except Fault as fault:
             found.append(fault)
         return found
-
-    def demand_in_place(self) -> None:
-        """Stops if another file took the place of the one that is open: what is written into that
-        one, nobody finds again.
-        """
-        if file_at(self.path) != self.file:
-            words = "another file took its place while this command was running"
-            raise Fault(
-                self.path, words, "find out which of both is right, then run the command again"
-            )
 
     def demand_locks(self) -> None:
         """Stops if a second process gets the lock that this one holds."""
@@ -359,21 +332,16 @@ class Book:
         for file in sorted(self.path.parent.iterdir()):
             # a file that is gone by now was the journal of another command
             with contextlib.suppress(OSError):
-                if (
-                    file.is_file()
-                    and not file.samefile(self.path)
-                    and has_our_id(head_of(file))
-                    and not self.begins_with(file)
-                ):
+                is_other = file.is_file() and not file.samefile(self.path)
+                if is_other and has_our_id(head_of(file)) and not self.begins_with(file):
                     yield file
 
     def begins_with(self, file: pathlib.Path) -> bool:
         """Whether this book has all acts of another book. False if the other book can't be read."""
         try:
             with contextlib.closing(connected(file, "ro")) as other:
-                [(number, digest)] = other.execute(
-                    "SELECT act, digest FROM act ORDER BY act DESC LIMIT 1"
-                )
+                words = "SELECT act, digest FROM act ORDER BY act DESC LIMIT 1"
+                [(number, digest)] = other.execute(words)
         except (sqlite3.Error, ValueError):
             return False
         return bool(self.digest_at(number) == digest)
@@ -415,7 +383,7 @@ def create(path: pathlib.Path, detail: Detail, final_path: pathlib.Path) -> None
         with book.transaction("BEGIN IMMEDIATE"):
             connection.execute(f"PRAGMA application_id = {APPLICATION_ID}")
             connection.execute(f"PRAGMA user_version = {VERSION}")
-            schema.write(connection)
+            chain.write_schema(connection)
             digest = book.finish(NewAct(connection, 1, times.now(), "new", detail), chain.BEGINNING)
         book.demand_locks()
         # before the folder is moved: a kill between both leaves a note of nothing
@@ -423,15 +391,15 @@ def create(path: pathlib.Path, detail: Detail, final_path: pathlib.Path) -> None
 
 
 def open_book(path: pathlib.Path) -> Book:
-    """Opens the book of an election. If the file is no book of this version, or its schema is
-    another one, the fault says so.
+    """Opens the book of an election. Stops if the file is no book of this version, or its schema is
+    another one.
     """
     demand_version(path)
-    is_read_only = not os.access(path, os.W_OK) or not os.access(path.parent, os.W_OK)
+    is_read_only = not (os.access(path, os.W_OK) and os.access(path.parent, os.W_OK))
     with sqlite_faults(path):
         try:
             connection = connected(path, "ro" if is_read_only else "rw")
-            differing = schema.difference(connection)
+            differing = chain.other_schema(connection)
         except UnicodeDecodeError:
             # SQLite quotes what it can't read
             raise damaged(path, "its schema is no text") from None
@@ -462,18 +430,15 @@ def demand_version(path: pathlib.Path) -> None:
     version = int.from_bytes(head[VERSION_AT], "big")
     if version != VERSION:
         whose = f" of {PROGRAMS[version]}" if version in PROGRAMS else ""
-        words = (
-            f"it is a book{whose} (version {version}), and this program writes version {VERSION}"
-        )
-        raise Fault(
-            path, words, "use the debvote-election that began this election", Status.BAD_WORDS
-        )
+        words = f"it is a book{whose} (version {version}), and this program writes version"
+        cure = "use the debvote-election that began this election"
+        raise Fault(path, f"{words} {VERSION}", cure, Status.BAD_WORDS)
 
 
 def connected(path: pathlib.Path, mode: str) -> sqlite3.Connection:
     address = f"{path.absolute().as_uri()}?mode={mode}"
     connection = sqlite3.connect(address, uri=True, isolation_level=None, timeout=PATIENCE)
-    for setting in SETTINGS if mode == "rw" else ("trusted_schema = OFF",):
+    for setting in SETTINGS if mode == "rw" else SETTINGS[-1:]:
         connection.execute(f"PRAGMA {setting}")
     chain.prepare(connection)
     return connection
@@ -505,23 +470,16 @@ def sqlite_faults(path: pathlib.Path) -> Iterator[None]:
         yield
     except sqlite3.Error as error:
         kind = getattr(error, "sqlite_errorname", "").removeprefix("SQLITE_")
-        found = next((said for kinds, said in PLACES.items() if kind.startswith(kinds)), None)
-        if found is None:
-            raise damaged(path, str(error)) from None
-        words, cure = found
-        raise Fault(
-            path, f"{words} ({error})", f"{cure}, then run the command again", Status.BAD_OUTPUT
-        ) from None
+        for kinds, (words, cure) in PLACES.items():
+            if kind.startswith(kinds):
+                cure += ", then run the command again"
+                raise Fault(path, f"{words} ({error})", cure, Status.BAD_OUTPUT) from None
+        raise damaged(path, str(error)) from None
 
 
 def damaged(path: pathlib.Path, how: str) -> Fault:
     cure = "restore the last copy made by debvote-election backup, and find out how that came about"
     return Fault(path, f"the book is damaged, or another program changed it ({how})", cure)
-
-
-def other_book(file: pathlib.Path) -> Fault:
-    words = f"it is another book of this election, with acts that {NAME} lacks; a sync tool may have left it"
-    return Fault(file, words, "find out which book is right, and move the other out of the folder")
 
 
 def file_at(path: pathlib.Path) -> tuple[int, int] | None:

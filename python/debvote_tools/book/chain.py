@@ -1,63 +1,90 @@
-"""The chain of digests: each act's digest is over the digest before it and all rows that the act
-wrote.
+"""What a new book is made of, and the chain of digests over its acts.
 
-The SHA-256 is over lines: the digest before, then a JSON array for the act and for each of its rows
-in the order of the schema: the table's name and the columns, bytes by their SHA-256.
+The digest of an act is the SHA-256 of lines: the digest before; the row of the act; for each table
+with rows of the act, in the order of the schema, its name and these rows, by their numbers. A row
+is a JSON array of its columns, without the act if that stands above. A line that came stays as it
+is, all other bytes are replaced by their SHA-256.
 """
 
+import contextlib
 import functools
 import hashlib
 import heapq
 import itertools
+import json
 import operator
+import pathlib
 import sqlite3
-from collections.abc import Iterable, Iterator
+from collections.abc import Iterator, Sequence
+from typing import Any, NamedTuple
 
-from debvote_tools.book.schema import ACT, new_schema
+# the table of the acts themselves; each row of all others belongs to an act
+ACT = "act"
 
-# how many lines are joined at once
-LINES_AT_ONCE = 1_000
+REFUSE = "CREATE TRIGGER {table}_{verb} BEFORE {verb} ON {table} BEGIN SELECT RAISE(ABORT, 'a book only grows'); END"
 
 # in place of the digest before the first act
 BEGINNING = ""
 
+# how many rows are read at once; what is known of one letter may be as long as the letter
+ROWS_AT_ONCE, LONG_ROWS = 1_000, ("letter",)
 
-class Queries:
-    """The queries that read rows as JSON, by the columns of the schema."""
+ACT_OF = operator.itemgetter(0)
 
-    def __init__(self) -> None:
-        tables = dict(new_schema().tables)
-        # the last column is the digest
-        self.act = row_as_json(ACT, tables.pop(ACT)[:-1])
-        self.rows = [(table, row_as_json(table, columns)) for table, columns in tables.items()]
 
-    def of_all_acts(self) -> Iterator[str]:
-        """For each table one query of all its rows: act, place of the table, JSON, and the digest
-        if the row is that of the act.
+# ---------------------------------------------------------------- the schema
+class Schema(NamedTuple):
+    # each table, index, view and trigger: its kind, its name, its table, and what makes it
+    entries: frozenset[tuple[str, str, str, str | None]]
+    # of each table the SQL that makes a row of it a line
+    lines: dict[str, str]
 
-        They read the tables, once, and no index in place of a table.
-        """
-        yield f"SELECT act, 0, {self.act}, digest FROM {ACT} NOT INDEXED ORDER BY act"
-        for place, (table, json) in enumerate(self.rows, start=1):
-            yield f"SELECT act, {place}, {json}, NULL FROM {table} NOT INDEXED ORDER BY act, rowid"
 
-    def of_one_act(self) -> Iterator[str]:
-        """For each table one query of the rows of an act."""
-        return (
-            f"SELECT {json} FROM {table} WHERE act = ? ORDER BY rowid" for table, json in self.rows
-        )
+def write_schema(connection: sqlite3.Connection) -> None:
+    """Makes the tables, indexes, views and triggers of a new book."""
+    for statement in pathlib.Path(__file__).with_name("schema.sql").read_text().split(";\n"):
+        connection.execute(statement)
+    for table in tables_of(connection):
+        for verb in ("UPDATE", "DELETE"):
+            connection.execute(REFUSE.format(table=table, verb=verb))
+
+
+def tables_of(connection: sqlite3.Connection) -> list[str]:
+    words = "SELECT name FROM sqlite_schema WHERE type = 'table' ORDER BY rowid"
+    return [name for name, in connection.execute(words)]
+
+
+def entries_of(connection: sqlite3.Connection) -> frozenset[tuple[str, str, str, str | None]]:
+    return frozenset(connection.execute("SELECT type, name, tbl_name, sql FROM sqlite_schema"))
 
 
 @functools.cache
-def queries() -> Queries:
-    return Queries()
+def schema() -> Schema:
+    """The schema that `new` writes."""
+    with contextlib.closing(sqlite3.connect(":memory:")) as empty:
+        write_schema(empty)
+        lines = {}
+        for table in tables_of(empty):
+            columns = empty.execute("SELECT name, type FROM pragma_table_info(?)", (table,))
+            left_out = "digest" if table == ACT else "act"
+            parts = (as_json(name, kind) for name, kind in columns if name != left_out)
+            lines[table] = f"json_array({', '.join(parts)})"
+        return Schema(entries_of(empty), lines)
 
 
-def row_as_json(table: str, columns: Iterable[tuple[str, str]]) -> str:
-    parts = [f"sha256({name})" if kind == "BLOB" else name for name, kind in columns]
-    return f"json_array('{table}', {', '.join(parts)})"
+def as_json(column: str, kind: str) -> str:
+    if column == "line":
+        return "CAST(line AS TEXT)"
+    return f"sha256({column})" if kind == "BLOB" else column
 
 
+def other_schema(connection: sqlite3.Connection) -> str | None:
+    """A table, index, view or trigger that is not as `new` writes it; None if there is none."""
+    differing = sorted(entries_of(connection) ^ schema().entries, key=str)
+    return f"the {differing[0][0]} {differing[0][1]}" if differing else None
+
+
+# ---------------------------------------------------------------- the chain
 def prepare(connection: sqlite3.Connection) -> None:
     """Gives the connection the function that the queries here use."""
     connection.create_function(
@@ -65,30 +92,41 @@ def prepare(connection: sqlite3.Connection) -> None:
     )
 
 
-def digest_of(connection: sqlite3.Connection, before: str, act: tuple[object, ...]) -> str:
-    """The digest of an act (its row without the digest) by the rows that the book has of it."""
-    columns = ", ".join(f"? AS {name}" for name, _ in new_schema().tables[ACT][:-1])
-    line = connection.execute(f"SELECT {queries().act} FROM (SELECT {columns})", act).fetchone()
-    found = (connection.execute(words, act[:1]) for words in queries().of_one_act())
-    return digest_of_lines(
-        before, itertools.chain(line, (json for rows in found for json, in rows))
-    )
-
-
-def digest_of_lines(before: str, lines: Iterable[str]) -> str:
-    digest, waiting = hashlib.sha256(before.encode()), iter(lines)
-    while part := "\n".join(itertools.islice(waiting, LINES_AT_ONCE)):
-        digest.update(f"\n{part}".encode())
+def digest_of(connection: sqlite3.Connection, before: str, act: Sequence[object]) -> str:
+    """The digest of an act (its row without the digest) by the rows that the book has of it, which
+    are found by an index.
+    """
+    row = [hashlib.sha256(one).hexdigest() if isinstance(one, bytes) else one for one in act]
+    line = json.dumps(row, ensure_ascii=False, separators=(",", ":"))
+    digest = hashlib.sha256(f"{before}\n{line}".encode())
+    for table in schema().lines:
+        if table != ACT:
+            name = f"\n{table}\n".encode()
+            for piece in pieces_of(connection, table, act[0]):
+                digest.update(name + piece)
+                name = b"\n"
     return digest.hexdigest()
 
 
+def pieces_of(connection: sqlite3.Connection, table: str, act: object) -> Iterator[bytes]:
+    """The rows of an act in a table, as lines, some at once: SQLite joins them faster than Python."""
+    at_once = 1 if table in LONG_ROWS else ROWS_AT_ONCE
+    next_row = f"SELECT min(rowid) FROM {table} WHERE act = ? AND rowid >= ?"
+    rows = f"SELECT {schema().lines[table]} AS line FROM {table} WHERE rowid BETWEEN ? AND ? AND +act = ? ORDER BY rowid"
+    joined = f"SELECT CAST(group_concat(line, char(10)) AS BLOB) FROM ({rows})"
+    [(first,)] = connection.execute(next_row, (act, -(2**63)))
+    while first is not None:
+        last = first + at_once - 1
+        yield connection.execute(joined, (first, last, act)).fetchone()[0]
+        [(first,)] = connection.execute(next_row, (act, last + 1))
+
+
 def is_whole(connection: sqlite3.Connection, number: int) -> bool:
-    """Whether an act is as its digest and the act before say; its rows are found by an index."""
-    [(before,)] = connection.execute(
-        f"SELECT coalesce(max(digest), '{BEGINNING}') FROM {ACT} WHERE act = ?", (number - 1,)
-    )
+    """Whether an act is as its digest and the act before say."""
+    words = f"SELECT coalesce(max(digest), '{BEGINNING}') FROM {ACT} WHERE act = ?"
+    [(before,)] = connection.execute(words, (number - 1,))
     [(*act, digest)] = connection.execute(f"SELECT * FROM {ACT} WHERE act = ?", (number,))
-    return bool(digest_of(connection, before, tuple(act)) == digest)
+    return bool(digest_of(connection, before, act) == digest)
 
 
 def broken(act: int) -> str:
@@ -111,15 +149,36 @@ def damage(connection: sqlite3.Connection) -> list[str]:
 
 def break_in(connection: sqlite3.Connection) -> str | None:
     """The first act at which the chain is broken, and how; None if it is whole."""
-    before = BEGINNING
-    tables = (connection.execute(words) for words in queries().of_all_acts())
-    for act, rows in itertools.groupby(heapq.merge(*tables), key=operator.itemgetter(0)):
-        _, place, line, digest = next(rows)
-        if place != 0:
+    before, tables = BEGINNING, list(schema().lines)
+    found = heapq.merge(*(acts_in(connection, table) for table in tables), key=ACT_OF)
+    for act, by_table in itertools.groupby(found, key=ACT_OF):
+        _, table, rows = next(by_table)
+        if table != ACT:
             return f"it has rows of act {act}, and no such act"
-        if digest != digest_of_lines(
-            before, itertools.chain([line], (line for _, _, line, _ in rows))
-        ):
+        [(_, line, digest)] = rows
+        computed = hashlib.sha256(b"%b\n%b" % (before.encode(), line))
+        for _, table, rows in by_table:
+            computed.update(b"\n%b" % table.encode())
+            while piece := list(itertools.islice(rows, ROWS_AT_ONCE)):
+                computed.update(b"\n%b" % b"\n".join([line for _, line, _ in piece]))
+        before = computed.hexdigest()
+        if before != digest:
             return broken(act)
-        before = digest
     return None
+
+
+def acts_in(
+    connection: sqlite3.Connection, table: str
+) -> Iterator[tuple[int, str, Iterator[tuple[Any, ...]]]]:
+    """The acts that have rows in a table, in their order, each with the table and the rows: act,
+    line, and digest if the row is that of the act.
+    """
+    for act, rows in itertools.groupby(connection.execute(query_of_all(table)), key=ACT_OF):
+        yield act, table, rows
+
+
+def query_of_all(table: str) -> str:
+    """It reads the table, once, and no index in place of it."""
+    line, digest = schema().lines[table], "digest" if table == ACT else "NULL"
+    order = "act" if table == ACT else "act, rowid"
+    return f"SELECT act, CAST({line} AS BLOB), {digest} FROM {table} NOT INDEXED ORDER BY {order}"

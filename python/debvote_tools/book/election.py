@@ -2,7 +2,6 @@
 """
 
 import contextlib
-import dataclasses
 import datetime
 import enum
 import functools
@@ -15,9 +14,10 @@ from typing import Any, NamedTuple
 from debvote_tools.book import queries
 from debvote_tools.book.acts import ActName
 from debvote_tools.book.book import NAME, Book, DoneAct, damaged, from_text, open_book
+from debvote_tools.cli.arguments import Acting, demand_reason
 from debvote_tools.cli.console import tell_aside
 from debvote_tools.debvote import Debvote
-from debvote_tools.cli.faults import Fault, Status
+from debvote_tools.cli.faults import Fault, Status, stop_at
 from debvote_tools.text.language import Language, language_of
 from debvote_tools.poll.sealed_poll import SealedPoll, read_plain
 
@@ -48,8 +48,7 @@ class Stage(enum.StrEnum):
     PUBLISHED = "published"
 
 
-@dataclasses.dataclass(frozen=True)
-class History:
+class History(NamedTuple):
     """The acts of a book, in their order."""
 
     acts: Sequence[DoneAct]
@@ -177,9 +176,7 @@ class Election:
 
     @functools.cached_property
     def opened(self) -> Book:
-        """The book, of which nothing is said yet: commands use `book`, or one of the ways of
-        `acting`.
-        """
+        """The book, of which nothing is said yet: commands use `book` or `book_for`."""
         if not self.path(NAME).is_file():
             raise no_book(self.folder)
         book = open_book(self.path(NAME))
@@ -193,6 +190,33 @@ class Election:
         """
         tell_aside(*(f"Note: {doubt.file}: {doubt.reason}." for doubt in self.opened.doubts()))
         return self.opened
+
+    def whole_book(self) -> Book:
+        """The book for reading. Stops if anything in it is not as its acts wrote it."""
+        self.book.demand_whole()
+        return self.book
+
+    def book_for(self, arguments: Acting) -> Book:
+        """The book for an act, and for what others rely on. Stops if it is not the one that this
+        machine knows, unless --moved says that it is the right one.
+        """
+        book = self.opened
+        if arguments.writes:
+            self.demand_writable()
+        stop_at(book.doubts(is_accepted=arguments.moved))
+        if arguments.moved:
+            self.demand_writable()
+            book.accept(demand_reason(arguments.because, "--moved"))
+        # from now on nothing has to be said of it
+        self.book = book
+        if arguments.checks:
+            book.demand_whole()
+        return book
+
+    def demand_writable(self) -> None:
+        if self.opened.is_read_only:
+            cure = "make it writable for you, or copy the folder to where you can write"
+            raise Fault(self.folder, "the folder is not writable", cure, Status.BAD_OUTPUT)
 
     @property
     def own_acts(self) -> list[str]:

@@ -32,15 +32,9 @@ class KeptLetter(NamedTuple):
         return self.state in (WAITS, PUT_BACK, TAKEN_BACK)
 
 
-KEPT_LETTERS = """
-SELECT letter, act, source, identity, known, coalesce(
-  (SELECT state FROM letter_state WHERE letter_state.letter = letter.letter ORDER BY act DESC LIMIT 1), 'waits')
-FROM letter ORDER BY letter
-"""
-
-
 def letters(book: Book) -> list[KeptLetter]:
-    return [KeptLetter(*row) for row in book.rows(KEPT_LETTERS)]
+    words = "SELECT letter, act, source, identity, known, state FROM letter_now ORDER BY letter"
+    return [KeptLetter(*row) for row in book.rows(words)]
 
 
 def known_digests(book: Book) -> set[tuple[str, bool]]:

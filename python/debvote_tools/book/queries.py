@@ -27,19 +27,10 @@ class Elector(NamedTuple):
     mark: str = ""
 
 
-ELECTORS = """
-SELECT elector, name, position, who, mail, key, code, alias, mark
-FROM elector JOIN elector_state USING (elector)
-WHERE elector_state.act = (SELECT max(act) FROM elector_state AS later WHERE later.elector = elector.elector)
-ORDER BY position
-"""
-
-
 def all_electors(book: Book) -> list[Elector]:
     """All electors that the book knows, those who are no longer on the list first."""
-    return [
-        Elector(*row)._replace(addresses=tuple(json.loads(row[4]))) for row in book.rows(ELECTORS)
-    ]
+    rows = book.rows("SELECT * FROM elector_now ORDER BY position")
+    return [Elector(*row)._replace(addresses=tuple(json.loads(row[4]))) for row in rows]
 
 
 def electors(book: Book) -> list[Elector]:
@@ -106,36 +97,38 @@ class Envelope(NamedTuple):
         return self.struck is not None
 
 
-# the envelopes, each with the act that struck it, and conditions on them
-ENVELOPES = "envelope LEFT JOIN struck USING (envelope)"
-NOT_STRUCK = "struck.act IS NULL"
+# conditions on envelopes, with the acts that no `undo` took back
+NOT_STRUCK = "struck IS NULL"
 IN_TIME, LATE = f"late = 0 AND {NOT_STRUCK}", f"late = 1 AND {NOT_STRUCK}"
+NOT_UNDONE = "act NOT IN (SELECT json_extract(detail, '$.act') FROM act WHERE name = 'undo')"
 
-ENVELOPE_COLUMNS = (
-    "envelope, envelope.act, elector, line, source, letter, place, time, late, struck.act"
-)
+# the envelopes that were entered anew: late ones as in time, and others by `add --again`
+ANEW = "SELECT value FROM act, json_each(act.detail, '$.{key}') WHERE act.name = '{name}' AND act.{open}"
+ANEW_IN_TIME = ANEW.format(key="in_time", name="reopen", open=NOT_UNDONE)
+ANEW_BY_ADD = ANEW.format(key="again", name="add", open=NOT_UNDONE)
+
+# those that came in files of lines and tables; a line that was entered anew came once, and is known
+# by its new envelope
+IN_FILES = f"source IS NOT NULL AND letter IS NULL AND {NOT_UNDONE} AND envelope NOT IN ({ANEW_IN_TIME} UNION {ANEW_BY_ADD})"
+
+COLUMNS = "envelope, act, elector, line, source, letter, place, time, late, struck"
 
 
 def envelopes(book: Book, condition: str = "1", *values: object) -> list[Envelope]:
     """The envelopes that meet a condition, in their order."""
-    rows = book.rows(
-        f"SELECT {ENVELOPE_COLUMNS} FROM {ENVELOPES} WHERE {condition} ORDER BY envelope", *values
-    )
+    words = f"SELECT {COLUMNS} FROM entered AS envelope WHERE {condition} ORDER BY envelope"
+    rows = book.rows(words, *values)
     return [Envelope._make([*row[:7], from_text(row[7]), bool(row[8]), row[9]]) for row in rows]
 
 
 def lines(book: Book, condition: str, *values: object) -> list[bytes]:
     """The line of each envelope that meets a condition, in their order."""
-    return [
-        line
-        for line, in book.rows(
-            f"SELECT line FROM {ENVELOPES} WHERE {condition} ORDER BY envelope", *values
-        )
-    ]
+    words = f"SELECT line FROM entered AS envelope WHERE {condition} ORDER BY envelope"
+    return [line for line, in book.rows(words, *values)]
 
 
 def lines_in_time(book: Book) -> list[bytes]:
-    """The line of each envelope that came in time and is not struck: the ballots that are counted,
+    """The ballots that are counted: the line of each envelope that came in time and is not struck,
     in their order.
     """
     return lines(book, IN_TIME)
@@ -143,7 +136,7 @@ def lines_in_time(book: Book) -> list[bytes]:
 
 def numbered_lines_in_time(book: Book) -> list[tuple[int, bytes]]:
     """The same lines, each with the number of its envelope."""
-    return book.rows(f"SELECT envelope, line FROM {ENVELOPES} WHERE {IN_TIME} ORDER BY envelope")
+    return book.rows("SELECT envelope, line FROM ballot ORDER BY envelope")
 
 
 def late_lines(book: Book) -> list[bytes]:
@@ -152,12 +145,8 @@ def late_lines(book: Book) -> list[bytes]:
 
 
 def has_come(book: Book, since: int) -> bool:
-    return bool(
-        book.rows(
-            "SELECT 1 FROM (SELECT act FROM envelope UNION ALL SELECT act FROM letter) WHERE act > ? LIMIT 1",
-            since,
-        )
-    )
+    words = "SELECT act FROM envelope UNION ALL SELECT act FROM letter"
+    return bool(book.rows(f"SELECT 1 FROM ({words}) WHERE act > ? LIMIT 1", since))
 
 
 def strike_envelopes(act: NewAct, numbers: Iterable[int]) -> None:
@@ -199,27 +188,14 @@ def elector_numbers(book: Book, names: Collection[str]) -> dict[str, int]:
 
 
 # ---------------------------------------------------------------- lines by act, and those that came in files
-# the acts that no `undo` took back
-NOT_UNDONE = "act NOT IN (SELECT json_extract(detail, '$.act') FROM act WHERE name = 'undo')"
-
-# the late envelopes that a `reopen` entered anew as in time, and those that `add --again` entered
-# anew, if no `undo` took that back
-ANEW_IN_TIME = f"SELECT value FROM act, json_each(act.detail, '$.in_time') WHERE act.name = 'reopen' AND act.{NOT_UNDONE}"
-ANEW_BY_ADD = f"SELECT value FROM act, json_each(act.detail, '$.again') WHERE act.name = 'add' AND act.{NOT_UNDONE}"
-
-# the envelopes that came in files of lines and tables; a line that was entered anew came once, and
-# is known by its new envelope
-CAME_IN_FILES = f"source IS NOT NULL AND letter IS NULL AND envelope.{NOT_UNDONE} AND envelope NOT IN ({ANEW_IN_TIME} UNION {ANEW_BY_ADD})"
-
-
 # the lines of more electors are not looked for one by one
 MOST_LOOKED_FOR = 200
 
 
 def last_entering_act(book: Book) -> int | None:
     """The last act that entered lines and that no `undo` took back; None if there is none."""
-    number = book.rows(f"SELECT max(act) FROM envelope WHERE {NOT_UNDONE}")[0][0]
-    return None if number is None else int(number)
+    number: int | None = book.rows(f"SELECT max(act) FROM envelope WHERE {NOT_UNDONE}")[0][0]
+    return number
 
 
 def lines_after(
@@ -228,12 +204,11 @@ def lines_after(
     """The line of each envelope that was in time and not struck when an act was done, in their
     order, without those of one act: of all electors, or of some.
     """
-    condition = "late = 0 AND (struck.act IS NULL OR struck.act > ?1) AND envelope.act <= ?1 AND envelope.act <> ?2"
+    condition = "late = 0 AND (struck IS NULL OR struck > ?1) AND act <= ?1 AND act <> ?2"
     if electors is None:
         return lines(book, condition, act, without)
-    return lines(
-        book, f"{condition} AND {of_electors(electors)}", act, without, json.dumps(list(electors))
-    )
+    condition, numbers = f"{condition} AND {of_electors(electors)}", json.dumps(list(electors))
+    return lines(book, condition, act, without, numbers)
 
 
 def of_electors(electors: Collection[int]) -> str:
@@ -260,9 +235,8 @@ def entered_anew(book: Book) -> set[int]:
 
 def lines_that_came(book: Book) -> collections.Counter[bytes]:
     """How often each line came in a file of lines or a table that no `undo` took back."""
-    return collections.Counter(
-        dict(book.rows(f"SELECT line, count(*) FROM envelope WHERE {CAME_IN_FILES} GROUP BY line"))
-    )
+    words = f"SELECT line, count(*) FROM entered WHERE {IN_FILES} GROUP BY line"
+    return collections.Counter(dict(book.rows(words)))
 
 
 def came_in_files(book: Book) -> dict[bytes, list[Envelope]]:
@@ -270,24 +244,24 @@ def came_in_files(book: Book) -> dict[bytes, list[Envelope]]:
     struck or late come last.
     """
     by_line: dict[bytes, list[Envelope]] = {}
-    for envelope in sorted(
-        envelopes(book, CAME_IN_FILES), key=lambda envelope: envelope.is_late or envelope.is_struck
-    ):
+    found = envelopes(book, IN_FILES)
+    for envelope in sorted(found, key=lambda one: one.is_late or one.is_struck):
         by_line.setdefault(envelope.line, []).append(envelope)
     return by_line
 
 
 def last_numbers(book: Book) -> dict[int, tuple[int, bytes]]:
     """Number and line of the last envelope of each elector that is in time and not struck."""
-    words = f"SELECT elector, max(envelope), line FROM {ENVELOPES} WHERE {IN_TIME} AND elector IS NOT NULL GROUP BY elector"
+    words = (
+        "SELECT elector, max(envelope), line FROM ballot WHERE elector IS NOT NULL GROUP BY elector"
+    )
     return {elector: (number, line) for elector, number, line in book.rows(words)}
 
 
 def size_in_time(book: Book) -> tuple[int, int]:
     """How many lines and bytes the ballots have that are counted."""
-    [(count, size)] = book.rows(
-        f"SELECT count(*), coalesce(sum(length(line) + 1), 0) FROM {ENVELOPES} WHERE {IN_TIME}"
-    )
+    words = "SELECT count(*), coalesce(sum(length(line) + 1), 0) FROM ballot"
+    [(count, size)] = book.rows(words)
     return int(count), int(size)
 
 

@@ -87,6 +87,22 @@ CREATE TABLE sent (
   detail TEXT NOT NULL                  -- JSON: Message-ID, address, act that it belongs to, what it was about, what the server said
 ) STRICT;
 
+-- The electors and the letters as they are now.
+CREATE VIEW elector_now AS
+  SELECT elector, name, position, who, mail, key, code, alias, mark FROM elector JOIN elector_state USING (elector)
+  WHERE elector_state.act = (SELECT max(act) FROM elector_state AS later WHERE later.elector = elector.elector);
+
+CREATE VIEW letter_now AS
+  SELECT letter.*, coalesce((
+    SELECT state FROM letter_state WHERE letter_state.letter = letter.letter ORDER BY act DESC LIMIT 1
+  ), 'waits') AS state FROM letter;
+
+-- The envelopes, each with the act that struck it; and the ballots, which are counted.
+CREATE VIEW entered AS
+  SELECT envelope.*, struck.act AS struck FROM envelope LEFT JOIN struck USING (envelope);
+
+CREATE VIEW ballot AS SELECT * FROM entered WHERE late = 0 AND struck IS NULL;
+
 CREATE INDEX elector_by_act ON elector (act);
 CREATE INDEX elector_state_by_act ON elector_state (act);
 CREATE INDEX envelope_by_act ON envelope (act);

@@ -1,7 +1,7 @@
 """The options of a command, each written once: as a field of the command's class `Arguments`, from
 which the parser is made.
 
-    class Arguments(acting.Arguments):
+    class Arguments(Acting):
         number: int = positional("NUMBER", "The number of the envelope", type=int)
         zone: str | None = option("ZONE", "The time zone of --until")
         take_back: bool = flag("Take the call back")
@@ -9,13 +9,20 @@ which the parser is made.
     def run(election: Election, arguments: Arguments) -> None: ...
 
 The option of `take_back` is `--take-back`; `name="--from"` gives it another name. Flags with one
-word for `group` exclude each other. All other words are those of `argparse`. A command that writes
-an act inherits --moved and --because from `acting.Arguments`; what a class inherits comes last in
-the help.
+word for `group` exclude each other. All other words are those of `argparse`. What a class inherits
+comes last in the help.
 """
 
 import argparse
-from typing import Any, TypeVar
+import re
+from typing import Any, NoReturn, TypeVar
+
+from debvote_tools import VERSION
+from debvote_tools.cli.faults import Fault, Status
+from debvote_tools.cli.terminal_text import LINE_ENDS, number_of, odd_sign
+
+# in characters; a reason is a sentence or some
+LONGEST_REASON = 2_000
 
 
 class Options:
@@ -41,6 +48,47 @@ def option(metavar: str | None, help: str, **how: Any) -> Any:
 
 def flag(help: str, **how: Any) -> Any:
     return {"action": "store_true", "help": help, **how}
+
+
+class Acting(Options):
+    """The options of a command that writes an act, or that says what others rely on. It stops at a
+    book that this machine does not know (`Election.book_for`).
+    """
+
+    moved: bool = flag(
+        "Go on although the election was moved here, or an older copy was restored; the result page says so"
+    )
+    because: str | None = option(
+        "TEXT", "The reason, in your words, for --moved, --force, strike or reopen"
+    )
+
+    # whether the command needs a folder that is writable, and computes all digests anew
+    writes, checks = True, False
+
+    def __init_subclass__(cls, *, writes: bool = True, checks: bool = False) -> None:
+        cls.writes, cls.checks = writes, checks
+
+
+class Parser(argparse.ArgumentParser):
+    """Names a command that was perhaps meant by one that is misspelt."""
+
+    def error(self, message: str) -> NoReturn:
+        if found := re.match(
+            r"argument COMMAND: invalid choice: '(.*)' \(choose from '(.*)'\)", message
+        ):
+            # it takes a while to be imported
+            import difflib
+
+            near = difflib.get_close_matches(found[1], found[2].split("', '"), 1)
+            message = f"there is no command {found[1]!r}" + "".join(
+                f"; did you mean {one}?" for one in near
+            )
+        super().error(message)
+
+
+def add_version(parser: argparse.ArgumentParser) -> None:
+    words = f"{parser.prog} {VERSION}"
+    parser.add_argument("-V", "--version", action="version", version=words, help="Print version")
 
 
 def add_arguments(parser: argparse.ArgumentParser, kind: type[Options]) -> None:
@@ -70,3 +118,23 @@ def given(arguments: Options, *names: str) -> list[str]:
 def arguments_of(kind: type[Arguments], namespace: argparse.Namespace) -> Arguments:
     """The values of the options, which have their types from here on."""
     return kind(**vars(namespace))
+
+
+def has_reason(because: str | None) -> bool:
+    return bool(because and because.strip())
+
+
+def demand_reason(because: str | None, option: str, *, has_paragraphs: bool = False) -> str:
+    """The reason that an option needs: one line of plain text, or several."""
+    text = (because or "").strip()
+    if not text:
+        words, cure = "it needs a reason, which the log keeps", 'write it: --because "TEXT"'
+        raise Fault(option, words, cure, Status.BAD_WORDS)
+    odd = odd_sign(text, allowed="\t\n") if has_paragraphs else odd_sign(text, refused=LINE_ENDS)
+    if odd is not None:
+        words = f"the text has the character {number_of(odd)}, which no plain text has"
+        raise Fault("--because", words, "take it out", Status.BAD_WORDS)
+    if len(text) > LONGEST_REASON:
+        words = f"the text has {len(text)} characters; at most {LONGEST_REASON} are allowed"
+        raise Fault("--because", words, "shorten it", Status.BAD_WORDS)
+    return text

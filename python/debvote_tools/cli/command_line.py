@@ -7,35 +7,20 @@ import pathlib
 import signal
 import sys
 from collections.abc import Sequence
+from typing import Any
 
-from debvote_tools.cli import arguments, console
-from debvote_tools.book.book import Overtaken
 from debvote_tools.book.election import Election
-from debvote_tools.cli.faults import Fault, Several, Status, acts_in_words
-from debvote_tools.files import Written
+from debvote_tools.cli import arguments, console
+from debvote_tools.cli.faults import Fault, Status, acts_in_words
 
 PROGRAM = "debvote-election"
 
 # the modules of the commands, in the order in which an election needs them; each has its help as
 # docstring, `Arguments` and `run`
 COMMANDS = (
-    *(
-        "new",
-        "roll",
-        "check",
-        "codes",
-        "call",
-        "add",
-        "held",
-        "undo",
-        "strike",
-        "desk",
-        "letters",
-        "show",
-        "status",
-    ),
-    *("close", "reopen", "count", "publish", "log", "export", "backup"),
-)
+    "new roll check codes call add held undo strike desk letters show status "
+    "close reopen count publish log export backup"
+).split()
 
 # the commands that change nothing
 QUIET = ("check", "show", "status", "count", "log")
@@ -47,29 +32,17 @@ def parser(words: Sequence[str] = ()) -> argparse.ArgumentParser:
     """
     # --folder may come before the command and after it
     folder = argparse.ArgumentParser(add_help=False)
-    folder.add_argument(
-        "--folder",
-        metavar="F",
-        default=argparse.SUPPRESS,
-        help="The folder of the election (default: the current folder)",
-    )
-    top = argparse.ArgumentParser(
-        prog=PROGRAM,
-        allow_abbrev=False,
-        parents=[folder],
-        description="Runs an election in one folder, from the list of members to the published result, with debvote.",
-    )
+    text = "The folder of the election (default: the current folder)"
+    folder.add_argument("--folder", metavar="F", default=argparse.SUPPRESS, help=text)
+    how: dict[str, Any] = {"allow_abbrev": False, "parents": [folder]}
+    text = "Runs an election in one folder, from the list of members to the published result, with debvote."
+    top = arguments.Parser(prog=PROGRAM, description=text, **how)
+    arguments.add_version(top)
     commands = top.add_subparsers(dest="command", metavar="COMMAND", required=True)
     for name in words[:1] if words and words[0] in COMMANDS else COMMANDS:
         module = importlib.import_module(f"debvote_tools.commands.{name}")
         text = " ".join(str(module.__doc__).split())
-        command = commands.add_parser(
-            name,
-            help=text.removesuffix("."),
-            description=text,
-            allow_abbrev=False,
-            parents=[folder],
-        )
+        command = commands.add_parser(name, help=text.removesuffix("."), description=text, **how)
         arguments.add_arguments(command, module.Arguments)
         command.set_defaults(run=module.run, arguments=module.Arguments)
     return top
@@ -80,9 +53,8 @@ def main(program_folder: pathlib.Path, words: Sequence[str] | None = None) -> in
     for number in (signal.SIGHUP, signal.SIGTERM):
         signal.signal(number, lambda number, _: sys.exit(128 + number))
     if not console.has_output():
-        return console.failed(
-            PROGRAM, "standard output is closed; nothing was changed", Status.BAD_OUTPUT
-        )
+        closed = "standard output is closed; nothing was changed"
+        return console.failed(PROGRAM, closed, Status.BAD_OUTPUT)
     console.prepare()
     # lines and letters have no cycles: to look for some again and again takes a seventh of the time
     # of `add`
@@ -92,55 +64,37 @@ def main(program_folder: pathlib.Path, words: Sequence[str] | None = None) -> in
     signal.signal(signal.SIGINT, signal.default_int_handler)
     folder = getattr(namespace, "folder", None)
     election = Election(None if folder is None else pathlib.Path(folder), program_folder)
+    reported = "what the command has reported is done"
     try:
-        try:
-            return run(election, namespace)
-        except Overtaken:
-            raise Fault(
-                None, "another command changed the election meanwhile", "run the command again"
-            ) from None
-    except console.OutputFailed as fault:
-        # a command that changes nothing ends quietly if nobody reads on
-        is_quiet = fault.is_closed_pipe and namespace.command in QUIET
-        return (
-            128 + signal.SIGPIPE if is_quiet else console.failed(PROGRAM, fault.words, fault.status)
-        )
+        return run(election, namespace)
     except Fault as fault:
-        for one in fault.faults if isinstance(fault, Several) else (fault,):
+        # a command that changes nothing ends quietly if nobody reads on
+        if isinstance(fault, console.OutputFailed) and fault.is_closed_pipe:
+            if namespace.command in QUIET:
+                return 128 + signal.SIGPIPE
+        for one in (fault, *fault.others):
             console.failed(PROGRAM, one.after(election.own_acts).words, one.status)
         return fault.status
     except KeyboardInterrupt:
-        done = (
-            acts_in_words(election.own_acts)
-            if election.own_acts
-            else "what the command has reported is done"
-        )
-        return console.failed(
-            PROGRAM, f"interrupted; {done}, and nothing else", 128 + signal.SIGINT
-        )
+        done = acts_in_words(election.own_acts) if election.own_acts else reported
+        words_of_it = f"interrupted; {done}, and nothing else"
+        return console.failed(PROGRAM, words_of_it, 128 + signal.SIGINT)
     except OSError as error:
         done = f"{acts_in_words(election.own_acts)}; " if election.own_acts else ""
+        said = f"{error.strerror}; {done}{reported}: see debvote-election status"
         # a file that can't be read or written is named, but for standard input
-        if error.filename is None:
-            words = f"{error.strerror}; {done}what the command has reported is done: see debvote-election status"
-            return console.failed(PROGRAM, words, Status.BAD_OUTPUT)
-        state = (
-            "it was written, but may not be on the disk yet"
-            if isinstance(error, Written)
-            else "it was not changed"
-        )
-        words = f"{error.filename}: {error.strerror}; {state}; {done}put this right, then run the command again"
-        return console.failed(PROGRAM, words, Status.BAD_OUTPUT)
+        if error.filename is not None:
+            cure = "put this right, then run the command again"
+            said = f"{error.filename}: {error.strerror}; it was not changed; {done}{cure}"
+        return console.failed(PROGRAM, said, Status.BAD_OUTPUT)
 
 
 def run(election: Election, namespace: argparse.Namespace) -> int:
     """Runs a command. What it can't work with is the fault of the book if that is damaged."""
+    options = arguments.arguments_of(namespace.arguments, namespace)
     try:
-        return int(
-            namespace.run(election, arguments.arguments_of(namespace.arguments, namespace))
-            or Status.DONE
-        )
-    except (Fault, Overtaken, OSError):
+        return int(namespace.run(election, options) or Status.DONE)
+    except (Fault, OSError):
         raise
     except Exception:
         election.demand_undamaged()

@@ -27,12 +27,11 @@ NOTHING_CHANGED = f"{NOTHING}changed"
 
 
 class Fault(Exception):
-    """The fault that ends a run: the file that it is about, if any, the reason, the cure, the exit
-    status, and what was done or was not.
-
-    Most faults stop a command until a person has looked, before it has changed anything. `done` is
-    None if the reason says it.
+    """Ends a run: the file, if the fault is in one, the reason, the cure, the exit status, and what
+    was done or was not, which is None if the reason says it. `others` stop the same act.
     """
+
+    others: tuple["Fault", ...] = ()
 
     def __init__(
         self,
@@ -42,68 +41,53 @@ class Fault(Exception):
         status: int = Status.DOUBT,
         done: str | None = NOTHING_CHANGED,
     ) -> None:
-        ending = "; " if done is None else f"; {done}: " if done else ": "
-        words = f"{reason}{ending}{cure}" if file is None else f"{file}: {reason}{ending}{cure}"
-        super().__init__(words, status)
-        self.words: str | None = words
-        self.status = status
-        self.file, self.reason, self.cure, self.done = file, reason, cure, done
+        super().__init__(file, reason, cure, status, done)
+        self.file, self.reason, self.cure, self.status, self.done = file, reason, cure, status, done
+
+    @property
+    def words(self) -> str | None:
+        """The fault in one line; None if it was told already."""
+        where = "" if self.file is None else f"{self.file}: "
+        done = "; " if self.done is None else f"; {self.done}: " if self.done else ": "
+        return f"{where}{self.reason}{done}{self.cure}"
+
+    def __str__(self) -> str:
+        return self.words or ""
 
     def after(self, acts: Sequence[str]) -> "Fault":
         """The same fault, of a run that did these acts before."""
-        if not acts or self.done is None or not self.done.startswith(NOTHING):
-            return self
-        others = self.done.removeprefix(NOTHING_CHANGED).removeprefix("; ")
-        return Fault(
-            self.file,
-            self.reason,
-            self.cure,
-            self.status,
-            "; ".join(filter(None, [acts_in_words(acts), others])),
-        )
+        if acts and self.done is not None and self.done.startswith(NOTHING):
+            self.done = self.done.removeprefix(NOTHING_CHANGED).removeprefix("; ")
+            self.done = "; ".join(filter(None, [acts_in_words(acts), self.done]))
+        return self
 
     def with_done(self, done: str) -> "Fault":
         """The same fault, if this was done, too."""
-        return Fault(
-            self.file,
-            self.reason,
-            self.cure,
-            self.status,
-            "; ".join(filter(None, [self.done, done])),
-        )
-
-
-class Several(Fault):
-    """Several faults that stop one act, all reported at once. The exit status is that of the first."""
-
-    def __init__(self, faults: Sequence[Fault]) -> None:
-        Exception.__init__(self, faults)
-        self.faults = tuple(faults)
-        self.status, self.words = faults[0].status, None
+        self.done = "; ".join(filter(None, [self.done, done]))
+        return self
 
 
 def acts_in_words(acts: Sequence[str]) -> str:
     """What a run has done, each act as `act 7 (add)`."""
-    return (
-        f"{acts[-1]} was done"
-        if len(acts) == 1
-        else f"{len(acts)} acts were done, the last is {acts[-1]}"
-    )
+    many = f"{len(acts)} acts were done, the last is {acts[-1]}"
+    return f"{acts[-1]} was done" if len(acts) == 1 else many
 
 
 def stop_at(faults: Sequence[Fault]) -> None:
-    if len(faults) == 1:
-        raise faults[0]
+    """Stops if there are faults, which are all reported. The exit status is that of the first."""
     if faults:
-        raise Several(faults)
+        first, *others = [one for fault in faults for one in (fault, *fault.others)]
+        first.others = tuple(others)
+        raise first
 
 
 class Told(Fault):
     """What ends the run after debvote has said why."""
 
+    words = None
+
     def __init__(self, status: int) -> None:
-        Exception.__init__(self, status)
-        self.status, self.words = status, None
+        super().__init__(None, "", "", status)
 
 
 def other_format(what: str) -> Fault:

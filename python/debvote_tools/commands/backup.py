@@ -4,7 +4,6 @@ import pathlib
 
 from debvote_tools.cli.arguments import Options, positional
 from debvote_tools.cli.console import tell
-from debvote_tools.book import acting
 from debvote_tools.book.election import Election
 from debvote_tools.cli.faults import Fault, Status
 
@@ -14,11 +13,10 @@ class Arguments(Options):
 
 
 def run(election: Election, arguments: Arguments) -> None:
-    book, target = acting.whole_book(election), pathlib.Path(arguments.file)
+    book, target = election.whole_book(), pathlib.Path(arguments.file)
     if target.exists():
-        raise Fault(
-            target, "it exists already", "name a new file", Status.BAD_WORDS, "nothing was written"
-        )
+        done = "nothing was written"
+        raise Fault(target, "it exists already", "name a new file", Status.BAD_WORDS, done)
     election.demand_private(target)
     last = book.last_number()
     book.back_up(target)

@@ -7,8 +7,13 @@ from debvote_tools.text import times
 from debvote_tools.cli.arguments import flag, option
 from debvote_tools.book import queries
 from debvote_tools.book.acts import Detail
-from debvote_tools.poll.call_data import CallData, demand_web_address, named_address
-from debvote_tools.poll.call_files import call_files, extension_letter
+from debvote_tools.poll.call_data import (
+    call_files,
+    CallData,
+    demand_web_address,
+    extension_letter,
+    named_address,
+)
 from debvote_tools.cli.console import tell
 from debvote_tools.book import acting
 from debvote_tools.result.agreed_texts import agreed_texts, texts_of_poll
@@ -30,10 +35,10 @@ from debvote_tools.book.election import (
 from debvote_tools.made_files import OWN, PUBLIC, write_made
 from debvote_tools.poll.draft import checked, lacks_codes, letter_text_in, tell_checked
 from debvote_tools.book.reporting import act_time
-from debvote_tools.inbox.in_time import demand_future, parse_until
+from debvote_tools.poll.until import demand_future, parse_until
 from debvote_tools.cli.faults import Fault, Status, stop_at
 from debvote_tools.files import read_at_most
-from debvote_tools.inbox.signatures import read_keyring
+from debvote_tools.inbox.signature import read_keyring
 from debvote_tools.poll.aliases import aliased_poll
 from debvote_tools.poll.codes import demand_no_code
 from debvote_tools.poll.marks import new_own_mark
@@ -212,11 +217,12 @@ def sealed_by(
     data = dataclasses.replace(
         current_data(election, said=said, sealed=sealed), letter_text=letter_text
     )
-    files = {f"{CALL}/{name}": content for name, content in call_files(data).items()}
-    if sealed is None and "until" in said:
-        files[f"{LETTERS}/{EXTENSION}"] = extension_letter(data).encode()
+    files = {}
     if letter_text.encode() != (queries.sealed(election.book, LETTER_TEXT) or b""):
         files[LETTER_TEXT] = letter_text.encode()
+    files |= {f"{CALL}/{name}": content for name, content in call_files(data).items()}
+    if sealed is None and "until" in said:
+        files[f"{LETTERS}/{EXTENSION}"] = extension_letter(data).encode()
     if data.poll.secret:
         codes = {elector.code or elector.name for elector in queries.electors(election.book)}
         for name, content in files.items():

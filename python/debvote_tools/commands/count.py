@@ -21,7 +21,7 @@ CASTING = (
 )
 
 
-class Arguments(acting.Arguments):
+class Arguments(acting.Arguments, writes=False, checks=True):
     casting: str | None = option(*CASTING)
     force: bool = flag("Count although letters wait that arrived in time")
 

@@ -2,28 +2,26 @@
 own terminal.
 """
 
-import contextlib
+import dataclasses
 import functools
 import os
 import re
 import sys
-from collections.abc import Iterator
-from typing import NamedTuple
+from collections.abc import Callable, Iterator, Sequence
 
-from debvote_tools.book import queries
+from debvote_tools.book import acting, queries
 from debvote_tools.book.acts import Detail
-from debvote_tools.book.book import Book, Overtaken
-from debvote_tools.cli.console import is_yes, tell, typed
-from debvote_tools.book import acting
-from debvote_tools.inbox import in_time
-from debvote_tools.inbox.vote import JudgedLine, Vote, change_words, summary, would_words
+from debvote_tools.book.book import Book
 from debvote_tools.book.election import Election, History
-from debvote_tools.inbox.entering import electors_of, entered, too_long
+from debvote_tools.cli.console import is_yes, tell, typed
 from debvote_tools.cli.faults import Fault, Status
+from debvote_tools.cli.terminal_text import shown_line, shown_text
 from debvote_tools.files import BALLOTS_LIMIT
+from debvote_tools.inbox import plan as plans
 from debvote_tools.inbox.lines import Line, lines_in
+from debvote_tools.inbox.plan import agreed_act, came_before_close, electors_of
+from debvote_tools.inbox.vote import JudgedLine, Vote, change_words, summary
 from debvote_tools.poll.plain_names import alike
-from debvote_tools.cli.terminal_text import shown_text
 
 QUIT = b"q"
 NOTHING_CAST = "nothing was entered"
@@ -35,17 +33,18 @@ TYPED = re.compile(r"(.+?)\s+([\d-].*)")
 # how many names are listed to choose from
 MAX_NAMES = 9
 
-Arguments = in_time.Arguments
+Arguments = plans.Arguments
 
 
-class Shown(NamedTuple):
-    """The state of the book by which a ballot was shown before the question, or at a pipe before it
-    is cast.
+@dataclasses.dataclass(frozen=True)
+class Shown:
+    """The state of the book by which ballots are shown before the question, or at a pipe before
+    they are cast.
     """
 
-    decided_at: int
+    decided_at: int = dataclasses.field(compare=False)
     openness: History
-    # those of the elector
+    # those of the elector of a ballot at a terminal
     envelopes: list[queries.Envelope]
 
 
@@ -71,30 +70,15 @@ class Desk:
         ]
 
     def now(self, elector: int | None = None) -> Shown:
-        """The state of the book by which a ballot of an elector is shown now."""
         history = History(self.book.acts())
-        openness = history.openness()
-        if openness.call != self.vote.call:
-            raise Fault(
-                None,
-                "the call for votes was made anew meanwhile",
-                "start the desk again",
-                Status.DOUBT,
-                NOTHING_CAST,
-            )
-        return Shown(
-            history.last.number, openness, queries.envelopes(self.book, "elector = ?", elector)
-        )
+        plans.demand_same_call(self.vote, history, "start the desk again", NOTHING_CAST)
+        envelopes = queries.envelopes(self.book, "elector = ?", elector)
+        return Shown(history.last.number, history.openness(), envelopes)
 
-    def ask_if_reopened(self, elector: int | None = None) -> Shown:
-        """Returns the same. If the vote was opened again, it asks once whether what is cast came
-        before the first close.
-        """
-        shown = self.now(elector)
-        if shown.openness.is_reopened and self.came_before_close is None:
-            done = "the ballots reported so far were entered, and nothing else"
-            self.came_before_close = in_time.came_before_close(shown.openness, self.answer, done)
-        return shown
+    def ask_if_reopened(self, shown: Shown, done: str) -> None:
+        """If the vote was opened again, asks once whether what is cast came before the first close."""
+        if self.came_before_close is None:
+            self.came_before_close = came_before_close(shown.openness, self.answer, done)
 
     def lines_of(self, data: bytes) -> list[Line]:
         lines = lines_in(data, "desk", self.next_line)
@@ -108,39 +92,37 @@ class Desk:
         detail: Detail = {"lines": len(lines)}
         if shown.openness.is_reopened:
             detail["came_before_close"] = self.came_before_close
-        with entered(
+
+        def report(numbers: range, replies: Sequence[str]) -> Iterator[str]:
+            self.replies += replies
+            return self.vote.report(lines, numbers, replies)
+
+        plans.enter(
             self.book,
             self.vote,
             "desk",
             detail,
             lambda _: [queries.NewEnvelope(line.as_entered, line.line.place) for line in lines],
+            report,
             decided_at=shown.decided_at,
             is_late=shown.openness.is_late(self.came_before_close),
-            is_same=lambda: self.now(elector)[1:] == shown[1:],
-            done="the ballots to be reported were entered",
-        ) as now:
-            replies = now.replies()
-            self.replies += replies
-            tell(*self.vote.report(lines, now.numbers, replies, is_entered=True))
+            is_same=lambda: self.now(elector) == shown,
+            what="ballots to be reported",
+        )
 
 
 def run(election: Election, arguments: Arguments) -> None:
     if sys.stdin is None:
-        raise Fault(
-            "standard input",
-            "it is closed",
-            "run it at a terminal",
-            Status.BAD_BALLOTS,
-            NOTHING_CAST,
-        )
+        cure = "run it at a terminal"
+        raise Fault("standard input", "it is closed", cure, Status.BAD_BALLOTS, NOTHING_CAST)
     desk = Desk(election, acting.book_for_act(election, arguments), arguments.came_before_close)
-    openness = desk.now().openness
-    tell(*in_time.notes(election, openness, "what is entered"))
+    shown = desk.now()
+    tell(*plans.notes(election, shown.openness, "what is entered"))
     if desk.vote.is_signed:
         words = "in this vote letters must be signed, and a desk checks no signature"
         tell(f"Note: {words}: enter only ballots on paper or by word of mouth.")
     try:
-        desk.came_before_close = in_time.came_before_close(openness, desk.answer, NOTHING_CAST)
+        desk.ask_if_reopened(shown, NOTHING_CAST)
         if sys.stdin.isatty():
             at_terminal(desk)
         else:
@@ -158,16 +140,25 @@ def from_pipe(desk: Desk) -> None:
         for line in desk.lines_of(data):
             if line.is_empty:
                 tell(f"{line.where}: it is empty, and was left out")
-            elif why := too_long(line):
+            elif why := plans.too_long(line):
                 add = desk.election.command("add", "--force", "FILE")
                 tell(f"{line.where}: {why}; it was not entered.", f"  To add it from a file: {add}")
             else:
                 lines.append(line)
-        read = desk.vote.read(lines)
-        while read:
-            with contextlib.suppress(Overtaken):
-                desk.cast(read, desk.ask_if_reopened())
-                break
+        if lines:
+            shown_and_cast(desk, desk.vote.read(lines), lambda _: True)
+
+
+def shown_and_cast(
+    desk: Desk, lines: list[JudgedLine], show: Callable[[Shown], bool], elector: int | None = None
+) -> None:
+    done = "the ballots reported so far were entered, and nothing else"
+
+    def show_all(shown: Shown) -> bool:
+        desk.ask_if_reopened(shown, done)
+        return show(shown)
+
+    agreed_act(lambda: desk.now(elector), show_all, lambda shown: desk.cast(lines, shown, elector))
 
 
 def whole_lines() -> Iterator[bytes]:
@@ -200,40 +191,30 @@ def at_terminal(desk: Desk) -> None:
         line = next(iter(desk.lines_of(came)), None)
         if line is None or line.is_empty:
             tell("Type a ballot, or q to end.")
-        elif line.repaired.lower() == QUIT:
-            return
-        elif not ask_and_cast(desk, line):
+        elif line.repaired.lower() == QUIT or not ask_and_cast(desk, line):
             return
 
 
 def ask_and_cast(desk: Desk, line: Line) -> bool:
-    """Shows a ballot, and casts it on a yes. If another act changed what was shown, it asks again.
-    Returns False at the end of the input.
-    """
-    meant = completed(desk, line)
-    if meant is None:
+    """Shows a ballot, and casts it on a yes. Returns False at the end of the input."""
+    if (meant := completed(desk, line)) is None:
         tell("It was not entered.")
         return True
     [read] = desk.vote.read([meant])
     [elector] = electors_of(desk.book, desk.vote, [read.as_entered])
-    while True:
-        # first what is in the book: if an envelope comes after this, it is found when the ballot is
-        # cast
-        shown = desk.ask_if_reopened(elector)
-        question = show(desk, read, shown, elector)
-        answer = is_yes(question, "Type y to enter it, or n to drop it.")
-        if answer is None:
-            return False
-        if not answer:
+    answer: bool | None = None
+
+    def show(shown: Shown) -> bool:
+        nonlocal answer
+        answer = is_yes(
+            question(desk, read, shown, elector), "Type y to enter it, or n to drop it."
+        )
+        if answer is False:
             tell("It was not entered.")
-            return True
-        try:
-            desk.cast([read], shown, elector)
-            return True
-        except Overtaken:
-            tell(
-                "It was not entered: another command changed the election meanwhile. Now it looks like this:"
-            )
+        return bool(answer)
+
+    shown_and_cast(desk, [read], show, elector)
+    return answer is not None
 
 
 def completed(desk: Desk, line: Line) -> Line | None:
@@ -253,12 +234,8 @@ def completed(desk: Desk, line: Line) -> Line | None:
         tell(f"`{shown_text(name)}` was completed to `{found[0].name}`")
     else:
         tell(f"`{shown_text(name)}` is part of {len(found)} names:")
-        tell(
-            *(
-                f"  {place} {elector.name} ({shown_text(elector.who)})"
-                for place, elector in enumerate(chosen, start=1)
-            )
-        )
+        for place, elector in enumerate(chosen, start=1):
+            tell(f"  {place} {elector.name} ({shown_text(elector.who)})")
         answer = typed("Type the number of one, or n for none: ") or b""
         number = int(answer) if answer.strip().isdigit() else 0
         chosen = chosen[number - 1 : number]
@@ -268,23 +245,23 @@ def completed(desk: Desk, line: Line) -> Line | None:
     return Line(line.source, line.place, full, full, full)
 
 
-def show(desk: Desk, line: JudgedLine, shown: Shown, elector: int | None) -> str:
+def question(desk: Desk, line: JudgedLine, shown: Shown, elector: int | None) -> str:
     """Shows what a ballot would be, in words, or why debvote would refuse it. Returns the question
     whether to cast it.
     """
     tell(*change_words(line))
     if not line.is_ballot:
-        tell(f"It would be refused: {would_words(line)}", desk.vote.right_words())
+        # the one reason that stays after the changes that are allowed
+        finding = line.finding_of_repaired
+        why = "" if finding is None else f": {finding.word}: {finding.hint}"
+        tell(f"It would be refused: {shown_line(line.as_entered)}{why}", desk.vote.right_words())
         return "It would not count. Enter it anyway?"
     tell(desk.vote.in_words(line))
     if shown.openness.is_late(desk.came_before_close):
         tell("It is late, and will not count.")
     elif elector is not None:
-        earlier = desk.vote.standing(queries.lines_of_electors(desk.book, {elector})).get(
-            line.voter
-        )
-        if earlier is not None:
-            tell(
-                f"{line.voter} has a ballot: {desk.vote.ranks_in_words(earlier)}. It will be replaced."
-            )
+        lines = queries.lines_of_electors(desk.book, {elector})
+        if (earlier := desk.vote.standing(lines).get(line.voter)) is not None:
+            words = desk.vote.ranks_in_words(earlier)
+            tell(f"{line.voter} has a ballot: {words}. It will be replaced.")
     return "Enter it?"

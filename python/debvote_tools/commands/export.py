@@ -7,7 +7,6 @@ import re
 from debvote_tools.cli.arguments import Options, positional
 from debvote_tools.book import queries
 from debvote_tools.cli.console import tell
-from debvote_tools.book import acting
 from debvote_tools.book.election import Election
 from debvote_tools.cli.faults import Fault, Status
 from debvote_tools.files import whole_folder, write_whole
@@ -23,15 +22,10 @@ class Arguments(Options):
 
 
 def run(election: Election, arguments: Arguments) -> None:
-    book, target_folder = acting.whole_book(election), pathlib.Path(arguments.target_folder)
+    book, target_folder = election.whole_book(), pathlib.Path(arguments.target_folder)
     if os.path.lexists(target_folder):
-        raise Fault(
-            target_folder,
-            "it exists already",
-            "name a new folder",
-            Status.BAD_WORDS,
-            "nothing was written",
-        )
+        done = "nothing was written"
+        raise Fault(target_folder, "it exists already", "name a new folder", Status.BAD_WORDS, done)
     election.demand_private(target_folder)
     with book.snapshot():
         files = {"poll.toml": election.sealed().counted.as_bytes()}
@@ -40,10 +34,8 @@ def run(election: Election, arguments: Arguments) -> None:
         # what came has its number before its name, which is no path and has no characters that a
         # shell reads
         for number, name, data in queries.sources(book):
-            safe_name = (
-                UNSAFE.sub("-", name.rpartition("/")[2])[-LONGEST_FILE_NAME:].strip(".") or "file"
-            )
-            files[f"came/{number:05}-{safe_name}"] = data
+            safe = UNSAFE.sub("-", name.rpartition("/")[2])[-LONGEST_FILE_NAME:].strip(".")
+            files[f"came/{number:05}-{safe or 'file'}"] = data
     with whole_folder(target_folder) as folder:
         (folder / "came").mkdir(mode=0o700)
         for name, data in files.items():

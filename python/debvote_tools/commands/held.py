@@ -2,180 +2,304 @@
 
 import collections
 from collections.abc import Iterator, Sequence
+from typing import NamedTuple
 
-from debvote_tools.cli.arguments import flag, given, option, positional
-from debvote_tools.book import letters, queries
+from debvote_tools.book import acting, letters, queries
 from debvote_tools.book.acts import ActName, Detail
-from debvote_tools.book.book import NewAct
-from debvote_tools.cli.console import tell
-from debvote_tools.book import acting
-from debvote_tools.inbox import letter_words, letters_in
-from debvote_tools.inbox.vote import Vote
-from debvote_tools.book.election import Election
-from debvote_tools.inbox.entering import entered
+from debvote_tools.book.election import Election, History
 from debvote_tools.book.reporting import count_of
-from debvote_tools.cli.faults import Fault, Status
-from debvote_tools.inbox.judge import JudgedLetter, Outcome
-from debvote_tools.inbox.readings import BallotLine
-from debvote_tools.inbox.lines import name_in
-from debvote_tools.cli.terminal_text import shown_text
+from debvote_tools.cli.arguments import flag, given, option, positional
+from debvote_tools.cli.console import is_terminal, is_yes, tell
+from debvote_tools.cli.faults import Fault, Status, stop_at
+from debvote_tools.cli.terminal_text import shown_line, shown_text
+from debvote_tools.inbox import letter_words, letters_in
+from debvote_tools.inbox.known import Decision
+from debvote_tools.inbox.rules import JudgedLetter, Outcome
+from debvote_tools.inbox.letters_in import Plan
+from debvote_tools.inbox.lines import lines_in, name_in
+from debvote_tools.inbox.plan import agreed_act
+from debvote_tools.inbox.vote import Vote
+
+# what --enter has without lines
+THE_ONE = "one"
 
 
 class Arguments(acting.Arguments):
     numbers: list[int] = positional("NUMBER", "The numbers of letters", type=int, nargs="*")
     enter: str | None = option(
-        "LINE,..", "Enter these lines of the letter, by the numbers that held NUMBER shows"
+        "LINE,..",
+        "Enter these lines of a letter, by the numbers that held NUMBER shows; without LINE the one ballot of each letter, "
+        "and without NUMBER too those of the letters that were taken back",
+        nargs="?",
+        const=THE_ONE,
+    )
+    typed: str | None = option(
+        "LINE", "Enter this line as the ballot of the letter, with the letter's time", name="--as"
     )
     set_aside: bool = flag("Set the letters aside: they are dealt with, and wait no longer")
     wait: bool = flag("Have the letters wait again")
     force: bool = flag("Enter the ballot although its elector has voted since")
+    yes: bool = flag("Enter the ballots without asking")
 
 
 def run(election: Election, arguments: Arguments) -> None:
-    chosen = demand_words(arguments)
-    if chosen:
+    is_act = demand_words(arguments)
+    if is_act:
         acting.book_for_act(election, arguments)
     # stops before the call
     vote = Vote(election, election.history())
-    if arguments.enter is not None:
-        enter(election, vote, arguments, arguments.enter)
-    elif arguments.set_aside or arguments.wait:
-        decide(election, arguments)
-    found = all_letters(election)
+    if arguments.set_aside or arguments.wait:
+        decide(election, vote, arguments)
+    elif is_act:
+        enter(election, vote, arguments)
+    found = all_letters(election, vote)
     waiting = [letter for letter in found if letter.waits]
-    if arguments.numbers and not chosen:
+    if arguments.numbers and not is_act:
         for letter in chosen_letters(found, arguments.numbers):
             tell(*letter_words.whole(letter))
-    elif not chosen:
-        for letter in waiting:
-            tell(*letter_words.waiting(letter))
+    elif not is_act:
+        tell(*letter_words.table(waiting))
         if aside := [str(letter.number) for letter in found if letter.outcome is Outcome.SET_ASIDE]:
             tell(f"Set aside: {', '.join(aside)}")
-    if waiting:
-        numbers = [letter.number for letter in waiting]
-        shown = [] if chosen else [number for number in arguments.numbers if number in numbers]
-        command = election.command("held", str((shown or numbers)[0]))
-        tell(f"{count_of(len(waiting), 'letter waits', 'letters wait')}.")
-        tell(
-            f"Next: {command} {'with' if shown else 'shows one;'} --enter LINE enters a line of it, --set-aside sets it aside"
-        )
-    else:
+    if not waiting:
         tell("No letter waits.", f"Next: {election.command('status')}")
+        return
+    numbers = [letter.number for letter in waiting]
+    shown = [] if is_act else [number for number in arguments.numbers if number in numbers]
+    command = election.command("held", str((shown or numbers)[0]))
+    how = "--enter LINE enters a line of it, --as LINE the ballot that you type, --set-aside sets it aside"
+    tell(f"{letter_words.wait_words(len(waiting))}.")
+    tell(f"Next: {command} {'with' if shown else 'shows one;'} {how}")
 
 
-def demand_words(arguments: Arguments) -> list[str]:
-    """The one option that was given, or none. Stops if the options do not go together."""
-    chosen = given(arguments, "enter", "set_aside", "wait")
+def demand_words(arguments: Arguments) -> bool:
+    """Whether letters are to be entered, set aside or put back. Stops if the options do not go
+    together.
+    """
+    chosen = given(arguments, "enter", "typed", "set_aside", "wait")
     if len(chosen) > 1:
-        raise Fault(
-            "held",
-            "it does one thing at a time",
-            "give only one of --enter, --set-aside and --wait",
-            Status.BAD_WORDS,
-            None,
-        )
-    if arguments.enter is not None and len(arguments.numbers) != 1:
-        raise Fault("--enter", "it takes one letter", "name one number", Status.BAD_WORDS)
-    if chosen and not arguments.numbers:
+        cure = "give only one of --enter, --as, --set-aside and --wait"
+        raise Fault("held", "it does one thing at a time", cure, Status.BAD_WORDS, None)
+    takes_one = arguments.typed is not None or arguments.enter not in (None, THE_ONE)
+    if takes_one and len(arguments.numbers) != 1:
+        name = "--enter" if arguments.typed is None else "--as"
+        raise Fault(name, "a line is of one letter", "name one number", Status.BAD_WORDS)
+    if chosen and not arguments.numbers and arguments.enter is None:
         raise Fault("held", "no letter is named", "name its number", Status.BAD_WORDS)
-    return chosen
+    return bool(chosen)
 
 
-def all_letters(election: Election) -> list[JudgedLetter]:
-    return letters_in.judged(election, election.history(), letters.letters(election.book))
+def all_letters(election: Election, vote: Vote) -> list[JudgedLetter]:
+    kept = letters.letters(election.book)
+    return letters_in.judged(election, election.history(), kept, vote=vote)
 
 
 def chosen_letters(found: Sequence[JudgedLetter], numbers: Sequence[int]) -> list[JudgedLetter]:
     by_number = {letter.number: letter for letter in found}
     if unknown := [str(number) for number in numbers if number not in by_number]:
-        raise Fault(
-            f"letter {', '.join(unknown)}",
-            "there is no such letter",
-            "held lists the letters that wait",
-            Status.BAD_WORDS,
-        )
+        words, cure = "there is no such letter", "held lists the letters that wait"
+        raise Fault(f"letter {', '.join(unknown)}", words, cure, Status.BAD_WORDS)
     return [by_number[number] for number in dict.fromkeys(numbers)]
 
 
-def decide(election: Election, arguments: Arguments) -> None:
+def decide(election: Election, vote: Vote, arguments: Arguments) -> None:
     """The act that sets letters aside, or has them wait again."""
-    book = election.book
-    decided_at = book.last_number()
-    chosen = chosen_letters(all_letters(election), arguments.numbers)
-    if entered_before := [letter.number for letter in chosen if letter.outcome is Outcome.ENTERED]:
-        cure = "strike takes out one envelope, undo takes back the last act"
-        raise Fault(f"letter {entered_before[0]}", "its ballot was entered", cure)
     state: ActName = letters.SET_ASIDE if arguments.set_aside else letters.PUT_BACK
-    with book.act(state, {"letters": arguments.numbers}, seen=decided_at) as act:
-        for letter in chosen:
-            letters.decide(act, letter.number, state)
+
+    def plan() -> tuple[int, list[int]]:
+        decided_at = election.book.last_number()
+        chosen = chosen_letters(all_letters(election, vote), arguments.numbers)
+        if entered := [letter for letter in chosen if letter.outcome is Outcome.ENTERED]:
+            cure = "strike takes out one envelope, undo takes back the last act"
+            raise Fault(f"letter {entered[0].number}", "its ballot was entered", cure)
+        return decided_at, [letter.number for letter in chosen]
+
+    def act(now: tuple[int, list[int]]) -> None:
+        with election.book.act(state, {"letters": now[1]}, seen=now[0]) as act:
+            for number in now[1]:
+                letters.decide(act, number, state)
+
+    agreed_act(plan, lambda _: True, act)
 
 
-def enter(election: Election, vote: Vote, arguments: Arguments, lines: str) -> None:
-    """The act that enters lines of a letter. The letter waits no longer once each elector who has a
-    ballot in it has one entered.
+# ---------------------------------------------------------------- entering
+class Chosen(NamedTuple):
+    """A ballot of a letter; `line` is its number in the letter, 0 if it was typed."""
+
+    letter: JudgedLetter
+    line: int
+    ballot: str
+
+    @property
+    def elector(self) -> str:
+        return self.ballot.partition(" ")[0]
+
+
+def enter(election: Election, vote: Vote, arguments: Arguments) -> None:
+    """The act that enters ballots of letters, of all that were taken back if none is named. A
+    letter waits no longer once each elector who has a ballot in it has one entered.
     """
-    book = election.book
-    history = election.history()
-    [letter] = chosen_letters(all_letters(election), arguments.numbers)
-    ballots, name = chosen_ballots(letter, lines), f"letter {letter.number}"
+    typed = None if arguments.typed is None else ballot_of(election, vote, arguments.typed)
+    chosen: list[Chosen] = []
+    faults: dict[int, Fault] = {}
+
+    def plan() -> Plan:
+        nonlocal chosen
+        history, found = election.history(), all_letters(election, vote)
+        wanted = chosen_letters(found, arguments.numbers)
+        if not arguments.numbers:
+            wanted = [one for one in found if one.decision is Decision.TAKEN_BACK]
+        chosen = []
+        faults.clear()
+        for letter in sorted(wanted, key=lambda one: (one.time is None, one.time or one.number)):
+            try:
+                demand_not_entered(election, history, letter)
+                chosen += chosen_in(letter, arguments.enter, typed)
+                if letter.outcome is Outcome.COPY:
+                    cure = "to enter its ballot once more, have the letter wait first with --wait"
+                    name = f"letter {letter.number}"
+                    raise Fault(name, "it is a copy of another letter", cure)
+            except Fault as fault:
+                faults[letter.number] = fault
+        if not arguments.force:
+            faults.update(voted_since(election, vote, found, chosen))
+        if arguments.numbers:
+            stop_at(list(faults.values()))
+        chosen = [one for one in chosen if one.letter.number not in faults]
+        if not chosen:
+            words = "no letter was taken back that has one ballot"
+            raise Fault("--enter", words, "name letters by their numbers, as held lists them")
+        demand_one_order(chosen)
+        late = {letters_in.is_late(history, one.letter) for one in chosen}
+        if len(late) > 1:
+            words = "some of these letters arrived before the first close, and some after it"
+            raise Fault("--enter", words, "enter those that arrived before it apart")
+        ballots = [(one.letter.number, one.ballot) for one in chosen]
+        done = done_with(election, chosen)
+        return Plan(history.last.number, history, found, ballots, late.pop(), done)
+
+    def show(_: Plan) -> bool:
+        for one in chosen:
+            who = letter_words.who_and_when(one.letter)
+            tell(f"{who}: {vote.ballot_in_words(one.ballot)}")
+        tell(*(f"Waits on: {fault.file}: {fault.reason}" for fault in faults.values()))
+        question = f"Enter {count_of(len(chosen), 'ballot')}?"
+        if is_terminal() and not arguments.yes and not is_yes(question):
+            raise Fault("held", "you did not say yes", "run the command again when you agree")
+        return True
+
+    def act(now: Plan) -> None:
+        numbers = list(dict.fromkeys(number for number, _ in now.ballots))
+        detail: Detail = {"lines": [one.line for one in chosen if one.line]}
+        if len(numbers) == 1:
+            detail["letter"] = numbers[0]
+        else:
+            detail["letters"] = numbers
+        now.enter(election, vote, "enter", detail)
+
+    agreed_act(plan, show, act)
+
+
+def ballot_of(election: Election, vote: Vote, text: str) -> str:
+    """The ballot that was typed. Debvote is asked about it and all lines of its elector at once."""
+    lines = lines_in(text.encode("utf-8", "surrogateescape"), "--as")
+    line = lines[0].repaired if len(lines) == 1 else b""
+    numbers = queries.elector_numbers(election.book, [name_in(line).decode("ascii")])
+    others = (one.line for one in queries.envelopes_of(election.book, [*numbers.values()]))
+    answer = vote.answers([line, *others])[line] if line else "it is not one line"
+    if answer is not None:
+        shown = shown_line(text.encode("utf-8", "backslashreplace"))
+        raise Fault("--as", f"`{shown}` is no ballot of this poll: {answer}", vote.right_words())
+    return line.decode("ascii")
+
+
+def demand_not_entered(election: Election, history: History, letter: JudgedLetter) -> None:
+    name = f"letter {letter.number}"
     if letter.outcome is Outcome.ENTERED:
-        late = queries.envelopes(book, f"letter = ? AND {queries.LATE}", letter.number)
+        late = queries.envelopes(election.book, f"letter = ? AND {queries.LATE}", letter.number)
+        if not late:
+            raise Fault(name, "it was entered", "there is nothing to do")
         numbers = [str(envelope.number) for envelope in late]
         reopen = election.command("reopen", "--in-time", *numbers, "--because", "TEXT")
-        how = f"if it came in time, {'' if history.is_closed else 'close again and '}run {reopen}"
-        raise Fault(
-            name,
-            "it was entered" + (", and is late" if late else ""),
-            how if late else "there is nothing to do",
-        )
-    if letter.has_voted_since and not arguments.force:
-        raise Fault(
-            name,
-            "its elector has voted since",
-            "if this ballot must count, repeat the command with --force",
-        )
-    if letter.outcome is Outcome.COPY:
-        cure = "to enter its ballot once more, have the letter wait first with --wait"
-        raise Fault(name, "it is a copy of another letter", cure)
-    # a ballot of the letter that was struck was entered, too
-    before = queries.envelopes(book, f"letter = ? AND envelope.{queries.NOT_UNDONE}", letter.number)
-    done = {name_in(envelope.line).decode("ascii") for envelope in before} | {
-        line.elector for line in ballots
-    }
-
-    def envelopes(act: NewAct) -> Iterator[queries.NewEnvelope]:
-        yield from (letters_in.new_envelope(letter, line) for line in ballots)
-        if all(line.elector in done for line in letter.ballots):
-            letters.decide(act, letter.number, letters.ENTERED)
-
-    detail: Detail = {"letter": letter.number, "lines": [line.number for line in ballots]}
-    is_late = letters_in.is_late(history, letter)
-    with entered(
-        book, vote, "enter", detail, envelopes, decided_at=history.last.number, is_late=is_late
-    ) as now:
-        tell(*letter_words.reply_words(vote, now, [line.ballot for line in ballots]))
+        close = "" if history.is_closed else "close again and "
+        cure = f"if it came in time, {close}run {reopen}"
+        raise Fault(name, "it was entered, and is late", cure)
 
 
-def chosen_ballots(letter: JudgedLetter, lines: str) -> list[BallotLine]:
-    by_number = {str(line.number): line for line in (*letter.offered, *letter.ballots)}
-    numbers = [text.strip() for text in lines.split(",")]
-    if wrong := [number for number in numbers if number not in by_number]:
-        can = ", ".join(sorted(by_number, key=int))
-        cure = (
-            f"these lines are: {can}"
-            if can
-            else "if you know which ballot is meant, type it at a desk"
-        )
-        raise Fault(
-            "--enter",
-            f"line {shown_text(wrong[0])} of letter {letter.number} is not a ballot of this poll",
-            cure,
-        )
-    found = [by_number[number] for number in numbers]
-    twice, count = collections.Counter(line.elector for line in found).most_common(1)[0]
+def chosen_in(letter: JudgedLetter, lines: str | None, typed: str | None) -> list[Chosen]:
+    """The ballots of a letter that are to be entered: the one that was typed, the lines that were
+    named, or the only one.
+    """
+    name = f"letter {letter.number}"
+    if typed is not None:
+        sharing = letter.known.electors_by_address.get(letter.parsed.sender, [])
+        possible, chosen = {*letter.electors, *sharing}, Chosen(letter, 0, typed)
+        if possible and chosen.elector not in possible:
+            words = f"neither its sender nor a line of {name} is of {chosen.elector}"
+            raise Fault("--as", words, "check the name; if it is right, enter the ballot at a desk")
+        return [chosen]
+    there = {line.number: line.ballot for line in (*letter.offered, *letter.ballots)}
+    if lines == THE_ONE:
+        if len({*there.values()}) != 1:
+            words = f"it has {count_of(len(there), 'line')} that can be entered"
+            cure = "name its lines with --enter LINE, or type the ballot with --as LINE"
+            raise Fault(name, words, cure)
+        return [Chosen(letter, *next(iter(there.items())))]
+    by_text = {str(number): Chosen(letter, number, ballot) for number, ballot in there.items()}
+    texts = [text.strip() for text in (lines or "").split(",")]
+    if wrong := [text for text in texts if text not in by_text]:
+        can = f"these lines are: {', '.join(map(str, sorted(there)))}" if there else ""
+        words = f"line {shown_text(wrong[0])} of {name} is not a ballot of this poll"
+        cure = "if you know which ballot is meant, type it with --as LINE"
+        raise Fault("--enter", words, can or cure)
+    found = [by_text[text] for text in texts]
+    twice, count = collections.Counter(one.elector for one in found).most_common(1)[0]
     if count > 1:
-        raise Fault(
-            "--enter", f"{count} of these lines are ballots of {twice}", "name the one that counts"
-        )
+        words = f"{count} of these lines are ballots of {twice}"
+        raise Fault("--enter", words, "name the one that counts")
     return found
+
+
+def voted_since(
+    election: Election, vote: Vote, found: Sequence[JudgedLetter], chosen: Sequence[Chosen]
+) -> Iterator[tuple[int, Fault]]:
+    """A fault for each letter with a ballot of an elector who has a later one."""
+    parsed = [letter.parsed for letter in found]
+    ballots = letters_in.ballots_in(election, vote, {one.elector for one in chosen}, parsed)
+    for letter, _, ballot in chosen:
+        time, later = letter.time, ballots.get(ballot.partition(" ")[0], [])
+        if any(time is None or one.time > time for one in later):
+            cure = "if this ballot must count, repeat the command with --force"
+            words = "its elector has voted since"
+            yield letter.number, Fault(f"letter {letter.number}", words, cure)
+
+
+def demand_one_order(chosen: Sequence[Chosen]) -> None:
+    """Stops at two ballots of an elector of one time: nobody knows which is the later one."""
+    last: dict[str, Chosen] = {}
+    for one in chosen:
+        before = last.setdefault(one.elector, one)
+        if before.letter.time == one.letter.time and before.ballot != one.ballot:
+            name = f"letters {before.letter.number} and {one.letter.number}"
+            words = f"they have different ballots of {one.elector}, and the same time"
+            raise Fault(name, words, "enter the one that counts")
+        last[one.elector] = one
+
+
+def done_with(election: Election, chosen: Sequence[Chosen]) -> list[int]:
+    """The letters in which each elector who has a ballot then has one entered, also if that was
+    struck.
+    """
+    electors: dict[int, set[str]] = collections.defaultdict(set)
+    for one in chosen:
+        electors[one.letter.number].add(one.elector)
+    done = []
+    for letter in {one.letter.number: one.letter for one in chosen}.values():
+        names, entered = {line.elector for line in letter.ballots}, electors[letter.number]
+        if not names <= entered:
+            condition = f"letter = ? AND {queries.NOT_UNDONE}"
+            for envelope in queries.envelopes(election.book, condition, letter.number):
+                entered.add(name_in(envelope.line).decode("ascii"))
+        if names <= entered:
+            done.append(letter.number)
+    return done

@@ -15,7 +15,7 @@ from debvote_tools.book.election import LETTERS, Election, History
 from debvote_tools.book.reporting import act_time, count_of, listed
 from debvote_tools.book.sent import TAKEN, SentLetter
 from debvote_tools.cli import console
-from debvote_tools.cli.arguments import flag, option, positional
+from debvote_tools.cli.arguments import flag, given, option, positional
 from debvote_tools.cli.console import tell
 from debvote_tools.cli.faults import Fault, Status
 from debvote_tools.cli.terminal_text import shown_text
@@ -30,8 +30,6 @@ from debvote_tools.poll.call_data import demand_mail_address, demand_web_address
 MOST = 20
 # in characters
 BAR = 40
-
-NOT_SENT, NOT_WRITTEN = "nothing was sent", "nothing was written"
 
 
 class Arguments(acting.Arguments):
@@ -63,17 +61,22 @@ def run(election: Election, arguments: Arguments) -> int:
     demand_words(arguments)
     named = None if arguments.server is None else smtp.server_of(arguments.server)
     book = acting.book_for_act(election, arguments)
-    server = server_with_password(election.history(), named, arguments) if arguments.send else None
+    server = server_of(election.history(), named, arguments) if arguments.send else None
     if arguments.at is not None:
         announce(election, book, arguments.at)
-    sender = sender_of(election, arguments)
+    sender = arguments.sender or election.history().announced("to")
+    if sender is None:
+        raise bad_words("--from", "the call names no address", "give the sender's address with it")
+    demand_mail_address(sender, "--from")
     files.make_own(election.path(LETTERS) / arguments.kind)
     # two runs at once would send each letter twice
     with locked(election.path(LETTERS) / ".lock"):
         due = LettersDue(election, Kind(arguments.kind), sender, is_sending=arguments.send)
-        if not is_agreed(due, arguments):
-            tell("Nobody was reminded.")
-            return Status.DONE
+        if due.reminded and console.is_terminal() and not arguments.yes:
+            question = f"Reminders were written at {act_time(due.reminded)}. Remind again?"
+            if not console.is_yes(question):
+                tell("Nobody was reminded.")
+                return Status.DONE
         place = election.path(LETTERS) / due.kind / str(due.for_act)
         written = write(book, due, place)
         lost = write_lost(due, place.parent)
@@ -86,31 +89,27 @@ def run(election: Election, arguments: Arguments) -> int:
         tell(
             f"No receipt is about these letters that wait, since no elector alone has the sender's address: {numbers}"
         )
-    status = report_files(due, place, written, lost) if server is None else report_sent(due, tried)
-    report_unreached(election)
-    return status
-
-
-def is_agreed(due: LettersDue, arguments: Arguments) -> bool:
-    """Whether reminders are to go out, although others did within a day."""
-    if due.reminded is None or arguments.yes or not console.is_terminal():
-        return True
-    question = f"Reminders were written at {act_time(due.reminded)}. Remind again?"
-    return bool(console.is_yes(question))
+    if server is None:
+        tell_files(due, place, written, lost)
+    else:
+        tell_sent(due, tried)
+    tell_unreached(election)
+    # that an address that an elector had before refuses a letter is no fault
+    is_refused = any(letter.state != TAKEN and due.is_present(letter) for letter in tried)
+    return Status.DOUBT if is_refused else Status.DONE
 
 
 # ---------------------------------------------------------------- what is told
-def report_files(
+def tell_files(
     due: LettersDue,
     place: pathlib.Path,
     written: int,
     lost: Mapping[pathlib.Path, Sequence[SentLetter]],
-) -> Status:
+) -> None:
     for folder, letters in lost.items():
         if number := sum(bool(letter.address) for letter in letters):
-            tell(
-                f"Wrote {count_of(number, 'earlier letter')}, since the folder was not there: {folder}"
-            )
+            earlier = count_of(number, "earlier letter")
+            tell(f"Wrote {earlier}, since the folder was not there: {folder}")
     if written:
         host = [] if remembered(due.history) else ["--server", "HOST"]
         command = due.election.command("letters", due.kind, "--send", *host)
@@ -120,13 +119,10 @@ def report_files(
         )
     else:
         tell("No other letter is to be sent." if lost else "There is no letter to send.")
-    return Status.DONE
 
 
-def report_sent(due: LettersDue, tried: Sequence[SentLetter]) -> Status:
-    """Says what the server took, and what it did not. That an address that an elector had before
-    refuses a letter is no fault.
-    """
+def tell_sent(due: LettersDue, tried: Sequence[SentLetter]) -> None:
+    """Says what the server took, and what it did not."""
     refused = [letter for letter in tried if letter.state != TAKEN]
     if tried:
         tell(f"Sent {len(tried) - len(refused)} of {count_of(len(tried), 'letter')}.")
@@ -138,10 +134,9 @@ def report_sent(due: LettersDue, tried: Sequence[SentLetter]) -> Status:
     if any(map(due.can_be_sent, refused)):
         command = due.election.command("letters", due.kind, "--send")
         tell(f"Next: in a quarter of an hour, or with corrected addresses, try again: {command}")
-    return Status.DOUBT if any(map(due.is_present, refused)) else Status.DONE
 
 
-def report_unreached(election: Election) -> None:
+def tell_unreached(election: Election) -> None:
     """Names those whom the call has not reached, until a letter to them is taken."""
     found = [
         f"{elector.name} ({why}{f': {shown_text(reply)}' if why == WAS_REFUSED else ''})"
@@ -152,22 +147,17 @@ def report_unreached(election: Election) -> None:
 
 
 # ---------------------------------------------------------------- the words of the command line
+def bad_words(option: object, words: object, cure: str) -> Fault:
+    return Fault(option, words, cure, Status.BAD_WORDS, "nothing was written or sent")
+
+
 def demand_words(arguments: Arguments) -> None:
-    alone = {
-        "--server": arguments.server,
-        "--user": arguments.user,
-        "--password-file": arguments.password_file,
-    }
-    if not arguments.send and any(alone.values()):
-        given = ", ".join(name for name, value in alone.items() if value)
+    if not arguments.send and (options := given(arguments, "server", "user", "password_file")):
         cure = "give --send too, or leave this out"
-        raise Fault(given, "only with --send", cure, Status.BAD_WORDS, NOT_SENT)
-    for name, value, kind in (
-        ("--at", arguments.at, Kind.RESULT),
-        ("--yes", arguments.yes, Kind.REMINDERS),
-    ):
-        if value and arguments.kind != kind:
-            raise Fault(name, f"only with {kind}", "leave it out", Status.BAD_WORDS, NOT_WRITTEN)
+        raise bad_words(", ".join(options), "only with --send", cure)
+    for option, kind in (("at", Kind.RESULT), ("yes", Kind.REMINDERS)):
+        if arguments.kind != kind and given(arguments, option):
+            raise bad_words(f"--{option}", f"only with {kind}", "leave it out")
 
 
 def remembered(history: History) -> Detail | None:
@@ -175,49 +165,37 @@ def remembered(history: History) -> Detail | None:
     is none since the election was moved: a copy for a rehearsal sends no real letters.
     """
     acts = history.named("letter sent", "moved")
-    detail = acts[-1].detail if acts else None
-    return detail if detail is not None and "server" in detail else None
+    return acts[-1].detail if acts and acts[-1].name == "letter sent" else None
 
 
-def server_with_password(history: History, named: Server | None, arguments: Arguments) -> Server:
-    """The server that is named now, or that of the last letters, which is shown."""
-    server, user = named, arguments.user
+def server_of(history: History, server: Server | None, arguments: Arguments) -> Server:
+    """The server that is named, or that of the last letters, which is shown; with the password."""
+    user = arguments.user
     if server is None:
         detail = remembered(history)
         if detail is None:
-            cure = "give --server HOST[:PORT]"
-            raise Fault("--send", "no server is named", cure, Status.BAD_WORDS, NOT_SENT)
+            raise bad_words("--send", "no server is named", "give --server HOST[:PORT]")
         user = user or detail.get("user")
         server = dataclasses.replace(smtp.server_of(detail["server"]), is_remembered=True)
         tell(f"To the server of the last letters: {server}{f', user {user}' if user else ''}")
     if user is None:
         if arguments.password_file is not None:
-            words, cure = "only with --user", "give --user too"
-            raise Fault("--password-file", words, cure, Status.BAD_WORDS, NOT_SENT)
+            raise bad_words("--password-file", "only with --user", "give --user too")
         return server
     if arguments.password_file is not None:
         try:
             password = pathlib.Path(arguments.password_file).read_text("utf-8").rstrip("\r\n")
         except (OSError, UnicodeDecodeError) as error:
-            reason = error.strerror if isinstance(error, OSError) else "it is not text in UTF-8"
+            words = error.strerror if isinstance(error, OSError) else "it is not text in UTF-8"
             cure = "name the file that has the password"
-            raise Fault(arguments.password_file, reason, cure, Status.BAD_WORDS, NOT_SENT) from None
+            raise bad_words(arguments.password_file, words, cure) from None
     elif console.is_terminal():
         password = getpass.getpass(f"The password of {shown_text(user)} on {server.host}: ")
     else:
         words = f"the password of {shown_text(user)} can't be asked here"
         cure = "give --password-file FILE, or run the command at a terminal"
-        raise Fault("--user", words, cure, Status.BAD_WORDS, NOT_SENT)
+        raise bad_words("--user", words, cure)
     return dataclasses.replace(server, user=user, password=password)
-
-
-def sender_of(election: Election, arguments: Arguments) -> str:
-    sender = arguments.sender or election.history().announced("to")
-    if sender is None:
-        cure = "give the sender's address with it"
-        raise Fault("--from", "the call names no address", cure, Status.BAD_WORDS, NOT_WRITTEN)
-    demand_mail_address(sender, "--from")
-    return str(sender)
 
 
 def announce(election: Election, book: Book, address: str) -> None:
@@ -263,6 +241,9 @@ def send_waiting(book: Book, due: LettersDue, server: Server) -> list[SentLetter
     """Sends the letters that wait, and returns them with what the server said. The act of each
     names the server.
     """
+    letters, tried = due.waiting, list[SentLetter]()
+    if not letters:
+        return tried
     detail: Detail = {"kind": due.kind, "server": str(server)}
     if server.user is not None:
         detail["user"] = server.user
@@ -271,9 +252,6 @@ def send_waiting(book: Book, due: LettersDue, server: Server) -> list[SentLetter
         with uninterrupted(), book.act("letter sent", detail) as act:
             sent.note(act, [letter])
 
-    letters, tried = due.waiting, list[SentLetter]()
-    if not letters:
-        return tried
     outgoing = ((letter, files.message(due, letter, is_draft=False)) for letter in letters)
     try:
         show_progress(0, len(letters))
@@ -282,9 +260,8 @@ def send_waiting(book: Book, due: LettersDue, server: Server) -> list[SentLetter
             show_progress(len(tried), len(letters))
     except Fault as fault:
         taken = sum(letter.state == TAKEN for letter in tried)
-        raise fault.with_done(
-            f"{taken} of {count_of(len(letters), 'letter')} taken in this run"
-        ) from None
+        done = f"{taken} of {count_of(len(letters), 'letter')} taken in this run"
+        raise fault.with_done(done) from None
     finally:
         if console.shows():
             tell("")

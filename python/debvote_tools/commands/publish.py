@@ -32,7 +32,7 @@ from debvote_tools.result.names import CHECKSUMS
 NOTHING_DONE = "nothing was published"
 
 
-class Arguments(acting.Arguments):
+class Arguments(acting.Arguments, checks=True):
     casting: str | None = option(*count.CASTING)
     cast_by: str | None = option("NAME", "Who had the casting vote; the page says so in your name")
     cast_on: str | None = option("DATE", "The day of the casting vote, as 2026-12-05")

@@ -1,21 +1,22 @@
 """Open the vote again after a close, for ballots that came in time; the result page says so."""
 
+import dataclasses
 import operator
-from collections.abc import Sequence
+from collections.abc import Iterator, Sequence
 
-from debvote_tools.cli.arguments import flag, option
-from debvote_tools.book import queries
+from debvote_tools.book import acting, queries
 from debvote_tools.book.acts import Detail
 from debvote_tools.book.book import Book
-from debvote_tools.cli.console import is_terminal, tell, typed
-from debvote_tools.book import acting
-from debvote_tools.commands.strike import without_code
-from debvote_tools.inbox.vote import Vote
-from debvote_tools.book.election import Election
-from debvote_tools.inbox.entering import entered
+from debvote_tools.book.election import Election, History
+from debvote_tools.book.queries import Envelope, NewEnvelope
 from debvote_tools.book.reporting import act_time, count_of
+from debvote_tools.cli.arguments import flag, option
+from debvote_tools.cli.console import is_terminal, tell, typed
 from debvote_tools.cli.faults import Fault, Status, stop_at
 from debvote_tools.cli.terminal_text import shown_line
+from debvote_tools.commands.strike import without_code
+from debvote_tools.inbox import plan as plans
+from debvote_tools.inbox.vote import Vote
 
 # of the number of an envelope
 MAX_DIGITS = 9
@@ -34,40 +35,62 @@ class Arguments(acting.Arguments):
     force: bool = flag("Enter them although their electors have later ballots that count")
 
 
+@dataclasses.dataclass(frozen=True)
+class Plan:
+    """The late envelopes that are entered anew, and what stands against it."""
+
+    decided_at: int = dataclasses.field(compare=False)
+    history: History = dataclasses.field(compare=False)
+    offered: Sequence[Envelope]
+    is_forced: bool
+
+
 def run(election: Election, arguments: Arguments) -> None:
     because = acting.demand_reason(arguments.because, "reopen")
     book = acting.book_for_act(election, arguments)
-    election.sealed()
-    history = election.history()
-    if not history.is_closed:
-        raise Fault(None, "the vote is not closed", f"see {election.command('status')}")
-    if history.announced("codes_on_roll") and history.named("publish"):
-        words = (
-            "the published result shows the codes, so anybody could now vote in the name of others"
+    vote, numbers = Vote(election, election.history()), arguments.in_time
+
+    def plan() -> Plan:
+        nonlocal numbers
+        history = election.history()
+        demand_closed(election, history)
+        if numbers is None:
+            numbers = asked(book, has_codes=vote.has_codes) if is_terminal() else []
+        offered = chosen(book, numbers)
+        older = list(faults_of_older(book, offered))
+        if not arguments.force:
+            stop_at(older)
+        return Plan(history.last.number, history, offered, bool(older))
+
+    def act(found: Plan) -> None:
+        in_time = [envelope.number for envelope in found.offered]
+        detail: Detail = {"because": because, "in_time": in_time}
+        if found.is_forced:
+            detail["force"] = True
+
+        def report(new_numbers: range, replies: Sequence[str]) -> Iterator[str]:
+            closed = act_time(found.history.closes[-1].time)
+            yield f"The vote is open again; the close at {closed} stays in the log and on the result page."
+            for number, envelope in zip(new_numbers, found.offered):
+                line = without_code(envelope.line, has_codes=vote.has_codes)
+                yield f"Envelope {number}, entered anew from late envelope {envelope.number}: {line}"
+
+        plans.enter(
+            book,
+            vote,
+            "reopen",
+            detail,
+            lambda _: [
+                NewEnvelope(late.line, late.place, late.source, late.letter, late.time)
+                for late in found.offered
+            ],
+            report,
+            decided_at=found.decided_at,
+            is_late=False,
         )
-        raise Fault(None, words, "hold the vote anew, with new codes")
-    vote = Vote(election, history)
-    offered = chosen(book, arguments.in_time, has_codes=vote.has_codes)
-    older = faults_of_older(book, offered)
-    if not arguments.force:
-        stop_at(older)
-    detail: Detail = {"because": because, "in_time": [envelope.number for envelope in offered]}
-    if older:
-        detail["force"] = True
-    again = [
-        queries.NewEnvelope(late.line, late.place, late.source, late.letter, late.time)
-        for late in offered
-    ]
-    with entered(
-        book, vote, "reopen", detail, lambda _: again, decided_at=history.last.number, is_late=False
-    ) as now:
-        tell(
-            f"The vote is open again; the close at {act_time(history.closes[-1].time)} stays in the log and on the result page."
-        )
-        for number, envelope in zip(now.numbers, offered):
-            line = without_code(envelope.line, has_codes=vote.has_codes)
-            tell(f"Envelope {number}, entered anew from late envelope {envelope.number}: {line}")
-    if left := late_lines_left(book):
+
+    plans.agreed_act(plan, lambda _: True, act)
+    if left := [envelope.number for envelope in late_left(book)]:
         again_command = election.command("reopen", "--in-time", "NUMBER", "--because", "TEXT")
         cure = f"if one of them came before the first close, close again and run {again_command}"
         tell(f"Note: still late: {', '.join(map(str, left))}; {cure}")
@@ -75,71 +98,63 @@ def run(election: Election, arguments: Arguments) -> None:
     tell(f"Next: {election.command('add', 'FILE')}, then {election.command('close')}")
 
 
-def chosen(book: Book, in_time: list[int] | None, *, has_codes: bool) -> list[queries.Envelope]:
+def demand_closed(election: Election, history: History) -> None:
+    if not history.is_closed:
+        raise Fault(None, "the vote is not closed", f"see {election.command('status')}")
+    if history.announced("codes_on_roll") and history.named("publish"):
+        words = (
+            "the published result shows the codes, so anybody could now vote in the name of others"
+        )
+        raise Fault(None, words, "hold the vote anew, with new codes")
+
+
+def chosen(book: Book, numbers: Sequence[int]) -> list[Envelope]:
     """The late envelopes that had come in time, as the secretary says, in the order of their times."""
     late = {envelope.number: envelope for envelope in queries.envelopes(book, queries.LATE)}
-    if in_time is None and is_terminal():
-        in_time = asked([late[number] for number in late_lines_left(book)], has_codes=has_codes)
-    entered_before = queries.entered_anew(book)
-    numbers = in_time or []
     if unknown := [str(number) for number in numbers if number not in late]:
         words = f"envelope {', '.join(unknown)} is not one of the late lines"
         cure = "status says how many lines are late, and show NAME which"
         raise Fault("--in-time", words, cure, Status.BAD_WORDS)
-    if again := [str(number) for number in numbers if number in entered_before]:
+    left = {envelope.number for envelope in late_left(book)}
+    if again := [str(number) for number in numbers if number not in left]:
         words = f"envelope {', '.join(again)} was entered as in time by an earlier reopen"
         raise Fault("--in-time", words, "leave it out")
     return sorted((late[number] for number in set(numbers)), key=ORDER)
 
 
-def late_lines_left(book: Book) -> list[int]:
+def late_left(book: Book) -> list[Envelope]:
     """The late envelopes that no reopen entered as in time."""
-    entered_before = queries.entered_anew(book)
-    return [
-        envelope.number
-        for envelope in queries.envelopes(book, queries.LATE)
-        if envelope.number not in entered_before
-    ]
+    before = queries.entered_anew(book)
+    return [one for one in queries.envelopes(book, queries.LATE) if one.number not in before]
 
 
-def asked(late: Sequence[queries.Envelope], *, has_codes: bool) -> list[int]:
+def asked(book: Book, *, has_codes: bool) -> list[int]:
     """The numbers that are typed at a terminal, where the late envelopes are listed; none if there
     are none.
     """
-    if not late:
+    if not (late := late_left(book)):
         return []
-    lines = (
-        f"  {envelope.number} {without_code(envelope.line, has_codes=has_codes)}"
-        for envelope in late
-    )
-    tell(f"{count_of(len(late), 'line')} came late:", *lines)
-    answer = (
-        typed("Which of them came before the first close? Type their numbers, or Enter for none: ")
-        or b""
-    )
-    numbers = answer.replace(b",", b" ").split()
-    if wrong := next(
-        (number for number in numbers if not number.isdigit() or len(number) > MAX_DIGITS), None
-    ):
-        cure = "run the command again, and type numbers with spaces between"
-        raise Fault(None, f"{shown_line(wrong)} is not the number of an envelope", cure)
+    tell(f"{count_of(len(late), 'line')} came late:")
+    tell(*(f"  {one.number} {without_code(one.line, has_codes=has_codes)}" for one in late))
+    question = "Which of them came before the first close? Type their numbers, or Enter for none: "
+    numbers = (typed(question) or b"").replace(b",", b" ").split()
+    for number in numbers:
+        if not number.isdigit() or len(number) > MAX_DIGITS:
+            cure = "run the command again, and type numbers with spaces between"
+            raise Fault(None, f"{shown_line(number)} is not the number of an envelope", cure)
     return list(map(int, numbers))
 
 
-def faults_of_older(book: Book, offered: Sequence[queries.Envelope]) -> list[Fault]:
+def faults_of_older(book: Book, offered: Sequence[Envelope]) -> Iterator[Fault]:
     """A fault for each envelope that would replace a later ballot of its elector, since the last
     one that is entered counts.
     """
     last = {late.elector: late for late in offered if late.elector is not None}
-    faults = []
     for elector, late in last.items():
-        newest = max(
-            queries.envelopes(book, f"elector = ? AND {queries.IN_TIME}", elector),
-            key=ORDER,
-            default=late,
-        )
+        in_time = queries.envelopes(book, f"elector = ? AND {queries.IN_TIME}", elector)
+        newest = max(in_time, key=ORDER, default=late)
         if ORDER(newest) > ORDER(late):
             later = f"envelope {newest.number}, a later ballot of the same elector"
             cure = "leave it out; or, if it must count, repeat the command with --force"
-            faults.append(Fault("--in-time", f"envelope {late.number} would replace {later}", cure))
-    return faults
+            words = f"envelope {late.number} would replace {later}"
+            yield Fault("--in-time", words, cure)

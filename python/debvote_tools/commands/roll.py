@@ -4,7 +4,7 @@ import operator
 import re
 from collections.abc import Sequence
 
-from debvote_tools.inbox.addresses import address_key
+from debvote_tools.inbox.mime import address_key
 from debvote_tools.cli.arguments import flag
 from debvote_tools.book import queries
 from debvote_tools.book.acts import Detail

@@ -2,6 +2,7 @@
 
 import json
 import re
+from collections.abc import Iterator
 from typing import NamedTuple
 
 from debvote_tools.text import times
@@ -11,10 +12,9 @@ from debvote_tools.cli.console import shows, tell
 from debvote_tools.debvote import Finding, Findings, Totals
 from debvote_tools.book.election import LETTERS, RESULT_LETTER, Election, History, Stage
 from debvote_tools.book.reporting import act_time, count_of, quorum_words, wrapped
-from debvote_tools.outbox.due import not_reached
 from debvote_tools.inbox.waiting import Arrived, stopping, waiting_letters
 from debvote_tools.inbox.lines import ballot_file
-from debvote_tools.cli.terminal_text import shown_line
+from debvote_tools.cli.terminal_text import shown_line, shown_text
 
 # how many characters the bar of those who have voted has
 BAR = 50
@@ -35,20 +35,19 @@ class State(NamedTuple):
 
     stage: Stage
     electors: int
-    # the lines in time that are not struck, and of them the valid and the refused ones; those that
-    # are late
+    # the lines in time that are not struck, and of them the valid and the refused ones; late ones
     lines: int
     valid: int
     refused: int
     late: int
     voters: int
-    # letters that wait for the secretary, and the numbers of those that stop `close`, `count` and
-    # `publish`
+    # letters that wait, and the numbers of those that stop `close`, `count` and `publish`
     waiting: int
     stopping: list[int]
     without_ballot: list[str] | None
-    # the electors whose letters a mail server refused, and has taken none since
-    refused_letters: list[str]
+    # once `letters call` was run: whom it has not reached, each with why, and who gets it printed
+    not_reached: dict[str, str]
+    printed: list[str]
     # the last one of the book
     act: int
     digest: str
@@ -72,97 +71,130 @@ def run(election: Election, arguments: Arguments) -> None:
         state, refused = state_of(election, history)
     if arguments.json:
         tell(json.dumps(state._asdict(), ensure_ascii=False))
-        return
-    tell_stage(election, history)
-    tell(f"Lines: {state.lines} ({state.valid} valid, {state.refused} refused)")
-    if state.late:
-        tell(f"Late, and not counted: {state.late}")
-    tell(f"Electors with a valid ballot: {state.voters} of {state.electors}")
-    if shows() and state.electors:
-        tell(f"  {bar_of(state.voters, state.electors)}")
-    if state.without_ballot:
-        tell(
-            f"Electors without a ballot ({len(state.without_ballot)}):",
-            wrapped(state.without_ballot),
-        )
-    tell_refused(refused, state.without_ballot)
-    if state.waiting:
-        wait = count_of(state.waiting, "letter waits", "letters wait")
-        tell(f"{wait} until you have looked at them: {election.command('held')}")
-    if state.stopping:
-        stops = "count and publish stop" if history.is_closed else "close stops"
-        tell(
-            f"These arrived in time, and {stops} while they wait: {', '.join(map(str, state.stopping))}"
-        )
-    if state.refused_letters:
-        tell(f"Not reached by the call: {', '.join(state.refused_letters)}")
-    tell(f"Last act: {state.act}, digest {state.digest}", f"Next: {what_next(election, state)}")
+    else:
+        tell(*stage_words(election, history), *words_of(election, history, state, refused))
 
 
 def state_of(election: Election, history: History) -> tuple[State, list[Refused]]:
     """The numbers of an election, and the lines that debvote refuses, but for those of electors who
-    have a ballot.
-
-    With codes on the roll these are all refused lines.
+    have a ballot; with codes on the roll all of them.
     """
+    book, has_codes = election.book, history.has_codes_on_roll
     lines: list[tuple[int, bytes]] = []
     findings, waiting = NO_FINDINGS, dict[int, Arrived]()
     if history.call is None:
-        roll = tuple(elector.name for elector in queries.electors(election.book))
+        roll = tuple(elector.name for elector in queries.electors(book))
     else:
-        poll, lines = election.sealed().counted, queries.numbered_lines_in_time(election.book)
-        findings, roll = (
-            election.debvote.findings(poll.as_bytes(), ballot_file(line for _, line in lines)),
-            poll.roll,
-        )
+        poll, lines = election.sealed().counted, queries.numbered_lines_in_time(book)
+        ballots, roll = ballot_file(line for _, line in lines), poll.roll
+        findings = election.debvote.findings(poll.as_bytes(), ballots)
         waiting = waiting_letters(election, history)
     refused = [Refused(*lines[finding.envelope - 1], finding) for finding in findings.refused]
     refused_numbers = {line.envelope for line in refused}
     # who has a line that debvote does not refuse has a ballot
     names = {line.partition(b" ")[0] for number, line in lines if number not in refused_numbers}
     voters = {name.decode("ascii") for name in names}
-    totals, has_codes = findings.totals, history.has_codes_on_roll
+    totals = findings.totals
+    not_reached, printed = letters_of_call(election, history)
     state = State(
         stage=history.stage,
         electors=len(roll),
         lines=totals.lines,
         valid=totals.valid,
         refused=totals.refused,
-        late=len(queries.late_lines(election.book)),
+        late=len(queries.late_lines(book)),
         voters=totals.voters,
         waiting=len(waiting),
         stopping=stopping(waiting, history),
         without_ballot=None if has_codes else [name for name in roll if name not in voters],
-        refused_letters=[name for name, _ in not_reached(election, history)],
+        not_reached=not_reached,
+        printed=printed,
         act=history.last.number,
         digest=history.last.digest,
     )
     return state, refused if has_codes else [line for line in refused if line.name not in voters]
 
 
-def tell_stage(election: Election, history: History) -> None:
+def letters_of_call(election: Election, history: History) -> tuple[dict[str, str], list[str]]:
+    """Whom the letters of the call have not reached, and who gets them printed."""
+    if not any(act.detail["kind"] == "call" for act in history.since_call("letters out")):
+        return {}, []
+    # it takes a while to be imported
+    from debvote_tools.outbox import due
+
+    return dict(due.not_reached(election, history)), due.printed(election, history)
+
+
+def stage_words(election: Election, history: History) -> Iterator[str]:
     if history.call is None:
-        tell("Call for votes: not made yet", "Closed: not yet")
+        yield from ("Call for votes: not made yet", "Closed: not yet")
         return
     poll = election.sealed().counted
-    tell(f"Title: {poll.name}")
+    yield f"Title: {poll.name}"
     if poll.secret:
         under = "codes" if history.has_codes_on_roll else "aliases"
-        tell(
-            f"The vote is secret: ballots are published under {under}. Keep the output of this command to yourself."
-        )
+        yield f"The vote is secret: ballots are published under {under}. Keep the output of this command to yourself."
     if history.until is not None:
         over = "; that time has passed" if times.now() >= history.until else ""
-        tell(f"End of the vote: {times.time_in_words(history.until)}{over}")
-    tell(f"Call for votes: made at {act_time(history.call.time)}")
-    tell(
-        f"Closed: at {act_time(history.closes[-1].time)}"
-        if history.is_closed
-        else "Closed: not yet"
-    )
+        yield f"End of the vote: {times.time_in_words(history.until)}{over}"
+    yield f"Call for votes: made at {act_time(history.call.time)}"
+    closed = f"at {act_time(history.closes[-1].time)}" if history.is_closed else "not yet"
+    yield f"Closed: {closed}"
     if history.is_reopened:
-        tell(f"Reopened: at {act_time(history.named('reopen')[-1].time)}")
-    tell(quorum_words(poll.quorum, history.call.detail["quorum_votes"]))
+        yield f"Reopened: at {act_time(history.named('reopen')[-1].time)}"
+    yield quorum_words(poll.quorum, history.call.detail["quorum_votes"])
+
+
+def words_of(
+    election: Election, history: History, state: State, refused: list[Refused]
+) -> Iterator[str]:
+    yield f"Lines: {state.lines} ({state.valid} valid, {state.refused} refused)"
+    if state.late:
+        yield f"Late, and not counted: {state.late}"
+    yield f"Electors with a valid ballot: {state.voters} of {state.electors}"
+    if shows() and state.electors:
+        yield f"  {bar_of(state.voters, state.electors)}"
+    yield from named("Electors without a ballot", state.without_ballot)
+    yield from refused_words(refused, state.without_ballot)
+    if state.waiting:
+        wait = count_of(state.waiting, "letter waits", "letters wait")
+        yield f"{wait} until you have looked at them: {election.command('held')}"
+    if state.stopping:
+        stops = "count and publish stop" if history.is_closed else "close stops"
+        numbers = ", ".join(map(str, state.stopping))
+        yield f"These arrived in time, and {stops} while they wait: {numbers}"
+    if state.not_reached:
+        yield f"Not reached by the letter of the call ({len(state.not_reached)}):"
+        yield from (f"  {name}: {shown_text(why)}" for name, why in state.not_reached.items())
+    yield from named("Get the letter of the call printed", state.printed)
+    yield f"Last act: {state.act}, digest {state.digest}"
+    yield f"Next: {what_next(election, state)}"
+
+
+def named(what: str, names: list[str] | None) -> Iterator[str]:
+    if names:
+        yield from (f"{what} ({len(names)}):", wrapped(names))
+
+
+def refused_words(refused: list[Refused], without_ballot: list[str] | None) -> Iterator[str]:
+    """Lines, each with its envelope and what debvote says of it. With codes on the roll a line
+    would tell a code.
+    """
+    if without_ballot is None:
+        if refused:
+            yield f"Refused: envelopes {', '.join(str(line.envelope) for line in refused)}"
+        return
+    known = set(without_ballot)
+    for whose, is_known in (
+        ("of electors without a ballot", True),
+        ("with no known elector", False),
+    ):
+        found = [line for line in refused if (line.name in known) == is_known]
+        if found:
+            yield f"Refused lines {whose} ({len(found)}):"
+        for envelope, line, finding in found:
+            yield f"  envelope {envelope}: {shown_line(line) or '(empty)'}"
+            yield f"    {finding.word}: {finding.hint}"
 
 
 def what_next(election: Election, state: State) -> str:
@@ -173,12 +205,9 @@ def what_next(election: Election, state: State) -> str:
         return f"add the ballots as they come: {add}; when the vote is over: {election.command('close')}"
     if state.stage is Stage.PUBLISHED and not state.stopping:
         # where nobody knows whose each code is, no letter can be written to an elector
-        has_codes = state.without_ballot is None
-        send = (
-            f"send {election.path(LETTERS) / RESULT_LETTER} to all electors"
-            if has_codes
-            else election.command("letters", "result")
-        )
+        send = election.command("letters", "result")
+        if state.without_ballot is None:
+            send = f"send {election.path(LETTERS) / RESULT_LETTER} to all electors"
         return f"put the published folder on the web site as it is, then {send}"
     return f"{election.command('count')}, then {election.command('publish')}"
 
@@ -189,26 +218,3 @@ def bar_of(part: int, whole: int) -> str:
     """
     full = part * BAR // whole if part in (0, whole) else min(max(part * BAR // whole, 1), BAR - 1)
     return f"[{'#' * full}{'.' * (BAR - full)}] {part * 100 // whole} %"
-
-
-def tell_refused(refused: list[Refused], without_ballot: list[str] | None) -> None:
-    """Prints lines, each with its envelope and what debvote says of it. With codes on the roll a
-    line would tell a code.
-    """
-    if without_ballot is None:
-        if refused:
-            tell(f"Refused: envelopes {', '.join(str(line.envelope) for line in refused)}")
-        return
-    known = set(without_ballot)
-    for whose, is_known in (
-        ("of electors without a ballot", True),
-        ("with no known elector", False),
-    ):
-        found = [line for line in refused if (line.name in known) == is_known]
-        if found:
-            tell(f"Refused lines {whose} ({len(found)}):")
-        for envelope, line, finding in found:
-            tell(
-                f"  envelope {envelope}: {shown_line(line) or '(empty)'}",
-                f"    {finding.word}: {finding.hint}",
-            )

@@ -4,18 +4,20 @@ many, and why.
 
 import re
 
-from debvote_tools.cli.arguments import positional
-from debvote_tools.book import letters, queries
+from debvote_tools.book import acting, letters, queries
+from debvote_tools.book.acts import Detail
 from debvote_tools.book.book import Book
-from debvote_tools.cli.console import tell
-from debvote_tools.book import acting
-from debvote_tools.inbox.vote import Vote
-from debvote_tools.commands.undo import demand_open
 from debvote_tools.book.election import Election
+from debvote_tools.book.queries import Envelope
 from debvote_tools.book.reporting import act_time
+from debvote_tools.cli.arguments import flag, positional
+from debvote_tools.cli.console import is_terminal, tell
 from debvote_tools.cli.faults import Fault
-from debvote_tools.inbox.lines import name_in
 from debvote_tools.cli.terminal_text import shown_line
+from debvote_tools.commands.undo import demand_open, demand_yes
+from debvote_tools.inbox.lines import name_in
+from debvote_tools.inbox.plan import agreed_act
+from debvote_tools.inbox.vote import Vote
 
 # what can be a code of the roll or the most of one, as if a digit was left out
 LIKE_A_CODE = re.compile(rb"[0-9a-fA-F]{16,}")
@@ -25,41 +27,57 @@ class Arguments(acting.Arguments):
     number: int = positional(
         "NUMBER", "The number of the envelope, as add, desk and show print it", type=int
     )
+    yes: bool = flag("Strike it without asking")
 
 
 def run(election: Election, arguments: Arguments) -> None:
     because = acting.demand_reason(arguments.because, "strike")
     book = acting.book_for_act(election, arguments)
     vote = Vote(election, election.history())
-    with book.act("strike", {"envelope": arguments.number, "because": because}) as act:
-        envelope = demand_envelope(election, book, arguments.number)
-        queries.strike_envelopes(act, [envelope.number])
-        kept = next(
-            (kept for kept in letters.letters(book) if kept.number == envelope.letter), None
-        )
-        # a letter waits on if it has ballots of others that were not entered
-        if kept is not None and kept.state in (letters.ENTERED, letters.STRUCK):
-            letters.decide(act, kept.number, letters.STRUCK)
-    late = " (late)" if envelope.is_late else ""
-    tell(
-        f"Struck envelope {envelope.number}{late}: `{without_code(envelope.line, has_codes=vote.has_codes)}`, because: {because}"
-    )
+
+    decided_at = 0
+
+    def plan() -> Envelope:
+        nonlocal decided_at
+        decided_at = book.last_number()
+        return demand_envelope(election, book, arguments.number)
+
+    def show(envelope: Envelope) -> bool:
+        if is_terminal() and not arguments.yes:
+            words = f"Strike {in_words(envelope, vote)}? This cannot be undone."
+            demand_yes("strike", words, "it has to be struck")
+        return True
+
+    def act(envelope: Envelope) -> None:
+        detail: Detail = {"envelope": envelope.number, "because": because}
+        with book.act("strike", detail, seen=decided_at) as act:
+            queries.strike_envelopes(act, [envelope.number])
+            # a letter waits on if it has ballots of others that were not entered
+            states = {kept.number: kept.state for kept in letters.letters(book)}
+            number = envelope.letter or 0
+            if states.get(number) in (letters.ENTERED, letters.STRUCK):
+                letters.decide(act, number, letters.STRUCK)
+
+    envelope = agreed_act(plan, show, act)
+    tell(f"Struck {in_words(envelope, vote)}, because: {because}")
     if envelope.elector is not None:
         elector = name_in(envelope.line).decode("ascii")
-        ranks = vote.standing(queries.lines_after(book, act.number, {envelope.elector})).get(
-            elector
-        )
+        ranks = vote.standing(queries.lines_of_electors(book, {envelope.elector})).get(elector)
         whose = "that code" if vote.has_codes else elector
-        tell(
-            f"The current ballot of {whose}: {'none' if ranks is None else vote.ranks_in_words(ranks)}"
-        )
+        current = "none" if ranks is None else vote.ranks_in_words(ranks)
+        tell(f"The current ballot of {whose}: {current}")
     tell(
         "A strike cannot be undone: if it was a mistake, enter the line again.",
         f"Next: {election.command('status')}",
     )
 
 
-def demand_envelope(election: Election, book: Book, number: int) -> queries.Envelope:
+def in_words(envelope: Envelope, vote: Vote) -> str:
+    line = without_code(envelope.line, has_codes=vote.has_codes)
+    return f"envelope {envelope.number}{' (late)' if envelope.is_late else ''}: `{line}`"
+
+
+def demand_envelope(election: Election, book: Book, number: int) -> Envelope:
     """The envelope of a number. Stops if there is none, if it is struck, or if the vote is closed."""
     history = election.history()
     demand_open(election, history)
@@ -67,14 +85,12 @@ def demand_envelope(election: Election, book: Book, number: int) -> queries.Enve
     if not found:
         last = queries.last_envelope(book)
         there = f"there are envelopes 1 to {last}" if last else "no ballot has come yet"
-        raise Fault(
-            None,
-            f"there is no envelope {number}; {there}",
-            "show NAME lists the envelopes of an elector",
-        )
+        cure = "show NAME lists the envelopes of an elector"
+        raise Fault(None, f"there is no envelope {number}; {there}", cure)
     [envelope] = found
     if envelope.struck is not None:
-        words = f"envelope {number} is struck already, by act {envelope.struck} at {act_time(history.act(envelope.struck).time)}"
+        time = act_time(history.act(envelope.struck).time)
+        words = f"envelope {number} is struck already, by act {envelope.struck} at {time}"
         raise Fault(None, words, f"see {election.command('log')}")
     return envelope
 

@@ -10,8 +10,8 @@ import functools
 import re
 from collections.abc import Collection, Mapping, Sequence
 
-from debvote_tools.inbox.addresses import address_key
-from debvote_tools.inbox.parse import ParsedLetter
+from debvote_tools.inbox.mime import address_key
+from debvote_tools.inbox.letter import ParsedLetter
 from debvote_tools.poll.marks import MARKS
 from debvote_tools.poll.plain_names import without_accents
 
@@ -126,20 +126,6 @@ class Known:
         """The one elector whose address the sender of a letter has."""
         electors = self.electors_by_address.get(letter.sender, [])
         return electors[0] if len(electors) == 1 else None
-
-    def likely_elector(self, letter: ParsedLetter) -> str | None:
-        """The one elector who may have sent a letter: whose own mark it has, or whose address; None
-        if both differ.
-        """
-        marked, electors = self.marked_elector(letter), self.electors_by_address.get(letter.sender)
-        if marked is None:
-            return self.elector_of(letter)
-        return marked if marked in (electors or [marked]) else None
-
-    def may_have_sent(self, letter: ParsedLetter) -> set[str]:
-        """The electors whose own mark a letter has, or whose address its sender has."""
-        marked = self.marked_elector(letter)
-        return {*self.electors_by_address.get(letter.sender, ()), *([marked] if marked else ())}
 
     def is_subject_of_page(self, subject: str) -> bool:
         """Whether a subject is the one that the page of the call makes, but for its marks and

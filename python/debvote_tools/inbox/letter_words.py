@@ -2,63 +2,131 @@
 line.
 """
 
+import re
 from collections.abc import Iterator, Sequence
 
-from debvote_tools.inbox.vote import IS_CODE, Vote
-from debvote_tools.inbox.entering import Entered
 from debvote_tools.book.reporting import act_time, count_of
-from debvote_tools.inbox.judge import JudgedLetter, Outcome
-from debvote_tools.inbox.reasons import for_secretary
 from debvote_tools.cli.terminal_text import shown_line, shown_text
+from debvote_tools.inbox.letter import is_quoted
+from debvote_tools.inbox.rules import JudgedLetter, Outcome, above_end
+from debvote_tools.inbox.reasons import for_secretary
+from debvote_tools.inbox.vote import IS_CODE, Vote
+
+READ_THESE = "Read these: they have other words, or more to look at."
+
+# the head of a letter that Outlook quotes below an answer: a line, or the fields of its head
+ORIGINAL = re.compile(
+    r"-{3,} *(?:original|urspr|weiterge|forward|message d|mensaje)", re.IGNORECASE
+)
+FROM, SUBJECT = (
+    re.compile(rf"\W*(?:{names})\W*:", re.IGNORECASE)
+    for names in ("from|von|de", "subject|betreff|objet|asunto")
+)
+# how far below the sender the subject is in such a head
+HEAD = 6
+
+# a line that says nothing of the vote begins with one of these words, and has no others but names;
+# or a telephone adds it
+USUAL = frozenset(
+    "dear hello hi hey good morning day afternoon evening all both everyone everybody there and best kind warm many with regards "
+    "wishes greetings thanks thank you yours sincerely faithfully truly cheers hallo liebe lieber guten tag morgen abend moin servus sehr "
+    "geehrte geehrter alle zusammen und mit vielen viele besten beste herzlichen herzliche freundlichen freundliche schöne grüße grüßen "
+    "gruß gruss grüsse grüssen mfg lg vg danke dank bonjour bonsoir salut cher chère chers chères tous toutes et bien à vous cordialement "
+    "amicalement merci beaucoup salutations bientôt hola buenos buenas días tardes noches estimado estimada estimados querido querida "
+    "queridos todos todas y un muchas gracias saludo saludos cordiales cordial atentamente abrazo".split()
+)
+MOST_USUAL, WORD = 8, re.compile(r"[^\W\d_]+|\d+")
+TELEPHONE = re.compile(
+    r"(?:sent|gesendet|envoyé|enviado|von meinem|diese nachricht wurde|get outlook|outlook für|obtener outlook)\b[\w .-]{0,60}"
+    r"(?:phone|pad|android|ios|samsung|galaxy|outlook|mail|gmx|web\.de|handy|telefon|téléphone|móvil|mobil)[\w .-]{0,60}",
+    re.IGNORECASE,
+)
 
 
 def who_and_when(letter: JudgedLetter) -> str:
-    parsed = letter.parsed
-    number = f"letter {letter.number}" if letter.number else shown_text(parsed.where)
-    time = "at an unknown time" if parsed.arrived is None else act_time(parsed.arrived)
-    return f"{number}, from {shown_text(parsed.shown_sender) or 'nobody'}, {time}"
+    return f"{name_of(letter)}, from {sender_of(letter)}, {arrival_of(letter)}"
 
 
-def going_in(letter: JudgedLetter, vote: Vote, *, is_late: bool) -> Iterator[str]:
-    ballot = letter.ballots[0]
-    yield f"{who_and_when(letter)}: goes in{', and is late' if is_late else ''}"
-    written = letter.parsed.shown_lines[ballot.number - 1]
-    if written.strip() != ballot.ballot:
-        yield f"  `{shown_line(written.encode())}` is read as `{ballot.ballot}`"
-    yield f"  {vote.ballot_in_words(ballot.ballot)}"
-    if letter.other_words:
-        yield f"  other words: {letter.other_words}"
-    yield from shared_words(letter)
-    yield from code_words(letter)
+def name_of(letter: JudgedLetter) -> str:
+    return f"letter {letter.number}" if letter.number else shown_text(letter.parsed.where)
 
 
-def reply_words(vote: Vote, done: Entered, ballots: Sequence[str]) -> Iterator[str]:
-    for number, reply, ballot in zip(done.numbers, done.replies(), ballots):
+def sender_of(letter: JudgedLetter) -> str:
+    return shown_text(letter.parsed.shown_sender) or "nobody"
+
+
+def arrival_of(letter: JudgedLetter) -> str:
+    arrived = letter.parsed.arrived
+    return "at an unknown time" if arrived is None else act_time(arrived)
+
+
+# ---------------------------------------------------------------- what goes in
+def going_in(letters: Sequence[JudgedLetter], vote: Vote) -> Iterator[str]:
+    """One line a letter: whose ballot it is, and how it is read. Those with more to look at come
+    last.
+    """
+    more_of = [(letter, more_words(letter)) for letter in letters]
+    yield from (ballot_words(letter, vote) for letter, more in more_of if not more)
+    if any(more for _, more in more_of):
+        yield READ_THESE
+    for letter, more in more_of:
+        if more:
+            yield f"{ballot_words(letter, vote)}; {'; '.join(more)}"
+
+
+def ballot_words(letter: JudgedLetter, vote: Vote) -> str:
+    line = letter.ballots[0]
+    written = letter.parsed.shown_lines[line.number - 1].strip()
+    read = "" if written == line.ballot else f", written `{shown_line(written.encode())}`"
+    ranks = vote.ranks_in_words(line.ballot.partition(" ")[2])
+    return f"{line.elector} ({name_of(letter)}{read}): {ranks}"
+
+
+def more_words(letter: JudgedLetter) -> list[str]:
+    """What else there is to look at in a letter: other words, others with the same address, and
+    what may be a code.
+    """
+    found = [f"other words: {words}"] if (words := other_words(letter)) else []
+    if letter.shared_with:
+        found.append(f"same address: {', '.join(letter.shared_with)}")
+    return [*found, *(f"line {number}{IS_CODE}" for number in letter.code_lines)]
+
+
+def reply_words(
+    vote: Vote, numbers: Sequence[int], replies: Sequence[str], ballots: Sequence[str]
+) -> Iterator[str]:
+    for number, reply, ballot in zip(numbers, replies, ballots):
         yield f"{number} {reply}  {vote.ballot_in_words(ballot)}"
 
 
+# ---------------------------------------------------------------- what waits
+def table(letters: Sequence[JudgedLetter]) -> Iterator[str]:
+    """Letters that wait: a line for each, and below it the reason, lines that may be ballots, and
+    other words.
+    """
+    width = max((len(sender_of(letter)) for letter in letters), default=0)
+    arrivals = max((len(arrival_of(letter)) for letter in letters), default=0)
+    if letters:
+        yield f"letter  {'arrived':{arrivals}}  {'from':{width}}  subject"
+    for letter in letters:
+        subject = shown_text(letter.parsed.subject) or "(no subject)"
+        when, sender = arrival_of(letter), sender_of(letter)
+        yield f"{letter.number or 'new':>6}  {when:{arrivals}}  {sender:{width}}  {subject}"
+        yield from (f"        {line}" for line in why_words(letter))
+
+
 def waiting(letter: JudgedLetter) -> Iterator[str]:
-    reason = (
-        "it goes in when you add it again"
-        if letter.reason is None
-        else for_secretary(letter.reason)
-    )
+    why, *others = why_words(letter)
+    yield f"{who_and_when(letter)}: {why}"
+    yield from (f"  {line}" for line in others)
+
+
+def why_words(letter: JudgedLetter) -> list[str]:
+    """Why a letter waits, lines that may be ballots, and what else there is to look at."""
+    reason = letter.reason
+    why = "it goes in when you add it again" if reason is None else for_secretary(reason)
     since = "; has voted since" if letter.has_voted_since else ""
-    yield f"{who_and_when(letter)}: {reason}{since}"
-    yield from (f"  {line}" for line in near_words(letter))
-    if letter.other_words:
-        yield f"  other words: {letter.other_words}"
-    yield from shared_words(letter)
-    yield from code_words(letter)
-
-
-def shared_words(letter: JudgedLetter) -> Iterator[str]:
-    if letter.shared_with:
-        yield f"  same address: {', '.join(letter.shared_with)}"
-
-
-def code_words(letter: JudgedLetter) -> Iterator[str]:
-    yield from (f"  line {number}{IS_CODE}" for number in letter.code_lines)
+    return [f"{why}{since}", *near_words(letter), *more_words(letter)]
 
 
 def near_words(letter: JudgedLetter) -> Iterator[str]:
@@ -66,33 +134,113 @@ def near_words(letter: JudgedLetter) -> Iterator[str]:
         yield f"line {line.number}: {line.ballot}"
     for near in letter.near:
         within = ", within other words" if near.is_within else ""
-        yield f"line {near.number}, `{shown_text(near.ballot)}`{within}: {near.answer or 'a ballot, but not alone on its line'}"
+        why = near.answer or "a ballot, but not alone on its line"
+        yield f"line {near.number}, `{shown_text(near.ballot)}`{within}: {why}"
 
 
+def counts(letters: Sequence[JudgedLetter], entered: int) -> str:
+    copies = sum(letter.outcome is Outcome.COPY for letter in letters)
+    passed_over = f"; {count_of(copies, 'copy', 'copies')} passed over" if copies else ""
+    waits = sum(letter.outcome is Outcome.WAITS for letter in letters)
+    return f"{count_of(entered, 'ballot')} of letters went in; {wait_words(waits)}{passed_over}."
+
+
+def wait_words(number: int) -> str:
+    """How many letters wait in all."""
+    return count_of(number, "letter waits", "letters wait")
+
+
+# ---------------------------------------------------------------- a letter line by line
 def whole(letter: JudgedLetter) -> Iterator[str]:
-    """A letter line by line, each with the number by which it can be entered."""
+    """A letter line by line, each with the number by which it can be entered. What it quotes of our
+    letters is left out, but for lines that may be ballots.
+    """
     yield who_and_when(letter)
     yield f"  subject: {shown_text(letter.parsed.subject)}"
-    for number, line in enumerate(letter.parsed.shown_lines, start=1):
-        yield f"{number:4}  {shown_line(line.encode())}"
+    lines, hidden, count = letter.parsed.shown_lines, quoted_of_ours(letter), 0
+    for index, line in enumerate((*lines, "")):
+        if index in hidden:
+            count += 1
+            continue
+        if count:
+            yield f"      .. {count_of(count, 'line')} of a letter of ours, which it quotes"
+            count = 0
+        if index < len(lines):
+            yield f"{index + 1:4}  {shown_line(line.encode())}"
     if letter.outcome is Outcome.ENTERED:
         yield "It was entered."
     elif letter.reason is not None:
         yield f"It {'waits' if letter.waits else 'does not wait'}: {for_secretary(letter.reason)}"
     yield from near_words(letter)
-    yield from code_words(letter)
+    yield from (f"  line {number}{IS_CODE}" for number in letter.code_lines)
 
 
-def counts(letters: Sequence[JudgedLetter], entered: int) -> str:
-    copies = sum(letter.outcome is Outcome.COPY for letter in letters)
-    waits = sum(letter.outcome is Outcome.WAITS for letter in letters)
-    parts = [
-        f"{count_of(entered, 'ballot')} of letters went in",
-        f"{count_of(waits, 'letter waits', 'letters wait')}",
-    ]
-    return (
-        "; ".join(
-            [*parts, *([f"{count_of(copies, 'copy', 'copies')} passed over"] if copies else [])]
-        )
-        + "."
-    )
+def quotations(lines: Sequence[str]) -> Iterator[range]:
+    """The quotations in a letter, by the indices of their lines: those that begin with >, with the
+    head above them, as `On Monday Anna wrote:`; and all below the head that Outlook puts there.
+    """
+    first = last = None
+    for index, line in enumerate(lines):
+        head = lines[index + 1 : index + HEAD]
+        is_head = ORIGINAL.match(line) or (FROM.match(line) and any(map(SUBJECT.match, head)))
+        if is_quoted(line):
+            first, last = (index if first is None else first), index
+        elif first is not None and last is not None and (is_head or line.strip()):
+            yield range(above(lines, first), last + 1)
+            first = None
+        if is_head:
+            yield range(index, len(lines))
+            return
+    if first is not None and last is not None:
+        yield range(above(lines, first), last + 1)
+
+
+def above(lines: Sequence[str], first: int) -> int:
+    """Where the head of a quotation begins: one line or two, the last of which ends in a colon."""
+    index = first - 1
+    while index >= 0 and not lines[index].strip():
+        index -= 1
+    if index < 0 or not lines[index].rstrip().endswith(":"):
+        return first
+    return index - (index > 0 and bool(lines[index - 1].strip()) and lines[index - 1][:1].isupper())
+
+
+def quoted_of_ours(letter: JudgedLetter) -> set[int]:
+    """The indices of the lines of our letters that a letter quotes: it answers one of ours, or the
+    quotation has the mark of the poll.
+    """
+    lines, mark = letter.parsed.shown_lines, letter.known.mark
+    answered, ours = letter.parsed.in_reply_to, letter.known.our_letters.values()
+    is_answer = bool(answered) and any(answered in ids for ids in ours)
+    found = set[int]()
+    for quotation in quotations(letter.parsed.body.lines):
+        if is_answer or any(mark in lines[index] for index in quotation):
+            found.update(quotation)
+    return found - candidates(letter) - {near.number - 1 for near in letter.near}
+
+
+def candidates(letter: JudgedLetter) -> set[int]:
+    """The indices of the lines that can be entered."""
+    return {line.number - 1 for line in (*letter.ballots, *letter.offered)}
+
+
+def other_words(letter: JudgedLetter) -> str:
+    """The beginning of the sender's own words beside their ballots, without greetings, quotations,
+    and what a telephone adds.
+    """
+    lines = letter.parsed.body.lines
+    left_out = {index for quotation in quotations(lines) for index in quotation}
+    left_out |= candidates(letter)
+    left_out |= {near.number - 1 for near in letter.near if not near.is_within}
+    names = set(WORD.findall(letter.parsed.shown_sender.partition("<")[0].casefold()))
+
+    def says_something(line: str) -> bool:
+        first, *others = words = WORD.findall(line) or [""]
+        if letter.known.passes_over(line) or names.issuperset(map(str.casefold, words)):
+            return False
+        is_usual = first.lower() in USUAL and len(words) <= MOST_USUAL
+        is_usual &= all(word.lower() in USUAL or word.istitle() for word in others)
+        return words != [""] and not is_usual and not TELEPHONE.fullmatch(line)
+
+    own = (line for index, line in enumerate(lines[: above_end(lines)]) if index not in left_out)
+    return shown_text(" ".join(filter(says_something, map(str.strip, own))))

@@ -2,72 +2,69 @@
 now, and enters the ballots of those that are plainly ballots.
 """
 
-import contextlib
+import dataclasses
 import pathlib
-from collections.abc import Collection, Iterator, Mapping, Sequence
+from collections.abc import Collection, Iterable, Iterator, Mapping, Sequence
 
-from debvote_tools.text import times
-from debvote_tools.cli.arguments import given
 from debvote_tools.book import letters, queries
-from debvote_tools.book.acts import Detail
-from debvote_tools.book.book import NewAct, Overtaken
+from debvote_tools.book.acts import ActName, Detail
+from debvote_tools.book.book import NewAct
+from debvote_tools.book.election import KEYRING, Election, History
 from debvote_tools.book.letters import KeptLetter
 from debvote_tools.book.queries import NewEnvelope
-from debvote_tools.cli.console import is_terminal, is_yes, tell
-from debvote_tools.inbox import letter_words
-from debvote_tools.inbox.adding import Arguments
-from debvote_tools.inbox.came import NOTHING_ADDED, CameFile, safe
-from debvote_tools.book.election import KEYRING, Election, History
-from debvote_tools.inbox.entering import entered
 from debvote_tools.book.reporting import count_of
-from debvote_tools.inbox.vote import Vote
+from debvote_tools.cli.console import is_terminal, is_yes, tell
 from debvote_tools.cli.faults import Fault, Status
-from debvote_tools.files import sha256_of
-from debvote_tools.inbox.known import Ballot, Decision, Known, Names
-from debvote_tools.inbox.judge import JudgedLetter, Outcome, judge_all
-from debvote_tools.inbox.parse import ParsedLetter, as_json, from_json, parse
-from debvote_tools.inbox.readings import BallotLine, answers_in, read_all
-from debvote_tools.inbox.reasons import Reason
-from debvote_tools.inbox.signatures import find_gpgv, verified
-from debvote_tools.inbox.sources import PassedOver, RawLetter, letters_of_file, letters_of_folder
 from debvote_tools.cli.terminal_text import shown_text
+from debvote_tools.files import sha256_of
+from debvote_tools.inbox import letter_words, plan
+from debvote_tools.inbox.known import Ballot, Decision, Known, Names
+from debvote_tools.inbox.files import CameFile, safe
+from debvote_tools.inbox.rules import JudgedLetter, Outcome, judge_all
+from debvote_tools.inbox.lines import NOTHING_ADDED
+from debvote_tools.inbox.letter import ParsedLetter, as_json, from_json, parse
+from debvote_tools.inbox.candidates import answers_in, read_all
+from debvote_tools.inbox.reasons import Reason
+from debvote_tools.inbox.signature import find_gpgv, verified
+from debvote_tools.inbox.mailbox import PassedOver, RawLetter, letters_of_file, letters_of_folder
+from debvote_tools.inbox.vote import Vote
 from debvote_tools.poll.call_data import SUBJECT
+from debvote_tools.text import times
 
 SLOW = Reason.SLOW_SIGNATURE()
 
 
+# ---------------------------------------------------------------- what `add` does with them
 def take_letters(
-    election: Election, vote: Vote, files: Mapping[str, CameFile | None], arguments: Arguments
+    election: Election,
+    vote: Vote,
+    files: Mapping[str, CameFile | None],
+    *,
+    is_look: bool,
+    is_agreed: bool,
 ) -> None:
     """Keeps the letters that are new, and enters the ballots that go in; or tells what would become
     of them.
     """
-    if of_lines := given(arguments, "csv", "again", "force"):
-        words = "only for lines and tables, and these are letters"
-        raise Fault(", ".join(of_lines), words, "leave this out", Status.BAD_WORDS, NOTHING_ADDED)
     raws, passed_over = read(files)
     new = new_of(election, raws)
     found = parsed(election, vote, new)
-    if not arguments.look:
+    if not is_look:
         keep(election, vote, new, found)
-    tell(
-        *(
-            f"{shown_text(one.where)}: {one.why.what}, and was passed over; {one.why.cure}"
-            for one in passed_over
-        )
-    )
-    if not arguments.look:
+    for one in passed_over:
+        tell(f"{shown_text(one.where)}: {one.why.what}, and was passed over; {one.why.cure}")
+    if not is_look:
         tell(f"{count_of(len(new), 'new letter')}; {len(raws) - len(new)} came before.")
-        enter_letters(election, vote, is_agreed=arguments.yes)
+        enter_letters(election, vote, is_agreed=is_agreed)
         return
     history = election.history()
-    all_letters = judged(election, history, letters.letters(election.book), found)
-    tell_letters(vote, all_letters, is_late=history.is_closed)
+    all_letters = judged(election, history, letters.letters(election.book), found, vote=vote)
+    tell_letters(election, vote, history, all_letters)
     keys = {letter.key for letter in found}
     number = sum(letter.parsed.key in keys for letter in all_letters)
-    going_in = sum(letter.outcome is Outcome.GOES_IN for letter in all_letters)
-    would = letter_words.counts(all_letters, going_in).replace("went in", "would go in")
-    tell(f"{count_of(number, 'new letter')}: {would}", "Nothing was changed.")
+    would = letter_words.counts(all_letters, len(going_in(all_letters)))
+    tell(f"{count_of(number, 'new letter')}: {would.replace('went in', 'would go in')}")
+    tell("Nothing was changed.")
 
 
 def read(files: Mapping[str, CameFile | None]) -> tuple[list[RawLetter], list[PassedOver]]:
@@ -83,13 +80,8 @@ def read(files: Mapping[str, CameFile | None]) -> tuple[list[RawLetter], list[Pa
                 else letters_of_file(safe(file.name), file.data)
             )
         except OSError as error:
-            raise Fault(
-                path,
-                error.strerror,
-                "name letters that you may read",
-                Status.BAD_BALLOTS,
-                NOTHING_ADDED,
-            ) from None
+            cure = "name letters that you may read"
+            raise Fault(path, error.strerror, cure, Status.BAD_BALLOTS, NOTHING_ADDED) from None
         found += source.letters
         passed_over += source.passed_over
     return found, passed_over
@@ -120,92 +112,115 @@ def keep(
         return
     with election.book.act("letters", {"letters": len(raws)}) as act:
         # their lines were read by the poll of this call
-        if election.history().call != vote.call:
-            raise Fault(
-                None,
-                "the call for votes was made anew meanwhile",
-                "run the command again",
-                done=NOTHING_ADDED,
-            )
+        cure = "run the command again"
+        plan.demand_same_call(vote, election.history(), cure, NOTHING_ADDED)
         known = letters.known_digests(election.book)
         for raw, letter in zip(raws, found):
             # another command may have kept it meanwhile
             if is_new(letter.digest, letter.is_parted_off, known):
-                letters.keep_letter(
-                    act, safe(raw.where), raw.data, letter.identity, as_json(letter)
-                )
+                where, known_of_it = safe(raw.where), as_json(letter)
+                letters.keep_letter(act, where, raw.data, letter.identity, known_of_it)
+
+
+@dataclasses.dataclass(frozen=True)
+class Plan:
+    """The ballots of letters that would go in, by the book as it is now."""
+
+    decided_at: int = dataclasses.field(compare=False)
+    history: History = dataclasses.field(compare=False)
+    # all that are judged
+    letters: Sequence[JudgedLetter] = dataclasses.field(compare=False)
+    # each with the number of its letter
+    ballots: Sequence[tuple[int, str]]
+    is_late: bool
+    # the numbers of the letters that are entered with them, and wait no longer
+    done: Collection[int]
+
+    def enter(
+        self, election: Election, vote: Vote, name: ActName, detail: Detail, end: Iterable[str] = ()
+    ) -> None:
+        """The act that enters them. Each envelope has the time of its letter."""
+        by_number = {letter.number: letter for letter in self.letters}
+        lines = [ballot for _, ballot in self.ballots]
+
+        def envelopes(act: NewAct) -> Iterator[NewEnvelope]:
+            for number in self.done:
+                letters.decide(act, number, letters.ENTERED)
+            for number, ballot in self.ballots:
+                letter = by_number[number]
+                yield NewEnvelope(ballot.encode(), "", letter.source, number, letter.time)
+
+        def report(numbers: range, replies: Sequence[str]) -> Iterator[str]:
+            yield from letter_words.reply_words(vote, numbers, replies, lines)
+            yield from end
+
+        plan.enter(
+            election.book,
+            vote,
+            name,
+            detail,
+            envelopes,
+            report,
+            decided_at=self.decided_at,
+            is_late=self.is_late,
+        )
+
+
+def going_in(found: Iterable[JudgedLetter]) -> list[JudgedLetter]:
+    return [letter for letter in found if letter.outcome is Outcome.GOES_IN]
 
 
 def enter_letters(election: Election, vote: Vote, *, is_agreed: bool) -> None:
-    """Enters the ballots that go in. If another act changes which these are, the letters are shown
-    and asked about anew.
-    """
-    shown = None
-    while True:
+    """Enters the ballots that go in, once they are agreed to."""
+
+    def plan_now() -> Plan:
         history = election.history()
-        all_letters = judged(election, history, letters.letters(election.book))
-        going_in = [letter for letter in all_letters if letter.outcome is Outcome.GOES_IN]
-        ballots, is_late = [letter.ballots[0].ballot for letter in going_in], history.is_closed
-        plan = (is_late, ballots, [letter.number for letter in going_in])
-        if plan != shown:
-            tell_letters(vote, all_letters, is_late=is_late)
-            if going_in and not is_agreed and not agreed(count_of(len(going_in), "ballot")):
-                tell("Nothing was entered. The letters are kept, and wait.")
-                break
-            shown = plan
-        if not going_in:
-            tell(letter_words.counts(all_letters, 0))
-            break
+        plan.demand_same_call(vote, history, "run the command again", NOTHING_ADDED)
+        found = judged(election, history, letters.letters(election.book), vote=vote)
+        ballots = [(letter.number, letter.ballots[0].ballot) for letter in going_in(found)]
+        numbers = [number for number, _ in ballots]
+        return Plan(history.last.number, history, found, ballots, history.is_closed, numbers)
 
-        def envelopes(act: NewAct) -> Iterator[NewEnvelope]:
-            for letter in going_in:
-                letters.decide(act, letter.number, letters.ENTERED)
-                yield new_envelope(letter, letter.ballots[0])
+    def show(now: Plan) -> bool:
+        tell_letters(election, vote, now.history, now.letters)
+        if not now.ballots:
+            tell(letter_words.counts(now.letters, 0))
+        elif is_agreed or agreed(count_of(len(now.ballots), "ballot")):
+            return True
+        else:
+            waits = letter_words.wait_words(sum(letter.waits for letter in now.letters))
+            tell(f"Nothing was entered. The letters are kept, and wait: {waits}.")
+        return False
 
-        detail: Detail = {"letters": len(going_in), "lines": len(going_in)}
-        with contextlib.suppress(Overtaken):
-            with entered(
-                election.book,
-                vote,
-                "add",
-                detail,
-                envelopes,
-                decided_at=history.last.number,
-                is_late=is_late,
-            ) as done:
-                tell(*letter_words.reply_words(vote, done, ballots))
-                tell(letter_words.counts(all_letters, len(going_in)))
-            break
-    undo = (
-        ""
-        if history.is_closed
-        else f"; {election.command('undo')} takes back what was entered last"
-    )
+    def act(now: Plan) -> None:
+        number = len(now.ballots)
+        end = letter_words.counts(now.letters, number)
+        now.enter(election, vote, "add", {"letters": number, "lines": number}, [end])
+
+    last = plan.agreed_act(plan_now, show, act)
+    undo = f"; {election.command('undo')} takes back what was entered last"
     waiting = f"{election.command('held')}, which lists the letters that wait"
-    is_waiting = any(letter.outcome is Outcome.WAITS for letter in all_letters)
-    tell(f"Next: {waiting if is_waiting else election.command('status')}{undo}")
+    is_waiting = any(letter.outcome is Outcome.WAITS for letter in last.letters)
+    following = waiting if is_waiting else election.command("status")
+    tell(f"Next: {following}{'' if last.history.is_closed else undo}")
 
 
 def agreed(ballots: str) -> bool:
     """Whether the secretary agrees to what goes in. Stops if there is no terminal."""
     if not is_terminal():
-        done = f"{NOTHING_ADDED}, and the letters are kept"
-        raise Fault(
-            None,
-            f"{ballots} would go in",
-            "agree with --yes, or run it at a terminal",
-            Status.DOUBT,
-            done,
-        )
+        cure, done = "agree with --yes, or run it at a terminal", "and the letters are kept"
+        raise Fault(None, f"{ballots} would go in", cure, done=f"{NOTHING_ADDED}, {done}")
     return bool(is_yes(f"Enter {ballots}?"))
 
 
-def tell_letters(vote: Vote, found: Sequence[JudgedLetter], *, is_late: bool) -> None:
-    for letter in found:
-        if letter.outcome is Outcome.GOES_IN:
-            tell(*letter_words.going_in(letter, vote, is_late=is_late))
-        elif letter.outcome is Outcome.WAITS:
-            tell(*letter_words.waiting(letter))
+def tell_letters(
+    election: Election, vote: Vote, history: History, found: Sequence[JudgedLetter]
+) -> None:
+    if new := going_in(found):
+        if history.is_closed:
+            tell(*plan.notes(election, history, "what is added"))
+        tell(*letter_words.going_in(new, vote))
+    tell(*letter_words.table([one for one in found if one.outcome is Outcome.WAITS]))
 
 
 # ---------------------------------------------------------------- how they are judged
@@ -231,9 +246,8 @@ def names_of(election: Election) -> Names:
 
 def keyring_of(election: Election) -> bytes | None:
     """The keyring that holds; None if letters need no signature."""
-    return (
-        queries.sealed(election.book, KEYRING) if election.history().announced("signed") else None
-    )
+    is_signed = election.history().announced("signed")
+    return queries.sealed(election.book, KEYRING) if is_signed else None
 
 
 def judged(
@@ -241,54 +255,50 @@ def judged(
     history: History,
     kept: Sequence[KeptLetter],
     looked_at: Sequence[ParsedLetter] = (),
+    *,
+    vote: Vote | None = None,
 ) -> list[JudgedLetter]:
     """Letters that came, as they are judged now, in the order of their times; and others that are
-    only looked at.
+    only looked at. The vote knows what debvote has said before.
     """
     if not kept and not looked_at:
         return []
-    vote = Vote(election, history)
-    found = kept_letters(election, vote, kept)
+    asked = vote or Vote(election, history)
+    found = kept_letters(election, asked, kept)
     by_key = {letter.key: kept_letter for letter, kept_letter in zip(found, kept)}
     all_letters = [*found, *looked_at]
 
     def ballots_of(names: Collection[str]) -> dict[str, list[Ballot]]:
-        return ballots_in(election, vote, names, all_letters)
+        return ballots_in(election, asked, names, all_letters)
 
     letters_now = judge_all(all_letters, circumstances_of(election, history, by_key), ballots_of)
-    no_codes_expected = election.sealed().counted.secret and not vote.has_codes
+    no_codes_expected = election.sealed().counted.secret and not asked.has_codes
     for letter in letters_now:
-        if letter.parsed.key in by_key:
-            letter.number, letter.source = (
-                by_key[letter.parsed.key].number,
-                by_key[letter.parsed.key].source,
-            )
+        if (kept_letter := by_key.get(letter.parsed.key)) is not None:
+            letter.number, letter.source = kept_letter.number, kept_letter.source
         if no_codes_expected:
             letter.code_lines = letter.parsed.readings.code_lines
     return letters_now
 
 
 def kept_letters(election: Election, vote: Vote, kept: Sequence[KeptLetter]) -> list[ParsedLetter]:
-    """What is known of the letters. Signatures are checked anew of letters that came before the
-    present keyring, and of those for which gpgv was too slow, since their bytes do not decide that:
-    while a letter waits; and while a signed one does, of those that had no good signature when an
-    act decided of them. Only then a copy is known as one.
+    """What is known of the letters.
+
+    A signature is checked anew if the letter came before the present keyring, or gpgv was too slow:
+    of a letter that waits; and, if a signed one waits, of those that were decided without a good
+    signature, since only then a copy is known as one.
     """
     found = [from_json(letter.known) for letter in kept]
     sealed = queries.last_act_that_sealed(election.book, KEYRING)
     old = [
         index
-        for index, letter in enumerate(kept)
-        if (letter.act < sealed and not found[index].is_never_signed)
-        or found[index].why_unsigned == SLOW
+        for index, (letter, one) in enumerate(zip(found, kept))
+        if (one.act < sealed and not letter.is_never_signed) or letter.why_unsigned == SLOW
     ]
     check_again(election, vote, kept, found, [index for index in old if kept[index].is_undecided])
     if any(letter.signature is not None and one.is_undecided for letter, one in zip(found, kept)):
-        unsigned = [
-            index
-            for index in old
-            if found[index].signature is None and not kept[index].is_undecided
-        ]
+        decided = [index for index in old if not kept[index].is_undecided]
+        unsigned = [index for index in decided if found[index].signature is None]
         check_again(election, vote, kept, found, unsigned)
     return found
 
@@ -323,22 +333,19 @@ def ballots_in(
     debvote refuses is no ballot of theirs. What it has said of the lines of letters it is not asked
     again.
     """
-    by_number = {
-        number: name for name, number in queries.elector_numbers(election.book, names).items()
-    }
+    numbers = queries.elector_numbers(election.book, names)
+    by_number = {number: name for name, number in numbers.items()}
     envelopes = queries.envelopes_of(election.book, by_number)
     known = answers_in(found, vote.roll) if envelopes else {}
     lines = {envelope.line: envelope.line.decode("utf-8", "replace") for envelope in envelopes}
-    new = [line for line, text in lines.items() if text not in known]
-    answers = {line: known[text] for line, text in lines.items() if text in known} | (
-        vote.answers(new) if new else {}
-    )
+    answers = {line: known[text] for line, text in lines.items() if text in known}
+    if new := [line for line in lines if line not in answers]:
+        answers |= vote.answers(new)
     ballots: dict[str, list[Ballot]] = {}
     for envelope in envelopes:
         if answers[envelope.line] is None and envelope.elector is not None:
-            ballots.setdefault(by_number[envelope.elector], []).append(
-                Ballot(envelope.time, lines[envelope.line])
-            )
+            ballot = Ballot(envelope.time, lines[envelope.line])
+            ballots.setdefault(by_number[envelope.elector], []).append(ballot)
     return ballots
 
 
@@ -347,7 +354,10 @@ def circumstances_of(
 ) -> Known:
     call, sealed, electors = history.call, election.sealed(), queries.electors(election.book)
     assert call is not None
-    ids = letters.our_message_ids(election.book)
+    ids, keys = letters.our_message_ids(election.book), None
+    if keyring_of(election) is not None:
+        keys = {elector.name: elector.key for elector in electors}
+    states = ((key, kept.state) for key, kept in by_key.items())
     return Known(
         mark=sealed.public.mark,
         subject=election.language.say(SUBJECT, title=sealed.public.name),
@@ -360,17 +370,9 @@ def circumstances_of(
         first_close=history.closes[0].time if history.closes else None,
         now=times.now(),
         our_letters={elector.name: ids.get(elector.number, []) for elector in electors},
-        keys={elector.name: elector.key for elector in electors}
-        if keyring_of(election) is not None
-        else None,
-        decisions={
-            key: Decision(kept.state) for key, kept in by_key.items() if kept.state != letters.WAITS
-        },
+        keys=keys,
+        decisions={key: Decision(state) for key, state in states if state != letters.WAITS},
     )
-
-
-def new_envelope(letter: JudgedLetter, line: BallotLine) -> NewEnvelope:
-    return NewEnvelope(line.ballot.encode(), "", letter.source, letter.number, letter.time)
 
 
 def is_late(history: History, letter: JudgedLetter) -> bool:

@@ -1,13 +1,11 @@
 """The lines that come, and what may be changed of one before it is entered.
 
-A change is made only if the line can mean one thing: the byte-order mark at the start, carriage
-returns at line ends, spaces and tabs at either end, around commas and between name and ranks,
-capital letters of the name; and what mail programs and word processors put there: quotation marks
-around the line, asterisks for bold letters, a full stop at its end, semicolons between all ranks in
-place of commas, a colon after the name, no-break spaces, and a dash in place of a hyphen. Of the
-cells of a table `csv_ballots.py` changes less: blanks at either end of each, line feeds within it,
-capital letters of the name and, if the call says so, an empty cell to a hyphen. Nothing else is
-changed, and nothing is guessed: no rank, no name, no order.
+A change is made only if the line can mean one thing. These are changed: the byte-order mark at the
+start, carriage returns at line ends, blanks at either end, around commas and between name and
+ranks, capital letters of the name; and what mail programs and word processors write: quotation
+marks around the line, asterisks for bold letters, a full stop at its end, semicolons between all
+ranks in place of commas, a colon after the name, no-break spaces, a dash in place of a hyphen. Of
+the cells of a table `tables.py` changes less. Nothing is guessed: no rank, no name, no order.
 """
 
 import codecs
@@ -15,8 +13,9 @@ import re
 from collections.abc import Iterable
 from typing import NamedTuple
 
-MARK = codecs.BOM_UTF8
-BLANKS = b" \t"
+NOTHING_ADDED = "nothing was added"
+
+MARK, BLANKS = codecs.BOM_UTF8, b" \t"
 
 # in bytes; a longer line is no ballot, and nothing of it is repaired
 LONGEST_REPAIRED = 1_000
@@ -62,15 +61,14 @@ REPAIRED = {
 
 class Line(NamedTuple):
     """A line that came. `source` names the file, as `more.txt`, and `place` the line in it, as
-    `:3`, or of a table as `: row 3`.
+    `:3`, or of a table as `: row 3`. If debvote refuses the repaired line, `unframed` is entered.
     """
 
     source: str
     place: str
-    # with its byte-order mark and its carriage return, or with the line feeds in the cells of its
-    # row
+    # with its byte-order mark and carriage return, or the line feeds in the cells of its row
     came: bytes
-    # without them: so it is entered if debvote refuses it
+    # without them
     unframed: bytes
     repaired: bytes
 
@@ -85,10 +83,8 @@ class Line(NamedTuple):
     @property
     def had_mark(self) -> bool:
         """Whether the line lost only a byte-order mark, and perhaps a carriage return."""
-        return (
-            not self.unframed.startswith(MARK)
-            and self.came.removesuffix(b"\r") == MARK + self.unframed
-        )
+        is_first = not self.unframed.startswith(MARK)
+        return is_first and self.came.removesuffix(b"\r") == MARK + self.unframed
 
     @property
     def had_return(self) -> bool:
@@ -97,9 +93,7 @@ class Line(NamedTuple):
 
     @property
     def without_frame(self) -> bytes:
-        """The line as it came, without such a byte-order mark and carriage return: they are
-        mentioned once for the whole file.
-        """
+        """The line without such a mark and carriage return, which are told once for a file."""
         return self.unframed if self.had_mark or self.had_return else self.came
 
 
@@ -152,10 +146,8 @@ def spaced(line: bytes) -> bytes:
     letters in the name.
     """
     joined = b",".join(part.strip(BLANKS) for part in line.split(b","))
-    between = re.search(rb"[ \t]+", joined)
-    if between is None:
-        return joined
-    return joined[: between.start()].lower() + b" " + joined[between.end() :]
+    name, *ranks = re.split(rb"[ \t]+", joined, maxsplit=1)
+    return name.lower() + b" " + ranks[0] if ranks else joined
 
 
 def repaired(text: str) -> str:
@@ -176,15 +168,13 @@ def repaired(text: str) -> str:
 
 def unquoted(text: str) -> str:
     """A line without the quotation marks around the whole of it."""
-    is_quoted = (
-        len(text) > 2
-        and text[0] + text[-1] in QUOTES
-        and not any(mark in text[1:-1] for mark in (text[0], text[-1]))
-    )
-    return text[1:-1].strip(" \t") if is_quoted else text
+    inner = text[1:-1]
+    is_quoted = inner and text[0] + text[-1] in QUOTES and not {text[0], text[-1]} & {*inner}
+    return inner.strip(" \t") if is_quoted else text
 
 
 def differences(before: bytes, after: bytes) -> list[str]:
+    """What was removed or replaced, in words."""
     names = [
         name
         for name, parts in REPAIRED.items()

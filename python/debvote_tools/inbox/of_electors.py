@@ -9,8 +9,8 @@ from debvote_tools.book import letters, queries
 from debvote_tools.book.election import Election, History
 from debvote_tools.book.queries import Elector, Envelope
 from debvote_tools.inbox import letters_in
-from debvote_tools.inbox.addresses import address_key
-from debvote_tools.inbox.judge import JudgedLetter, Outcome
+from debvote_tools.inbox.mime import address_key
+from debvote_tools.inbox.rules import JudgedLetter, Outcome
 from debvote_tools.inbox.vote import Vote
 
 # what belongs to no elector has this in place of a name
@@ -98,7 +98,7 @@ def of_electors(
     kept = letters.letters(election.book)
     kept_at = {letter.number: history.act(letter.act).time for letter in kept}
     for letter in letters_in.judged(election, history, kept):
-        sender = letter.circumstances.elector_of(letter.parsed)
+        sender = letter.known.elector_of(letter.parsed)
         time = letter.parsed.arrived or kept_at[letter.number]
         for name in dict.fromkeys([*letter.electors, *([sender] if sender else [])]) or [NOBODY]:
             if name in found:

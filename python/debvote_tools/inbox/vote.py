@@ -6,15 +6,15 @@ import re
 from collections.abc import Iterable, Iterator, Sequence
 from typing import NamedTuple
 
-from debvote_tools.text.ballots import BallotWords
-from debvote_tools.debvote import Finding
 from debvote_tools.book.election import Election, History
 from debvote_tools.book.reporting import count_of
 from debvote_tools.cli.faults import other_format
-from debvote_tools.files import BALLOTS_LIMIT, LINES_LIMIT
-from debvote_tools.text.language import ENGLISH
-from debvote_tools.inbox.lines import Line, ballot_file, differences, has_code
 from debvote_tools.cli.terminal_text import shown_line
+from debvote_tools.debvote import Finding
+from debvote_tools.files import BALLOTS_LIMIT, LINES_LIMIT
+from debvote_tools.inbox.lines import Line, ballot_file, differences, has_code
+from debvote_tools.text.ballots import BallotWords
+from debvote_tools.text.language import ENGLISH
 
 IS_CODE = " (32 digits, as in a code or an alias: a ballot has only the elector's name, and nobody may see a code)"
 
@@ -55,11 +55,8 @@ class Vote:
     """The vote that lines are entered for, as it was called. Stops before the call."""
 
     def __init__(self, election: Election, history: History) -> None:
-        self.call, poll, self.debvote = (
-            election.called(history),
-            election.sealed().counted,
-            election.debvote,
-        )
+        self.call, self.debvote = election.called(history), election.debvote
+        poll = election.sealed().counted
         # the names of all options as people read them, the default last
         self.poll_bytes, self.option_names, self.roll = poll.as_bytes(), poll.names, poll.roll
         # the roll has codes: none is printed that was not typed
@@ -67,6 +64,7 @@ class Vote:
         self.is_signed = bool(history.announced("signed"))
         # the call says that an empty cell of a web form is a hyphen
         self.has_form = bool(history.announced("form"))
+        self.answered: dict[bytes, str | None] = {}
         # most ballots have one of a few orders
         self.ranks_in_words = functools.lru_cache(4096)(BallotWords(self.option_names).of)
 
@@ -76,45 +74,42 @@ class Vote:
 
     @property
     def right_line(self) -> str:
-        return f"{'CODE' if self.has_codes else self.roll[0]} {','.join(str(rank + 1) for rank in range(len(self.option_names)))}"
+        ranks = ",".join(str(rank + 1) for rank in range(len(self.option_names)))
+        return f"{'CODE' if self.has_codes else self.roll[0]} {ranks}"
 
+    # ------------------------------------------------------------ what debvote says
     def read(self, lines: Sequence[Line]) -> list[JudgedLine]:
         """What debvote says of lines, none of them empty. It is started twice at most.
 
-        The lines are the only input, so what is said of one depends on no other. If the changed
-        line is refused, the line goes in as it came, and is refused too, since the changes leave a
+        The lines are the only input, so what is said of one depends on no other. If the repaired
+        line is refused, the line goes in as it came, and is refused too, since repairs leave a
         right line as it is; the reason may be another one.
         """
         refused = self.findings([line.repaired for line in lines])
-        changed = [
-            line.unframed
-            for line in lines
-            if line.repaired in refused and line.unframed != line.repaired
-        ]
-        refused_as_they_came = self.findings(changed)
+        changed = (line for line in lines if line.repaired in refused)
+        refused_as_they_came = self.findings(
+            [line.unframed for line in changed if line.unframed != line.repaired]
+        )
         read = []
         for line in lines:
             finding = refused.get(line.repaired)
             if finding is None:
                 read.append(JudgedLine(line, line.repaired))
             else:
-                entered = refused_as_they_came.get(line.unframed, finding)
-                read.append(
-                    JudgedLine(line, line.unframed, entered, finding, self.other_names(entered))
-                )
+                now, other = refused_as_they_came.get(line.unframed, finding), self.other_names
+                read.append(JudgedLine(line, line.unframed, now, finding, other(now)))
         return read
 
     def answers(self, lines: Sequence[bytes]) -> dict[bytes, str | None]:
         """What debvote says of each line, such as `bad rank count: ..`; None for a valid ballot. It
-        gets as many lines at once as it takes. What it remarks on other lines is left out.
+        gets as many lines at once as it takes, and none twice. What it remarks on other lines is
+        left out.
         """
-        answers: dict[bytes, str | None] = dict.fromkeys(lines)
-        for part in parts_of(lines):
-            found = {
-                line: finding._replace(remark="") for line, finding in self.findings(part).items()
-            }
-            answers |= {line: f"{finding.word}: {finding.hint}" for line, finding in found.items()}
-        return answers
+        for part in parts_of([line for line in dict.fromkeys(lines) if line not in self.answered]):
+            self.answered.update(dict.fromkeys(part))
+            for line, finding in self.findings(part).items():
+                self.answered[line] = f"{finding.word}: {finding._replace(remark='').hint}"
+        return {line: self.answered[line] for line in lines}
 
     def findings(self, lines: Sequence[bytes]) -> dict[bytes, Finding]:
         """Why debvote refuses some of these lines. If the roll has codes, none is offered. Without
@@ -122,20 +117,17 @@ class Vote:
         """
         if not lines:
             return {}
-        found = {}
-        for finding in self.debvote.findings(self.poll_bytes, ballot_file(lines)).refused:
-            found[lines[finding.envelope - 1]] = (
-                finding._replace(near=(), remark="") if self.has_codes else finding
-            )
-        return found
+        refused = self.debvote.findings(self.poll_bytes, ballot_file(lines)).refused
+        if self.has_codes:
+            refused = [finding._replace(near=(), remark="") for finding in refused]
+        return {lines[finding.envelope - 1]: finding for finding in refused}
 
     def other_names(self, finding: Finding) -> tuple[str, ...]:
         """All names that fit as well as those that debvote offers, as `anna-meier-2` beside
         `anna-meier`.
         """
-        alike = dict.fromkeys(
-            name for near in finding.near for name in self.names_by_bare_name[NUMBER.sub("", near)]
-        )
+        bare_names = [NUMBER.sub("", near) for near in finding.near]
+        alike = dict.fromkeys(name for bare in bare_names for name in self.names_by_bare_name[bare])
         return tuple(name for name in alike if name not in finding.near)
 
     @functools.cached_property
@@ -165,13 +157,9 @@ class Vote:
 
     # ------------------------------------------------------------ words
     def report(
-        self,
-        lines: Sequence[JudgedLine],
-        numbers: Iterable[int],
-        replies: Sequence[str],
-        *,
-        is_entered: bool,
+        self, lines: Sequence[JudgedLine], numbers: Iterable[int], replies: Sequence[str]
     ) -> Iterator[str]:
+        """Each line that went in, or would, by the number of its envelope and the reply to it."""
         yield from frame_words(line.line for line in lines)
         for number, reply, line in zip(numbers, replies, lines):
             if line.line.came != line.as_entered:
@@ -179,13 +167,13 @@ class Vote:
             yield f"{number} {reply}  {self.in_words(line, reply)}"
             finding, other = line.finding, line.finding_of_repaired
             if finding and other and (other.word, other.hint) != (finding.word, finding.hint):
-                goes = "it went in" if is_entered else "it would go in"
                 written = f"written as `{shown_line(line.line.repaired)}` it is refused too"
-                yield f"  {goes} as it came; {written}: {other.word}: {other.hint}"
+                yield f"  it goes in as it came; {written}: {other.word}: {other.hint}"
         if not all(line.is_ballot for line in lines):
             yield self.right_words()
         if LATE_REPLY in replies:
-            yield f"{count_of(replies.count(LATE_REPLY), 'line')} came after the close, and late lines do not count."
+            late = count_of(replies.count(LATE_REPLY), "line")
+            yield f"{late} came after the close, and late lines do not count."
 
     def in_words(self, line: JudgedLine, reply: str = "") -> str:
         """A ballot in words, or the line and why debvote refuses it."""
@@ -194,12 +182,9 @@ class Vote:
         word = "" if line.finding.word == reply else f"{line.finding.word}: "
         # so that nobody takes one elector for another
         others = f" (or {ENGLISH.joined(list(line.other_names))})" if line.other_names else ""
-        code = (
-            IS_CODE
-            if has_code(line.line.repaired.decode("utf-8", "replace")) and not self.has_codes
-            else ""
-        )
-        return f"{shown_line(line.as_entered)}: {word}{line.finding.hint}{others}{code}"
+        is_code = has_code(line.line.repaired.decode("utf-8", "replace")) and not self.has_codes
+        said = f"{shown_line(line.as_entered)}: {word}{line.finding.hint}{others}"
+        return said + (IS_CODE if is_code else "")
 
     def ballot_in_words(self, ballot: str) -> str:
         voter, _, ranks = ballot.partition(" ")
@@ -246,15 +231,6 @@ def change_words(line: JudgedLine) -> Iterator[str]:
         yield f"{line.line.where}: `{shown_line(before)}` was changed to `{shown_line(line.as_entered)}` ({how})"
 
 
-def would_words(line: JudgedLine) -> str:
-    """A line that is not entered yet, and the one reason that stays after the changes that are
-    allowed.
-    """
-    finding = line.finding_of_repaired
-    why = "" if finding is None else f": {finding.word}: {finding.hint}"
-    return f"{shown_line(line.as_entered)}{why}"
-
-
 def summary(replies: Sequence[str]) -> str:
     counts = collections.Counter(replies)
     listed = ", ".join(f"{number} {reply}" for reply, number in counts.items())
@@ -269,15 +245,9 @@ def standing_words(
     """
     changed = {name: after.get(name) for name, ranks in before.items() if after.get(name) != ranks}
     if vote.has_codes:
-        gone = sum(ranks is None for ranks in changed.values())
-        earlier = len(changed) - gone
-        return (
-            [
-                f"  {count_of(gone, 'elector')}: {none}; {count_of(earlier, 'elector')}: an earlier ballot"
-            ]
-            if changed
-            else []
-        )
+        gone = list(changed.values()).count(None)
+        said = f"  {count_of(gone, 'elector')}: {none}; {count_of(len(changed) - gone, 'elector')}: an earlier ballot"
+        return [said] if changed else []
     return [
         f"  {name}: {none if ranks is None else vote.ranks_in_words(ranks) + ', as before'}"
         for name, ranks in changed.items()

@@ -14,15 +14,15 @@ from debvote_tools.book.queries import Elector
 from debvote_tools.book.sent import REFUSED, TAKEN, WRITTEN, About, SentLetter
 from debvote_tools.cli.faults import Fault, Status
 from debvote_tools.debvote import casting_words
-from debvote_tools.inbox.addresses import address_key
-from debvote_tools.inbox.judge import Outcome
+from debvote_tools.inbox.mime import address_key
+from debvote_tools.inbox.rules import Outcome
 from debvote_tools.inbox.lines import ballot_file
 from debvote_tools.inbox.of_electors import NOBODY, Became, Came, of_electors
-from debvote_tools.inbox.parse import decoded
-from debvote_tools.inbox.parts import MAX_PARTS, Part
+from debvote_tools.inbox.letter import decoded
+from debvote_tools.inbox.mime import MAX_PARTS, Part
 from debvote_tools.outbox.words import Composer, Kind
 from debvote_tools.poll.call_data import is_mail_address
-from debvote_tools.poll.marks import OWN_LENGTH, OWN_SIGNS, in_brackets
+from debvote_tools.poll.marks import OWN_LENGTH, OWN_SIGNS
 from debvote_tools.result.doubts import Doubt
 from debvote_tools.result.inputs import Publication
 from debvote_tools.result.publication import (
@@ -39,9 +39,8 @@ from debvote_tools.text.times import now
 # how long a run of reminders goes on, and how soon after it the next one is asked about
 LASTING = datetime.timedelta(days=1)
 
-# the act to which letters belong, new ones, those that were written before and belong to the same,
-# and the text of each
-Plan = tuple[int, Sequence[SentLetter], Sequence[SentLetter], Callable[[Elector, SentLetter], str]]
+# what a letter to an elector says
+TextOf = Callable[[Elector, SentLetter], str]
 
 
 class LettersDue:
@@ -52,7 +51,7 @@ class LettersDue:
     def __init__(self, election: Election, kind: Kind, sender: str, *, is_sending: bool) -> None:
         self.election, self.kind, self.sender, self.is_sending = election, kind, sender, is_sending
         self.history, self.time = election.history(), now()
-        election.called(self.history)
+        self.called = election.called(self.history).number
         if self.history.has_codes_on_roll:
             words = "codes are on the roll, and nobody knows whose they are, so no letters can be written to electors"
             cure = "with your mail program send call/call.txt, letters/closed.txt and letters/result.txt to all"
@@ -65,18 +64,18 @@ class LettersDue:
         typed = {act.number for act in self.history.named("enter") if not act.detail.get("lines")}
         self.composer = Composer(current_data(election, self.history), is_over, on_list, typed)
         self.letters = sent.sent_letters(election.book, kind)
-        # the last letter of this kind to each elector whose letters came back is tried again
-        back = {
-            elector.number
-            for elector, why, _ in unreached(election, self.history)
-            if why == CAME_BACK
-        }
-        last = {
-            letter.elector: letter
+        back = {one.number for one, why, _ in unreached(election, self.history) if why == CAME_BACK}
+        # the last letter to each of these, which is tried again
+        self.came_back = {
+            letter.elector: letter.message_id
             for letter in self.letters
             if letter.elector in back and self.is_present(letter)
-        }
-        self.came_back = {letter.message_id for letter in last.values()}
+        }.values()
+        # the act to which the letters belong, those that are new, and those that were written
+        # before and belong to it, too
+        self.for_act = self.history.last.number + 1
+        self.new: list[SentLetter] = []
+        self.written: list[SentLetter] = []
         # those who have the call, each at an address, to whom the letter of an extension is due
         self.had_call: set[tuple[int, str]] = set()
         # the receipts of earlier runs that have files, or had them; and the letters that wait and
@@ -84,8 +83,7 @@ class LettersDue:
         self.earlier: list[SentLetter] = []
         self.in_no_receipt: list[int] = []
         # each kind has a method of its name
-        plan: Plan = getattr(self, kind)()
-        self.for_act, self.new, self.written, self.text_of = plan
+        self.text_of: TextOf = getattr(self, kind)()
 
     @property
     def waiting(self) -> list[SentLetter]:
@@ -96,7 +94,7 @@ class LettersDue:
         that an elector had before, and that refused a letter for good, is not tried again.
         """
         is_done = letter.state == TAKEN and letter.message_id not in self.came_back
-        is_gone = not self.is_present(letter) and is_refused_for_good(letter)
+        is_gone = is_refused_for_good(letter) and not self.is_present(letter)
         return bool(letter.address) and not is_done and not is_gone
 
     def is_present(self, letter: SentLetter) -> bool:
@@ -105,40 +103,44 @@ class LettersDue:
         return elector is None or not letter.address or letter.address in elector.addresses
 
     def text(self, letter: SentLetter) -> str:
-        return self.text_of(self.electors[letter.elector], letter)
+        return self.text_of(self.elector(letter), letter)
 
     def subject(self, letter: SentLetter) -> tuple[str, str]:
-        """The subject of a letter, and the mark that ends it. An address that its elector no longer
-        has does not learn the own mark.
-        """
+        """The subject of a letter, and the mark that ends it."""
         is_extension = (letter.elector, letter.address) in self.had_call
-        own = self.electors[letter.elector].mark if self.is_present(letter) else ""
-        mark = in_brackets(self.composer.call.poll.mark, own)
-        return self.composer.subject(self.kind, is_extension=is_extension), mark
+        subject = self.composer.subject(self.kind, is_extension=is_extension)
+        return subject, self.composer.call.mark_of(self.elector(letter).mark)
+
+    def elector(self, letter: SentLetter) -> Elector:
+        """To whom a letter is written. An address that its elector no longer has does not learn the
+        own mark.
+        """
+        elector = self.electors[letter.elector]
+        return elector if self.is_present(letter) else elector._replace(mark="")
 
     # ------------------------------------------------------------ each kind
-    def call(self) -> Plan:
+    def call(self) -> TextOf:
         """The call to each elector; after an extension that, to those who have the call."""
         self.demand_not_over()
-        acts = self.history.since_call("call", "extend")
-        first, last = acts[0].number, acts[-1].number
-        earlier = [letter for letter in self.letters if first <= letter.for_act < last]
-        by_server = {letter.for_act for letter in earlier if letter.state != WRITTEN}
+        *earlier, last = (act.number for act in self.history.since_call("call", "extend"))
+        letters = [letter for letter in self.letters if letter.for_act in earlier]
+        by_server = {letter.for_act for letter in letters if letter.state != WRITTEN}
         self.had_call = {
             (letter.elector, letter.address)
-            for letter in earlier
+            for letter in letters
             # a server has taken it, it is on paper, or all for its act were written as files
             if letter.state == TAKEN
             or (letter.state == WRITTEN and not (letter.address and letter.for_act in by_server))
         }
+        self.to_each(last)
 
         def text_of(elector: Elector, letter: SentLetter) -> str:
             is_extension = (letter.elector, letter.address) in self.had_call
             return self.composer.call_letter(elector, is_extension=is_extension)
 
-        return self.to_each(last, text_of)
+        return text_of
 
-    def reminders(self) -> Plan:
+    def reminders(self) -> TextOf:
         """A letter to each elector whose ballot does not count yet. A run of this day that was cut
         off, or whose letters the server refused for now, goes on; else each run is a new one.
         """
@@ -158,32 +160,32 @@ class LettersDue:
             and letter.elector in silent
             and letter.address == address_in(silent[letter.elector].addresses)
         ]
-        goes_on = self.is_sending and any(
-            self.can_be_sent(letter)
-            and letter.state != TAKEN
-            and not is_refused_for_good(letter)
-            and self.time - letter.time < LASTING
+        waits = (
+            letter.address and letter.state != TAKEN and not is_refused_for_good(letter)
             for letter in written
+            if self.time - letter.time < LASTING
         )
+        if self.is_sending and any(waits):
+            self.for_act, self.written = last, written
+        else:
+            self.new = list(map(self.letter_to, silent.values()))
 
         def text_of(elector: Elector, letter: SentLetter) -> str:
             waiting = (Outcome.WAITS, Outcome.GOES_IN)
             told = told_of(came[elector.name]).values()
             return self.composer.reminder(elector, [one for one in told if one.became in waiting])
 
-        if goes_on:
-            return last, [], written, text_of
-        for_act = self.history.last.number + 1
-        return for_act, [self.letter_to(one, for_act) for one in silent.values()], [], text_of
+        return text_of
 
     @property
     def reminded(self) -> datetime.datetime | None:
         """When others were reminded, if this run would do so again within a day."""
-        last = max((letter.time for letter in self.letters), default=None)
-        is_soon = self.kind is Kind.REMINDERS and bool(self.new)
-        return last if is_soon and last is not None and self.time - last < LASTING else None
+        if self.kind is not Kind.REMINDERS or not self.new:
+            return None
+        times = (one.time for one in self.letters if self.time - one.time < LASTING)
+        return max(times, default=None)
 
-    def receipts(self) -> Plan:
+    def receipts(self) -> TextOf:
         """A letter to each elector about all that came since the last one, also to an address that
         they had before. Those that no server has taken yet go out, too.
         """
@@ -203,6 +205,7 @@ class LettersDue:
             and one.elector in told
             and about_now(one.about, told[one.elector])
         ]
+        self.written = list(filter(self.can_be_sent, self.earlier)) if self.is_sending else []
         said = {
             (one.elector, key)
             for one in self.letters
@@ -210,12 +213,12 @@ class LettersDue:
             for key in one.about
         }
         waiting = {(one.elector, one.address): set(one.about) for one in self.earlier}
-        old, for_act, new = self.old_addresses(), self.history.last.number + 1, []
+        old = self.old_addresses()
         for number, elector in self.electors.items():
             keys = [key for key in told[number] if (number, key) not in said]
             addresses = dict.fromkeys([address_in(elector.addresses), *old.get(number, [])])
-            new += [
-                self.letter_to(elector, for_act, address, keys)
+            self.new += [
+                self.letter_to(elector, address, keys)
                 for address in addresses
                 if keys and not waiting.get((number, address), set()).issuperset(keys)
             ]
@@ -224,22 +227,20 @@ class LettersDue:
             told_now = beside_what_counts(letter.about, told[elector.number])
             return self.composer.receipt(elector, told_now)
 
-        written = list(filter(self.can_be_sent, self.earlier)) if self.is_sending else []
-        return for_act, new, written, text_of
+        return text_of
 
     def old_addresses(self) -> dict[int, list[str]]:
         """The addresses that electors had before the list was changed after the call, if no receipt
         was written to them since.
         """
         last = {letter.elector: letter.for_act for letter in self.letters}
-        call = self.election.called(self.history).number
         return {
             elector: [
                 address
                 for act, old in lists
                 if act > last.get(elector, 0) and (address := address_in(old))
             ]
-            for elector, lists in sent.addresses_before(self.election.book, call).items()
+            for elector, lists in sent.addresses_before(self.election.book, self.called).items()
         }
 
     def failed_elsewhere(self, letter: SentLetter) -> bool:
@@ -249,28 +250,21 @@ class LettersDue:
         states = (REFUSED, *([WRITTEN] if self.is_sending else []))
         return letter.state in states and not self.is_present(letter)
 
-    def closed(self) -> Plan:
+    def closed(self) -> TextOf:
         if not self.history.is_closed:
-            cure = f"run {self.election.command('close')} first"
-            raise Fault(
-                self.kind, "the vote is not closed", cure, Status.DOUBT, "nothing was written"
-            )
-        poll = self.composer.call.poll
-        text = closing_letter(self.history, poll, self.election.language).decode()
-        return self.to_each(
-            self.history.closes[-1].number,
-            lambda elector, letter: self.composer.text(self.kind, elector, letter=text),
-        )
+            raise self.too_early("the vote is not closed", "close")
+        poll, language = self.composer.call.poll, self.election.language
+        text = closing_letter(self.history, poll, language).decode()
+        self.to_each(self.history.closes[-1].number)
+        return lambda elector, _: self.composer.text(self.kind, elector, letter=text)
 
-    def result(self) -> Plan:
+    def result(self) -> TextOf:
         act = last_publication(self.history)
         if act is None or not self.history.is_closed:
-            cure = f"run {self.election.command('publish')} first"
-            raise Fault(None, "nothing is published", cure, Status.DOUBT, "nothing was written")
+            raise self.too_early("nothing is published", "publish")
         if self.composer.call.at is None:
-            reason = "the letter must say where the result is published"
-            cure = "give its address with --at URL"
-            raise Fault("--at", reason, cure, Status.BAD_WORDS, "nothing was written")
+            why, cure = "the letter must say where the result is published", "give it: --at URL"
+            raise Fault("--at", why, cure, Status.BAD_WORDS, "nothing was written")
         book, debvote = self.election.book, self.election.debvote
         sealed, words = self.election.sealed(), Words(**act.detail["words"])
         poll = sealed.counted.as_bytes()
@@ -288,15 +282,16 @@ class LettersDue:
             because=words.because,
             at=self.composer.call.at,
         )
-        values = letter_values(
-            publication, sheet, map(Doubt.from_data, act.detail["doubts"]), act.detail["checksums"]
+        doubts = map(Doubt.from_data, act.detail["doubts"])
+        values = letter_values(publication, sheet, doubts, act.detail["checksums"])
+        self.to_each(act.number)
+        return lambda elector, _: self.composer.text(
+            self.kind, elector, has_ballot=elector.name in standing, **values
         )
-        return self.to_each(
-            act.number,
-            lambda elector, _: self.composer.text(
-                self.kind, elector, has_ballot=elector.name in standing, **values
-            ),
-        )
+
+    def too_early(self, words: str, command: str) -> Fault:
+        cure = f"run {self.election.command(command)} first"
+        return Fault(self.kind, words, cure, Status.DOUBT, "nothing was written")
 
     def demand_not_over(self) -> None:
         if self.composer.is_over:
@@ -304,12 +299,25 @@ class LettersDue:
             cure = f"see {self.election.command('status')}"
             raise Fault(self.kind, words, cure, Status.DOUBT, "nothing was written")
 
+    def to_each(self, for_act: int) -> None:
+        """One letter to each elector; those that were written before, to the same address and for
+        the same act, stay as they are.
+        """
+        self.for_act = for_act
+        before = {
+            (letter.elector, letter.address): letter
+            for letter in self.letters
+            if letter.for_act == for_act
+        }
+        for elector in self.electors.values():
+            letter = before.get((elector.number, address_in(elector.addresses)))
+            if letter is None:
+                self.new.append(self.letter_to(elector))
+            else:
+                self.written.append(letter)
+
     def letter_to(
-        self,
-        elector: Elector,
-        for_act: int,
-        address: str | None = None,
-        about: Sequence[About] = (),
+        self, elector: Elector, address: str | None = None, about: Sequence[About] = ()
     ) -> SentLetter:
         """A letter that is not written yet. Nobody can guess its Message-ID, so an answer that
         names it comes from whoever got the letter.
@@ -318,26 +326,8 @@ class LettersDue:
         domain = self.sender.partition("@")[2]
         message_id = f"<{secrets.token_hex(16)}@{domain}>" if address else ""
         return SentLetter(
-            elector.number, self.kind, for_act, address, message_id, self.time, tuple(about)
+            elector.number, self.kind, self.for_act, address, message_id, self.time, tuple(about)
         )
-
-    def to_each(self, for_act: int, text_of: Callable[[Elector, SentLetter], str]) -> Plan:
-        """One letter to each elector; those that were written before, to the same address and for
-        the same act, stay as they are.
-        """
-        before = {
-            (letter.elector, letter.address): letter
-            for letter in self.letters
-            if letter.for_act == for_act
-        }
-        written, new = [], []
-        for elector in self.electors.values():
-            letter = before.get((elector.number, address_in(elector.addresses)))
-            if letter is None:
-                new.append(self.letter_to(elector, for_act))
-            else:
-                written.append(letter)
-        return for_act, new, written, text_of
 
 
 def is_refused_for_good(letter: SentLetter) -> bool:

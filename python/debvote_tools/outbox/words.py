@@ -13,7 +13,7 @@ import re
 from collections.abc import Collection, Iterator, Sequence
 
 from debvote_tools.book.queries import Elector
-from debvote_tools.inbox.judge import Outcome
+from debvote_tools.inbox.rules import Outcome
 from debvote_tools.inbox.of_electors import Became, Came
 from debvote_tools.inbox.reasons import for_elector
 from debvote_tools.poll.call_data import CallData

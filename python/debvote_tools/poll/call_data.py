@@ -1,4 +1,4 @@
-"""What a call says, as one value, and which addresses it can say."""
+"""What a call says, as one value, which addresses it can say, and the files that are made from it."""
 
 import dataclasses
 import datetime
@@ -7,10 +7,12 @@ import re
 import urllib.parse
 from collections.abc import Mapping
 
-from debvote_tools.text.ballots import UNRANKED, ranks_in_words
+from debvote_tools.text.ballots import IN_A_LIST, without_ballots
 from debvote_tools.cli.faults import Fault, Status
 from debvote_tools.cli.terminal_text import LINE_ENDS, odd_sign
+from debvote_tools.files import sha256_of
 from debvote_tools.text.language import Language, marked
+from debvote_tools.text.rendering import render_letter, render_page, resources
 from debvote_tools.poll.marks import in_brackets
 from debvote_tools.poll.sealed_poll import SealedPoll
 
@@ -29,6 +31,31 @@ WEB_LIMIT = 500
 # an option in a sentence: its number and its name do not run into each other
 OPTION = marked("Option {number}: {name}")
 SUBJECT = marked("Ballot: {title}")
+
+
+PACKAGE = "debvote_tools.poll"
+
+# the sentences of the script on the page
+SENTENCES = {
+    "option": OPTION,
+    "subject": SUBJECT,
+    "type_name": marked("Type your name as it is on the roll."),
+    "on_roll": marked("On the roll: {names}"),
+    "not_on_roll": marked(
+        "{name} is not on the roll of this poll; the names on the roll are below."
+    ),
+    "no_name": marked(
+        "Names on the roll have only small letters without accents, digits, points and hyphens, and at most 32 of them."
+    ),
+    "then": IN_A_LIST.then,
+    "equally": IN_A_LIST.equally,
+    "unranked": IN_A_LIST.unranked,
+    "and": marked("{entries} and {last}"),
+    "rank_missing": marked("Give at least one option a rank."),
+    "more": marked("Read on"),
+    "selected": marked("The line is selected. Copy it with Ctrl+C, or Cmd+C on a Mac."),
+    "copied": marked("The line is copied."),
+}
 
 
 @dataclasses.dataclass(frozen=True)
@@ -108,16 +135,6 @@ class CallData:
         return explanations_of(self.poll)
 
     @property
-    def example(self) -> str:
-        """Ranks that show the order, and with four options or more one that is not ranked."""
-        count = len(self.poll.names)
-        return "1,2" if count == 2 else ",".join(["2", "1", *[UNRANKED] * (count - 3), "3"])
-
-    @property
-    def example_in_words(self) -> str:
-        return ranks_in_words(self.example, self.option_names, self.language)
-
-    @property
     def name_gap(self) -> str:
         """What the page of a secret vote has in place of the name, which an elector writes into the
         letter alone.
@@ -191,3 +208,44 @@ def is_web_address(text: str) -> bool:
         parts.netloc.rpartition(":")[0] or parts.netloc,
     )
     return parts.scheme in ("http", "https") and is_port and is_host is not None
+
+
+# ---------------------------------------------------------------- the files
+def call_letter(call: CallData) -> str:
+    """The letter of the call to all, with a gap in place of a name."""
+    return letter_to_all(call, is_extension=False)
+
+
+def extension_letter(call: CallData) -> str:
+    """The letter about a later end: the old one, the new one, and that all else is as it was."""
+    return letter_to_all(call, is_extension=True)
+
+
+def letter_to_all(call: CallData, *, is_extension: bool) -> str:
+    text = render_letter(
+        PACKAGE, "call.txt", call.language, call=call, elector=None, is_extension=is_extension
+    )
+    return without_ballots(text, len(call.poll.names), lambda word: True)
+
+
+def call_page(call: CallData) -> bytes:
+    return render_page(
+        PACKAGE,
+        "page.html",
+        call.language,
+        style=resources(PACKAGE, "fields.css", "given.css", "ballot.css"),
+        script=resources(PACKAGE, "fold.js", "ballot.js"),
+        call=call,
+        script_words=call.language.words(SENTENCES),
+    )
+
+
+def call_files(call: CallData) -> dict[str, bytes]:
+    """The files of a call by name, the checksums last. The poll is the sealed one, byte for byte;
+    if it has codes, it stays out.
+    """
+    files = {"index.html": call_page(call), "call.txt": call_letter(call).encode()}
+    if not call.has_codes_on_roll:
+        files["poll.toml"] = call.poll.as_bytes()
+    checksums = "".join(f"{sha256_of(files[name])}  {name}\n" for name in sorted(files))
+    return files | {"SHA256SUMS": checksums.encode()}

@@ -6,7 +6,7 @@ import os
 import pathlib
 import re
 import tomllib
-from collections.abc import Collection, Mapping, Sequence
+from collections.abc import Mapping, Sequence
 from typing import Any, NamedTuple
 
 from debvote_tools.book import queries
@@ -15,13 +15,7 @@ from debvote_tools.book.election import LETTER_TEXT, POLL_FILE, TEXTS, Election,
 from debvote_tools.book.reporting import count_of
 from debvote_tools.cli.faults import Fault, Status, stop_at
 from debvote_tools.files import POLL_LIMIT, file_text, read_whole
-from debvote_tools.poll.plain_names import (
-    bad_options,
-    bad_title,
-    plain_options,
-    plain_title,
-    without_accents,
-)
+from debvote_tools.poll.plain_names import bad_options, bad_title, plain_options, plain_title
 from debvote_tools.poll.sealed_poll import KEYS, SealedPoll, is_set, plain_form, read_plain
 from debvote_tools.result.sheet import Sheet, sheet_in
 from debvote_tools.cli.terminal_text import LINE_ENDS, shown_text
@@ -52,9 +46,6 @@ SET_ELSEWHERE = {
 
 # how `debvote explain` begins a line if it has read the poll as TOML
 IS_TOML = re.compile(r"(?m)^poll(?:: | ok)")
-
-# how accents may be taken off a name in a letter, and how long a real name may be, in characters
-FOLDINGS, LONGEST_REAL_NAME = ("en", "de"), 200
 
 
 class DraftPoll(NamedTuple):
@@ -167,52 +158,14 @@ def letter_text_in(folder: pathlib.Path) -> str:
 
 
 # ---------------------------------------------------------------- what is wrong with it as a whole
-def faults_when_sealed(draft: DraftPoll, names: Collection[str], language: str) -> list[Fault]:
-    """What electors could not read rightly: names that look alike, and lines that read as a ballot
-    of one of these names.
-    """
-    file, cure = draft.folder / POLL_FILE, "write it in another way"
-    faults = []
-    plain_names = plain_options(draft.names, language)
+def faults_when_sealed(draft: DraftPoll, language: str) -> list[Fault]:
+    """Names that electors could not read rightly, or tell from each other."""
+    faults, plain_names = [], plain_options(draft.names, language)
     for bad in (*bad_title(draft.title), *bad_options(draft.names, plain_names)):
         which = f"option {bad.number}" if bad.number else "the title"
-        faults.append(bad_poll(file, f"{which}, `{shown_text(bad.name)}`: {bad.reason}", cure))
-    texts = {draft.folder / TEXTS / f"{number}.txt": text for number, text in draft.texts.items()}
-    texts[file] = " | ".join([draft.title, *draft.names])
-    plain = {as_repaired(name, folding) for folding in FOLDINGS for name in names} - {""}
-    for source, text in texts.items():
-        for ballot in ballots_in(text, plain, len(draft.names)):
-            reason = f"`{shown_text(ballot)}` in it would be read as a ballot if a letter quotes it"
-            faults.append(bad_poll(source, reason, cure))
+        reason = f"{which}, `{shown_text(bad.name)}`: {bad.reason}"
+        faults.append(bad_poll(draft.folder / POLL_FILE, reason, "write it in another way"))
     return faults
-
-
-def ballots_in(text: str, names: Collection[str], option_count: int) -> list[str]:
-    """One of these names with a rank for each option, after the repairs of a line, and wherever a
-    line of the text is broken at a blank.
-    """
-    rank = "(?:-|[1-9][0-9]?)"
-    ranks = re.compile(rf"(?<![^\s:])(?:{rank} ?, ?){{{option_count - 1}}}{rank}(?![0-9])")
-    most_words = max((name.count(" ") + 1 for name in names), default=0)
-    found: dict[str, None] = {}
-    for repaired in {as_repaired(text, folding): None for folding in FOLDINGS}:
-        for match in ranks.finditer(repaired):
-            words = (
-                repaired[max(0, match.start() - LONGEST_REAL_NAME) : match.start()]
-                .rstrip(": ")
-                .split(" ")
-            )
-            before = (" ".join(words[-count:]) for count in range(1, most_words + 1))
-            found |= {f"{name} {match[0]}": None for name in before if name in names}
-    return list(found)
-
-
-def as_repaired(text: str, language: str) -> str:
-    """A text on one line, in small letters without accents and brackets, and with what repairs take
-    out or replace.
-    """
-    plain = re.sub(r"[\"'*`(\[{<]", "", without_accents(text, language)).lower().replace(";", ",")
-    return " ".join(plain.split())
 
 
 def sealed_form(
@@ -282,10 +235,9 @@ def checked(
         tell_as_it_is(said)
         reason = "it can't be read as TOML, as said above"
         raise bad_poll(fault.file, reason, "put it right with an editor") from None
-    electors, language = queries.electors(election.book), election.language.code
-    roll = [elector.name for elector in electors]
-    names = [*roll, *(elector.who for elector in electors)]
-    faults = [*draft.faults, *faults_when_sealed(draft, names, language)]
+    language = election.language.code
+    roll = [elector.name for elector in queries.electors(election.book)]
+    faults = [*draft.faults, *faults_when_sealed(draft, language)]
     if not roll:
         cure = f"run {election.command('roll')} first"
         faults.append(Fault(None, "there are no electors yet", cure, done=None))

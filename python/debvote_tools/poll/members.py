@@ -8,9 +8,9 @@ import unicodedata
 from collections.abc import Callable, Hashable, Iterable, Iterator, Mapping, Sequence
 from typing import NamedTuple, TypeVar
 
-from debvote_tools.inbox.addresses import ADDRESS, address_key
+from debvote_tools.inbox.mime import ADDRESS, address_key
 from debvote_tools.book.queries import Elector
-from debvote_tools.inbox.csv_tables import Row, read_table
+from debvote_tools.inbox.tables import Row, read_table
 from debvote_tools.book.reporting import listed
 from debvote_tools.cli.faults import Fault, stop_at
 from debvote_tools.files import TABLE_LIMIT, read_whole

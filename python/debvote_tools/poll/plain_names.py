@@ -31,19 +31,7 @@ JUNIOR = ("jr", "jun", "sr", "sen")
 SPELLINGS: Mapping[str, Mapping[str, str]] = {"de": {"ä": "ae", "ö": "oe", "ü": "ue"}}
 
 # letters that Unicode does not take apart into a letter and its accent
-PLAIN_LETTERS = {
-    "ß": "ss",
-    "ø": "o",
-    "ł": "l",
-    "đ": "d",
-    "ð": "d",
-    "þ": "th",
-    "æ": "ae",
-    "œ": "oe",
-    "ı": "i",
-    "ħ": "h",
-    "ŧ": "t",
-}
+PLAIN_LETTERS = dict(zip("øłđðıħŧ", "olddiht")) | {"ß": "ss", "þ": "th", "æ": "ae", "œ": "oe"}
 
 # punctuation that ASCII has in another form
 PUNCTUATION = {
@@ -117,7 +105,7 @@ def made_different(
 
     Equal bases all get a number, since a ballot for the bare name could be meant for any of them.
     """
-    used = {alike(name) for name in taken}
+    used = set(map(alike, taken))
     several = {form for form, count in collections.Counter(map(alike, bases)).items() if count > 1}
     # next to one who has the bare name already comes the second
     numbers = {form: itertools.count(2 if form in used else 1) for form in {*map(alike, bases)}}
@@ -225,39 +213,23 @@ def bad_options(names: Sequence[str], plain_names: Sequence[str]) -> list[BadNam
     """Which names of options people can't read or tell apart. That two plain names are equal
     debvote says itself.
     """
-    found = [
-        BadName(number, name, reason)
-        for number, name in enumerate(names, start=1)
-        for reason in bad_characters(name)
-    ]
-    options = [(number, *pair) for number, pair in enumerate(zip(names, plain_names), start=1)]
-    for (first, first_name, first_plain), (
-        second,
-        second_name,
-        second_plain,
-    ) in itertools.combinations(options, 2):
-        like = {alike(first_plain): "the plain name of ", alike(first_name): ""}.get(
-            alike(second_name)
-        )
-        if like is not None and alike(second_name) and first_plain != second_plain:
-            reason = f"it looks like {like}option {first}, `{shown_text(first_name)}`"
-            found.append(
-                BadName(
-                    second,
-                    second_name,
-                    f"{reason}, except for case, accents, blanks or invisible characters",
-                )
-            )
+    options = list(enumerate(zip(names, plain_names), start=1))
+    found = [BadName(at, name, why) for at, (name, _) in options for why in bad_characters(name)]
+    for (first, (name, plain)), (second, (other, other_plain)) in itertools.combinations(
+        options, 2
+    ):
+        like = {alike(plain): "the plain name of ", alike(name): ""}.get(alike(other))
+        if like is not None and alike(other) and plain != other_plain:
+            reason = f"it looks like {like}option {first}, `{shown_text(name)}`, except for case, accents, blanks or invisible characters"
+            found.append(BadName(second, other, reason))
     return found
 
 
 def bad_characters(name: str) -> list[str]:
     reasons = []
-    odd = odd_sign(name, refused=REFUSED_IN_NAMES)
-    if odd is not None:
-        reasons.append(
-            f"it has the character {number_of(odd)}, which controls a terminal or turns text around"
-        )
+    if odd := odd_sign(name, refused=REFUSED_IN_NAMES):
+        what = "which controls a terminal or turns text around"
+        reasons.append(f"it has the character {number_of(odd)}, {what}")
     if len(name) > SHOWN_LIMIT:
         reasons.append(f"it has {len(name)} characters; at most {SHOWN_LIMIT} are allowed")
     if name and not alike(name):

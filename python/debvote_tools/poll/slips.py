@@ -7,7 +7,6 @@ from collections.abc import Sequence
 from debvote_tools.book.queries import Elector
 from debvote_tools.poll.call_data import CallData
 from debvote_tools.text.rendering import render_page, resources
-from debvote_tools.poll.words import BY_PYTHON
 
 PACKAGE = "debvote_tools.poll"
 
@@ -24,5 +23,4 @@ def slips(call: CallData, electors: Sequence[Elector]) -> bytes:
         style=style,
         call=call,
         electors=electors,
-        command=BY_PYTHON,
     )

@@ -9,7 +9,14 @@ from collections.abc import Sequence
 from typing import Any
 
 from debvote_tools.cli import console
-from debvote_tools.cli.arguments import Options, add_arguments, arguments_of, option, positional
+from debvote_tools.cli.arguments import (
+    Options,
+    add_arguments,
+    add_version,
+    arguments_of,
+    option,
+    positional,
+)
 from debvote_tools.debvote import Debvote
 from debvote_tools.cli.faults import Fault, Status, other_format
 from debvote_tools.files import BALLOTS_LIMIT, POLL_LIMIT, read_at_most, sha256_of
@@ -46,6 +53,7 @@ class Arguments(Options):
 def parser() -> argparse.ArgumentParser:
     description = "Makes the folder of an election for a web site, with debvote."
     options = argparse.ArgumentParser(prog=PROGRAM, allow_abbrev=False, description=description)
+    add_version(options)
     add_arguments(options, Arguments)
     return options
 

@@ -284,7 +284,7 @@ def chronicle_of(book: Book, history: History, *, is_secret: bool) -> Chronicle:
     # close had come before it, as its act says
     after_the_end = 0
     if history.until is not None:
-        condition = f"{queries.IN_TIME} AND letter IS NULL AND time > ? AND envelope.act < ?"
+        condition = f"{queries.IN_TIME} AND letter IS NULL AND time > ? AND act < ?"
         first_close = history.closes[0].number if history.closes else history.last.number + 1
         after_the_end = len(queries.lines(book, condition, as_text(history.until), first_close))
     return Chronicle(tuple(acts), history.until, after_the_end)
@@ -308,7 +308,7 @@ def acts_of_page(act: DoneAct, book: Book, history: History, *, is_secret: bool)
             yield Act(time, Done.ROLL_CHANGED, {"number": detail["electors"]})
         case "strike":
             done = Done.STRUCK_IN_SECRET if is_secret else Done.STRUCK
-            for envelope in queries.envelopes(book, "struck.act = ?", act.number):
+            for envelope in queries.envelopes(book, "struck = ?", act.number):
                 yield Act(time, done, {"envelope": envelope.number}, reason)
         case "close":
             yield close_of(act, book, history)

@@ -75,22 +75,18 @@ class BallotWords:
         unranked = steps.pop(UNRANKED, ())
         if not steps:
             return self.language.say(self.phrases.nothing)
-        said = self.then.join(
-            map(self.step, map(steps.__getitem__, sorted(steps, key=NUMBERS.__getitem__)))
-        )
+        in_order = sorted(steps, key=NUMBERS.__getitem__)
+        said = self.then.join(map(self.step, map(steps.__getitem__, in_order)))
         if not unranked:
             return said
-        return self.language.say(
-            self.phrases.unranked, ranked=said, unranked=self.language.joined(unranked)
-        )
+        others = self.language.joined(unranked)
+        return self.language.say(self.phrases.unranked, ranked=said, unranked=others)
 
     def step_in_words(self, names: tuple[str, ...]) -> str:
         """The options that share one rank, in words."""
-        return (
-            names[0]
-            if len(names) == 1
-            else self.language.say(self.phrases.equally, options=self.language.joined(names))
-        )
+        if len(names) == 1:
+            return names[0]
+        return self.language.say(self.phrases.equally, options=self.language.joined(names))
 
 
 # ---------------------------------------------------------------- no line reads as a ballot

@@ -1,20 +1,20 @@
 """The language of what electors read: English, or one that has its translations in `locale`.
 
 Each sentence is in the code or in a template once, whole and in English, with its places by name in
-braces. A language is handed on to whatever makes a page or a letter. What the secretary reads at
-the terminal is always English.
+braces. What the secretary reads at the terminal is always English.
 """
 
-import dataclasses
 import functools
 import gettext
-import importlib.resources
 import io
 import json
+import pathlib
 from collections.abc import Iterable, Mapping
 
 # each by the code that the pages have for it, with its name in English
 LANGUAGES = {"en": "English", "de": "German", "fr": "French", "es": "Spanish"}
+
+LOCALE = pathlib.Path(__file__).parent.parent / "locale"
 
 
 def marked(text: str) -> str:
@@ -27,7 +27,6 @@ def numbered(one: str, many: str) -> tuple[str, str]:
     return one, many
 
 
-@dataclasses.dataclass(frozen=True)
 class Language:
     """A language, by its code. It says sentences in plain text; `rendering.InHtml` says them in
     HTML.
@@ -38,8 +37,8 @@ class Language:
     GIVEN = STRONG = EXACT = "{}"
     LINK = "{1}"
 
-    code: str
-    catalog: gettext.NullTranslations
+    def __init__(self, code: str, catalog: gettext.NullTranslations) -> None:
+        self.code, self.catalog = code, catalog
 
     def made(self, text: str) -> str:
         """A text of ours, into which others are put."""
@@ -59,11 +58,8 @@ class Language:
     def joined(self, entries: Iterable[str]) -> str:
         """The entries as part of a sentence; there is at least one."""
         *before, last = entries
-        return (
-            self.made(", ").join(before) + self.and_last + last
-            if before
-            else self.made("{}").format(last)
-        )
+        start = self.made(", ").join(before) + self.and_last if before else self.made("")
+        return start + last
 
     @functools.cached_property
     def and_last(self) -> str:
@@ -73,16 +69,13 @@ class Language:
         """The words between the two places with which a sentence begins and ends: they join any
         number of parts.
         """
-        return self.made(
-            self.catalog.gettext(text)[text.index("}") + 1 : -len(text[text.rindex("{") :])]
-        )
+        said = self.catalog.gettext(text)
+        return self.made(said[text.index("}") + 1 : -len(text[text.rindex("{") :])])
 
     def words(self, sentences: Mapping[str, str], **more: str) -> str:
         """Sentences by their names, as JSON for a script, which fills their places."""
-        return json.dumps(
-            {name: self.catalog.gettext(text) for name, text in sentences.items()} | more,
-            ensure_ascii=False,
-        )
+        said = {name: self.catalog.gettext(text) for name, text in sentences.items()}
+        return json.dumps(said | more, ensure_ascii=False)
 
     # ------------------------------------------------------------ texts within a sentence
     def given(self, text: str) -> str:
@@ -110,20 +103,17 @@ ENGLISH = Language("en", gettext.NullTranslations())
 
 @functools.cache
 def language_of(code: str) -> Language:
-    """The language of a code of `LANGUAGES`."""
+    """The language of a code of `LANGUAGES`. A package has the translations compiled."""
     if code == ENGLISH.code:
         return ENGLISH
-    folder = importlib.resources.files("debvote_tools").joinpath("locale")
-    compiled = folder.joinpath(f"{code}.mo")
+    compiled = LOCALE / f"{code}.mo"
     if compiled.is_file():
         return Language(code, gettext.GNUTranslations(io.BytesIO(compiled.read_bytes())))
-    return Language(code, catalog_of(folder.joinpath(f"{code}.po").read_bytes()))
+    return Language(code, catalog_of((LOCALE / f"{code}.po").read_bytes()))
 
 
 def catalog_of(po: bytes) -> gettext.GNUTranslations:
-    """The translations of a `.po` file, which a checkout has; the package has them compiled. Babel
-    is read only here: it takes a while.
-    """
+    """The translations of a `.po` file. Babel is read only here: it takes a while."""
     from babel.messages import mofile, pofile
 
     compiled = io.BytesIO()

@@ -9,10 +9,11 @@ folder `templates`; those that all packages share are in that of debvote_tools.
 import base64
 import functools
 import hashlib
-import importlib.resources
+import pathlib
 import re
 import textwrap
 from collections.abc import Callable
+from typing import Any
 
 import jinja2
 from markupsafe import Markup
@@ -51,14 +52,8 @@ def line(text: str, first: str = "", then: str = "") -> str:
     """A paragraph of a letter without the end of its last line. A word that is longer than a line,
     as an address, stays whole.
     """
-    return textwrap.fill(
-        text,
-        COLUMNS,
-        initial_indent=first,
-        subsequent_indent=then,
-        break_long_words=False,
-        break_on_hyphens=False,
-    )
+    how: dict[str, Any] = {"break_long_words": False, "break_on_hyphens": False}
+    return textwrap.fill(text, COLUMNS, initial_indent=first, subsequent_indent=then, **how)
 
 
 # a paragraph, one of several lines in a row, and a line to be copied
@@ -94,14 +89,11 @@ def templates_of(package: str, language: Language, *, is_page: bool) -> jinja2.E
         optimized=False,
     )
     environment.filters |= PAGE_FILTERS if is_page else LETTER_FILTERS
-    environment.filters |= {
-        "given": speaker.given,
-        "strong": speaker.strong,
-        "exact": speaker.exact,
-    }
-    environment.globals |= {
-        name: getattr(speaker, name) for name in ("say", "say_number", "link", "joined")
-    }
+    for names, place in (
+        (("given", "strong", "exact"), environment.filters),
+        (("say", "say_number", "link", "joined"), environment.globals),
+    ):
+        place |= {name: getattr(speaker, name) for name in names}
     environment.globals |= {
         "is_page": is_page,
         "time_in_words": functools.partial(time_in_words, language=language),
@@ -121,11 +113,12 @@ def render_letter(package: str, template: str, language: Language, **values: obj
 # ---------------------------------------------------------------- pages
 def resources(package: str, *names: str) -> str:
     """Styles or scripts, one after another: files of a package, or else of debvote_tools."""
-    places = [importlib.resources.files(folder) for folder in (package, "debvote_tools")]
-    found = (
-        next(file for place in places if (file := place.joinpath(name)).is_file()) for name in names
+    shared = pathlib.Path(__file__).parent.parent
+    places = [shared / package.partition(".")[2], shared]
+    files = (
+        next(filter(pathlib.Path.is_file, (place / name for place in places))) for name in names
     )
-    return "".join(file.read_text(encoding="utf-8") for file in found)
+    return "".join(file.read_text(encoding="utf-8") for file in files)
 
 
 def render_page(
@@ -144,20 +137,11 @@ def render_page(
     if language != ENGLISH:
         # words may be longer than a narrow window
         style += resources("debvote_tools", "long_words.css")
-    allowed = f"style-src {checksum_source(style)}; base-uri 'none'; form-action 'none'"
-    policy = f"default-src 'none'; {f'script-src {checksum_source(script)}; ' if script else ''}{allowed}"
-    made = {
-        "style": Markup(style),
-        "script": Markup(script),
-        "policy": Markup(policy),
-        "language": language.code,
-    }
-    return (
-        templates_of(package, language, is_page=True)
-        .get_template(template)
-        .render(values | made)
-        .encode()
-    )
+    scripts = f"script-src {checksum_source(script)}; " if script else ""
+    policy = f"default-src 'none'; {scripts}style-src {checksum_source(style)}; base-uri 'none'; form-action 'none'"
+    made = {"style": Markup(style), "script": Markup(script), "policy": Markup(policy)}
+    page = templates_of(package, language, is_page=True).get_template(template)
+    return page.render(values | made | {"language": language.code}).encode()
 
 
 def checksum_source(text: str) -> str:

@@ -9,22 +9,9 @@ DAYS = (
     *(marked("Friday"), marked("Saturday"), marked("Sunday")),
 )
 MONTHS = (
-    *(
-        marked("January"),
-        marked("February"),
-        marked("March"),
-        marked("April"),
-        marked("May"),
-        marked("June"),
-    ),
-    *(
-        marked("July"),
-        marked("August"),
-        marked("September"),
-        marked("October"),
-        marked("November"),
-        marked("December"),
-    ),
+    *(marked("January"), marked("February"), marked("March"), marked("April"), marked("May")),
+    *(marked("June"), marked("July"), marked("August"), marked("September")),
+    *(marked("October"), marked("November"), marked("December")),
 )
 
 

@@ -1,8 +1,8 @@
 """What the lines of a letter may be: a ballot, ranks without a name, or something near to a ballot.
 
-It is read once, when the letter comes, and kept with it. It says what a line may be whatever
-addresses the list of members has and whatever time it is, so that judging a letter anew reads no
-letter. What is a valid ballot debvote says, once, of all new letters together.
+Lines are read once, when the letter comes, and the book keeps what they may be, whatever addresses
+the list has and whatever time it is. So judging a letter again reads no letter. debvote is asked
+once about the lines of all new letters together.
 """
 
 import dataclasses
@@ -13,43 +13,46 @@ from collections.abc import Collection, Iterable, Iterator, Mapping, Sequence
 from typing import Protocol
 
 from debvote_tools.inbox.known import Names
-from debvote_tools.inbox.greeting import is_quoted
-from debvote_tools.inbox.parse import Near, ParsedLetter, ReadLine, Readings, may_be_ballot
-from debvote_tools.inbox.reasons import Reason
+from debvote_tools.inbox.letter import (
+    Near,
+    ParsedLetter,
+    ReadLine,
+    Readings,
+    is_quoted,
+    may_be_ballot,
+)
 from debvote_tools.inbox.lines import DASHES, LONGEST_REPAIRED, changed, has_code
+from debvote_tools.inbox.reasons import Reason
 
 # the grammar of a ballot line, and ranks alone
-RANKS = r"(?:-|[1-9][0-9]?)(?:,(?:-|[1-9][0-9]?))*"
+ONE_RANK = "(?:-|[1-9][0-9]?)"
+RANKS = rf"{ONE_RANK}(?:,{ONE_RANK})*"
 BALLOT = re.compile(rf"[a-z0-9.-]{{1,32}} {RANKS}")
-RANKS_ALONE = re.compile(RANKS)
+RANKS_ALONE, RANK_ALONE = re.compile(RANKS), re.compile(ONE_RANK)
 # a name as people write it, with letters of any script, and ranks
 NAMED = re.compile(rf"([^\W_](?:[\w .'\u2019-]*[^\W_])?)(?:\s*:\s*|\s+)({RANKS})")
-ONE_RANK = re.compile("-|[1-9][0-9]?")
-
-# a name and two ranks or more, within other words
+# a name and at least two ranks, within other words
 RANK = rf"(?:\d{{1,2}}|[{DASHES}-])"
 WITHIN = re.compile(
     rf"(?<![\w.-])([A-Za-z0-9.-]{{1,32}})[\s:*\"'`]+({RANK}(?:\s*[,;]\s*{RANK})+)(?!\w|\s*[,;]\s*[\d{DASHES}-]|[,;]\S)"
 )
-# in characters; more is not looked through for a ballot within other words
+# in characters: a ballot within other words is searched for up to here
 MAX_LOOKED_THROUGH = 200
-# what is between ranks: every poll has two options or more
+# every poll has at least two options, so a ballot has one of these
 SEPARATOR = re.compile("[,;]")
-# the most lines that may be ballots: a letter with more waits. So many others with a number are
-# looked at; and so many that are near to a ballot are shown
-MAX_BALLOTS, MAX_OTHERS, MAX_NEAR = 200, 50, 5
-# what the line of our letters has in place of each rank
+# in place of each rank in the line of our letters, as `ada _,_,_,_`
 GAP = "_"
-# debvote looks for names that were meant for the first lines alone, so it gets no more of unknown
+# the most lines that may be ballots, else the letter waits; the most other lines with a number that
+# are read; and the most near or quoted lines
+MAX_BALLOTS, MAX_OTHERS, MAX_NEAR = 200, 50, 5
+# debvote looks for similar names for the first lines alone, so it gets at most so many unknown
 # names at once
 MOST_AT_ONCE = 100
 
 
 class LineReader(Protocol):
     def answers(self, lines: Sequence[bytes]) -> Mapping[bytes, str | None]:
-        """What debvote says of each line, as `bad rank count: ..`; None of a valid ballot of this
-        poll. No line is late.
-        """
+        """debvote's answer to each line, as `bad rank count: ..`; None for a valid ballot."""
 
 
 # ---------------------------------------------------------------- once, when a letter comes
@@ -59,66 +62,58 @@ def read_all(
     reader: LineReader,
     known: Mapping[str, str | None] | None = None,
 ) -> list[ParsedLetter]:
-    """The letters, each with what its lines may be. Debvote is asked about what is not `known`."""
+    """The letters, each with what its lines may be. debvote is asked about what is not `known`."""
     found = [read(letter, names) for letter in letters]
     stand_in = min(names.roll)
-    asked = dict.fromkeys(
-        text for readings in found for line in readings.lines for text in texts_of(line, stand_in)
-    )
+    lines = (line for readings in found for line in readings.lines)
+    asked = dict.fromkeys(text for line in lines for text in texts_of(line, stand_in))
     answers = dict(known or {})
     answers |= answers_to([text for text in asked if text not in answers], names, reader)
+
+    def answered(line: ReadLine) -> ReadLine:
+        near = line.near and dataclasses.replace(line.near, answer=answers[line.near.ballot])
+        answer = answers[f"{line.elector or stand_in} {line.ranks}"] if line.ranks else None
+        return dataclasses.replace(line, answer=answer, near=near)
+
     return [
-        dataclasses.replace(letter, readings=answered(readings, answers, stand_in))
+        dataclasses.replace(
+            letter,
+            readings=dataclasses.replace(readings, lines=tuple(map(answered, readings.lines))),
+        )
         for letter, readings in zip(letters, found)
     ]
 
 
 def read(letter: ParsedLetter, names: Names) -> Readings:
     """What the lines of a letter may be, before debvote has answered."""
-    code_lines = tuple(
-        number for number, line in enumerate(letter.shown_lines, start=1) if has_code(line)
-    )
-    own = [
-        (number, line) for number, line in enumerate(letter.shown_lines, start=1) if is_own(line)
-    ]
+    lines = list(enumerate(letter.shown_lines, start=1))
+    code_lines = tuple(number for number, line in lines if has_code(line))
+    lines = [(number, line) for number, line in lines if may_be_ballot(line)]
+    own = [(number, line) for number, line in lines if not is_quoted(line)]
     several = [SEPARATOR.search(line) is not None for _, line in own]
     if (count := sum(several)) > MAX_BALLOTS:
         return Readings(crowd=count, code_lines=code_lines)
-    others = itertools.islice(
-        (one for one, has_several in zip(own, several) if not has_several), MAX_OTHERS
-    )
-    chosen = sorted([*itertools.compress(own, several), *others])
-    lines = [read_line(number, line, names) for number, line in chosen]
-    quoted = (
-        read_quoted(number, line, names)
-        for number, line in enumerate(letter.shown_lines, start=1)
-        if is_quoted(line) and may_be_ballot(line)
-    )
-    lines += itertools.islice(filter(None, quoted), MAX_NEAR)
-    return Readings(tuple(filter(None, lines)), code_lines=code_lines)
-
-
-def is_own(line: str) -> bool:
-    """Whether a line may be a ballot of whoever wrote the letter: it is not quoted."""
-    return may_be_ballot(line) and not is_quoted(line)
+    others = (one for one, has_several in zip(own, several) if not has_several)
+    chosen = sorted([*itertools.compress(own, several), *itertools.islice(others, MAX_OTHERS)])
+    quoted = (read_quoted(number, line, names) for number, line in lines if is_quoted(line))
+    found = [read_line(number, line, names) for number, line in chosen]
+    found += itertools.islice(filter(None, quoted), MAX_NEAR)
+    return Readings(tuple(filter(None, found)), code_lines=code_lines)
 
 
 def read_line(number: int, line: str, names: Names) -> ReadLine | None:
     text = repaired(line)
     found = read_text(number, text, names)
-    for other, reason in (
-        (filled_in(text), Reason.FILLED_IN),
-        (with_commas(text), Reason.NO_COMMAS),
-    ):
+    if found is not None and found.elector:
+        return found
+    for other, why in ((filled_in(text), Reason.FILLED_IN), (with_commas(text), Reason.NO_COMMAS)):
         if found is None and other != text:
             found = read_text(number, other, names)
-            found = found and dataclasses.replace(found, offered_for=reason)
-    if found is not None and found.elector and found.offered_for is None:
-        return found
+            found = found and dataclasses.replace(found, offered_for=why)
     near = near_in(number, line, text, names.roll)
-    if found is None:
-        return None if near is None else ReadLine(number, near=near)
-    return dataclasses.replace(found, near=near)
+    if found is None and near is None:
+        return None
+    return dataclasses.replace(found or ReadLine(number), near=near)
 
 
 def read_text(number: int, text: str, names: Names) -> ReadLine | None:
@@ -130,13 +125,10 @@ def read_text(number: int, text: str, names: Names) -> ReadLine | None:
         return ReadLine(number, elector=name, ranks=ranks)
     named = NAMED.fullmatch(unicodedata.normalize("NFC", text))
     if named is not None:
-        folds = names.folds(named[1])
-        on_roll = tuple(sorted(folds & names.roll))
-        real = tuple(
-            elector
-            for fold in sorted(folds)
-            for elector in names.electors_by_real_name.get(fold, ())
-        )
+        folds = sorted(names.folds(named[1]))
+        on_roll = tuple(fold for fold in folds if fold in names.roll)
+        by_name = names.electors_by_real_name
+        real = tuple(elector for fold in folds for elector in by_name.get(fold, ()))
         if on_roll or real:
             return ReadLine(number, on_roll=on_roll, real=real, ranks=named[2])
     elif "," in text and RANKS_ALONE.fullmatch(text):
@@ -144,22 +136,8 @@ def read_text(number: int, text: str, names: Names) -> ReadLine | None:
     return None
 
 
-def filled_in(text: str) -> str:
-    """The line of our letters, as `ada _,_,_,_`, whose strokes were left where ranks were filled
-    in.
-    """
-    return text.replace(GAP, "")
-
-
-def with_commas(text: str) -> str:
-    """A line with ranks that have blanks between them, as `ada 1 2 4 3`, with commas there."""
-    words = text.replace(",", " ").split()
-    count = len(list(itertools.takewhile(ONE_RANK.fullmatch, reversed(words))))
-    return " ".join([*words[: len(words) - count], ",".join(words[len(words) - count :])])
-
-
 def read_quoted(number: int, line: str, names: Names) -> ReadLine | None:
-    """A line of ours that is filled in where it is quoted."""
+    """The line of our letter, as `ada _,_,_,_`, that was filled in where it is quoted."""
     bare = filled_in(line).strip().lstrip("> \t")
     if re.split(r"[\s:]", bare, maxsplit=1)[0].lower() not in names.roll:
         return None
@@ -169,8 +147,21 @@ def read_quoted(number: int, line: str, names: Names) -> ReadLine | None:
     return dataclasses.replace(found, offered_for=Reason.FILLED_IN)
 
 
-def near_in(number: int, line: str, text: str, roll: frozenset[str]) -> Near | None:
-    """A line that has the shape of a ballot or begins with a name of the roll, or has a ballot
+def filled_in(text: str) -> str:
+    """The line of our letter that was filled in, without the strokes that were left in it."""
+    return text.replace(GAP, "")
+
+
+def with_commas(text: str) -> str:
+    """A line with blanks between its ranks, as `ada 1 2 4 3`, with commas there."""
+    words = text.replace(",", " ").split()
+    count = len(list(itertools.takewhile(RANK_ALONE.fullmatch, reversed(words))))
+    place = len(words) - count
+    return " ".join([*words[:place], ",".join(words[place:])])
+
+
+def near_in(number: int, line: str, text: str, roll: Collection[str]) -> Near | None:
+    """A line with the shape of a ballot, with a name of the roll at its start, or with a ballot
     within other words.
     """
     for found in WITHIN.finditer(line[:MAX_LOOKED_THROUGH]):
@@ -184,20 +175,19 @@ def near_in(number: int, line: str, text: str, roll: frozenset[str]) -> Near | N
 
 
 def repaired(line: str) -> str:
-    """A line after the changes that are allowed. Of one that is too long for them the blanks are
-    taken together first.
+    """A line with the repairs that are allowed. If it is too long for them, each sequence of blanks
+    becomes one.
     """
     data = line.encode("utf-8", "replace")
-    data = (
-        data if len(data) <= LONGEST_REPAIRED else " ".join(line.split()).encode("utf-8", "replace")
-    )
+    if len(data) > LONGEST_REPAIRED:
+        data = " ".join(line.split()).encode("utf-8", "replace")
     return changed(data).decode("utf-8", "replace").replace("\n", " ")
 
 
-# ---------------------------------------------------------------- what debvote says of it
+# ---------------------------------------------------------------- debvote's answers
 def texts_of(line: ReadLine, stand_in: str) -> Iterator[str]:
-    """What debvote is asked about a line. Ranks without a name on the roll are asked with that of a
-    stand-in: whether they are valid is the same for all.
+    """What debvote is asked about a line. If it has no name of the roll, it gets that of a stand-in:
+    whether ranks are valid is the same for all.
     """
     if line.ranks:
         yield f"{line.elector or stand_in} {line.ranks}"
@@ -206,38 +196,23 @@ def texts_of(line: ReadLine, stand_in: str) -> Iterator[str]:
 
 
 def answers_to(texts: Iterable[str], names: Names, reader: LineReader) -> dict[str, str | None]:
-    """What debvote says of each, whatever the others are."""
+    """debvote's answer to each text, whatever the others are."""
     certain: list[str] = []
     others: list[str] = []
     for text in texts:
         is_certain = BALLOT.fullmatch(text) is not None and text.partition(" ")[0] in names.roll
         (certain if is_certain else others).append(text)
-    parts = [
-        certain,
-        *(others[first : first + MOST_AT_ONCE] for first in range(0, len(others), MOST_AT_ONCE)),
-    ]
+    firsts = range(0, len(others), MOST_AT_ONCE)
     answers: dict[str, str | None] = {}
-    for part in filter(None, parts):
-        said = reader.answers([text.encode() for text in part])
-        answers |= {text: said[text.encode()] for text in part}
+    for part in (certain, *(others[first : first + MOST_AT_ONCE] for first in firsts)):
+        if part:
+            said = reader.answers([text.encode() for text in part])
+            answers |= {text: said[text.encode()] for text in part}
     return answers
 
 
-def answered(readings: Readings, answers: Mapping[str, str | None], stand_in: str) -> Readings:
-    lines = []
-    for line in readings.lines:
-        near = (
-            None
-            if line.near is None
-            else dataclasses.replace(line.near, answer=answers[line.near.ballot])
-        )
-        answer = answers[f"{line.elector or stand_in} {line.ranks}"] if line.ranks else None
-        lines.append(dataclasses.replace(line, answer=answer, near=near))
-    return dataclasses.replace(readings, lines=tuple(lines))
-
-
 def answers_in(letters: Iterable[ParsedLetter], roll: Collection[str]) -> dict[str, str | None]:
-    """What debvote has said of the lines of letters."""
+    """debvote's answers to the lines of letters that were read."""
     stand_in, found = min(roll), dict[str, str | None]()
     for letter in letters:
         for line in letter.readings.lines:
@@ -266,7 +241,7 @@ class BallotLine:
 
     @property
     def has_high_rank(self) -> bool:
-        """Whether a rank is above the number of options: such a line is a ballot to debvote, but
+        """Whether a rank is above the number of options. debvote takes this for a ballot, but
         `Lars Winter 12,50` may be money.
         """
         return any(rank != "-" and int(rank) > len(self.ranks) for rank in self.ranks)
@@ -276,9 +251,9 @@ class BallotLine:
 class View:
     """What the lines of a letter are, by who sent it.
 
-    `lines` are the ballots, by the indices of their lines among all that are shown; `others` those
-    with the real name of somebody else, as in the letter of a family. `offered` are lines that the
-    secretary may enter, and `offered_for` says why the first is no ballot by itself.
+    `lines` are the ballots, by the indices of their lines among all that are shown, and `others`
+    those with the real name of somebody else, as in the letter of a family. The secretary may enter
+    what is `offered`; `offered_for` says why the first of these is no ballot by itself.
     """
 
     lines: Mapping[int, BallotLine]
@@ -288,15 +263,16 @@ class View:
     near: tuple[Near, ...] = ()
 
 
-def view_of(
-    readings: Readings, sender: str | None, likely: str | None, may_have_sent: Collection[str]
-) -> View:
-    """What the lines are if this elector sent them; None if nobody knows which elector did. The
-    sender may have written their own name with accents, or their real name.
+def view_of(readings: Readings, sharing: Sequence[str], marked: str | None) -> View:
+    """What the lines are if it was sent by one of the electors who have the sender's address, or by
+    the one whose own mark is in the subject.
 
-    Ranks without a name are offered for the `likely` elector, and a line of ours that is filled in
-    for those who may have sent the letter.
+    If only one has the address, they may have written their own name with accents, or their real
+    name. Ranks without a name are offered for the marked elector, or for the only one with the
+    address; if these differ, for none. A filled line of ours is offered for any of them.
     """
+    sender = sharing[0] if len(sharing) == 1 else None
+    likely = sender if marked is None else marked if marked in (sharing or [marked]) else None
     own, others, refused = dict[int, BallotLine](), list[BallotLine](), dict[str, Near]()
     offered = dict[BallotLine, Reason]()
     for line in readings.lines:
@@ -305,9 +281,9 @@ def view_of(
             name = likely
         ballot = BallotLine(line.number, f"{name or next(iter(line.real), None)} {line.ranks}")
         if line.offered_for is not None:
-            is_odd = ballot.has_high_rank and line.offered_for is not Reason.NO_NAME
-            is_other = line.offered_for is Reason.FILLED_IN and name not in may_have_sent
-            if line.answer is None and name is not None and not is_odd and not is_other:
+            is_money = line.offered_for is not Reason.NO_NAME and ballot.has_high_rank
+            is_other = line.offered_for is Reason.FILLED_IN and name not in (*sharing, marked)
+            if line.answer is None and name is not None and not is_money and not is_other:
                 offered[ballot] = line.offered_for
         elif line.answer is not None and name is not None:
             refused.setdefault(ballot.ballot, Near(line.number, ballot.ballot, False, line.answer))

@@ -1,81 +1,9 @@
-"""Whether what is entered now comes in time: whether the vote is open, until when, and what is
-asked after it was opened again.
-"""
+"""The end of a vote, as `call --until` and `--zone` name it."""
 
 import datetime
 
-from debvote_tools.cli.arguments import option
-from debvote_tools.cli.console import is_terminal, is_yes
-from debvote_tools.book import acting
-from debvote_tools.book.election import Election, History
-from debvote_tools.book.reporting import act_time
 from debvote_tools.cli.faults import Fault, Status
-from debvote_tools.text.times import minute_in_words, now, time_in_words
-
-CAME_BEFORE_CLOSE = "--came-before-close"
-
-
-class Arguments(acting.Arguments):
-    """The options of a command that enters lines."""
-
-    came_before_close: str | None = option(
-        None,
-        "After reopen: whether the ballots came before the first close (default: ask at the terminal)",
-        choices=("yes", "no"),
-    )
-
-
-def notes(election: Election, history: History, what: str) -> list[str]:
-    """What is said before lines are entered after the end; `what` says what is done with them."""
-    if history.is_closed:
-        return [
-            f"Note: the vote was closed at {act_time(history.closes[-1].time)}; {what} now is late."
-        ]
-    if history.until is not None and now() >= history.until:
-        over = f"the announced end of the vote, {time_in_words(history.until)}, has passed"
-        counts = (
-            f"{what} still counts until you close the vote, and the result page says how many lines"
-        )
-        return [f"Note: {over}; {counts}: {election.command('close')}"]
-    return []
-
-
-def came_before_close(history: History, answer: str | None, not_done: str) -> bool | None:
-    """Whether what is entered came before the first close, by the option or by an answer at a
-    terminal. None if that does not matter.
-    """
-    if not history.is_reopened:
-        if answer is not None and not history.is_closed:
-            raise Fault(
-                CAME_BEFORE_CLOSE,
-                "the vote was never closed",
-                "leave it out",
-                Status.BAD_WORDS,
-                not_done,
-            )
-        return None
-    if answer is not None:
-        return answer == "yes"
-    closed = f"vote was closed at {act_time(history.closes[0].time)} and opened again"
-    if not is_terminal():
-        cure = f"say whether this came before that close: {CAME_BEFORE_CLOSE} yes, or {CAME_BEFORE_CLOSE} no, which makes it late"
-        raise Fault(
-            CAME_BEFORE_CLOSE,
-            f"the {closed}, and only what came before counts",
-            cure,
-            Status.DOUBT,
-            not_done,
-        )
-    said = is_yes(f"The {closed}. Did this come before that close?")
-    if said is None:
-        raise Fault(
-            None,
-            "you did not say whether it came before the close",
-            "run the command again",
-            Status.DOUBT,
-            not_done,
-        )
-    return said
+from debvote_tools.text.times import minute_in_words, time_in_words
 
 
 def parse_until(

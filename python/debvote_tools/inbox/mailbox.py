@@ -11,7 +11,7 @@ import pathlib
 import re
 from collections.abc import Sequence
 
-from debvote_tools.inbox.parts import END_OF_HEAD, MAX_HEAD, MAX_LETTER, Part
+from debvote_tools.inbox.mime import END_OF_HEAD, MAX_HEAD, MAX_LETTER, Part
 from debvote_tools.inbox.lines import MARK
 
 # where the letters of a Maildir are: those that nobody has looked at come first, since one that

@@ -1,0 +1,134 @@
+"""What came for an election, as `add` is given it: each file, folder or standard input, read once.
+"""
+
+import codecs
+import os
+import pathlib
+import re
+import sys
+from collections.abc import Mapping, Sequence
+from typing import BinaryIO, NamedTuple
+
+from debvote_tools.book.election import Election
+from debvote_tools.cli.console import tell
+from debvote_tools.cli.faults import Fault, Status, stop_at
+from debvote_tools.files import BALLOTS_LIMIT
+from debvote_tools.inbox.lines import NOTHING_ADDED
+from debvote_tools.inbox.mailbox import NotRead, are_letters, kind_not_read
+from debvote_tools.inbox.tables import PACKED, PDF, kind_of
+from debvote_tools.poll.sealed_poll import REQUIRED
+
+# what names standard input on the command line, and how messages name it
+HYPHEN, STANDARD_INPUT = "-", "standard input"
+
+AS_TEXT = "save it as plain text in UTF-8"
+# what is done with a file that may have letters in it
+CURES = {
+    PACKED: f"{AS_TEXT}; if letters are packed in it, unpack it, and add the folder",
+    PDF: f"{AS_TEXT}; if it shows letters, save the letters themselves (.eml, or a folder of them)",
+}
+
+POLL_KEY = re.compile(rb"(?m)^[ \t]*\"?(%b)\"?[ \t]*=" % "|".join(REQUIRED).encode())
+
+
+class CameFile(NamedTuple):
+    name: str
+    data: bytes
+
+    @property
+    def kept_name(self) -> str:
+        """The name under which the book keeps it, without bytes that are no text."""
+        return safe(pathlib.Path(self.name).name or self.name)
+
+
+def safe(text: str) -> str:
+    """A text from the command line, in which bytes that are no UTF-8 are written as \\xff."""
+    return os.fsencode(text).decode("utf-8", "backslashreplace")
+
+
+def is_letters(file: CameFile | None) -> bool:
+    """Whether what came is a mailbox, a letter, or a folder of letters."""
+    of_outlook = (NotRead.OUTLOOK_LETTER, NotRead.OUTLOOK_MAILBOX)
+    return file is None or are_letters(file.data) or kind_not_read(file.data) in of_outlook
+
+
+def are_all_letters(files: Mapping[str, CameFile | None]) -> bool:
+    """Whether all that came are letters. Stops if some are letters and some are not."""
+    with_letters = [path for path, file in files.items() if is_letters(file)]
+    if 0 < len(with_letters) < len(files):
+        names = ", ".join(STANDARD_INPUT if path == HYPHEN else path for path in with_letters)
+        words = "it has letters, and the other files have none"
+        cure = "add letters and other files with separate commands"
+        raise Fault(names, words, cure, Status.BAD_WORDS, NOTHING_ADDED)
+    return bool(with_letters)
+
+
+def read_files(
+    election: Election, paths: Sequence[str], *, is_table: bool
+) -> dict[str, CameFile | None]:
+    """What these paths name, or standard input, each read whole; a folder is None. Stops at what
+    has neither ballots nor letters.
+    """
+    files: dict[str, CameFile | None] = {}
+    faults = []
+    for path in paths or [HYPHEN]:
+        try:
+            is_folder = path != HYPHEN and os.path.isdir(path)
+            files[path] = file = None if is_folder else read_file(election, path)
+            if file is not None and not is_letters(file):
+                demand_lines(file, is_table=is_table)
+        except Fault as fault:
+            faults.append(fault)
+    stop_at(faults)
+    return files
+
+
+def unreadable(name: object, words: object, cure: str) -> Fault:
+    return Fault(name, words, cure, Status.BAD_BALLOTS, NOTHING_ADDED)
+
+
+def read_file(election: Election, path: str) -> CameFile:
+    """Reads a file, or standard input; at a terminal it says how to end it. It may be a pipe, so it
+    is read once.
+    """
+    if path == HYPHEN:
+        if sys.stdin is None:
+            raise unreadable(STANDARD_INPUT, "it is closed", "name a file")
+        if sys.stdin.isatty():
+            tell("Type the ballots, one on each line; to end, type Ctrl-D on an empty line.")
+        return CameFile(STANDARD_INPUT, bytes_in(sys.stdin.buffer))
+    # no other handle may be opened on the book: closing it would end the locks of this process
+    if os.path.exists(path) and os.path.samefile(path, election.book.path):
+        raise unreadable(path, "it is the book of this election", "name a file of ballots")
+    try:
+        with open(path, "rb") as file:
+            return CameFile(path, bytes_in(file))
+    except OSError as error:
+        cure = "name a file of ballots that you may read"
+        raise unreadable(path, error.strerror, cure) from None
+
+
+def bytes_in(file: BinaryIO) -> bytes:
+    """All bytes of a file with letters. Of another file that is too long, one byte more than the
+    limit.
+    """
+    data = file.read(BALLOTS_LIMIT + 1)
+    return data + file.read() if are_letters(data) else data
+
+
+def demand_lines(file: CameFile, *, is_table: bool) -> None:
+    if not file.data:
+        words, cure = "it is empty", "write one ballot on each line"
+        raise Fault(file.name, words, cure, Status.DOUBT, NOTHING_ADDED)
+    if len(file.data) > BALLOTS_LIMIT:
+        words = f"it is longer than {BALLOTS_LIMIT} bytes, the most that debvote takes"
+        raise unreadable(file.name, words, "add it in parts")
+    what = kind_of(file.data)
+    if not is_table and file.data.startswith((codecs.BOM_UTF16_LE, codecs.BOM_UTF16_BE)):
+        what = "a text in UTF-16"
+    if what is not None:
+        cure = "save it as CSV" if is_table else CURES.get(what, AS_TEXT)
+        raise unreadable(file.name, f"it is {what}", cure)
+    if len({key[1] for key in POLL_KEY.finditer(file.data)}) > 1:
+        words = "it looks like a poll, not like ballots"
+        raise Fault(file.name, words, "name the file of the ballots", done=NOTHING_ADDED)

@@ -1,0 +1,284 @@
+"""What goes in: the loop that shows a plan, asks and does it; the act that enters lines, with the
+replies to them; whether they come in time, and which of them came before.
+"""
+
+import collections
+import contextlib
+import itertools
+from collections.abc import Callable, Collection, Iterable, Iterator, Mapping, Sequence
+from typing import NamedTuple, TypeVar
+
+from debvote_tools.book import acting, queries
+from debvote_tools.book.acts import ActName, Detail
+from debvote_tools.book.book import Book, NewAct, Overtaken
+from debvote_tools.book.election import Election, History
+from debvote_tools.book.queries import Envelope, NewEnvelope
+from debvote_tools.book.reporting import act_time, count_of
+from debvote_tools.cli.arguments import option
+from debvote_tools.cli.console import OutputFailed, is_terminal, is_yes, tell, tell_many
+from debvote_tools.cli.faults import Fault, Status
+from debvote_tools.files import BALLOTS_LIMIT, LINES_LIMIT, uninterrupted
+from debvote_tools.inbox.files import CameFile
+from debvote_tools.inbox.lines import Line, name_in
+from debvote_tools.inbox.vote import LATE_REPLY, JudgedLine, Vote
+from debvote_tools.text.times import now, time_in_words
+
+CAME_BEFORE_CLOSE = "--came-before-close"
+MEANWHILE = "Nothing was done: another command changed the election meanwhile. Now it is so:"
+
+# in bytes; no ballot has half as many
+LONGEST_LINE = 500
+
+Plan = TypeVar("Plan")
+
+
+class Arguments(acting.Arguments):
+    """The options of a command that enters lines."""
+
+    came_before_close: str | None = option(
+        None,
+        "After reopen: whether the ballots came before the first close (default: ask at the terminal)",
+        choices=("yes", "no"),
+    )
+
+
+# ---------------------------------------------------------------- plan, question, act
+def agreed_act(
+    plan: Callable[[], Plan], show: Callable[[Plan], bool], act: Callable[[Plan], object]
+) -> Plan:
+    """Shows a plan, which may ask, and does it unless `show` says no. Returns the last plan.
+
+    If another act came since the plan was made, `act` raises `Overtaken`. Then it plans again, and
+    shows the new plan if it differs: what was agreed to is what is done.
+    """
+    shown: Plan | None = None
+    while True:
+        found = plan()
+        if found != shown:
+            if shown is not None and is_terminal():
+                tell(MEANWHILE)
+            if not show(found):
+                return found
+            shown = found
+        with contextlib.suppress(Overtaken):
+            act(found)
+            return found
+
+
+def enter(
+    book: Book,
+    vote: Vote,
+    name: ActName,
+    detail: Detail,
+    envelopes: Callable[[NewAct], Iterable[NewEnvelope]],
+    report: Callable[[range, Sequence[str]], Iterable[str]],
+    *,
+    decided_at: int,
+    is_late: bool,
+    is_same: Callable[[], bool] | None = None,
+    what: str = "lines",
+) -> None:
+    """The act that enters lines, and the report on it, by the numbers of the envelopes and the
+    replies. `envelopes` gives what goes in, and may write rows of its own.
+
+    `decided_at` is the last act that was known when this was decided. If others came since,
+    `is_same` says within the act whether the decision would be the same.
+    """
+    with contextlib.ExitStack() as stack:
+        with book.act(name, detail) as act:
+            if act.number != decided_at + 1 and not (is_same and is_same()):
+                raise Overtaken
+            new = list(envelopes(act))
+            if not is_late:
+                demand_room(book, new)
+            # whoever enters a ballot sees the reply to it: until then interrupts wait
+            stack.enter_context(uninterrupted())
+            first, lines = queries.last_envelope(book) + 1, [envelope.line for envelope in new]
+            electors = electors_of(book, vote, lines)
+            queries.add_envelopes(act, new, electors, is_late=is_late)
+        numbers = range(first, first + len(new))
+        done = f"were entered nevertheless ({envelope_words(numbers)})"
+        try:
+            # they depend on the lines of the same electors alone
+            replies = (
+                [LATE_REPLY] * len(new)
+                if is_late
+                else vote.replies(
+                    queries.lines_after(book, act.number - 1, frozenset(filter(None, electors))),
+                    lines,
+                )
+            )
+            tell_many(report(numbers, replies))
+        except OutputFailed as fault:
+            cure = "see debvote-election status"
+            raise Fault(
+                None, "the output failed", cure, fault.status, f"the {what} {done}"
+            ) from None
+        except Fault as fault:
+            raise fault.with_done(f"the lines {done}") from None
+
+
+def electors_of(book: Book, vote: Vote, lines: Sequence[bytes]) -> list[int | None]:
+    """For each line, the elector whose name it begins with."""
+    names = list(map(name_in, lines))
+    on_roll = vote.names_on_roll & {name.decode("ascii") for name in set(names)}
+    numbers = queries.elector_numbers(book, on_roll)
+    return list(map({name.encode(): number for name, number in numbers.items()}.get, names))
+
+
+def demand_room(book: Book, new: Sequence[NewEnvelope]) -> None:
+    """Stops if debvote would no longer take the ballots."""
+    count, added = len(new), sum(len(envelope.line) + 1 for envelope in new)
+    # the file of the book is longer than its lines, so they are counted only if it may be too long
+    if queries.last_envelope(book) + count > LINES_LIMIT or book.size() + added > BALLOTS_LIMIT:
+        line_count, size = queries.size_in_time(book)
+        if line_count + count > LINES_LIMIT or size + added > BALLOTS_LIMIT:
+            words = f"with the new lines there would be {count_of(line_count + count, 'line')} and {size + added} bytes of ballots"
+            cure = f"debvote takes at most {LINES_LIMIT} lines and {BALLOTS_LIMIT} bytes: add fewer"
+            raise Fault(book.path, words, cure, Status.BAD_BALLOTS, "nothing was added")
+
+
+def envelope_words(numbers: Collection[int]) -> str:
+    """Some envelopes, in their order, as `envelope 3` or `envelopes 3-5, 7`."""
+    runs = []
+    for _, run in itertools.groupby(enumerate(numbers), lambda one: one[1] - one[0]):
+        ends = [number for _, number in run]
+        runs.append("-".join(map(str, dict.fromkeys((ends[0], ends[-1])))))
+    return f"envelope{'s' * (len(numbers) != 1)} {', '.join(runs)}"
+
+
+def too_long(line: Line) -> str | None:
+    """Why a line is much longer than any ballot; None if it is not."""
+    words = f"the line has {len(line.came)} bytes, and a ballot has a few dozen"
+    return words if len(line.came) > LONGEST_LINE else None
+
+
+# ---------------------------------------------------------------- whether it comes in time
+def notes(election: Election, history: History, what: str) -> list[str]:
+    """What is said before lines are entered after the end; `what` says what is done with them."""
+    if history.is_closed:
+        closed = act_time(history.closes[-1].time)
+        return [f"Note: the vote was closed at {closed}; {what} now is late."]
+    if history.until is not None and now() >= history.until:
+        over = f"the announced end of the vote, {time_in_words(history.until)}, has passed"
+        counts = (
+            f"{what} still counts until you close the vote, and the result page says how many lines"
+        )
+        return [f"Note: {over}; {counts}: {election.command('close')}"]
+    return []
+
+
+def came_before_close(history: History, answer: str | None, not_done: str) -> bool | None:
+    """Whether what is entered came before the first close, by the option or by an answer at a
+    terminal. None if that does not matter.
+    """
+    if not history.is_reopened:
+        if answer is not None and not history.is_closed:
+            words = "the vote was never closed"
+            raise Fault(CAME_BEFORE_CLOSE, words, "leave it out", Status.BAD_WORDS, not_done)
+        return None
+    if answer is not None:
+        return answer == "yes"
+    closed = f"vote was closed at {act_time(history.closes[0].time)} and opened again"
+    if not is_terminal():
+        words = f"the {closed}, and only what came before counts"
+        cure = f"say whether this came before that close: {CAME_BEFORE_CLOSE} yes, or {CAME_BEFORE_CLOSE} no, which makes it late"
+        raise Fault(CAME_BEFORE_CLOSE, words, cure, done=not_done)
+    said = is_yes(f"The {closed}. Did this come before that close?")
+    if said is None:
+        words = "you did not say whether it came before the close"
+        raise Fault(None, words, "run the command again", done=not_done)
+    return said
+
+
+def demand_same_call(vote: Vote, history: History, cure: str, not_done: str) -> None:
+    """Stops if lines were read by the poll of another call."""
+    if history.call != vote.call:
+        words = "the call for votes was made anew meanwhile"
+        raise Fault(None, words, cure, done=not_done)
+
+
+# ---------------------------------------------------------------- which lines of files came before
+class FileLines(NamedTuple):
+    """A file and its lines in the order of entering: which of them go in now, and which came
+    before.
+    """
+
+    came: CameFile
+    lines: tuple[JudgedLine, ...]
+    empty: tuple[Line, ...]
+    new: tuple[JudgedLine, ...] = ()
+    # each with what has happened since, if it no longer counts: then `--again` takes it
+    repeated: tuple[tuple[JudgedLine, str | None], ...] = ()
+    # the envelopes of lines that go in again: from then on such a line is known by its new envelope
+    again: tuple[int, ...] = ()
+
+
+def sorted_out(
+    book: Book, files: Sequence[FileLines], *, takes_again: bool, is_reopened: bool
+) -> tuple[FileLines, ...]:
+    """The files, with the new lines of each. If n copies of a line came in earlier files, its first
+    n copies in this file are duplicates, whether those were counted, refused, struck or late. Files
+    that an `undo` took back do not count. A file that goes in now is an earlier one for the next.
+    """
+    counts = queries.lines_that_came(book)
+    is_known = any(line.as_entered in counts for file in files for line in file.lines)
+    if not is_known and len(files) == 1:
+        return (files[0]._replace(new=files[0].lines),)
+    by_line = queries.came_in_files(book) if is_known else {}
+    with_envelopes = [list(envelopes_of(file.lines, by_line)) for file in files]
+    # a later row of the same file did not come since
+    own = {envelope.number for lines in with_envelopes for _, envelope, _ in lines if envelope}
+    numbers = queries.last_numbers(book).items() if is_known else ()
+    last = {elector: (number, line) for elector, (number, line) in numbers if number not in own}
+    going_in: set[bytes] = set()
+    found = []
+    for file, lines in zip(files, with_envelopes):
+        new, repeated, again, came_first = [], [], [], []
+        for nth, envelope, line in lines:
+            change = None
+            if envelope is not None and line.as_entered not in going_in:
+                change = change_since(envelope, line, last, is_reopened=is_reopened)
+            if nth > counts[line.as_entered]:
+                new.append(line)
+                came_first.append(line.as_entered)
+            elif takes_again and envelope is not None and change is not None:
+                new.append(line)
+                again.append(envelope.number)
+            else:
+                repeated.append((line, change))
+        counts.update(came_first)
+        going_in.update(line.as_entered for line in new)
+        found.append(file._replace(new=tuple(new), repeated=tuple(repeated), again=tuple(again)))
+    return tuple(found)
+
+
+def envelopes_of(
+    lines: Iterable[JudgedLine], by_line: Mapping[bytes, Sequence[Envelope]]
+) -> Iterator[tuple[int, Envelope | None, JudgedLine]]:
+    """Each line with its number among its copies, and with its envelope if it came before."""
+    counts: collections.Counter[bytes] = collections.Counter()
+    for line in lines:
+        counts[line.as_entered] += 1
+        nth, envelopes = counts[line.as_entered], by_line.get(line.as_entered, ())
+        yield nth, envelopes[nth - 1] if nth <= len(envelopes) else None, line
+
+
+def change_since(
+    envelope: Envelope,
+    line: JudgedLine,
+    last: Mapping[int, tuple[int, bytes]],
+    *,
+    is_reopened: bool,
+) -> str | None:
+    """Why a line that came no longer counts: it was struck, its elector has sent another ballot, or
+    it was late before a reopen.
+    """
+    if envelope.is_struck:
+        return f"was struck (envelope {envelope.number})"
+    if envelope.is_late:
+        return f"was late (envelope {envelope.number})" if is_reopened else None
+    number, text = last.get(envelope.elector or 0, (0, b""))
+    if number <= envelope.number or text == line.as_entered or not line.is_ballot:
+        return None
+    return f"{line.voter} has voted since (envelope {number})"
