@@ -75,14 +75,6 @@ impl OptionSet {
         self.bits.count_ones() as usize
     }
 
-    /// Whether the set has no options.
-    /// For callers of the library; the program does not call it.
-    pub fn is_empty(&self) -> bool
-        ensures { IsTrue result ↔ (size self.now ≡ 0) }
-    {
-        self.len() == 0
-    }
-
     // The greatest option of the set, or 0 if it is empty. So a loop over the set needs no more turns
     // than its poll has options.
     pub(crate) fn last(&self) -> u8

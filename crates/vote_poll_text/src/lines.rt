@@ -161,14 +161,6 @@ impl<'t> Lines<'t> {
         self.lines.len()
     }
 
-    /// Whether there is no line.
-    /// For callers of the library; the program does not call it.
-    pub fn is_empty(&self) -> bool
-        ensures { result ≡ (length self.now == 0) }
-    {
-        self.lines.is_empty()
-    }
-
     /// The line at an index, from 0.
     pub fn line(&self, place: usize) -> &'t [u8]
         requires { place < length self.now }
