@@ -70,6 +70,11 @@ class LettersTest(support.ElectionTest):
         self.write("inbox.mbox", mailbox(*letters))
         return self.election("add", *words, "inbox.mbox")
 
+    @property
+    def mark(self) -> str:
+        """That of the poll."""
+        return hashlib.sha256((self.folder / "call" / "poll.toml").read_bytes()).hexdigest()[:16]
+
     def numbers(self) -> dict[str, object]:
         return json.loads(self.done("status", "--json").output)
 
@@ -288,7 +293,7 @@ class ReadOnce(LettersTest):
     def test_judging_again_asks_debvote_nothing(self) -> None:
         letters = [letter("ada", f"adaa {RANKS}"), letter("ben", f"I vote ben {RANKS} today"), letter("cleo", f"cleo {RANKS}")]
         self.write("inbox.mbox", mailbox(*letters, letter("dan", "1,2,4,3")))
-        self.assertEqual(self.with_counter("add", "--yes", "inbox.mbox")[1], ["explain", "explain", "steps"])
+        self.assertEqual(self.with_counter("add", "--yes", "inbox.mbox")[1], ["explain", "steps"])
         self.assertEqual(self.with_counter("add", "--yes", "inbox.mbox")[1], [])
         shown, runs = self.with_counter("held")
         self.assertEqual(runs, [])
@@ -390,8 +395,7 @@ class Held(LettersTest):
 
     def test_what_it_quotes_of_ours_is_not_shown(self) -> None:
         """But for a line that may be a ballot, each line keeps its number. What others wrote is shown."""
-        mark = hashlib.sha256((self.folder / "call" / "poll.toml").read_bytes()).hexdigest()[:16]
-        ours = f"> Vote on\n> the mark [{mark}]\n>\n> cleo 1,2\n> until Friday"
+        ours = f"> Vote on\n> the mark [{self.mark}]\n>\n> cleo 1,2\n> until Friday"
         self.add(letter("cleo", f"I am for the lake.\n\nVote wrote:\n\n{ours}\n\nAnd Dan wrote:\n> I am not"))
         shown = self.done("held", 3).output
         lines = "   1  I am for the lake.\n   2  \n      .. 7 lines of a letter of ours, which it quotes\n  10  \n  11  And Dan wrote:\n  12  > I am not\n"
@@ -681,7 +685,6 @@ class Signed(LettersTest):
         self.keys = pgp.keys()
         self.set_clock("2026-11-20T09:00:00+00:00")
         self.call_with("ada", "cleo")
-        self.mark = hashlib.sha256((self.folder / "call" / "poll.toml").read_bytes()).hexdigest()[:16]
         self.set_clock("2026-11-25T09:00:00+00:00")
 
     def call_with(self, *names: str) -> None:
@@ -770,7 +773,6 @@ class TakenBack(LettersTest):
         self.assertIn("1 letter waits", self.done("held").output)
         self.assertIn("Set aside: 1", self.done("held").output)
         self.assertIn("its ballot was struck", self.done("held", "1").output)
-
 
     def test_all_come_back_by_one_command(self) -> None:
         """But for those that somebody has to look at, as before."""

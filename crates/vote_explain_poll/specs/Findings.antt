@@ -7,7 +7,7 @@ use Rattle.vote_poll_text.specs.Shown.{shown}
 use Rattle.vote_poll.specs.PollFaults.{faults_in}
 use Rattle.vote_poll_keys.specs.FaultWords.{fault_words}
 use Rattle.vote_poll_keys.specs.declared.fault.PollFault.{PollFault}
-use Rattle.vote_explain_poll.specs.Hints.{IsHint}
+use Rattle.vote_explain_poll.specs.Hints.{IsHintLine}
 use Rattle.vote_explain_poll.specs.UnreadKeys.{KeyPlace, path_of}
 use Rattle.vote_explain_poll.specs.Remarks.{IsKeyRemark}
 use Rattle.vote_explain_poll.specs.declared.TheConstants.{MAX_SHOWN}
@@ -19,7 +19,7 @@ abbrev pub fault_head : PollFault → List ℕ
 fault_head e = codes "poll: " ++ fault_words e ++ codes ": "
 
 abbrev pub SaysFault : PollFault → List ℕ → Type 0
-SaysFault e line = (hint : List ℕ) × IsHint hint × (line ≡ fault_head e ++ hint ++ line_feed)
+SaysFault e line = (hint : List ℕ) × IsHintLine hint × (line ≡ fault_head e ++ hint)
 
 abbrev pub key_head : List ℕ → List ℕ
 key_head path = codes "poll: key " ++ shown MAX_SHOWN path ++ codes " is not read"

@@ -1,8 +1,7 @@
 -- What a hint is, and what calls say that add to a text.
-use Rattle.std.specs.Prelude.{◌≡◌, ◌≤◌, ◌/◌, ℕ, List, ◌++◌, Result, String, OnOk, length, string_bytes}
-use Rattle.std.specs.List.{All}
-use Rattle.std.specs.declared.alloc.Global.{Global}
-use Rattle.vote_poll_text.specs.Lines.{IsUnbroken, text_of_lines}
+use Rattle.std.specs.Prelude.{◌≡◌, ◌≤◌, ◌/◌, ℕ, List, ◌++◌, Result, OnOk, length, string_bytes}
+use Rattle.std.specs.declared.string.String.{String}
+use Rattle.vote_poll_text.specs.Lines.{IsUnbroken, line_feed}
 use Rattle.vote_poll_text.specs.Shown.{shown}
 use Rattle.vote_explain_poll.specs.declared.TheConstants.{MAX_HINT}
 
@@ -13,13 +12,13 @@ pub record IsHint (hint : List ℕ) : Type 0 where
   pub unbroken : IsUnbroken hint
   pub short : length hint ≤ MAX_HINT
 
--- lines that show a place
-abbrev pub IsExcerpt : List ℕ → Type 0
-IsExcerpt text = (lines : List (List ℕ)) × All IsHint lines × (text ≡ text_of_lines lines)
+abbrev pub IsHintLine : List ℕ → Type 0
+IsHintLine line = (hint : List ℕ) × IsHint hint × (line ≡ hint ++ line_feed)
 
--- a text was added of which this is said
+-- a text was added of which this is said, and nothing else has changed
 abbrev pub Adding : (List ℕ → Type 0) → List ℕ → List ℕ → Type 0
 Adding Says before after = (added : List ℕ) × Says added × (after ≡ before ++ added)
 
-abbrev pub Tells : {X E : Type 0} → Result X E → String Global → (List ℕ → Type 0) → String Global → Type 0
+-- a call that returned Ok did so
+abbrev pub Tells : {Z X E : Type 0} → Result X E → String Z → (List ℕ → Type 0) → String Z → Type 0
 Tells r before Says after = OnOk r (Adding Says (string_bytes before) (string_bytes after))

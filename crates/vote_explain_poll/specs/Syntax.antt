@@ -1,11 +1,10 @@
 -- What is said of a poll file that is no TOML, by the place of an error in it: how many bytes stand before the error.
 use Rattle.std.specs.Prelude.{◌≡◌, ◌⊎◌, ℕ, ◌+◌, ◌-◌, ◌≤◌, not, Bool, List, [], ◌++◌, Option, Some, None, count_by, length, slice_index_or, take, codes, decimal}
-use Rattle.std.specs.List.{All}
-use Rattle.vote_poll_text.specs.Lines.{feed_count, line_feed, parts_of, text_of_lines}
+use Rattle.vote_poll_text.specs.Lines.{feed_count, parts_of}
 use Rattle.vote_poll_text.specs.Names.{is_within}
 use Rattle.vote_poll.specs.BallotLine.{IsBallotText}
 use Rattle.vote_explain_poll.specs.FileKinds.{file_kind}
-use Rattle.vote_explain_poll.specs.Hints.{IsHint}
+use Rattle.vote_explain_poll.specs.Hints.{IsHintLine}
 
 -- ---- lines
 -- the first line of a text, and what stands after its last line feed
@@ -32,15 +31,17 @@ column_number before = count_by begins_character before + 1
 abbrev pub place_words : List ℕ → List ℕ
 place_words before = codes "poll:" ++ decimal (line_number before) ++ codes ":" ++ decimal (column_number (last_line before)) ++ codes ": "
 
--- The line of the finding, and lines that show the place. Open are the place that `toml` tells and the words.
+-- The place, a hint, and two lines that show the place. Open are the place that `toml` tells and the words.
 pub record IsPlaceFinding (text finding : List ℕ) : Type 0 where
   pub place : ℕ
   pub within : place ≤ length text
   pub hint : List ℕ
-  pub is_hint : IsHint hint
-  pub excerpt : List (List ℕ)
-  pub are_hints : All IsHint excerpt
-  pub is_text : finding ≡ place_words (take place text) ++ hint ++ line_feed ++ text_of_lines excerpt
+  pub is_hint : IsHintLine hint
+  pub line : List ℕ
+  pub is_line : IsHintLine line
+  pub mark : List ℕ
+  pub is_mark : IsHintLine mark
+  pub is_text : finding ≡ place_words (take place text) ++ hint ++ line ++ mark
 
 abbrev pub exchanged_text : List ℕ
 exchanged_text = codes "the poll file looks like ballots: are the files exchanged?\n"

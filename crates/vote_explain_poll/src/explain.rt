@@ -9,7 +9,7 @@ ghost use Rattle.vote_poll.specs.PollFile.{IsPollOrFirst, poll_in, poll_in_table
 ghost use Rattle.vote_explain_poll.specs.Findings.{AreFindings, AreFindingsOf};
 ghost use Rattle.vote_poll_keys.specs.declared.fault.PollFault.TheVariants.{Memory, Syntax};
 
-use crate::findings::{Hints, push_fault_lines, push_key_lines};
+use crate::findings::{Hints, push_fault_line, push_key_line};
 use crate::syntax::syntax_finding;
 use crate::unread::unread_keys;
 use std::alloc::{AllocError, Global};
@@ -38,8 +38,12 @@ fn findings_of(
     let unread = unread_keys(alloc, table)?;
     let hints = Hints::of(alloc, table, keys, &unread)?;
     let mut findings = String::new(alloc);
-    push_fault_lines(alloc, &mut findings, faults, &hints)?;
-    push_key_lines(alloc, &mut findings, &unread, &hints)?;
+    for fault in faults {
+        push_fault_line(alloc, &mut findings, *fault, &hints)?;
+    }
+    for key in &unread {
+        push_key_line(alloc, &mut findings, key, &hints)?;
+    }
     Ok(findings)
 }
 

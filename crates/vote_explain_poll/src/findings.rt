@@ -2,14 +2,14 @@
 ghost use Rattle.std.specs.Prelude.{◌≡◌, IfOk};
 ghost use Rattle.toml.specs.View.{table_view};
 ghost use Rattle.vote_poll_text.specs.Adding.{Adds};
-ghost use Rattle.vote_explain_poll.specs.Findings.{AreLinesFor, SaysFault, SaysKey, fault_head, key_head};
-ghost use Rattle.vote_explain_poll.specs.Hints.{IsHint, Tells};
+ghost use Rattle.vote_explain_poll.specs.Findings.{SaysFault, SaysKey, fault_head};
+ghost use Rattle.vote_explain_poll.specs.Hints.{IsHintLine, Tells};
 ghost use Rattle.vote_explain_poll.specs.Remarks.{IsKeyRemark, suggestion};
 
 use crate::characters::push_character;
 use crate::near::near_key;
 use crate::unread::UnreadKey;
-use crate::{MAX_SHOWN, push_hint};
+use crate::{MAX_SHOWN, push_hint_line};
 use indexmap::IndexMap;
 use std::alloc::{AllocError, Global};
 use toml::{Table, Value};
@@ -212,11 +212,11 @@ impl<'f> Hints<'f> {
         text: &mut String,
         fault: PollFault,
     ) -> Result<(), AllocError>
-        ensures { Tells result text.old IsHint text.new }
+        ensures { Tells result text.old IsHintLine text.new }
     {
         let mut words = String::new(alloc);
         self.push_fault(&mut words, fault)?;
-        push_hint(text, words.as_bytes())
+        push_hint_line(text, words.as_bytes())
     }
 
     /// Adds what is said of a key that is not read: where a key of its name is read, or a missing key that is near to it, or nothing.
@@ -344,7 +344,7 @@ fn push_fault_head(text: &mut String, fault: PollFault) -> Result<(), AllocError
 }
 
 /// Adds the line of a fault, with what was found.
-fn push_fault_line(
+pub(crate) fn push_fault_line(
     alloc: Global,
     text: &mut String,
     fault: PollFault,
@@ -354,35 +354,11 @@ fn push_fault_line(
 {
     push_fault_head(text, fault)?;
     hints.push_found(alloc, text, fault)?;
-    text.push_str("\n")
-}
-
-/// Adds the lines of faults.
-pub(crate) fn push_fault_lines(
-    alloc: Global,
-    text: &mut String,
-    faults: &[PollFault],
-    hints: &Hints<'_>,
-) -> Result<(), AllocError>
-    ensures { Tells result text.old (AreLinesFor SaysFault faults.now) text.new }
-{
-    for fault in faults {
-        push_fault_line(alloc, text, *fault, hints)?;
-    }
     Ok(())
 }
 
-/// Adds that a key is not read.
-fn push_key_head(text: &mut String, path: &[u8]) -> Result<(), AllocError>
-    ensures { Adds result text.old (key_head path.now) text.new }
-{
-    text.push_str("poll: key ")?;
-    push_shown(text, path, MAX_SHOWN)?;
-    text.push_str(" is not read")
-}
-
 /// Adds the line of a key that is not read.
-fn push_key_line(
+pub(crate) fn push_key_line(
     alloc: Global,
     text: &mut String,
     key: &UnreadKey<'_>,
@@ -390,22 +366,11 @@ fn push_key_line(
 ) -> Result<(), AllocError>
     ensures { Tells result text.old (SaysKey (table_view hints.now.file.now) key.now) text.new }
 {
-    push_key_head(text, &key.path(alloc)?)?;
+    let path = key.path(alloc)?;
+    text.push_str("poll: key ")?;
+    push_shown(text, &path, MAX_SHOWN)?;
+    text.push_str(" is not read")?;
     hints.push_remark(alloc, text, key)?;
-    text.push_str("\n")
-}
-
-/// Adds the lines of keys that are not read.
-pub(crate) fn push_key_lines(
-    alloc: Global,
-    text: &mut String,
-    keys: &[UnreadKey<'_>],
-    hints: &Hints<'_>,
-) -> Result<(), AllocError>
-    ensures { Tells result text.old (AreLinesFor (SaysKey (table_view hints.now.file.now)) keys.now) text.new }
-{
-    for key in keys {
-        push_key_line(alloc, text, key, hints)?;
-    }
+    text.push_str("\n")?;
     Ok(())
 }

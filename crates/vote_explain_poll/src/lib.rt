@@ -1,28 +1,23 @@
-//! All that is wrong with a poll file, in words: what stands at a place, and what the format wants there. What may have been meant is
-//! not said, but for the name of a key, as a question.
+//! All that is wrong with a poll file, in words: what is at a place, and what the format wants there. What may have been meant is not
+//! said, but for the name of a key, as a question.
 //!
 //! - [`explain_poll`] reads a poll file as [`Poll::from_text`](vote_poll::Poll::from_text) does, and gives beside the poll, or its first
 //!   fault, a text of findings.
 //! - [`file_kind`] says what a file is that is no plain text, and [`push_character`] names a character. Both are for all files.
 //!
-//! Options are numbered from 1, the default among them, and voters from 0; lines and columns of the file from 1.
-//!
 //! **What is promised** (`specs/Findings.antt`), memory aside:
 //!
-//! - Each fault of the file has a line, judged by itself, in the order of the faults (`specs/PollFaults.antt` of vote_poll), with the
-//!   words of its fault line.
-//! - The poll that comes beside them, or the fault, is that of `from_text`. So the fault is the first that has a line
-//!   ([`first_fault_is_told`](vote_poll::first_fault_is_told)), and if none has one there is a poll.
-//! - After the faults each key that is not read has a line, in the order of the tables (`specs/UnreadKeys.antt`), with its path, as far
-//!   as it is shown. A key that is suggested for it is missing, few edits lead to it, and no other missing one is nearer
-//!   (`specs/Remarks.antt`).
-//! - Of a text that is no TOML it says what kind of file it is (`specs/FileKinds.antt`), or that the files may be exchanged, or else the
-//!   line and the column of the place that `toml` tells (`specs/Syntax.antt`).
-//! - What else a line says is a hint: one line of printable text of at most [`MAX_HINT`] bytes, whatever is in the file
-//!   (`specs/Hints.antt`). Its words are open.
+//! - Each fault of the file has a line, judged by itself, in the order of the faults, with the words of its fault line. So the first one
+//!   ([`first_fault_is_told`](vote_poll::first_fault_is_told)) is the fault beside the text, and without a fault there is a poll.
+//! - After the faults each key that is not read has a line, in the order of the tables, with its path, as far as it is shown. A key that
+//!   is suggested for it is missing, few edits lead to it, and no other missing one is nearer (`specs/Remarks.antt`).
+//! - Of a text that is no TOML it says what kind of file it is, or that the files may be exchanged, or else the line and the column of
+//!   the place that `toml` tells (`specs/Syntax.antt`).
+//! - What else a line says is a hint: one line of printable text of at most [`MAX_HINT`] bytes, whatever is in the file. Its words are
+//!   open.
 #![tactic(auto)]
 
-ghost use Rattle.vote_explain_poll.specs.Hints.{IsHint, Tells};
+ghost use Rattle.vote_explain_poll.specs.Hints.{IsHint, IsHintLine, Tells};
 ghost use Rattle.vote_explain_poll.specs.Limits.{LimitsAreAsWritten};
 
 mod characters;
@@ -60,4 +55,13 @@ pub(crate) fn push_hint(text: &mut String, words: &[u8]) -> Result<(), AllocErro
     ensures { Tells result text.old IsHint text.new }
 {
     push_shown(text, words, MAX_HINT / 4)
+}
+
+/// Adds these words as a hint, and a line feed.
+pub(crate) fn push_hint_line(text: &mut String, words: &[u8]) -> Result<(), AllocError>
+    ensures { Tells result text.old IsHintLine text.new }
+{
+    push_hint(text, words)?;
+    text.push_str("\n")?;
+    Ok(())
 }

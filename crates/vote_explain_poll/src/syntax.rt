@@ -1,14 +1,14 @@
-//! What is said of a poll file that is no TOML: what kind of file it is, or where it leaves TOML, and what stands there. The text and the
-//! place say the line and the column; at which place `toml` finds the error no contract says.
+//! What is said of a poll file that is no TOML: what kind of file it is, or where it leaves TOML, and what is there. At which place `toml`
+//! finds the error no contract says.
 ghost use Rattle.std.specs.Prelude.{◌≡◌, ◌≤◌, ◌++◌, IfOk, codes, decimal, length, string_bytes, take};
 ghost use Rattle.vote_poll_text.specs.Adding.{Adds};
-ghost use Rattle.vote_explain_poll.specs.Hints.{IsExcerpt, IsHint, Tells};
+ghost use Rattle.vote_explain_poll.specs.Hints.{IsHintLine, Tells};
 ghost use Rattle.vote_explain_poll.specs.Syntax.{IsPlaceFinding, IsSyntaxFinding, begins_character, column_number, first_line, last_line, line_number};
 
 use crate::characters::push_character;
 use crate::file_kinds::file_kind;
 use crate::structure::{definition, structure_of};
-use crate::{MAX_SHOWN, push_hint};
+use crate::{MAX_SHOWN, push_hint_line};
 use std::alloc::{AllocError, Global};
 use vote_poll::is_ballot_line;
 use vote_poll_text::{count_feeds, is_printable, push_mending, push_shown, split_at_feed};
@@ -179,21 +179,23 @@ fn push_syntax_hint(
     said: &str,
     file: Option<&str>,
 ) -> Result<(), AllocError>
-    ensures { Tells result text.old IsHint text.new }
+    ensures { Tells result text.old IsHintLine text.new }
 {
     let mut words = String::from_str(alloc, said)?;
     push_facts(&mut words, place, said, file)?;
-    push_hint(text, words.as_bytes())
+    push_hint_line(text, words.as_bytes())
 }
 
-/// A mark below the byte that follows these in what is shown of a line.
-fn mark_behind(alloc: Global, bytes: &[u8]) -> Result<String, AllocError> {
+/// Adds a line with a mark below the byte that follows these in what is shown of a line.
+fn push_mark(alloc: Global, text: &mut String, bytes: &[u8]) -> Result<(), AllocError>
+    ensures { Tells result text.old IsHintLine text.new }
+{
     let mut mark = String::new(alloc);
     for byte in bytes {
         mark.push_str(if is_printable(*byte) { " " } else { "    " })?;
     }
     mark.push_str("^")?;
-    Ok(mark)
+    push_hint_line(text, mark.as_bytes())
 }
 
 /// What is shown of the line of a place: its part around the place, and what of this stands before the place.
@@ -209,45 +211,7 @@ fn part_around<'t>(place: &Place<'t>) -> (&'t [u8], &'t [u8]) {
     (part.get(..MAX_SHOWN).unwrap_or(part), before)
 }
 
-/// Adds a line of a file, and a line with a mark.
-fn push_two_lines(text: &mut String, line: &[u8], mark: &str) -> Result<(), AllocError>
-    ensures { Tells result text.old IsExcerpt text.new }
-{
-    push_hint(text, line)?;
-    text.push_str("\n")?;
-    push_hint(text, mark.as_bytes())?;
-    text.push_str("\n")
-}
-
-/// Adds the line of a place, or the part of it around the place, and a line with a mark below the place.
-fn push_excerpt(alloc: Global, text: &mut String, place: &Place<'_>) -> Result<(), AllocError>
-    ensures { Tells result text.old IsExcerpt text.new }
-{
-    let (line, before) = part_around(place);
-    let mark = mark_behind(alloc, before)?;
-    push_two_lines(text, line, &mark)
-}
-
-/// Adds that a text is no TOML after so many bytes, of which this is said.
-fn push_syntax(
-    alloc: Global,
-    finding: &mut String,
-    text: &[u8],
-    at: usize,
-    said: &str,
-    file: Option<&str>,
-) -> Result<(), AllocError>
-    requires { at ≤ length text.now }
-    ensures { Tells result finding.old (IsPlaceFinding text.now) finding.new }
-{
-    let place = place_at(text, at);
-    push_place(finding, place.number, column_number(place.left))?;
-    push_syntax_hint(alloc, finding, &place, said, file)?;
-    finding.push_str("\n")?;
-    push_excerpt(alloc, finding, &place)
-}
-
-/// The finding on a text that is no TOML, by its place.
+/// The finding on a text that is no TOML, by its place, which is shown.
 fn place_finding(
     alloc: Global,
     text: &[u8],
@@ -256,9 +220,13 @@ fn place_finding(
 ) -> Result<String, AllocError>
     ensures { IfOk result (λ finding. IsPlaceFinding text.now (string_bytes finding)) }
 {
+    let place = place_at(text, index_of(text, error));
     let mut finding = String::new(alloc);
-    let at = index_of(text, error);
-    push_syntax(alloc, &mut finding, text, at, error.message(), file)?;
+    push_place(&mut finding, place.number, column_number(place.left))?;
+    push_syntax_hint(alloc, &mut finding, &place, error.message(), file)?;
+    let (line, before) = part_around(&place);
+    push_hint_line(&mut finding, line)?;
+    push_mark(alloc, &mut finding, before)?;
     Ok(finding)
 }
 

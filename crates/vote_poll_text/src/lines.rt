@@ -1,5 +1,5 @@
 //! The lines of the ballot file.
-ghost use Rattle.std.specs.Prelude.{◌≡◌, List, ℕ, ◌<◌, ◌≤◌, ◌↔◌, ◌==◌, Some, length, map, slice_get, [], ◌∷◌, IfSome, IfNone, IfOk, IsErrOf};
+ghost use Rattle.std.specs.Prelude.{◌≡◌, List, ℕ, ◌<◌, ◌≤◌, ◌↔◌, Some, length, map, slice_get, [], ◌∷◌, IfSome, IfNone, IfOk, IsErrOf};
 ghost use Rattle.vote_poll_text.specs.FaultWords.{fault_line};
 ghost use Rattle.vote_poll_text.specs.Lines.{AreLines, HasTooManyLines, feed_count, lines_of, parts_of, without_last_feed};
 ghost use Rattle.vote_poll_text.specs.declared.lines.LinesFault.TheVariants.{Memory};

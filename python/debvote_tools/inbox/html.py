@@ -1,9 +1,8 @@
-"""The text of a letter in HTML, line by line as browsers show it, and down to where its marks are
+"""The text of a letter in HTML, line by line as browsers show it, and down to where its tags are
 plain: so plain that no mail program shows another text.
 
-Python's own reader of HTML takes a time that grows with the square of the length where marks have
-no end, and anybody may send such a letter. Here one expression parts the marks, and reads each
-character once.
+Python's own reader of HTML takes quadratic time if tags have no end, and anybody may send such a
+letter. Here one expression splits the tags, and reads each character once.
 """
 
 import collections
@@ -12,8 +11,8 @@ import re
 import unicodedata
 from collections.abc import Collection, Mapping
 
-# a comment or declaration, a mark with its attributes, or a text; what has no end ends with the
-# text
+# a comment or declaration, a tag with its attributes, or a text; without an end each goes on to the
+# end of the text
 BLANKS = r" \t\n\r\f"
 NAME = rf"[^{BLANKS}/>][^{BLANKS}/>=]*+"
 VALUE = rf"""[{BLANKS}]*+=[{BLANKS}]*+(?:"[^"]*+"|'[^']*+'|[^{BLANKS}>"'][^{BLANKS}>]*+)?+"""
@@ -27,7 +26,7 @@ ATTRIBUTE = re.compile(
     r"""(?<!\s)\s++([a-zA-Z0-9:-]++)(?:\s*+=\s*+(?:"([^"]*+)"|'([^']*+)'|([^\s"'>=]++)))?"""
 )
 
-# the elements, attributes and styles of plain marks
+# the elements, attributes and styles that are plain
 PLAIN = frozenset(
     "html head meta title body div p br pre span font b strong i em u center blockquote".split()
 )
@@ -35,23 +34,20 @@ PLAIN_ATTRIBUTES = frozenset("class id lang dir style wrap".split())
 META_ATTRIBUTES = frozenset("charset content http-equiv name".split())
 # from right to left numbers are in another order
 DIRECTIONS = ("ltr", "auto")
-RIGHT_TO_LEFT = ("R", "AL", "RLE", "RLO", "RLI", "LRE", "LRO", "LRI", "FSI", "PDF", "PDI")
+RIGHT_TO_LEFT = "R AL RLE RLO RLI LRE LRO LRI FSI PDF PDI".split()
 LENGTH = r"(?:0|auto|(?:\d{1,2}(?:\.\d+)?|\.\d+)(?:px|pt|em|ex|rem|cm|mm|%))"
 PLAIN_STYLES = {
-    "font-family": re.compile(r"[\w\s,'\"-]+"),
-    "font-size": re.compile(r"(?:[89]|[12]\d|30)(?:\.\d+)?(?:px|pt)"),
-    "line-height": re.compile(
-        r"normal|1(?:\.\d+)?|2(?:\.0+)?|1\d\d(?:\.\d+)?%|[1-4]\d(?:\.\d+)?(?:px|pt)"
-    ),
-    "text-align": re.compile(r"left|right|center|justify|start|end"),
-}
-PLAIN_STYLES |= {
-    f"{name}{side}": re.compile(rf"{LENGTH}(?:\s+{LENGTH}){{0,3}}")
+    "font-family": r"[\w\s,'\"-]+",
+    "font-size": r"(?:[89]|[12]\d|30)(?:\.\d+)?(?:px|pt)",
+    "line-height": r"normal|1(?:\.\d+)?|2(?:\.0+)?|1\d\d(?:\.\d+)?%|[1-4]\d(?:\.\d+)?(?:px|pt)",
+    "text-align": r"left|right|center|justify|start|end",
+} | {
+    f"{name}{side}": rf"{LENGTH}(?:\s+{LENGTH}){{0,3}}"
     for name in ("margin", "padding")
     for side in ("", "-top", "-right", "-bottom", "-left")
 }
-# what else may be below a ballot, since it changes nothing above it; with any other mark nothing of
-# a letter is plain
+# what else may be below a ballot, since it changes nothing above; with any other tag no line of a
+# letter is plain
 BELOW = PLAIN - {"html", "head", "meta", "title", "body"} | frozenset(
     "a img hr ul ol li h1 h2 h3 h4 h5 h6 s small code table thead tbody tfoot tr td th".split()
 )
@@ -59,48 +55,49 @@ BELOW_ATTRIBUTES = PLAIN_ATTRIBUTES | frozenset(
     "name href src alt title target rel width height border cellpadding cellspacing colspan rowspan valign bgcolor color face size "
     "type cite".split()
 )
-BELOW_STYLES = PLAIN_STYLES | {
-    name: re.compile(r"[\w\s#%.,()'\"-]*")
-    for name in "color background background-color border border-top border-right border-bottom border-left border-collapse border-color "
-    "border-style border-width font-weight font-style text-decoration white-space word-wrap word-break overflow-wrap vertical-align "
-    "width max-width".split()
-}
-# where lines wrap, as GMX and web.de say of a quotation
-BELOW_STYLES |= {
-    "-webkit-nbsp-mode": re.compile("space"),
-    "-webkit-line-break": re.compile("after-white-space"),
-}
+# the last two say where lines wrap, as GMX and web.de write of a quotation
+BELOW_STYLES = (
+    PLAIN_STYLES
+    | dict.fromkeys(
+        "color background background-color border border-top border-right border-bottom border-left border-collapse border-color "
+        "border-style border-width font-weight font-style text-decoration white-space word-wrap word-break overflow-wrap "
+        "vertical-align width max-width".split(),
+        r"[\w\s#%.,()'\"-]*",
+    )
+    | {"-webkit-nbsp-mode": "space", "-webkit-line-break": "after-white-space"}
+)
 
-# what they hold is no text of the letter
+# the text in these is no text of the letter
 HOLDING = frozenset(("title", "style", "script"))
-# they begin a line, and after their end a line begins too
+# a line begins with each of these, and after it
 BLOCKS = frozenset(
     "address article aside blockquote center dd div dl dt fieldset figure footer form h1 h2 h3 h4 h5 h6 header li main nav ol p pre "
     "section table tbody tfoot thead tr ul".split()
 )
 CELLS = ("td", "th")
-# a text in a table but in none of its cells is shown above the table
+# text in a table but in none of its cells is shown above the table
 TABLE = ("table", "thead", "tbody", "tfoot", "tr")
-# the number of a character: leading zeros, up to eight digits, and any further digits, which make
-# it too great
+# the number of a character: leading zeros, up to eight digits, and further digits, which make it
+# too great
 NUMBER = re.compile("&#0*([0-9]{1,8})[0-9]*+")
-# what end a line in some programs, or are left out
+# characters that end a line in some programs, or are omitted
 ODD_CHARACTERS = re.compile("[\0-\x08\v\x0e-\x1f\x7f\x85\u2028\u2029]")
 
 
 def read_html(text: str) -> "HtmlText":
     reader = HtmlText()
     for token in TOKEN.finditer(text):
+        tag = (token["tag"] or "").lower()
         if token["text"] is not None:
             reader.read_text(token["text"])
-        elif reader.holder and not (token["end"] and token["tag"].lower() == reader.holder):
+        elif token["other"] is not None or (
+            reader.holder and not (token["end"] and tag == reader.holder)
+        ):
             reader.read_declaration(token[0])
-        elif token["other"] is not None:
-            reader.read_declaration(token["other"])
         elif token["end"]:
-            reader.end(token["tag"].lower())
+            reader.end(tag)
         else:
-            reader.begin(token["tag"].lower(), token["given"])
+            reader.begin(tag, token["given"])
     reader.end_line()
     if not reader.first_other:
         reader.plain_lines = len(reader.lines)
@@ -111,27 +108,27 @@ def read_html(text: str) -> "HtmlText":
 
 class HtmlText:
     """The lines of a text in HTML, those of `blockquote` with > before them; how many of the first
-    ones have plain marks alone, and what the first other mark is. The `pieces` are what a style may
-    make lines of their own, or nobody sees: the lines between two marks.
+    lines have plain tags alone, and the first other tag. The `pieces` are texts between two tags,
+    which a style may make lines of their own, or hide.
     """
 
     def __init__(self) -> None:
         self.lines: list[str] = []
         self.pieces: list[str] = []
         self.first_other, self.plain_lines = "", 0
-        # whether each mark that came is plain: most letters have few, again and again
-        self.plain_marks: dict[tuple[str, str], bool] = {}
-        # the first mark that may be nowhere in a letter
+        # whether each tag that came is plain: most letters have few, again and again
+        self.plain_tags: dict[tuple[str, str], bool] = {}
+        # the first tag that may be nowhere in a letter
         self.odd = ""
-        # the text of the line that is not ended yet
+        # the text of the line that has not ended yet
         self.parts: list[str] = []
         # the blocks that are open, and how many of each
         self.open: list[str] = []
         self.open_count: collections.Counter[str] = collections.Counter()
-        # the element whose text nobody sees, while it is open
+        # the open element whose text nobody sees
         self.holder = ""
-        # whether the last mark began a `pre`, so that a line end after it is left out; and the text
-        # since then as programs show it that know no `pre`
+        # whether a `pre` has just begun, so that a line end is left out; and the text since then, as
+        # programs show it that do not know `pre`
         self.is_begun, self.flat = False, list[str]()
 
     def found_other(self, name: str, *, may_be_below: bool) -> None:
@@ -141,13 +138,12 @@ class HtmlText:
             self.odd = self.odd or name
 
     def begin(self, tag: str, given: str) -> None:
-        if (tag, given) not in self.plain_marks:
-            self.plain_marks[tag, given] = is_plain_mark(tag, given)
-        if not self.plain_marks[tag, given]:
-            self.found_other(
-                f"{tag}{given}",
-                may_be_below=tag in BELOW and are_plain(given, BELOW_ATTRIBUTES, BELOW_STYLES),
-            )
+        if (tag, given) not in self.plain_tags:
+            names = META_ATTRIBUTES if tag == "meta" else PLAIN_ATTRIBUTES
+            self.plain_tags[tag, given] = tag in PLAIN and are_plain(given, names, PLAIN_STYLES)
+        if not self.plain_tags[tag, given]:
+            may_be_below = tag in BELOW and are_plain(given, BELOW_ATTRIBUTES, BELOW_STYLES)
+            self.found_other(f"{tag}{given}", may_be_below=may_be_below)
         if tag == "title" and (self.lines or self.parts):
             self.found_other(tag, may_be_below=False)
         if tag in HOLDING:
@@ -166,7 +162,7 @@ class HtmlText:
         self.is_begun = tag == "pre"
 
     def close(self, tag: str) -> None:
-        """Closes a block that is open, and those within it. The end of a `p` parts paragraphs."""
+        """Closes an open block and those within it. The end of a `p` parts paragraphs."""
         closed = ""
         while closed != tag:
             closed = self.open.pop()
@@ -175,8 +171,8 @@ class HtmlText:
                 self.lines.append("")
 
     def end(self, tag: str) -> None:
-        """An element ends. The end of one that is not open begins a line in browsers if it is `br`
-        or `p`, and is no plain mark.
+        """Ends an element. If it is not open, browsers begin a line for `br` and `p`, and it is not
+        plain.
         """
         is_open = self.open_count[tag] > 0
         if tag not in PLAIN or tag == "br" or (tag in BLOCKS and not is_open):
@@ -189,19 +185,19 @@ class HtmlText:
             self.holder = ""
 
     def read_declaration(self, text: str) -> None:
-        """Reads a comment, a declaration, or what looks like a mark within a title. Some programs
-        show a comment, and what looks like a mark may end the title.
+        """Reads a comment, a declaration, or what looks like a tag within a title. Some programs
+        show a comment, and what looks like a tag may end the title.
         """
         if not DOCTYPE.fullmatch(text) or self.lines or self.parts:
             self.found_other(text, may_be_below=False)
         self.pieces += re.split(r"(?:[\n\r<>]|!?--|!)+", unescaped(text))
 
     def read_text(self, text: str) -> None:
-        """A text comes. A sign < that begins no mark is not plain."""
         shown = unescaped(text)
         is_turned = not shown.isascii() and any(
             unicodedata.bidirectional(character) in RIGHT_TO_LEFT for character in shown
         )
+        # a sign < that begins no tag is not plain
         if text == "<" or ODD_CHARACTERS.search(shown) or is_turned:
             self.found_other(text, may_be_below=True)
         if self.open and self.open[-1] in TABLE and shown.strip():
@@ -210,13 +206,11 @@ class HtmlText:
         if self.holder:
             return
         flat = re.sub(r"[ \t\r\n\f]+", " ", shown)
-        if self.open_count["pre"]:
-            self.flat.append(flat)
-            self.read_preformatted(shown.replace("\r\n", "\n"))
-        else:
+        if not self.open_count["pre"]:
             self.parts.append(flat)
-
-    def read_preformatted(self, text: str) -> None:
+            return
+        self.flat.append(flat)
+        text = shown.replace("\r\n", "\n")
         if "\r" in text or "\f" in text:
             self.found_other("pre", may_be_below=True)
         *lines, rest = text[self.is_begun and text.startswith("\n") :].split("\n")
@@ -237,9 +231,7 @@ class HtmlText:
         self.put_line(keeps_empty=keeps_empty)
 
     def put_line(self, *, keeps_empty: bool) -> None:
-        """Ends the line. One without text is kept as an empty one where a `br` or a no-break space
-        makes it seen.
-        """
+        """Ends the line. A line without text is kept if a `br` or a no-break space shows it."""
         text = "".join(self.parts)
         self.parts.clear()
         if text.strip(" ") or keeps_empty:
@@ -247,36 +239,28 @@ class HtmlText:
 
 
 def unescaped(text: str) -> str:
-    """A text with the characters that it names. Python reads no number of thousands of digits."""
+    """A text with its character references replaced. Python reads no number of 5,000 digits."""
     return html.unescape(NUMBER.sub(r"&#\1", text)) if "&" in text else text
 
 
-def is_plain_mark(tag: str, given: str) -> bool:
-    return tag in PLAIN and are_plain(
-        given, META_ATTRIBUTES if tag == "meta" else PLAIN_ATTRIBUTES, PLAIN_STYLES
-    )
-
-
-def are_plain(given: str, names: Collection[str], styles: Mapping[str, re.Pattern[str]]) -> bool:
-    """Whether the attributes of a mark are among these, and its style among those."""
+def are_plain(given: str, names: Collection[str], styles: Mapping[str, str]) -> bool:
+    """Whether the attributes of a tag are among these names, and its styles among those."""
     bare = given.rstrip().removesuffix("/").rstrip()
     if ATTRIBUTE.sub("", bare):
         return False
     for name, *values in ATTRIBUTE.findall(bare.lower()):
         value = unescaped("".join(values))
-        if (
-            not (name in names or name == "xmlns" or name.startswith("xmlns:"))
-            or (name == "dir" and value not in DIRECTIONS)
-            or (name == "style" and not is_plain_style(value, styles))
-        ):
+        is_known = name in names or name == "xmlns" or name.startswith("xmlns:")
+        if not is_known or (name == "dir" and value not in DIRECTIONS):
+            return False
+        if name == "style" and not is_plain_style(value, styles):
             return False
     return True
 
 
-def is_plain_style(style: str, styles: Mapping[str, re.Pattern[str]]) -> bool:
-    """Whether each declaration of a style is among these."""
+def is_plain_style(style: str, styles: Mapping[str, str]) -> bool:
     for declaration in filter(str.strip, style.split(";")):
         name, _, value = (part.strip() for part in declaration.partition(":"))
-        if name not in styles or not styles[name].fullmatch(value):
+        if name not in styles or not re.fullmatch(styles[name], value):
             return False
     return True

@@ -92,13 +92,6 @@ def more_words(letter: JudgedLetter) -> list[str]:
     return [*found, *(f"line {number}{IS_CODE}" for number in letter.code_lines)]
 
 
-def reply_words(
-    vote: Vote, numbers: Sequence[int], replies: Sequence[str], ballots: Sequence[str]
-) -> Iterator[str]:
-    for number, reply, ballot in zip(numbers, replies, ballots):
-        yield f"{number} {reply}  {vote.ballot_in_words(ballot)}"
-
-
 # ---------------------------------------------------------------- what waits
 def table(letters: Sequence[JudgedLetter]) -> Iterator[str]:
     """Letters that wait: a line for each, and below it the reason, lines that may be ballots, and

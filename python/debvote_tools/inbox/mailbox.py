@@ -1,25 +1,25 @@
 """What letters come in: one message, an mbox, a Maildir, or a folder of messages. The bytes say
 what a file is, not its name.
 
-No byte is lost: `parts_of` parts a file, and its parts joined are the file. Each letter of them is
-kept, or named as not read.
+No byte is lost: the parts of a file that `parts_of` returns, joined, are the file. Each letter in
+them is kept, or named as not read.
 """
 
 import dataclasses
 import enum
+import itertools
 import pathlib
 import re
 from collections.abc import Sequence
 
-from debvote_tools.inbox.mime import END_OF_HEAD, MAX_HEAD, MAX_LETTER, Part
 from debvote_tools.inbox.lines import MARK
+from debvote_tools.inbox.mime import END_OF_HEAD, MAX_HEAD, MAX_LETTER, Part
 
-# where the letters of a Maildir are: those that nobody has looked at come first, since one that
-# somebody looks at meanwhile goes from the first folder to the second; and where it has unfinished
-# ones
+# where a Maildir has its letters: first those that nobody has looked at, since one that somebody
+# looks at meanwhile moves from the first folder to the second; and where it has unfinished ones
 MAILDIR, UNFINISHED = ("new", "cur"), "tmp"
 
-# a field of a head, and the names of some that every head has
+# a field of a head, and fields that most heads have
 FIELD = re.compile(rb"[!-9;-~]+[ \t]*:")
 KNOWN = re.compile(
     rb"(?im)^(from|date|subject|to|message-id|received|mime-version|return-path|delivered-to|reply-to|content-type|x-mozilla-status|"
@@ -29,38 +29,34 @@ MIN_KNOWN = 2
 
 # what editors put before the first line of a file, and the line that begins an mbox
 START = re.compile(rb"(?:%b)?[\r\n]*(From [^\r\n]*\r?\n[\r\n]*)?" % MARK)
-# lines that may begin a letter. One does in an mbox if it has the name of a day and after it a
-# time, or is bare as Thunderbird writes it
+# lines that may begin a letter; in an mbox such a line does if it has the name of a day and after
+# it a time, or is bare as Thunderbird writes it
 FROM_LINE = re.compile(rb"(?im)^>?From [^\r\n]*(?:\r?\n|\Z)")
 DATED = re.compile(
     rb"From (?>[^\r\n]*?\b(?:Mon|Tue|Wed|Thu|Fri|Sat|Sun),* )(?:[^\r\n]* )?\d\d?:\d\d(?::\d\d)?\s"
 )
 BARE = re.compile(rb"From (?:- ?)?\r?\n")
-# in bytes; the longest empty line
-MAX_EMPTY = 2
+# in bytes
+LONGEST_EMPTY_LINE = 2
 
-# how files begin that have no letters which this program reads, and what Outlook calls the parts of
-# a letter
+# how a file of Outlook begins, and what it calls the parts of a letter
 OLE = b"\xd0\xcf\x11\xe0"
-OUTLOOK_PARTS = tuple(
+OUTLOOK_PARTS = [
     name.encode("utf-16-le")
     for name in ("__nameid_version1.0", "__properties_version1.0", "__substg1.0_")
-)
+]
 
 
 class NotRead(enum.Enum):
     """Why a file or a letter is passed over, and what to do about it."""
 
-    FOLDER = ("it is a folder within the folder", "if it has letters, add it by its own name")
-    MAILBOX = ("it is a mailbox of several letters within the folder", "add it by its own name")
+    FOLDER = "it is a folder within the folder", "if it has letters, add it by its own name"
+    MAILBOX = "it is a mailbox of several letters within the folder", "add it by its own name"
     HIDDEN = (
         "it is a hidden file, whose name begins with a full stop",
         "if it is a letter, rename it",
     )
-    TOO_LONG = (
-        "it has more than 10 MiB",
-        "ask for the ballot again, alone and without attachments",
-    )
+    TOO_LONG = "it has more than 10 MiB", "ask for the ballot again, alone and without attachments"
     OUTLOOK_LETTER = (
         "it is a letter in the format of Outlook (.msg), which this program does not read",
         "save it as .eml: in the new Outlook with Save as or Download, from an older Outlook by way of Thunderbird",
@@ -69,9 +65,9 @@ class NotRead(enum.Enum):
         "it is a mailbox in the format of Outlook (.pst), which this program does not read",
         "fetch the mailbox with Thunderbird, and save the letters there as .eml",
     )
-    ZIP = ("it is a ZIP", "unpack it, and add the folder")
-    PDF = ("it is a PDF", "save the letter itself as .eml")
-    NO_LETTER = ("it does not look like a letter", "if it is a letter, save it as .eml")
+    ZIP = "it is a ZIP", "unpack it, and add the folder"
+    PDF = "it is a PDF", "save the letter itself as .eml"
+    NO_LETTER = "it does not look like a letter", "if it is a letter, save it as .eml"
 
     @property
     def what(self) -> str:
@@ -84,8 +80,8 @@ class NotRead(enum.Enum):
 
 @dataclasses.dataclass(frozen=True)
 class RawLetter:
-    """A letter as it came. A letter that was parted off waits, since it may be text of the letter
-    above it in the mailbox, or have other letters in it.
+    """A letter as it came. A letter that is parted off waits: it may be text of the letter above it
+    in the mailbox, or have other letters in it.
     """
 
     where: str
@@ -101,7 +97,7 @@ class PassedOver:
 
 @dataclasses.dataclass(frozen=True)
 class Source:
-    """What was read whole: the letters in their order, and what was passed over."""
+    """The letters of a file or folder in their order, and what was passed over."""
 
     letters: list[RawLetter]
     passed_over: list[PassedOver]
@@ -123,10 +119,9 @@ def are_letters(data: bytes) -> bool:
     """Whether a file begins as an mbox or a message does."""
     start = begin_of(data)
     head = END_OF_HEAD.split(data[start.end() : start.end() + MAX_HEAD], maxsplit=1)[0]
-    is_mailbox = start[1] is not None and parts_letters(start[1])
-    return FIELD.match(head) is not None and (
-        is_mailbox or len({name.lower() for name in KNOWN.findall(head)}) >= MIN_KNOWN
-    )
+    known = {name.lower() for name in KNOWN.findall(head)}
+    is_known = len(known) >= MIN_KNOWN or begins_mailbox(start)
+    return FIELD.match(head) is not None and is_known
 
 
 def letters_of_file(name: str, data: bytes) -> Source:
@@ -134,7 +129,7 @@ def letters_of_file(name: str, data: bytes) -> Source:
 
     A letter is parted off if it has others in it, or may be text of the letter above it: no empty
     line is between, it is within the Content-Length of a letter above, or the parts of that letter
-    do not end. Any sender can write a Content-Length, so one counts only if it ends exactly where
+    do not end. Any sender can write a Content-Length, so it counts only if it ends exactly where
     the file ends, or before a line with a date that parts letters.
     """
     kind = kind_not_read(data) or (None if are_letters(data) else NotRead.NO_LETTER)
@@ -149,48 +144,37 @@ def letters_of_file(name: str, data: bytes) -> Source:
         if len(letter) > MAX_LETTER:
             found.passed_over.append(PassedOver(where, NotRead.TOO_LONG))
         else:
-            found.letters.append(
-                RawLetter(where, letter, place < reach or not is_ended or has_others(letter))
-            )
+            is_parted_off = place < reach or not is_ended or has_others(letter)
+            found.letters.append(RawLetter(where, letter, is_parted_off))
         place += len(above + letter)
         read = Part(letter)
-        lengths = [
-            int(length[0])
-            for value in read.values("content-length")
-            if (length := re.match(r"\d{1,15}", value))
-        ]
-        reach = max(
-            [
-                reach,
-                *possible_ends.intersection(place - len(read.below) + length for length in lengths),
-            ]
-        )
+        lengths = map(re.compile(r"\d{1,15}").match, read.values("content-length"))
+        ends = {place - len(read.below) + int(length[0]) for length in lengths if length}
+        reach = max({reach, *ends & possible_ends})
         is_ended = bool(below) and not read.is_open
         place += len(below)
     return found
 
 
 def ends_of(parts: Sequence[tuple[bytes, bytes, bytes]]) -> set[int]:
-    """Where the text of a letter may end in a file: before a line with a date, or where the file
-    ends, each with the empty line or without it. The last one may be missing.
+    """Where the text of a letter may end in a file: before a line with a date, or at the end of the
+    file, each with the empty line or without it. The last one may be missing.
     """
     place, ends = 0, set[int]()
     for (above, letter, below), begins in zip(parts, [*(above for above, _, _ in parts[1:]), None]):
         place += len(above) + len(letter) + len(below)
         if begins is None or DATED.match(begins):
             ends |= {place, place - len(below)}
-    return ends | {place + missing for missing in range(MAX_EMPTY + 1)}
+    return ends | {place + missing for missing in range(LONGEST_EMPTY_LINE + 1)}
 
 
 def letters_of_folder(folder: pathlib.Path) -> Source:
-    """The letters of a Maildir or a folder of messages, in the order of their names. Raises
-    OSError.
-    """
+    """The letters of a Maildir or a folder of messages, by name. Raises OSError."""
     is_maildir = all((folder / part).is_dir() for part in MAILDIR)
     own = {folder / part for part in (*MAILDIR, UNFINISHED)} if is_maildir else set()
     files = [file for file in folder.iterdir() if file not in own]
     if is_maildir:
-        files += [file for part in MAILDIR for file in (folder / part).iterdir()]
+        files += itertools.chain.from_iterable((folder / part).iterdir() for part in MAILDIR)
     found = Source([], [])
     for file in sorted(files, key=lambda file: (file.name, file)):
         one = letter_of_file(file)
@@ -200,46 +184,37 @@ def letters_of_folder(folder: pathlib.Path) -> Source:
 
 
 def letter_of_file(file: pathlib.Path) -> Source:
-    """The letter of a file of a folder, which is named if it is a mailbox of several letters."""
-    name = str(file)
+    """The letter of a file of a folder. A mailbox of several letters is named, and not split."""
+    why = None
     if file.is_dir():
-        return Source([], [PassedOver(name, NotRead.FOLDER)])
-    if file.name.startswith("."):
-        return Source([], [PassedOver(name, NotRead.HIDDEN)])
-    if not file.is_file():
-        return Source([], [PassedOver(name, NotRead.NO_LETTER)])
-    data = file.read_bytes()
-    is_mailbox = are_letters(data) and len(parts_of(data)) > 1
-    return (
-        Source([], [PassedOver(name, NotRead.MAILBOX)])
-        if is_mailbox
-        else letters_of_file(name, data)
-    )
+        why = NotRead.FOLDER
+    elif file.name.startswith("."):
+        why = NotRead.HIDDEN
+    elif not file.is_file():
+        why = NotRead.NO_LETTER
+    data = b"" if why else file.read_bytes()
+    if why is None and are_letters(data) and len(parts_of(data)) > 1:
+        why = NotRead.MAILBOX
+    return Source([], [PassedOver(str(file), why)]) if why else letters_of_file(str(file), data)
 
 
 # ---------------------------------------------------------------- the parts of a file
 def parts_of(data: bytes) -> list[tuple[bytes, bytes, bytes]]:
-    """A file in its parts: of each the line that begins it, the letter, and the empty line that
+    """The parts of a file: of each the line that begins it, the letter, and the empty line that
     ends it. Joined they are the file. Only an mbox has several.
     """
     start = begin_of(data)
-    is_mailbox = start[1] is not None and parts_letters(start[1])
-    lines = FROM_LINE.finditer(data, start.end()) if is_mailbox else ()
-    begins = [
-        line.span() for line in lines if parts_letters(line[0]) and FIELD.match(data, line.end())
+    is_mailbox = begins_mailbox(start)
+    begins = [start.span()] + [
+        line.span()
+        for line in (FROM_LINE.finditer(data, start.end()) if is_mailbox else ())
+        if parts_letters(line[0]) and FIELD.match(data, line.end())
     ]
     parts = []
-    for (begin, letter_begin), (end, _) in zip([start.span(), *begins], [*begins, (len(data), 0)]):
+    for (begin, letter_begin), (end, _) in zip(begins, [*begins[1:], (len(data), 0)]):
         letter = data[letter_begin:end]
-        below = (
-            b""
-            if not is_mailbox
-            else b"\n"
-            if letter.endswith(b"\n\n")
-            else b"\r\n"
-            if letter.endswith(b"\n\r\n")
-            else b""
-        )
+        empty = (line for line in (b"\n", b"\r\n") if is_mailbox and letter.endswith(b"\n" + line))
+        below = next(empty, b"")
         parts.append((data[begin:letter_begin], letter.removesuffix(below), below))
     return parts
 
@@ -250,13 +225,17 @@ def begin_of(data: bytes) -> re.Match[bytes]:
     return start
 
 
+def begins_mailbox(start: re.Match[bytes]) -> bool:
+    return start[1] is not None and parts_letters(start[1])
+
+
 def parts_letters(line: bytes) -> bool:
     return DATED.match(line) is not None or BARE.match(line) is not None
 
 
 def has_others(letter: bytes) -> bool:
-    """Whether other letters may be in a letter: it has a line that may begin a letter, but parts
-    none, since it has no date, was changed, or is not in an mbox.
+    """Whether other letters may be in a letter: it has a line that may begin one, but parts none,
+    since it has no date, was changed, or is not in an mbox.
     """
     return any(
         DATED.match(line[0]) or FIELD.match(letter, line.end())

@@ -15,7 +15,6 @@ import re
 import unicodedata
 from collections.abc import Callable, Collection, Mapping, Sequence
 
-from debvote_tools.cli.terminal_text import shown_text
 from debvote_tools.inbox.candidates import MAX_BALLOTS, BallotLine, view_of
 from debvote_tools.inbox.known import Ballot, Decision, Known
 from debvote_tools.inbox.letter import END, Body, Near, ParsedLetter, is_quoted
@@ -52,13 +51,11 @@ class Outcome(enum.Enum):
     SET_ASIDE = "set aside"
 
 
-# what an act decided holds, whatever the rules say
-DECIDED: dict[Decision, tuple[Outcome, Because | None]] = {
-    Decision.ENTERED: (Outcome.ENTERED, None),
-    Decision.TAKEN_BACK: (Outcome.WAITS, Reason.TAKEN_BACK()),
-    Decision.PUT_BACK: (Outcome.WAITS, Reason.PUT_BACK()),
-    Decision.SET_ASIDE: (Outcome.SET_ASIDE, Reason.SET_ASIDE()),
-    Decision.STRUCK: (Outcome.SET_ASIDE, Reason.STRUCK()),
+# what an act decided holds, whatever the rules say; else a letter waits, as one that was put back
+DECIDED = {
+    Decision.ENTERED: Outcome.ENTERED,
+    Decision.SET_ASIDE: Outcome.SET_ASIDE,
+    Decision.STRUCK: Outcome.SET_ASIDE,
 }
 
 
@@ -77,10 +74,10 @@ class JudgedLetter:
         self.parsed, self.known = letter, known
         self.marked_elector = known.marked_elector(letter)
         sharing = known.electors_by_address.get(letter.sender, [])
-        self.view = view_of(letter.readings, sharing, self.marked_elector)
-        # the time of its ballot is that of the signature, if letters have to be signed
-        is_signed = known.keys is not None and letter.signature is not None
-        self.time = letter.signature.time if is_signed and letter.signature else letter.arrived
+        self.view = view_of(letter.read_lines, sharing, self.marked_elector)
+        # that of its ballot: if letters have to be signed, that of the signature
+        signature = letter.signature if known.is_signed else None
+        self.time = letter.arrived if signature is None else signature.time
         self.decision = known.decisions.get(letter.key)
         end = above_end(letter.body.lines)
         self.index = next((index for index in self.view.lines if index < end), None)
@@ -131,7 +128,7 @@ class JudgedLetter:
         """The electors on its ballots, or near to one; else the one who has the sender's address."""
         named = [line.elector for line in (*self.ballots, *self.offered)]
         near = (near.ballot.partition(" ")[0] for near in self.view.near)
-        named += [name for name in near if name in self.known.roll]
+        named += [name for name in near if name in self.known.electors]
         sender = self.known.elector_of(self.parsed)
         return tuple(dict.fromkeys(named)) or (() if sender is None else (sender,))
 
@@ -140,17 +137,6 @@ class JudgedLetter:
         """The other electors who have the sender's address."""
         sharing = self.known.electors_by_address.get(self.parsed.sender, [])
         return tuple(name for name in sharing if name not in self.electors)
-
-    @property
-    def other_words(self) -> str:
-        """The beginning of the sender's own words beside their ballots."""
-        lines = self.parsed.body.lines
-        own = itertools.chain(*paragraphs_of(self.parsed.body, self.known.passes_over, ()))
-        words = (lines[index] for index in own if index not in self.view.lines)
-        return shown_text(" ".join(line for line in words if not is_quoted(line)))
-
-
-Rule = Callable[[JudgedLetter, Known], Because | None]
 
 
 # ---------------------------------------------------------------- the rules
@@ -162,7 +148,7 @@ def can_be_read(case: JudgedLetter, known: Known) -> Because | None:
         return Reason.AUTOMATIC()
     if body.trouble is not None:
         return body.trouble
-    if crowd := letter.readings.crowd:
+    if crowd := letter.crowd:
         what = "lines that may be ballots"
         return Reason.TOO_LONG(length=crowd, what=what, limit=MAX_BALLOTS)
     is_odd = body.is_html and case.index is not None and case.index >= body.plain_lines
@@ -187,7 +173,7 @@ def is_sent_by_its_elector(case: JudgedLetter, known: Known) -> Because | None:
     --marked` its subject has the own mark of this elector, too.
     """
     sender, elector = case.parsed.sender, case.elector
-    listed = known.addresses.get(elector, ())
+    listed = known.electors[elector].addresses if elector in known.electors else ()
     if not sender:
         return Reason.NO_SENDER(sender=case.parsed.shown_sender)
     if case.ballot is None:
@@ -208,11 +194,11 @@ def is_signed_by_its_elector(case: JudgedLetter, known: Known) -> Because | None
     text, since only what was signed is read as the text.
     """
     letter, signature, elector = case.parsed, case.parsed.signature, case.elector
-    if known.keys is None or case.ballot is None:
+    if not known.is_signed or case.ballot is None:
         return None
     if signature is None:
         return letter.why_unsigned or Reason.NOT_SIGNED()
-    key = known.keys.get(elector, "")
+    key = known.electors[elector].key if elector in known.electors else ""
     if not key:
         return Reason.NO_KEY(elector=elector)
     if signature.fingerprint != key:
@@ -241,7 +227,7 @@ def ballot_is_first(case: JudgedLetter, known: Known) -> Because | None:
     """The ballot is the first line, but for a greeting. In an answer to a letter that only this
     elector has, a quotation of it may be above the ballot.
     """
-    letter, body, ballot = case.parsed, case.parsed.body, case.ballot
+    body, ballot = case.parsed.body, case.ballot
     if ballot is None or case.index is None:
         if not case.ballots:
             return (case.view.offered_for or Reason.NO_BALLOT)()
@@ -250,29 +236,16 @@ def ballot_is_first(case: JudgedLetter, known: Known) -> Because | None:
         return Reason.JOINED()
     if ballot.has_high_rank:
         return Reason.HIGH_RANK(number=ballot.number, options=len(ballot.ranks))
-    is_answer = case.has_own_mark and letter.in_reply_to in known.our_letters.get(case.elector, ())
-    is_by_page = case.has_own_mark and letter.is_new and known.is_subject_of_page(letter.subject)
     # lines that flow are judged as they stand, and joined
-    for joined in dict.fromkeys((frozenset(body.flowing), frozenset[int]())):
-        because = why_not_first(
-            body.lines,
-            case.index,
-            paragraphs_of(body, known.passes_over, joined),
-            joined,
-            is_answer=is_answer,
-            may_end_in_colon=is_answer or is_by_page,
-            most_above=0 if body.is_html and not case.has_own_mark else MAX_ABOVE,
-        )
-        if because is not None:
-            return because
-    return None
+    views = dict.fromkeys((frozenset(body.flowing), frozenset[int]()))
+    return next(filter(None, (why_not_first(case, case.index, joined) for joined in views)), None)
 
 
 def is_of_this_vote(case: JudgedLetter, known: Known) -> Because | None:
     """Its subject has the mark of the poll, and no other. If letters have to be signed, no other
     mark is in the signed text, either.
     """
-    signed = () if known.keys is None else case.parsed.shown_lines
+    signed = case.parsed.shown_lines if known.is_signed else ()
     marks = [mark for mark, _ in case.parsed.marks]
     for mark in (*marks, *(mark for line in signed for mark, _ in marks_in(line))):
         if mark != known.mark:
@@ -285,7 +258,7 @@ def is_of_this_vote(case: JudgedLetter, known: Known) -> Because | None:
     return (Reason.CHANGED_MARK if is_changed else Reason.NO_SUBJECT_MARK)(mark=known.mark)
 
 
-RULES: tuple[Rule, ...] = (
+RULES = (
     can_be_read,
     arrived_in_time,
     is_sent_by_its_elector,
@@ -310,25 +283,22 @@ def paragraphs_of(
     """
     paragraphs: list[list[int]] = [[]]
     for index, line in enumerate(body.lines[: above_end(body.lines)]):
-        is_empty = not line.strip()
-        if is_empty and index not in joined or line == STROKE:
+        # a line of blanks is empty, no-break ones too
+        has_text = bool(line.strip())
+        if line == STROKE or not (has_text or index in joined):
             paragraphs.append([])
-        elif not is_empty and not passes_over(line):
+        elif has_text and not passes_over(line):
             paragraphs[-1].append(index)
     return [paragraph for paragraph in paragraphs if paragraph]
 
 
-def why_not_first(
-    lines: Sequence[str],
-    ballot: int,
-    paragraphs: Sequence[Sequence[int]],
-    joined: Collection[int],
-    *,
-    is_answer: bool,
-    may_end_in_colon: bool,
-    most_above: int,
-) -> Because | None:
+def why_not_first(case: JudgedLetter, ballot: int, joined: Collection[int]) -> Because | None:
     """Why the ballot with this index among the lines is not the first line; None if it is."""
+    letter, known, lines = case.parsed, case.known, case.parsed.body.lines
+    is_ours = case.has_own_mark
+    is_answer = is_ours and letter.in_reply_to in known.our_letters.get(case.elector, ())
+    is_by_page = is_ours and letter.is_new and known.is_subject_of_page(letter.subject)
+    paragraphs = paragraphs_of(letter.body, known.passes_over, joined)
     place = next(place for place, own in enumerate(paragraphs) if ballot in own)
     quoted = [any(is_quoted(lines[index]) for index in one) for one in paragraphs]
     first = quoted.index(True) if True in quoted[:place] else -1
@@ -336,17 +306,21 @@ def why_not_first(
         return Reason.QUOTED()
     if first >= 0 and not has_only_a_head(lines, paragraphs[: first + 1]):
         return Reason.MUCH_QUOTED()
-    own = [index for index in paragraphs[place] if index != ballot]
-    between = range(first + 1, place)
-    greetings = [index for one in between if not quoted[one] for index in paragraphs[one]] + own
+    between = [one for one in range(first + 1, place) if not quoted[one]]
+    others = [index for one in (*between, place) for index in paragraphs[one] if index != ballot]
+    # in an answer, what is beside the ballot below it is free, unless it may be the head of a
+    # quotation
     if is_answer and True not in quoted[place + 1 : place + 2]:
-        greetings = [index for index in greetings if index < ballot]
-    for index in greetings:
+        others = [index for index in others if index < ballot]
+    for index in others:
         line = lines[index] if index in joined else lines[index].rstrip()
-        if not is_greeting(line, may_end_in_colon=may_end_in_colon and index < ballot):
+        if (is_answer or is_by_page) and index < ballot and line.endswith(COLONS):
+            line = line[:-1]
+        if not is_greeting(line):
             return Reason.NOT_FIRST(number=index + 1)
-    above = [lines[index].strip() for index in greetings if index < ballot]
-    is_much = len(above) > most_above or len("".join(above)) > MAX_CHARACTERS
+    above = [lines[index].strip() for index in others if index < ballot]
+    most = 0 if letter.body.is_html and not is_ours else MAX_ABOVE
+    is_much = len(above) > most or len("".join(above)) > MAX_CHARACTERS
     return Reason.MUCH_ABOVE() if is_much else None
 
 
@@ -364,10 +338,10 @@ def has_only_a_head(lines: Sequence[str], paragraphs: Sequence[Sequence[int]]) -
     return is_one and lines[heads[0][-1]].rstrip().endswith(COLONS)
 
 
-def is_greeting(line: str, *, may_end_in_colon: bool) -> bool:
+def is_greeting(line: str) -> bool:
     """Whether a line begins with a letter, and has only what greetings have: no digit, no colon."""
-    bare = line[:-1] if may_end_in_colon and line.endswith(COLONS) else line
-    begins = bare.lstrip()[:1].isalpha() or bare.lstrip().startswith(OPENING)
+    bare = line.lstrip()
+    begins = bare[:1].isalpha() or bare.startswith(OPENING)
     return begins and all(map(is_plain, set(bare)))
 
 
@@ -392,10 +366,6 @@ class Box:
     def last(self, elector: str) -> datetime.datetime | None:
         return self.times[elector][-1] if self.times[elector] else None
 
-    def has_later(self, elector: str, time: datetime.datetime | None) -> bool:
-        last = self.last(elector)
-        return last is not None and (time is None or last > time)
-
     def has_between(self, elector: str, after: datetime.datetime, until: datetime.datetime) -> bool:
         times = self.times[elector]
         return bisect.bisect_right(times, after) < bisect.bisect_left(times, until)
@@ -409,17 +379,19 @@ def set_outcomes(cases: Sequence[JudgedLetter], box: Box) -> None:
     for case in cases:
         groups[case.parsed.identity].append(case)
         if case.decision is not None:
-            case.outcome, case.reason = DECIDED[case.decision]
-    firsts: dict[JudgedLetter, None] = {}
+            case.outcome = DECIDED.get(case.decision, Outcome.WAITS)
+            if case.decision is not Decision.ENTERED:
+                case.reason = Reason[case.decision.name]()
+    firsts: set[JudgedLetter] = set()
+    at_once: dict[tuple[str, datetime.datetime | None], set[str]] = collections.defaultdict(set)
     undecided = [group for group in groups.values() if any(case.decision is None for case in group)]
     for group in undecided:
         # the first copy that may go in, unless an act decided of one that hides it
-        if not any(case.decision is not None and case.hides for case in group):
-            may_go_in = (c for c in group if c.decision is None and c.why_by_itself is None)
-            firsts |= dict.fromkeys(itertools.islice(may_go_in, 1))
-    at_once: dict[tuple[str, datetime.datetime | None], set[str]] = collections.defaultdict(set)
-    for case in firsts:
-        at_once[case.elector, case.time].add(case.ballots[0].ballot)
+        may_go_in = (one for one in group if one.decision is None and one.why_by_itself is None)
+        is_hidden = any(case.decision is not None and case.hides for case in group)
+        for case in () if is_hidden else itertools.islice(may_go_in, 1):
+            firsts.add(case)
+            at_once[case.elector, case.time].add(case.ballots[0].ballot)
     for case in filter(firsts.__contains__, cases):
         case.reason = why_not_latest(case, box, at_once[case.elector, case.time])
         if case.reason is None and case.time is not None:
@@ -449,9 +421,8 @@ def set_copies(group: Sequence[JudgedLetter], firsts: Collection[JudgedLetter], 
     """
     hiding = [case for case in group if case.hides]
     is_hidden = any(case.decision is not None or case.outcome is Outcome.GOES_IN for case in hiding)
-    first = min(
-        hiding, key=lambda case: (case.parsed.arrived is None, case.parsed.arrived), default=None
-    )
+    hiding.sort(key=lambda case: (case.parsed.arrived is None, case.parsed.arrived))
+    first = next(iter(hiding), None)
     waiting: dict[tuple[Because | None, Body], JudgedLetter] = {}
     for case in sorted(group, key=lambda case: case.decision is None):
         before = waiting.setdefault((case.why_by_itself, case.parsed.body), case)
@@ -495,5 +466,6 @@ def judge_all(
             box.add(elector, ballot)
     set_outcomes(ordered, box)
     for case in ordered:
-        case.has_voted_since = any(box.has_later(elector, case.time) for elector in case.electors)
+        times = filter(None, map(box.last, case.electors))
+        case.has_voted_since = any(case.time is None or time > case.time for time in times)
     return ordered

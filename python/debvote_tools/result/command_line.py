@@ -22,10 +22,10 @@ from debvote_tools.cli.faults import Fault, Status, other_format
 from debvote_tools.files import BALLOTS_LIMIT, POLL_LIMIT, read_at_most, sha256_of
 from debvote_tools.text.language import ENGLISH, LANGUAGES, language_of
 from debvote_tools.poll.plain_names import bad_options, bad_title
-from debvote_tools.result import result_folder
-from debvote_tools.result.inputs import CastingVote, Publication
-from debvote_tools.poll.sealed_poll import KEYS, REQUIRED, SealedPoll, poll_of
-from debvote_tools.poll.codes import CODE
+from debvote_tools.result import folder
+from debvote_tools.result.facts import CastingVote, Facts
+from debvote_tools.poll.sealed import KEYS, REQUIRED, SealedPoll, poll_of
+from debvote_tools.poll.secret import CODE
 
 PROGRAM = "debvote-publish"
 
@@ -67,10 +67,10 @@ def main(program_folder: pathlib.Path, words: Sequence[str] | None = None) -> in
     target_folder = pathlib.Path(arguments.target)
     console.prepare()
     try:
-        if not result_folder.is_free(target_folder):
-            raise result_folder.in_use(target_folder, "an empty folder", "name another folder")
-        publication = publication_of(arguments, program_folder)
-        with result_folder.made(publication, target_folder, program_folder) as made:
+        if not folder.is_free(target_folder):
+            raise folder.in_use(target_folder, "an empty folder", "name another folder")
+        facts = facts_of(arguments, program_folder)
+        with folder.made(facts, target_folder, program_folder) as made:
             made.take_place(target_folder)
     except Fault as fault:
         return console.failed(PROGRAM, fault.words, fault.status)
@@ -81,15 +81,15 @@ def main(program_folder: pathlib.Path, words: Sequence[str] | None = None) -> in
             Status.BAD_OUTPUT,
         )
     try:
-        console.tell_as_it_is(f"{made.counted.sheet.last_line}\n{made.counted.verified}\n")
+        console.tell_as_it_is(f"{made.answers.sheet.last_line}\n{made.answers.verified}\n")
     except console.OutputFailed as fault:
         words = f"the output failed; the folder {arguments.target} was made nevertheless: look at its page index.html"
         return console.failed(PROGRAM, words, fault.status)
-    return made.counted.status
+    return made.answers.status
 
 
-# ---------------------------------------------------------------- the publication of two files
-def publication_of(arguments: Arguments, program_folder: pathlib.Path) -> Publication:
+# ---------------------------------------------------------------- the facts of two files
+def facts_of(arguments: Arguments, program_folder: pathlib.Path) -> Facts:
     """Each file is read once, so that all commands read the same bytes."""
     poll_bytes = input_in(arguments.poll, POLL_LIMIT, "poll", Status.BAD_POLL)
     ballots = input_in(arguments.ballots, BALLOTS_LIMIT, "ballots", Status.BAD_BALLOTS)
@@ -99,7 +99,7 @@ def publication_of(arguments: Arguments, program_folder: pathlib.Path) -> Public
         cure = "publish it from its election, with debvote-election publish"
         words = "the vote is secret, and this would publish each name with its vote"
         raise Fault(arguments.poll, words, cure, Status.DOUBT, None)
-    return Publication(
+    return Facts(
         poll,
         ballots,
         language_of(arguments.language),

@@ -14,7 +14,7 @@ from debvote_tools.files import sha256_of
 from debvote_tools.text.language import Language, marked
 from debvote_tools.text.rendering import render_letter, render_page, resources
 from debvote_tools.poll.marks import in_brackets
-from debvote_tools.poll.sealed_poll import SealedPoll
+from debvote_tools.poll.sealed import SealedPoll
 
 MAIL = re.compile(r"[A-Za-z0-9_][A-Za-z0-9._+=-]*@[A-Za-z0-9-]+(\.[A-Za-z0-9-]+)*")
 MAIL_LIMIT = 254
@@ -23,10 +23,10 @@ MAIL_LIMIT = 254
 NAMED = re.compile(r"(?P<quote>\"?)(?P<name>.*?)(?P=quote)\s*<(?P<address>[^<>]*)>", re.DOTALL)
 NAME_LIMIT = 100
 
-# printable ASCII without blanks, without what ends an address in a letter, and without the # that
-# an own ballot's link adds
+# printable ASCII without blanks, what ends an address in a letter, and the # of a personal link
 WEB = re.compile(r"[!$-;=?-_a-z~]+")
 WEB_LIMIT = 500
+HOST = re.compile(r"[A-Za-z0-9.-]*[A-Za-z0-9]|\[[0-9A-Fa-f:.]+\]")
 
 # an option in a sentence: its number and its name do not run into each other
 OPTION = marked("Option {number}: {name}")
@@ -125,10 +125,8 @@ class CallData:
     @functools.cached_property
     def option_names(self) -> list[str]:
         """The options in plain text, each with its number."""
-        return [
-            self.language.say(OPTION, number=number, name=name)
-            for number, name in enumerate(self.poll.names, start=1)
-        ]
+        options = enumerate(self.poll.names, start=1)
+        return [self.language.say(OPTION, number=number, name=name) for number, name in options]
 
     @property
     def explanations(self) -> list[tuple[int, list[str]]]:
@@ -151,11 +149,8 @@ def explanations_of(poll: SealedPoll) -> list[tuple[int, list[str]]]:
     """The texts of the options, in paragraphs, each with the number of its option. They are not the
     program's words.
     """
-    return [
-        (number, paragraphs_of(text))
-        for number, text in enumerate(poll.explanations, start=1)
-        if text.strip()
-    ]
+    texts = enumerate(poll.explanations, start=1)
+    return [(number, paragraphs_of(text)) for number, text in texts if text.strip()]
 
 
 def paragraphs_of(text: str) -> list[str]:
@@ -187,27 +182,20 @@ def is_mail_address(text: str) -> bool:
 
 
 def demand_web_address(text: str) -> None:
-    if not is_web_address(text):
-        reason = (
-            "it must be the address of a page, as https://example.org/vote/, without a part after #"
-        )
-        raise Fault("--at", reason, "write it as a browser shows it", Status.BAD_WORDS)
-
-
-def is_web_address(text: str) -> bool:
-    """Whether a text is a web address by http or https, without user, password and fragment."""
-    if len(text) > WEB_LIMIT or not WEB.fullmatch(text):
-        return False
+    """Stops at what is no address by http or https, or has a user, a password or a fragment."""
     try:
-        parts = urllib.parse.urlsplit(text)
-        is_port = parts.port != 0
+        parts = urllib.parse.urlsplit(
+            text if len(text) <= WEB_LIMIT and WEB.fullmatch(text) else ""
+        )
+        host = parts.netloc.rpartition(":")[0] or parts.netloc
+        if parts.scheme in ("http", "https") and parts.port != 0 and HOST.fullmatch(host):
+            return
     except ValueError:
-        return False
-    is_host = re.fullmatch(
-        r"[A-Za-z0-9.-]*[A-Za-z0-9]|\[[0-9A-Fa-f:.]+\]",
-        parts.netloc.rpartition(":")[0] or parts.netloc,
+        pass
+    reason = (
+        "it must be the address of a page, as https://example.org/vote/, without a part after #"
     )
-    return parts.scheme in ("http", "https") and is_port and is_host is not None
+    raise Fault("--at", reason, "write it as a browser shows it", Status.BAD_WORDS)
 
 
 # ---------------------------------------------------------------- the files
