@@ -119,7 +119,7 @@ class Plan(NamedTuple):
         return [line for file in self.files for line in file.new]
 
     def envelopes(self, act: NewAct) -> Iterator[NewEnvelope]:
-        """The envelopes to enter. Each file is stored whole before its lines."""
+        """Each file is stored whole before its lines."""
         for file in self.files:
             source = queries.keep_source(act, file.came.kept_name, file.came.data)
             yield from (NewEnvelope(line.as_entered, line.line.place, source) for line in file.new)
@@ -180,14 +180,9 @@ def take_lines(vote: Vote, came_files: Sequence[CameFile], arguments: Arguments)
 def read_lines(vote: Vote, files: Sequence[CameFile], arguments: Arguments) -> list[FileLines]:
     columns: Columns | None = None
     if arguments.name is not None and arguments.ranks is not None:
-        poll, is_blank_unranked = read_plain(vote.poll_bytes), arguments.blank_is_unranked
-        columns = columns_of(
-            arguments.name,
-            arguments.ranks,
-            poll,
-            vote.names_on_roll,
-            is_blank_unranked=is_blank_unranked,
-        )
+        poll, names = read_plain(vote.poll_bytes), vote.names_on_roll
+        is_blank = arguments.blank_is_unranked
+        columns = columns_of(arguments.name, arguments.ranks, poll, names, is_blank)
     is_sorted = arguments.newest_first or arguments.oldest_first
     is_newest_first = arguments.newest_first if is_sorted else None
     lists = [
@@ -226,22 +221,15 @@ def detail_of(vote: Vote, plan: Plan, arguments: Arguments, answer: bool | None)
     return detail
 
 
-def look(
-    vote: Vote,
-    plan: Plan,
-    lines: Sequence[bytes],
-    first: int,
-    arguments: Arguments,
-) -> None:
-    """Prints what would become of the lines, and stops if `add` would stop."""
+def look(vote: Vote, plan: Plan, lines: Sequence[bytes], first: int, arguments: Arguments) -> None:
+    """Says what would become of the lines, and stops if `add` would."""
     numbers = range(first, first + len(plan.new_lines))
     replies = [LATE_REPLY] * len(numbers)
     if numbers and not plan.openness.is_late(arguments.came_before_close != "no"):
         replies = vote.replies(lines, [line.as_entered for line in plan.new_lines])
     if plan.openness.is_reopened and arguments.came_before_close is None:
-        tell(
-            "Note: add will ask whether these lines came before the close; this preview assumes that they did."
-        )
+        came = "whether these lines came before the close"
+        tell(f"Note: add will ask {came}; this preview assumes that they did.")
     tell_many(report(vote, plan, numbers, replies))
     stop_at(list(doubts(vote, plan, arguments)))
     tell(f"These would be {summary(replies)}. Nothing was changed.")
@@ -295,15 +283,12 @@ def doubts(vote: Vote, plan: Plan, arguments: Arguments) -> Iterator[Fault]:
 
 
 def is_table(file: FileLines) -> bool:
-    return not any(line.is_ballot for line in file.lines) and are_table(
-        [line.line.unframed for line in file.lines]
-    )
+    has_ballots = any(line.is_ballot for line in file.lines)
+    return not has_ballots and are_table([line.line.unframed for line in file.lines])
 
 
 def under_other_names(vote: Vote, files: Sequence[FileLines]) -> Iterator[Fault]:
-    """A fault for each file with a line that names options in another order, so that the ranks may
-    stand in it, too.
-    """
+    """A fault for each file with a line that names options in another order."""
     options = OptionNames(read_plain(vote.poll_bytes))
     for file in files:
         for line in file.lines:

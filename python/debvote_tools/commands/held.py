@@ -73,9 +73,7 @@ def run(election: Election, arguments: Arguments) -> None:
 
 
 def demand_words(arguments: Arguments) -> bool:
-    """Whether letters are to be entered, set aside or put back. Stops if the options do not go
-    together.
-    """
+    """Whether it is an act. Stops if the options do not go together."""
     chosen = given(arguments, "enter", "typed", "set_aside", "wait")
     if len(chosen) > 1:
         cure = "give only one of --enter, --as, --set-aside and --wait"
@@ -225,9 +223,7 @@ def demand_not_entered(vote: Vote, history: History, letter: JudgedLetter) -> No
 
 
 def chosen_in(letter: JudgedLetter, lines: str | None, typed: str | None) -> list[Chosen]:
-    """The ballots of a letter that are to be entered: the one that was typed, the lines that were
-    named, or the only one.
-    """
+    """The ballots of a letter to enter: what was typed, the lines that were named, or its only one."""
     name = f"letter {letter.number}"
     if typed is not None:
         known, marked = letter.known, letter.known.marked_elector(letter.parsed)

@@ -106,9 +106,7 @@ def demand_open(election: Election, history: History) -> None:
 
 
 def consequences(vote: Vote, found: Plan, none: str | None) -> Iterator[str]:
-    """The ballots that change, where `none` says that none is left; the letters that wait again;
-    the receipts that no longer hold.
-    """
+    """What changes: ballots, where `none` says that none is left; letters; receipts."""
     if none is not None:
         yield from standing_words(vote, found.before, found.after, none)
     if found.letters:

@@ -116,7 +116,7 @@ def enter(
 
 
 def electors_of(vote: Vote, lines: Sequence[bytes]) -> list[int | None]:
-    """For each line, the elector whose name it begins with."""
+    """Of each line the elector whose name it begins with."""
     names = list(map(name_in, lines))
     on_roll = vote.names_on_roll & {name.decode("ascii") for name in set(names)}
     numbers = queries.elector_numbers(vote.book, on_roll)
@@ -124,7 +124,7 @@ def electors_of(vote: Vote, lines: Sequence[bytes]) -> list[int | None]:
 
 
 def demand_room(book: Book, new: Sequence[NewEnvelope]) -> None:
-    """Stops if debvote would no longer take the ballots."""
+    """Stops at more lines than debvote takes."""
     count, added = len(new), sum(len(envelope.line) + 1 for envelope in new)
     # the file of the book is longer than its lines, so they are counted only if it may be too long
     if queries.last_envelope(book) + count > LINES_LIMIT or book.size() + added > BALLOTS_LIMIT:
@@ -145,7 +145,6 @@ def envelope_words(numbers: Collection[int]) -> str:
 
 
 def too_long(line: Line) -> str | None:
-    """Why a line is much longer than any ballot; None if it is not."""
     words = f"the line has {len(line.came)} bytes, and a ballot has a few dozen"
     return words if len(line.came) > LONGEST_LINE else None
 
@@ -158,10 +157,9 @@ def notes(election: Election, history: History, what: str) -> list[str]:
         return [f"Note: the vote was closed at {closed}; {what} now is late."]
     if history.until is not None and now() >= history.until:
         over = f"the announced end of the vote, {time_in_words(history.until)}, has passed"
-        counts = (
-            f"{what} still counts until you close the vote, and the result page says how many lines"
-        )
-        return [f"Note: {over}; {counts}: {election.command('close')}"]
+        counts = f"{what} still counts until you close the vote"
+        close = election.command("close")
+        return [f"Note: {over}; {counts}, and the result page says how many lines: {close}"]
     return []
 
 
@@ -197,9 +195,7 @@ def demand_same_call(vote: Vote, history: History, cure: str, not_done: str) -> 
 
 # ---------------------------------------------------------------- which lines of files came before
 class FileLines(NamedTuple):
-    """A file and its lines in the order of entering: which of them go in now, and which came
-    before.
-    """
+    """A file and its lines in the order of entering, the new ones, and those that came before."""
 
     came: CameFile
     lines: tuple[JudgedLine, ...]
@@ -235,7 +231,7 @@ def sorted_out(
         for nth, envelope, line in lines:
             change = None
             if envelope is not None and line.as_entered not in going_in:
-                change = change_since(envelope, line, last, is_reopened=is_reopened)
+                change = change_since(envelope, line, last, is_reopened)
             if nth > counts[line.as_entered]:
                 new.append(line)
                 came_first.append(line.as_entered)
@@ -262,15 +258,9 @@ def envelopes_of(
 
 
 def change_since(
-    envelope: Envelope,
-    line: JudgedLine,
-    last: Mapping[int, tuple[int, bytes]],
-    *,
-    is_reopened: bool,
+    envelope: Envelope, line: JudgedLine, last: Mapping[int, tuple[int, bytes]], is_reopened: bool
 ) -> str | None:
-    """Why a line that came no longer counts: it was struck, its elector has sent another ballot, or
-    it was late before a reopen.
-    """
+    """Why a line that came no longer counts."""
     if envelope.is_struck:
         return f"was struck (envelope {envelope.number})"
     if envelope.is_late:
