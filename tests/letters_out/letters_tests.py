@@ -723,10 +723,13 @@ class Result(OutTest):
         self.published()
         texts = self.texts("result")
         self.assertEqual(sorted(texts), support.NAMES)
-        self.assertIn(f"Dear Ada, {TITLE} Winner: Option 1: At the lake The result is published at: {AT} ", texts["ada"])
-        self.assertIn(f"Your own ballot, in words: {AT}#ada What is doubtful", texts["ada"])
+        begin = f"Dear Ada, Your own ballot, in words: {AT}#ada {TITLE} Winner: Option 1: At the lake. It beats each option that was not dropped: "
+        numbers = "Option 2: In the town hall by 2 to 0 and Option 4: Further discussion by 2 to 0."
+        self.assertIn(f"{begin}{numbers} The result is published at: {AT} What is doubtful", texts["ada"])
+        for text in texts.values():
+            self.assertIn(" ".join(self.read("letters/result.txt").decode().split()), text)
         self.assertIn(f"{AT}#ben", texts["ben"])
-        self.assertIn("It has no ballot of yours that counts.", texts["cleo"])
+        self.assertIn("Dear Cleo, The result has no ballot of yours that counts.", texts["cleo"])
         self.assertNotIn("#", texts["cleo"])
         for name in ("SHA256SUMS", "index.html"):
             checksum = hashlib.sha256(self.read(f"result/{name}")).hexdigest()
