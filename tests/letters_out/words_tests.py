@@ -2,10 +2,15 @@
 
 import dataclasses
 import datetime
+import pathlib
+import re
+import subprocess
+import tempfile
 import types
 import unittest
 
 from out_support import one_line, parsed
+from tests.support.at_browser import BROWSER
 
 from debvote_tools.book.queries import Elector, Envelope
 from debvote_tools.book.sent import SentLetter
@@ -16,9 +21,10 @@ from debvote_tools.inbox.of_electors import Became, Came
 from debvote_tools.inbox.letter import Near
 from debvote_tools.inbox.reasons import Reason
 from debvote_tools.outbox.files import message
-from debvote_tools.outbox.words import Composer, Kind
+from debvote_tools.outbox.words import PACKAGE, Composer, Kind
 from debvote_tools.text.ballots import without_ballots
 from debvote_tools.text.rendering import one_line as on_one_line
+from debvote_tools.text.rendering import render_page, resources
 from debvote_tools.poll.sealed_poll import SealedPoll
 
 TIME = datetime.datetime(2026, 11, 23, 10, tzinfo=datetime.UTC)
@@ -176,6 +182,28 @@ class CallLetter(unittest.TestCase):
             self.assertEqual(text.count("The program has not checked"), 1)
             self.assertNotIn("A lake", now.call_letter(ADA, is_extension=True))
         self.assertNotIn("A lake", vote(poll=poll).call_letter(ADA, is_extension=False))
+
+
+@unittest.skipUnless(BROWSER, "chromium is not installed")
+class Printed(unittest.TestCase):
+    def test_a_letter_has_at_most_two_sides(self) -> None:
+        """With twelve options, no page, a secret code, and 600 characters of the secretary's own."""
+        names = tuple(f"A rather long name of an option, as societies have them, number {number}" for number in range(1, 12))
+        poll = dataclasses.replace(POLL, options=names, ratios=(1,) * 11)
+        for code in LANGUAGES:
+            now = vote(code, poll=poll, at=None, has_aliases=True, letter_text="Paper ballots go into the box in the hall of our house.\n" * 11)
+            text = now.call_letter(ADA._replace(code="c0de" * 8), is_extension=False)
+            style = resources(PACKAGE, "letter.css")
+            page = render_page(PACKAGE, "print.html", now.call.language, style=style, title="Spring", letters=[("Ada", text)] * 3)
+            with tempfile.TemporaryDirectory() as folder:
+                place = pathlib.Path(folder)
+                (place / "page.html").write_bytes(page)
+                words = [BROWSER, "--headless", "--no-sandbox", "--disable-gpu", f"--user-data-dir={folder}/of-browser"]
+                words += [f"--print-to-pdf={folder}/page.pdf", f"{folder}/page.html"]
+                subprocess.run(words, check=True, capture_output=True)
+                sides = re.findall(rb"/Type\s*/Page\b", (place / "page.pdf").read_bytes())
+            self.assertGreater(len(text.splitlines()), 70)
+            self.assertEqual(len(sides), 6, code)
 
 
 class NoBallot(unittest.TestCase):
