@@ -402,12 +402,13 @@ class Receipts(OutTest):
         output = self.done("letters", "receipts").output
         self.assertTrue(output.startswith(said), output)
         self.assertEqual([file.stem for file in self.files("receipts")], ["cleo", "eve"])
-        self.assertEqual(self.done("letters", "receipts").output, f"{said}There is no letter to send.\n")
+        self.assertEqual(self.done("letters", "receipts").output, f"{said}5 letters wait until you have looked at them: debvote-election held\nThere is no letter to send.\n")
         held = self.done("held").output.replace("\n        ", "\n")
         self.assertIn("no ballot found\nother words: Who are you?\n", held)
         self.assertIn(f"no ballot found\nother words: Benjamin Lind {RANKS}\nsame address: ada, ben\n", held)
         self.done("held", 1, 2, "--set-aside")
-        self.assertEqual(self.done("letters", "receipts").output, "There is no letter to send.\n")
+        waits = "3 letters wait until you have looked at them: debvote-election held\n"
+        self.assertEqual(self.done("letters", "receipts").output, f"{waits}There is no letter to send.\n")
 
     def test_undo_names_those_whose_receipts_no_longer_hold(self) -> None:
         self.add_lines(f"ada {RANKS}")

@@ -73,8 +73,16 @@ class LettersDue:
         # are in no elector's receipt, by number
         self.earlier: list[SentLetter] = []
         self.in_no_receipt: list[int] = []
+        # how many letters wait in all, if they were looked at
+        self.letters_waiting = 0
         # each kind has a method of its name
         self.text_of: TextOf = getattr(self, kind)()
+
+    def what_came(self) -> dict[str, list[Came]]:
+        came = of_electors(self.election, self.history)
+        letters = (one.letter for items in came.values() for one in items)
+        self.letters_waiting = len({one.number for one in letters if one and one.waits})
+        return came
 
     @property
     def waiting(self) -> list[SentLetter]:
@@ -136,7 +144,7 @@ class LettersDue:
         off, or whose letters the server refused for now, goes on; else each run is a new one.
         """
         self.demand_not_over()
-        came = of_electors(self.election, self.history)
+        came = self.what_came()
         silent = {
             number: elector
             for number, elector in self.electors.items()
@@ -180,7 +188,7 @@ class LettersDue:
         """A letter to each elector about all that came since the last one, also to an address that
         they had before. Those that no server has taken yet go out, too.
         """
-        came = of_electors(self.election, self.history)
+        came = self.what_came()
         self.in_no_receipt = [
             one.letter.number
             for one in came[NOBODY]
