@@ -14,7 +14,7 @@ from tests.support.at_browser import BROWSER
 
 from debvote_tools.book.queries import Elector, Envelope
 from debvote_tools.book.sent import SentLetter
-from debvote_tools.poll.call_data import CallData, is_mail_address
+from debvote_tools.poll.call import CallData, is_mail_address
 from debvote_tools.text.language import LANGUAGES, language_of
 from debvote_tools.inbox.rules import Outcome
 from debvote_tools.inbox.of_electors import Became, Came
@@ -25,7 +25,7 @@ from debvote_tools.outbox.words import PACKAGE, Composer, Kind
 from debvote_tools.text.ballots import without_ballots
 from debvote_tools.text.rendering import one_line as on_one_line
 from debvote_tools.text.rendering import render_page, resources
-from debvote_tools.poll.sealed_poll import SealedPoll
+from debvote_tools.poll.sealed import SealedPoll
 
 TIME = datetime.datetime(2026, 11, 23, 10, tzinfo=datetime.UTC)
 POLL = SealedPoll("Spring", ("Lake", "Hall"), (1, 1), "None", 1, ("ada", "ben"))

@@ -24,7 +24,7 @@ from debvote_tools.outbox import files, smtp
 from debvote_tools.outbox.due import WAS_REFUSED, LettersDue, unreached
 from debvote_tools.outbox.smtp import Server
 from debvote_tools.outbox.words import Kind
-from debvote_tools.poll.call_data import demand_mail_address, demand_web_address
+from debvote_tools.poll.call import demand_mail_address, demand_web_address
 
 # how many electors without an address are named
 MOST = 20

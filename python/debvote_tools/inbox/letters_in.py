@@ -28,7 +28,7 @@ from debvote_tools.inbox.reasons import Reason
 from debvote_tools.inbox.signature import find_gpgv, verified
 from debvote_tools.inbox.mailbox import PassedOver, RawLetter, letters_of_file, letters_of_folder
 from debvote_tools.inbox.vote import Vote
-from debvote_tools.poll.call_data import SUBJECT
+from debvote_tools.poll.call import SUBJECT
 from debvote_tools.text import times
 
 SLOW = Reason.SLOW_SIGNATURE()

@@ -21,7 +21,7 @@ from debvote_tools.inbox.mime import MAX_PARTS, Part, address_key
 from debvote_tools.inbox.of_electors import NOBODY, Became, Came, of_electors
 from debvote_tools.inbox.rules import Outcome
 from debvote_tools.outbox.words import Composer, Kind
-from debvote_tools.poll.call_data import is_mail_address
+from debvote_tools.poll.call import is_mail_address
 from debvote_tools.poll.marks import OWN_LENGTH, OWN_SIGNS
 from debvote_tools.result.publication import closing_letter, current_data, last_publication
 from debvote_tools.text.language import language_of

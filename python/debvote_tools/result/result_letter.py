@@ -4,7 +4,7 @@ lead over it.
 
 from collections.abc import Mapping
 
-from debvote_tools.poll.call_data import OPTION
+from debvote_tools.poll.call import OPTION
 from debvote_tools.result.facts import CastingVote, Facts, sentences_of, told, told_acts
 from debvote_tools.result.sheet import Sheet
 from debvote_tools.result.why import Why
