@@ -19,7 +19,7 @@ from debvote_tools.text.language import LANGUAGES, language_of
 from debvote_tools.inbox.rules import Outcome
 from debvote_tools.inbox.of_electors import Became, Came
 from debvote_tools.inbox.letter import Near
-from debvote_tools.inbox.reasons import Reason
+from debvote_tools.inbox.reasons import Reason, for_elector
 from debvote_tools.outbox.files import message
 from debvote_tools.outbox.words import PACKAGE, Composer, Kind
 from debvote_tools.text.ballots import without_ballots
@@ -108,6 +108,18 @@ class Texts(unittest.TestCase):
         self.assertIn("has to be signed with OpenPGP", text)
         self.assertNotIn("send the line alone", text)
         self.assertNotIn("OpenPGP", vote().reminder(ADA, []))
+
+    def test_after_the_end_nobody_is_asked_to_send_anything(self) -> None:
+        for code in LANGUAGES:
+            for reason in (Reason.TOO_LONG(), Reason.NOT_FIRST(), Reason.NO_BALLOT()):
+                came = WAITS._replace(letter=types.SimpleNamespace(reason=reason, near=()))  # type: ignore[arg-type]
+                open_text, over = (" ".join(vote(code, is_over=is_over).receipt(ADA, [came]).split()) for is_over in (False, True))
+                said = " ".join(language_of(code).say(for_elector(reason)).split())
+                self.assertIn(f" {said} ", open_text)
+                self.assertIn(f" {said.partition('. ')[0].rstrip('.')}. ", over)
+                if ". " in said:
+                    self.assertNotIn(said.partition(". ")[2], over)
+                self.assertNotIn("_,_", over)
 
     def test_of_a_result(self) -> None:
         """The letter for all, and before it the own ballot; where the result is, if the letter for all does not say it."""

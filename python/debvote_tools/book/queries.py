@@ -30,7 +30,7 @@ class Elector(NamedTuple):
 def all_electors(book: Book) -> list[Elector]:
     """All electors that the book knows, those who are no longer on the list first."""
     rows = book.rows("SELECT * FROM elector_now ORDER BY position")
-    return [Elector(*row)._replace(addresses=tuple(json.loads(row[4]))) for row in rows]
+    return [Elector._make([*row[:4], tuple(json.loads(row[4])), *row[5:]]) for row in rows]
 
 
 def electors(book: Book) -> list[Elector]:

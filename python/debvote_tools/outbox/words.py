@@ -180,7 +180,12 @@ class Composer:
                 for line in came.letter.near
                 for fault in faults_of(line.answer, name, language, is_within=line.is_within)
             )
-            sentences += [language.say(for_elector(came.letter.reason)), *dict.fromkeys(near)]
+            why, _, advice = language.say(for_elector(came.letter.reason)).partition(". ")
+            # after the end nobody is asked to send it better
+            sentences.append(
+                f"{why}. {advice}" if advice and not self.is_over else f"{why.rstrip('.')}."
+            )
+            sentences += dict.fromkeys(near)
         elif came.became is Became.REFUSED:
             sentences += faults_of(came.answer, name, language)
         return " ".join(sentences)
