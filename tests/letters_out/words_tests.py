@@ -21,7 +21,7 @@ from debvote_tools.inbox.of_electors import Became, Came
 from debvote_tools.inbox.letter import Near
 from debvote_tools.inbox.reasons import Reason, for_elector
 from debvote_tools.outbox.files import message
-from debvote_tools.outbox.words import PACKAGE, Composer, Kind
+from debvote_tools.outbox.words import PACKAGE, SUBJECTS, Composer
 from debvote_tools.text.ballots import without_ballots
 from debvote_tools.text.rendering import one_line as on_one_line
 from debvote_tools.text.rendering import render_page, resources
@@ -75,8 +75,8 @@ def texts(now: Composer) -> list[str]:
         now.reminder(ADA, [WAITS]),
         now.reminder(ADA, []),
         now.receipt(ADA, all_that_came()),
-        now.text(Kind.CLOSED, ADA, letter="CLOSED\n"),
-        *(now.text(Kind.RESULT, ADA, letter="RESULT\n", has_ballot=has_ballot) for has_ballot in (True, False)),
+        now.text("closed", ADA, letter="CLOSED\n"),
+        *(now.text("result", ADA, letter="RESULT\n", has_ballot=has_ballot) for has_ballot in (True, False)),
     ]
 
 
@@ -98,7 +98,7 @@ class Texts(unittest.TestCase):
 
     def test_each_kind_has_its_own_subject(self) -> None:
         for code in LANGUAGES:
-            subjects = [vote(code).subject(kind) for kind in Kind] + [vote(code).subject(Kind.CALL, is_extension=True)]
+            subjects = [vote(code).subject(kind) for kind in SUBJECTS] + [vote(code).subject("call", is_extension=True)]
             self.assertEqual(len(set(subjects)), 6, subjects)
             for subject in subjects:
                 self.assertTrue(subject.endswith(": Spring"), subject)
@@ -124,14 +124,14 @@ class Texts(unittest.TestCase):
     def test_of_a_result(self) -> None:
         """The letter for all, and before it the own ballot; where the result is, if the letter for all does not say it."""
         for letter in ("RESULT\n", "RESULT at\n  https://club.example/vote/\n"):
-            texts = [now.text(Kind.RESULT, ADA, letter=letter, has_ballot=True) for now in (vote(), vote(has_aliases=True))]
+            texts = [now.text("result", ADA, letter=letter, has_ballot=True) for now in (vote(), vote(has_aliases=True))]
             for text in texts:
                 self.assertTrue(text.endswith(f"\n\n{letter}"), text)
                 self.assertEqual(text.count("  https://club.example/vote/\n"), 1)
             self.assertIn("Your own ballot, in words:\n  https://club.example/vote/#ada\n", texts[0])
             self.assertNotIn("#", texts[1])
             self.assertIn("find it with your name, ada, and your code", " ".join(texts[1].split()))
-            self.assertIn("The result has no ballot of yours", vote().text(Kind.RESULT, ADA, letter=letter, has_ballot=False))
+            self.assertIn("The result has no ballot of yours", vote().text("result", ADA, letter=letter, has_ballot=False))
 
 
 class CallLetter(unittest.TestCase):
@@ -310,7 +310,7 @@ class Bytes(unittest.TestCase):
 
     def test_a_name_is_one_line(self) -> None:
         elector = ADA._replace(who="Ada\r\nBcc: x@y.example\n\nada 1,2,3\u2028" + "x" * 500)
-        text = vote().text(Kind.CLOSED, elector, letter="CLOSED\n")
+        text = vote().text("closed", elector, letter="CLOSED\n")
         self.assertEqual(len(text.split("\n\n")), 2)
         self.assertEqual(one_line(parsed(self.message(text)))[:9], "Dear Ada ")
 
