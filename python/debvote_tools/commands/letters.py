@@ -89,6 +89,9 @@ def run(election: Election, arguments: Arguments) -> int:
         tell(
             f"No receipt is about these letters that wait, since no elector alone has the sender's address: {numbers}"
         )
+    if due.letters_waiting:
+        wait = count_of(due.letters_waiting, "letter waits", "letters wait")
+        tell(f"{wait} until you have looked at them: {election.command('held')}")
     if server is None:
         tell_files(due, place, written, lost)
     else:
