@@ -77,8 +77,7 @@ def page_of(given: Facts, answers: Answers, checksums: Mapping[str, str]) -> byt
         facts=given,
         poll=poll,
         sheet=sheet,
-        version=answers.version,
-        verified=answers.verified,
+        answers=answers,
         names=names,
         named=named,
         framed=framed_options(names, in_html),
@@ -92,7 +91,6 @@ def page_of(given: Facts, answers: Answers, checksums: Mapping[str, str]) -> byt
         if given.given_checksum == checksums[files.POLL]
         else given.given_checksum,
         explanations=explanations_of(poll),
-        has_picture=answers.picture is not None,
         picture=picture,
         picture_command=shlex.join(drawing_words(len(names))),
         ballot_words={ranks: Markup(words.of(ranks)) for ranks in set(standing.values())},
