@@ -19,7 +19,7 @@ from debvote_tools.cli.faults import Fault, stop_at
 from debvote_tools.files import sha256_of
 from debvote_tools.inbox.lines import ballot_file
 from debvote_tools.result.facts import CLOSED
-from debvote_tools.poll.aliases import aliased_ballots, seal_line, sealed_checksum
+from debvote_tools.poll.secret import aliased_ballots, seal_line, sealed_checksum
 
 
 # the question before the close, and how often it is tried if others enter ballots meanwhile

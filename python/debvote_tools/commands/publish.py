@@ -98,8 +98,8 @@ def run(election: Election, arguments: Arguments) -> int:
             detail["agreed"] = agreed
         with alone(election), uninterrupted():
             if is_new:
-                with book.act("publish", detail, seen=history.last.number):
-                    pass
+                with book.act("publish", detail, seen=history.last.number) as act:
+                    act.insert("sealed", name=f"{LETTERS}/{RESULT_LETTER}", data=made.letter)
             elif book.last_number() != history.last.number:
                 raise Overtaken
             made.is_in_book = True

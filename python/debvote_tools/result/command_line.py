@@ -24,8 +24,8 @@ from debvote_tools.text.language import ENGLISH, LANGUAGES, language_of
 from debvote_tools.poll.plain_names import bad_options, bad_title
 from debvote_tools.result import folder
 from debvote_tools.result.facts import CastingVote, Facts
-from debvote_tools.poll.sealed_poll import KEYS, REQUIRED, SealedPoll, poll_of
-from debvote_tools.poll.codes import CODE
+from debvote_tools.poll.sealed import KEYS, REQUIRED, SealedPoll, poll_of
+from debvote_tools.poll.secret import CODE
 
 PROGRAM = "debvote-publish"
 

@@ -18,9 +18,9 @@ from debvote_tools.debvote import casting_words
 from debvote_tools.files import sha256_of
 from debvote_tools.inbox.lines import ballot_file
 from debvote_tools.inbox.waiting import left
-from debvote_tools.poll.aliases import aliased_ballots, sealed_checksum
-from debvote_tools.poll.call_data import CallData
-from debvote_tools.poll.sealed_poll import SealedPoll
+from debvote_tools.poll.secret import aliased_ballots, sealed_checksum
+from debvote_tools.poll.call import CallData
+from debvote_tools.poll.sealed import SealedPoll
 from debvote_tools.result.facts import (
     BALLOTS,
     CHECKSUMS,
