@@ -12,7 +12,7 @@ from tests.support import at_browser
 
 sys.path.insert(0, str(support.ROOT / "python"))
 
-from debvote_tools.poll.call_data import SENTENCES as CALL_SENTENCES  # noqa: E402
+from debvote_tools.poll.call import SENTENCES as CALL_SENTENCES  # noqa: E402
 from debvote_tools.text.language import language_of  # noqa: E402
 from debvote_tools.result.scripts import COUNT_AGAIN, FIND, FIND_IN_OPEN, FIND_IN_SECRET  # noqa: E402
 

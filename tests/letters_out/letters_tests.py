@@ -402,12 +402,13 @@ class Receipts(OutTest):
         output = self.done("letters", "receipts").output
         self.assertTrue(output.startswith(said), output)
         self.assertEqual([file.stem for file in self.files("receipts")], ["cleo", "eve"])
-        self.assertEqual(self.done("letters", "receipts").output, f"{said}There is no letter to send.\n")
+        self.assertEqual(self.done("letters", "receipts").output, f"{said}5 letters wait until you have looked at them: debvote-election held\nThere is no letter to send.\n")
         held = self.done("held").output.replace("\n        ", "\n")
         self.assertIn("no ballot found\nother words: Who are you?\n", held)
         self.assertIn(f"no ballot found\nother words: Benjamin Lind {RANKS}\nsame address: ada, ben\n", held)
         self.done("held", 1, 2, "--set-aside")
-        self.assertEqual(self.done("letters", "receipts").output, "There is no letter to send.\n")
+        waits = "3 letters wait until you have looked at them: debvote-election held\n"
+        self.assertEqual(self.done("letters", "receipts").output, f"{waits}There is no letter to send.\n")
 
     def test_undo_names_those_whose_receipts_no_longer_hold(self) -> None:
         self.add_lines(f"ada {RANKS}")
@@ -722,10 +723,13 @@ class Result(OutTest):
         self.published()
         texts = self.texts("result")
         self.assertEqual(sorted(texts), support.NAMES)
-        self.assertIn(f"Dear Ada, {TITLE} Winner: Option 1: At the lake The result is published at: {AT} ", texts["ada"])
-        self.assertIn(f"Your own ballot, in words: {AT}#ada What is doubtful", texts["ada"])
+        begin = f"Dear Ada, Your own ballot, in words: {AT}#ada {TITLE} Winner: Option 1: At the lake. It beats each option that was not dropped: "
+        numbers = "Option 2: In the town hall by 2 to 0 and Option 4: Further discussion by 2 to 0."
+        self.assertIn(f"{begin}{numbers} The result is published at: {AT} What is doubtful", texts["ada"])
+        for text in texts.values():
+            self.assertIn(" ".join(self.read("letters/result.txt").decode().split()), text)
         self.assertIn(f"{AT}#ben", texts["ben"])
-        self.assertIn("It has no ballot of yours that counts.", texts["cleo"])
+        self.assertIn("Dear Cleo, The result has no ballot of yours that counts.", texts["cleo"])
         self.assertNotIn("#", texts["cleo"])
         for name in ("SHA256SUMS", "index.html"):
             checksum = hashlib.sha256(self.read(f"result/{name}")).hexdigest()

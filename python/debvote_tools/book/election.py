@@ -18,7 +18,7 @@ from debvote_tools.cli.console import tell_aside
 from debvote_tools.debvote import Debvote
 from debvote_tools.cli.faults import Fault, Status, stop_at
 from debvote_tools.text.language import Language, language_of
-from debvote_tools.poll.sealed_poll import SealedPoll, read_plain
+from debvote_tools.poll.sealed import SealedPoll, read_plain
 
 POLL_FILE, MEMBERS_FILE, TEXTS = "poll.toml", "members.csv", "texts"
 CALL, LETTERS, RESULT, PRIVATE = "call", "letters", "result", "private"

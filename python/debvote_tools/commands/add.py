@@ -24,7 +24,7 @@ from debvote_tools.inbox.lines import MARK, NOTHING_ADDED, lines_in
 from debvote_tools.inbox.plan import FileLines
 from debvote_tools.inbox.tables import Columns, OptionNames, are_table, columns_of, lines_of_table
 from debvote_tools.inbox.vote import LATE_REPLY, JudgedLine, Vote, summary
-from debvote_tools.poll.sealed_poll import read_plain
+from debvote_tools.poll.sealed import read_plain
 
 FORCE = "add it anyway with --force"
 

@@ -8,7 +8,7 @@ from debvote_tools.inbox.mime import address_key
 from debvote_tools.cli.arguments import flag
 from debvote_tools.book import queries
 from debvote_tools.book.book import Book
-from debvote_tools.poll.call_data import is_mail_address
+from debvote_tools.poll.call import is_mail_address
 from debvote_tools.cli.console import is_terminal, is_yes, tell
 from debvote_tools.book import acting
 from debvote_tools.book.election import MEMBERS_FILE, Election, History

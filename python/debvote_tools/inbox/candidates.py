@@ -13,14 +13,7 @@ from collections.abc import Collection, Iterable, Iterator, Mapping, Sequence
 from typing import Protocol
 
 from debvote_tools.inbox.known import Names
-from debvote_tools.inbox.letter import (
-    Near,
-    ParsedLetter,
-    ReadLine,
-    Readings,
-    is_quoted,
-    may_be_ballot,
-)
+from debvote_tools.inbox.letter import Near, ParsedLetter, ReadLine, is_quoted, may_be_ballot
 from debvote_tools.inbox.lines import DASHES, LONGEST_REPAIRED, changed, has_code
 from debvote_tools.inbox.reasons import Reason
 
@@ -65,7 +58,7 @@ def read_all(
     """The letters, each with what its lines may be. debvote is asked about what is not `known`."""
     found = [read(letter, names) for letter in letters]
     stand_in = min(names.roll)
-    lines = (line for readings in found for line in readings.lines)
+    lines = (line for letter in found for line in letter.read_lines)
     asked = dict.fromkeys(text for line in lines for text in texts_of(line, stand_in))
     answers = dict(known or {})
     answers |= answers_to([text for text in asked if text not in answers], names, reader)
@@ -76,29 +69,27 @@ def read_all(
         return dataclasses.replace(line, answer=answer, near=near)
 
     return [
-        dataclasses.replace(
-            letter,
-            readings=dataclasses.replace(readings, lines=tuple(map(answered, readings.lines))),
-        )
-        for letter, readings in zip(letters, found)
+        dataclasses.replace(letter, read_lines=tuple(map(answered, letter.read_lines)))
+        for letter in found
     ]
 
 
-def read(letter: ParsedLetter, names: Names) -> Readings:
-    """What the lines of a letter may be, before debvote has answered."""
+def read(letter: ParsedLetter, names: Names) -> ParsedLetter:
+    """A letter with what its lines may be, before debvote has answered."""
     lines = list(enumerate(letter.shown_lines, start=1))
     code_lines = tuple(number for number, line in lines if has_code(line))
     lines = [(number, line) for number, line in lines if may_be_ballot(line)]
     own = [(number, line) for number, line in lines if not is_quoted(line)]
     several = [SEPARATOR.search(line) is not None for _, line in own]
     if (count := sum(several)) > MAX_BALLOTS:
-        return Readings(crowd=count, code_lines=code_lines)
+        return dataclasses.replace(letter, read_lines=(), crowd=count, code_lines=code_lines)
     others = (one for one, has_several in zip(own, several) if not has_several)
     chosen = sorted([*itertools.compress(own, several), *itertools.islice(others, MAX_OTHERS)])
     quoted = (read_quoted(number, line, names) for number, line in lines if is_quoted(line))
     found = [read_line(number, line, names) for number, line in chosen]
     found += itertools.islice(filter(None, quoted), MAX_NEAR)
-    return Readings(tuple(filter(None, found)), code_lines=code_lines)
+    read_lines = tuple(filter(None, found))
+    return dataclasses.replace(letter, read_lines=read_lines, crowd=0, code_lines=code_lines)
 
 
 def read_line(number: int, line: str, names: Names) -> ReadLine | None:
@@ -138,7 +129,7 @@ def read_text(number: int, text: str, names: Names) -> ReadLine | None:
 
 def read_quoted(number: int, line: str, names: Names) -> ReadLine | None:
     """The line of our letter, as `ada _,_,_,_`, that was filled in where it is quoted."""
-    bare = filled_in(line).strip().lstrip("> \t")
+    bare = filled_in(line).strip().lstrip("> \t\u00a0")
     if re.split(r"[\s:]", bare, maxsplit=1)[0].lower() not in names.roll:
         return None
     found = read_text(number, repaired(bare), names)
@@ -216,7 +207,7 @@ def answers_in(letters: Iterable[ParsedLetter], roll: Collection[str]) -> dict[s
     """debvote's answers to the lines of letters that were read."""
     stand_in, found = min(roll), dict[str, str | None]()
     for letter in letters:
-        for line in letter.readings.lines:
+        for line in letter.read_lines:
             near = () if line.near is None else (line.near.answer,)
             found |= zip(texts_of(line, stand_in), (line.answer, *near) if line.ranks else near)
     return found
@@ -264,7 +255,7 @@ class View:
     near: tuple[Near, ...] = ()
 
 
-def view_of(readings: Readings, sharing: Sequence[str], marked: str | None) -> View:
+def view_of(lines: Sequence[ReadLine], sharing: Sequence[str], marked: str | None) -> View:
     """What the lines are if it was sent by one of the electors who have the sender's address, or by
     the one whose own mark is in the subject.
 
@@ -276,7 +267,7 @@ def view_of(readings: Readings, sharing: Sequence[str], marked: str | None) -> V
     likely = sender if marked is None else marked if marked in (sharing or [marked]) else None
     own, others, refused = dict[int, BallotLine](), list[BallotLine](), dict[str, Near]()
     offered = dict[BallotLine, Reason]()
-    for line in readings.lines:
+    for line in lines:
         name = line.elector or (sender if sender is not None and is_name_of(sender, line) else None)
         if not (line.elector or line.on_roll or line.real):
             name = likely
@@ -294,7 +285,7 @@ def view_of(readings: Readings, sharing: Sequence[str], marked: str | None) -> V
             others.append(ballot)
     if own or refused:
         return View(own, tuple(others), near=tuple(refused.values())[:MAX_NEAR])
-    near = tuple(line.near for line in readings.lines if line.near is not None)
+    near = tuple(line.near for line in lines if line.near is not None)
     return View({}, (), tuple(offered), next(iter(offered.values()), None), near[:MAX_NEAR])
 
 

@@ -21,11 +21,11 @@ from debvote_tools.inbox.mime import MAX_PARTS, Part, address_key
 from debvote_tools.inbox.reasons import Because, Reason
 from debvote_tools.poll.marks import marks_in
 
-# in bytes: the longest text, and all texts of a letter together; in characters: what is read of a
-# field of the head, and the longest line that may be a ballot
+# in bytes: a text, and all texts of a letter
 MAX_TEXT, MAX_TEXTS = 262_144, 1_048_576
+# in characters: what is read of a field of the head, and a line that may be a ballot
 MAX_FIELD, MAX_LINE = 2_000, 500
-# the most lines and HTML tags in all texts; of a letter with more some lines are shown
+# lines and HTML tags in all texts, and how many lines are shown of a letter with more
 MAX_LINES, SHOWN_LINES = 10_000, 200
 LINE_OR_MARK = b"\n\r\v\f\x1c\x1d\x1e<"
 # a ballot has a digit or a hyphen
@@ -112,8 +112,7 @@ class ReadLine:
     """What a line of a letter may be, by its number, from 1."""
 
     number: int
-    # whose ballot it is: the name on the roll; or those whose name on the roll, or real name,
-    # people may write so
+    # whose ballot: a name on the roll; or those whose name on the roll, or real name, may be meant
     elector: str = ""
     on_roll: tuple[str, ...] = ()
     real: tuple[str, ...] = ()
@@ -123,17 +122,6 @@ class ReadLine:
     # why it is no ballot by itself, and is only offered to the secretary
     offered_for: Reason | None = None
     near: Near | None = None
-
-
-@dataclasses.dataclass(frozen=True)
-class Readings:
-    """What the lines of a letter may be; or, if more lines may be ballots than are read, how many.
-    The `code_lines` have what looks like a code of a secret vote or an alias.
-    """
-
-    lines: tuple[ReadLine, ...] = ()
-    crowd: int = 0
-    code_lines: tuple[int, ...] = ()
 
 
 @dataclasses.dataclass(frozen=True)
@@ -163,7 +151,11 @@ class ParsedLetter:
     # if letters have to be signed: the good signature, or why there is none
     signature: Signature | None = None
     why_unsigned: Because | None = None
-    readings: Readings = Readings()
+    # what its lines may be, or how many may be ballots if they are more than are read; and the
+    # lines with what looks like a code of a secret vote or an alias
+    read_lines: tuple[ReadLine, ...] = ()
+    crowd: int = 0
+    code_lines: tuple[int, ...] = ()
 
     @property
     def key(self) -> str:
@@ -313,15 +305,12 @@ def body_of(letter: Part) -> Body:
     text, pieces = read[0] if read else (Body(), [])
     # no program shows text around the parts, but it may be a letter that a mailbox did not part
     # off; so may text below an encoded one
-    around = [
-        line for part, _ in parts for line in decoded_bytes(part.around, "utf-8").splitlines()
-    ]
+    outside = [decoded_bytes(part.around, "utf-8").splitlines() for part, _ in parts]
+    around = list(itertools.chain.from_iterable(outside))
     below = decoded_bytes(first.below, "utf-8").splitlines()
-    heads = map(RECEIVED.match, (*text.lines, *pieces, *around, *below))
-    if letter.fields and any(heads):
-        trouble: Because | None = Reason.PARTED_OFF()
-    else:
-        trouble = next(filter(None, (part.trouble for part, _ in parts)), None)
+    trouble = next(filter(None, (part.trouble for part, _ in parts)), None)
+    if letter.fields and any(map(RECEIVED.match, (*text.lines, *pieces, *around, *below))):
+        trouble = Reason.PARTED_OFF()
     lines = [line for other, _ in read[1:] for line in other.lines]
     lines += [line for _, pieces in read for line in pieces] + around
     own = {" ".join(line.split()) for line in text.lines}
@@ -345,14 +334,14 @@ def text_of(part: Part, *, is_first: bool) -> tuple[Body, list[str]]:
     of the first part have to be in its character set.
     """
     charset = part.parameters.get("charset", "")
+    named = charset or "us-ascii"
     try:
-        is_plain = not charset or CHARSETS.fullmatch(charset) is not None
-        if is_first and is_plain:
-            part.payload.decode(charset or "us-ascii")
+        if not CHARSETS.fullmatch(named):
+            raise LookupError
+        if is_first:
+            part.payload.decode(named)
     except (UnicodeDecodeError, LookupError):
-        is_plain = False
-    if not is_plain:
-        part.found(Reason.CHARSET(charset=charset or "us-ascii"))
+        part.found(Reason.CHARSET(charset=named))
     if is_first and part.is_cut:
         part.found(Reason.CUT())
     text = decoded_bytes(part.payload, charset or "utf-8").removeprefix("\ufeff")
@@ -363,10 +352,8 @@ def text_of(part: Part, *, is_first: bool) -> tuple[Body, list[str]]:
     if part.kind == "text/html":
         return Body(tuple(html.lines), (), True, html.plain_lines, html.first_other), html.pieces
     lines = text.rstrip("\r\n").splitlines()
-    flow, delsp = (
-        part.parameters.get(name, usual).lower()
-        for name, usual in (("format", "fixed"), ("delsp", "no"))
-    )
+    flow = part.parameters.get("format", "fixed").lower()
+    delsp = part.parameters.get("delsp", "no").lower()
     if flow not in ("fixed", "flowed") or delsp not in ("no", "yes"):
         part.found_ambiguous("content-type")
     flowing, whole = joined(lines, deletes_space=delsp == "yes") if flow == "flowed" else ([], [])

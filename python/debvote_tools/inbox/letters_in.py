@@ -28,7 +28,7 @@ from debvote_tools.inbox.reasons import Reason
 from debvote_tools.inbox.signature import find_gpgv, verified
 from debvote_tools.inbox.mailbox import PassedOver, RawLetter, letters_of_file, letters_of_folder
 from debvote_tools.inbox.vote import Vote
-from debvote_tools.poll.call_data import SUBJECT
+from debvote_tools.poll.call import SUBJECT
 from debvote_tools.text import times
 
 SLOW = Reason.SLOW_SIGNATURE()
@@ -262,7 +262,7 @@ def judged(
         if (kept_letter := by_key.get(letter.parsed.key)) is not None:
             letter.number, letter.source = kept_letter.number, kept_letter.source
         if no_codes_expected:
-            letter.code_lines = letter.parsed.readings.code_lines
+            letter.code_lines = letter.parsed.code_lines
     return letters_now
 
 
@@ -336,23 +336,19 @@ def ballots_in(
 def known_of(election: Election, history: History, by_key: Mapping[str, KeptLetter]) -> Known:
     call, sealed, electors = history.call, election.sealed(), queries.electors(election.book)
     assert call is not None
-    ids, keys = letters.our_message_ids(election.book), None
-    if keyring_of(election) is not None:
-        keys = {elector.name: elector.key for elector in electors}
+    ids = letters.our_message_ids(election.book)
     states = ((key, kept.state) for key, kept in by_key.items())
     return Known(
         mark=sealed.public.mark,
         subject=election.language.say(SUBJECT, title=sealed.public.name),
-        own_marks={elector.name: elector.mark for elector in electors},
+        electors={elector.name: elector for elector in electors},
         is_marked=bool(history.announced("marked")),
-        roll=frozenset(sealed.counted.roll),
-        addresses={elector.name: elector.addresses for elector in electors},
+        is_signed=keyring_of(election) is not None,
         called=call.time,
         end=history.until,
         first_close=history.closes[0].time if history.closes else None,
         now=times.now(),
         our_letters={elector.name: ids.get(elector.number, []) for elector in electors},
-        keys=keys,
         decisions={key: Decision(state) for key, state in states if state != letters.WAITS},
     )
 

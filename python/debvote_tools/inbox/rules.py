@@ -74,10 +74,10 @@ class JudgedLetter:
         self.parsed, self.known = letter, known
         self.marked_elector = known.marked_elector(letter)
         sharing = known.electors_by_address.get(letter.sender, [])
-        self.view = view_of(letter.readings, sharing, self.marked_elector)
-        # the time of its ballot is that of the signature, if letters have to be signed
-        is_signed = known.keys is not None and letter.signature is not None
-        self.time = letter.signature.time if is_signed and letter.signature else letter.arrived
+        self.view = view_of(letter.read_lines, sharing, self.marked_elector)
+        # that of its ballot: if letters have to be signed, that of the signature
+        signature = letter.signature if known.is_signed else None
+        self.time = letter.arrived if signature is None else signature.time
         self.decision = known.decisions.get(letter.key)
         end = above_end(letter.body.lines)
         self.index = next((index for index in self.view.lines if index < end), None)
@@ -128,7 +128,7 @@ class JudgedLetter:
         """The electors on its ballots, or near to one; else the one who has the sender's address."""
         named = [line.elector for line in (*self.ballots, *self.offered)]
         near = (near.ballot.partition(" ")[0] for near in self.view.near)
-        named += [name for name in near if name in self.known.roll]
+        named += [name for name in near if name in self.known.electors]
         sender = self.known.elector_of(self.parsed)
         return tuple(dict.fromkeys(named)) or (() if sender is None else (sender,))
 
@@ -137,9 +137,6 @@ class JudgedLetter:
         """The other electors who have the sender's address."""
         sharing = self.known.electors_by_address.get(self.parsed.sender, [])
         return tuple(name for name in sharing if name not in self.electors)
-
-
-Rule = Callable[[JudgedLetter, Known], Because | None]
 
 
 # ---------------------------------------------------------------- the rules
@@ -151,7 +148,7 @@ def can_be_read(case: JudgedLetter, known: Known) -> Because | None:
         return Reason.AUTOMATIC()
     if body.trouble is not None:
         return body.trouble
-    if crowd := letter.readings.crowd:
+    if crowd := letter.crowd:
         what = "lines that may be ballots"
         return Reason.TOO_LONG(length=crowd, what=what, limit=MAX_BALLOTS)
     is_odd = body.is_html and case.index is not None and case.index >= body.plain_lines
@@ -176,7 +173,7 @@ def is_sent_by_its_elector(case: JudgedLetter, known: Known) -> Because | None:
     --marked` its subject has the own mark of this elector, too.
     """
     sender, elector = case.parsed.sender, case.elector
-    listed = known.addresses.get(elector, ())
+    listed = known.electors[elector].addresses if elector in known.electors else ()
     if not sender:
         return Reason.NO_SENDER(sender=case.parsed.shown_sender)
     if case.ballot is None:
@@ -197,11 +194,11 @@ def is_signed_by_its_elector(case: JudgedLetter, known: Known) -> Because | None
     text, since only what was signed is read as the text.
     """
     letter, signature, elector = case.parsed, case.parsed.signature, case.elector
-    if known.keys is None or case.ballot is None:
+    if not known.is_signed or case.ballot is None:
         return None
     if signature is None:
         return letter.why_unsigned or Reason.NOT_SIGNED()
-    key = known.keys.get(elector, "")
+    key = known.electors[elector].key if elector in known.electors else ""
     if not key:
         return Reason.NO_KEY(elector=elector)
     if signature.fingerprint != key:
@@ -248,7 +245,7 @@ def is_of_this_vote(case: JudgedLetter, known: Known) -> Because | None:
     """Its subject has the mark of the poll, and no other. If letters have to be signed, no other
     mark is in the signed text, either.
     """
-    signed = () if known.keys is None else case.parsed.shown_lines
+    signed = case.parsed.shown_lines if known.is_signed else ()
     marks = [mark for mark, _ in case.parsed.marks]
     for mark in (*marks, *(mark for line in signed for mark, _ in marks_in(line))):
         if mark != known.mark:
@@ -261,7 +258,7 @@ def is_of_this_vote(case: JudgedLetter, known: Known) -> Because | None:
     return (Reason.CHANGED_MARK if is_changed else Reason.NO_SUBJECT_MARK)(mark=known.mark)
 
 
-RULES: tuple[Rule, ...] = (
+RULES = (
     can_be_read,
     arrived_in_time,
     is_sent_by_its_elector,
@@ -369,10 +366,6 @@ class Box:
     def last(self, elector: str) -> datetime.datetime | None:
         return self.times[elector][-1] if self.times[elector] else None
 
-    def has_later(self, elector: str, time: datetime.datetime | None) -> bool:
-        last = self.last(elector)
-        return last is not None and (time is None or last > time)
-
     def has_between(self, elector: str, after: datetime.datetime, until: datetime.datetime) -> bool:
         times = self.times[elector]
         return bisect.bisect_right(times, after) < bisect.bisect_left(times, until)
@@ -389,16 +382,16 @@ def set_outcomes(cases: Sequence[JudgedLetter], box: Box) -> None:
             case.outcome = DECIDED.get(case.decision, Outcome.WAITS)
             if case.decision is not Decision.ENTERED:
                 case.reason = Reason[case.decision.name]()
-    firsts: dict[JudgedLetter, None] = {}
+    firsts: set[JudgedLetter] = set()
+    at_once: dict[tuple[str, datetime.datetime | None], set[str]] = collections.defaultdict(set)
     undecided = [group for group in groups.values() if any(case.decision is None for case in group)]
     for group in undecided:
         # the first copy that may go in, unless an act decided of one that hides it
-        if not any(case.decision is not None and case.hides for case in group):
-            may_go_in = (c for c in group if c.decision is None and c.why_by_itself is None)
-            firsts |= dict.fromkeys(itertools.islice(may_go_in, 1))
-    at_once: dict[tuple[str, datetime.datetime | None], set[str]] = collections.defaultdict(set)
-    for case in firsts:
-        at_once[case.elector, case.time].add(case.ballots[0].ballot)
+        may_go_in = (one for one in group if one.decision is None and one.why_by_itself is None)
+        is_hidden = any(case.decision is not None and case.hides for case in group)
+        for case in () if is_hidden else itertools.islice(may_go_in, 1):
+            firsts.add(case)
+            at_once[case.elector, case.time].add(case.ballots[0].ballot)
     for case in filter(firsts.__contains__, cases):
         case.reason = why_not_latest(case, box, at_once[case.elector, case.time])
         if case.reason is None and case.time is not None:
@@ -428,9 +421,8 @@ def set_copies(group: Sequence[JudgedLetter], firsts: Collection[JudgedLetter], 
     """
     hiding = [case for case in group if case.hides]
     is_hidden = any(case.decision is not None or case.outcome is Outcome.GOES_IN for case in hiding)
-    first = min(
-        hiding, key=lambda case: (case.parsed.arrived is None, case.parsed.arrived), default=None
-    )
+    hiding.sort(key=lambda case: (case.parsed.arrived is None, case.parsed.arrived))
+    first = next(iter(hiding), None)
     waiting: dict[tuple[Because | None, Body], JudgedLetter] = {}
     for case in sorted(group, key=lambda case: case.decision is None):
         before = waiting.setdefault((case.why_by_itself, case.parsed.body), case)
@@ -474,5 +466,6 @@ def judge_all(
             box.add(elector, ballot)
     set_outcomes(ordered, box)
     for case in ordered:
-        case.has_voted_since = any(box.has_later(elector, case.time) for elector in case.electors)
+        times = filter(None, map(box.last, case.electors))
+        case.has_voted_since = any(case.time is None or time > case.time for time in times)
     return ordered

@@ -16,7 +16,7 @@ from debvote_tools.cli.console import tell_aside, tell_aside_as_it_is
 from debvote_tools.cli.faults import Fault, Status, Told
 from debvote_tools.debvote import Answer, Debvote, findings_in
 from debvote_tools.files import TEMPORARY, locked, sha256_of, sync_folder, write_public
-from debvote_tools.poll.codes import demand_no_code
+from debvote_tools.poll.secret import demand_no_code
 from debvote_tools.result import facts
 from debvote_tools.result.facts import (
     BALLOTS,

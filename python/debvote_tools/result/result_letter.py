@@ -2,10 +2,10 @@
 lead over it.
 """
 
-from collections.abc import Iterable, Mapping
+from collections.abc import Mapping
 
-from debvote_tools.poll.call_data import OPTION
-from debvote_tools.result.facts import CastingVote, Doubt, Facts, sentences_of, told, told_acts
+from debvote_tools.poll.call import OPTION
+from debvote_tools.result.facts import CastingVote, Facts, sentences_of, told, told_acts
 from debvote_tools.result.sheet import Sheet
 from debvote_tools.result.why import Why
 from debvote_tools.text.language import Language, marked
@@ -22,28 +22,22 @@ NOBODYS = marked(
 
 def letter_of(facts: Facts, sheet: Sheet, checksums: Mapping[str, str]) -> bytes:
     """The letter for all, in plain text, with checksums of the files by their names."""
-    values = letter_values(facts, sheet, facts.doubts, checksums)
-    letter = render_letter(__package__, "letter.txt", facts.language, elector=None, **values)
-    return letter.encode()
-
-
-def letter_values(
-    facts: Facts, sheet: Sheet, doubts: Iterable[Doubt], checksums: Mapping[str, str]
-) -> dict[str, object]:
-    """What the letter for all says, and that to each elector."""
-    language, poll = facts.language, facts.poll
-    return {
-        "poll": poll,
-        "ended": outcome_in_words(facts, sheet),
-        "casting": told_if_it_decides(facts, sheet),
-        "at": facts.at,
-        "doubts": sentences_of(doubts, language, is_secret=poll.secret),
-        "because": facts.because,
-        "acts": told_acts(facts, language),
-        "checksums": checksums,
-        "is_of_call": facts.given_checksum is None,
-        "is_closed": facts.closed is not None,
-    }
+    language, is_secret = facts.language, facts.poll.secret
+    return render_letter(
+        __package__,
+        "letter.txt",
+        language,
+        poll=facts.poll,
+        ended=outcome_in_words(facts, sheet),
+        casting=told_if_it_decides(facts, sheet),
+        at=facts.at,
+        doubts=sentences_of(facts.doubts, language, is_secret=is_secret),
+        because=facts.because,
+        acts=told_acts(facts, language),
+        checksums=checksums,
+        is_of_call=facts.given_checksum is None,
+        is_closed=facts.closed is not None,
+    ).encode()
 
 
 def outcome_in_words(facts: Facts, sheet: Sheet) -> str:

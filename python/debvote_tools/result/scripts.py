@@ -3,7 +3,7 @@
 import json
 
 from debvote_tools.text.ballots import IN_A_LIST
-from debvote_tools.poll.call_data import OPTION
+from debvote_tools.poll.call import OPTION
 from debvote_tools.text.language import Language, marked
 from debvote_tools.poll.plain_names import PLAIN_LETTERS, PUNCTUATION, SPELLINGS
 from debvote_tools.result.facts import Facts

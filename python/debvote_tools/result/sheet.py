@@ -9,7 +9,7 @@ import json
 import re
 
 from debvote_tools.cli.faults import other_format
-from debvote_tools.poll.sealed_poll import SealedPoll
+from debvote_tools.poll.sealed import SealedPoll
 
 Pair = tuple[int, int]
 

@@ -1,8 +1,5 @@
-"""The sealed poll: what the call announces and the result publishes, in plain form.
-
-Plain form is TOML that a simple reader understands, too: one `key = value` a line in the order of
-`KEYS`, each value as JSON writes it, each line ended by a line feed, without comments and tables.
-So one SHA-256 of the file covers all that the call announces.
+"""The sealed poll, in plain form: TOML with a line `key = value` for each key, in the order of
+`KEYS`, each value as JSON writes it. One SHA-256 covers all that the call announces.
 """
 
 import dataclasses
