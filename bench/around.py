@@ -9,6 +9,7 @@ started, and the most that it may take on a quiet machine; beyond it the script 
 
 import argparse
 import contextlib
+import hashlib
 import json
 import os
 import pathlib
@@ -120,7 +121,7 @@ def largest_page(folder: pathlib.Path, path: str) -> Iterator[tuple[str, float, 
     yield "publish, 32 options", command(words, room, path, (0, 1)), 60
 
 
-def letter_of(number: int, name: str, text: str) -> str:
+def letter_of(number: int, name: str, text: str, mark: str) -> str:
     """A letter of a mailbox, as mail programs write an answer: plain text and HTML, with the call quoted."""
     time = f"{number // 3600:02}:{number // 60 % 60:02}:{number % 60:02}"
     head = f"Received: from a by b; Mon, 23 Nov 2026 {time} +0000\nFrom: E <{name}@club.example>\nMessage-ID: <{number}@mail.example>\n"
@@ -133,6 +134,7 @@ def letter_of(number: int, name: str, text: str) -> str:
     }
     body = "".join(f"--b\nContent-Type: text/{kind}; charset=utf-8\n\n{part}\n" for kind, part in parts.items())
     kind = 'Content-Type: multipart/alternative; boundary="b"'
+    head += f"Subject: Re: T [{mark}]\n"
     return f"From {name}@club.example Mon Nov 23 10:00:00 2026\n{head}{kind}\n\n{body}--b--\n\n"
 
 
@@ -146,8 +148,9 @@ def many_letters(folder: pathlib.Path, path: str) -> Iterator[tuple[str, float, 
     clock.write_text("2026-11-20T09:00:00+00:00")
     with before(clock):
         new_election(room, poll, members, path)
+    mark = hashlib.sha256((room / "call" / "poll.toml").read_bytes()).hexdigest()[:16]
     texts = (f"{name} {'1,2,3,4' if number % 10 else '1,2,3'}" for number, name in enumerate(names))
-    (room / "inbox").write_text("".join(letter_of(number, name, text) for number, (name, text) in enumerate(zip(names, texts))))
+    (room / "inbox").write_text("".join(letter_of(number, name, text, mark) for number, (name, text) in enumerate(zip(names, texts))))
     for name, words, most in [
         ("add, 10,000 letters", ["add", "--yes", "inbox"], 30),
         ("add, all of them again", ["add", "--yes", "inbox"], 30),

@@ -8,7 +8,11 @@
     return node;
   }
 
-  const unfoldNamed = () => unfold(location.hash.slice(1))?.scrollIntoView();
+  // the ballot of an elector is shown above
+  function unfoldNamed() {
+    const place = location.hash.slice(1);
+    if (!document.getElementById(place)?.closest(".ballots, .roll")) unfold(place)?.scrollIntoView();
+  }
 
   // a link to the part that the address names already changes no address
   addEventListener("click", (event) => {

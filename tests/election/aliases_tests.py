@@ -21,14 +21,11 @@ from tests.support.at_browser import BROWSER, Window
 sys.path.insert(0, str(pathlib.Path(__file__).resolve().parents[2] / "python"))
 
 from debvote_tools.book.queries import Elector  # noqa: E402
-from debvote_tools.poll.call_data import CallData  # noqa: E402
+from debvote_tools.poll.call import CallData  # noqa: E402
 from debvote_tools.text.language import LANGUAGES, language_of  # noqa: E402
-from debvote_tools.poll.sealed_poll import SealedPoll, read_plain  # noqa: E402
-from debvote_tools.poll.aliases import alias_of, aliased_ballots, aliased_poll, seal_line, sealed_checksum  # noqa: E402
+from debvote_tools.poll.sealed import SealedPoll, read_plain  # noqa: E402
+from debvote_tools.poll.secret import BY_OPENSSL, BY_PYTHON, NUMBER, alias_of, aliased_ballots, aliased_poll, codes_csv, new_code, seal_line, sealed_checksum, slips  # noqa: E402
 from debvote_tools.inbox.lines import has_code  # noqa: E402
-from debvote_tools.poll.codes import NUMBER, codes_csv, new_code  # noqa: E402
-from debvote_tools.poll.slips import slips  # noqa: E402
-from debvote_tools.poll.words import BY_OPENSSL, BY_PYTHON  # noqa: E402
 
 ROLL = ("ada", "ben", "cleo", "dan")
 CODES = {name: f"{number:x}" * 32 for number, name in enumerate(ROLL, start=10)}
@@ -94,7 +91,7 @@ class Codes(unittest.TestCase):
         for bad in ("1" * 32, "1234e567" + "0" * 24):
             with unittest.mock.patch("secrets.token_hex", side_effect=[bad, good]):
                 self.assertEqual(new_code("ada"), good)
-        with unittest.mock.patch("debvote_tools.poll.codes.alias_of", side_effect=["2" * 32, "12e" + "4" * 29, "b" * 32]) as made:
+        with unittest.mock.patch("debvote_tools.poll.secret.alias_of", side_effect=["2" * 32, "12e" + "4" * 29, "b" * 32]) as made:
             code = new_code("ada")
         self.assertEqual([call.args[1] for call in made.call_args_list], ["ada"] * 3)
         self.assertEqual(made.call_args.args[0], code)

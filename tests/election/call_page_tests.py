@@ -16,9 +16,9 @@ import urllib.parse
 ROOT = pathlib.Path(__file__).resolve().parents[2]
 sys.path.insert(0, str(ROOT / "python"))
 
-from debvote_tools.poll.call_data import CallData, call_files  # noqa: E402
+from debvote_tools.poll.call import CallData, call_files  # noqa: E402
 from debvote_tools.text.language import ENGLISH  # noqa: E402
-from debvote_tools.poll.sealed_poll import SealedPoll, with_roll  # noqa: E402
+from debvote_tools.poll.sealed import SealedPoll, with_roll  # noqa: E402
 
 PROGRAM = os.environ.get("DEBVOTE", ROOT / "crates" / "debvote" / "out" / "debvote")
 SCRIPT = ROOT / "python" / "debvote_tools" / "poll" / "ballot.js"

@@ -21,11 +21,11 @@ from tests.support.at_browser import BROWSER, Window
 
 sys.path.insert(0, str(pathlib.Path(__file__).resolve().parents[2] / "python"))
 
-from debvote_tools.poll.call_data import CallData, call_files, call_letter, demand_mail_address, demand_web_address, extension_letter  # noqa: E402
+from debvote_tools.poll.call import CallData, call_files, call_letter, demand_mail_address, demand_web_address, extension_letter  # noqa: E402
 from debvote_tools.cli.faults import Fault, Status  # noqa: E402
 from debvote_tools.text.language import LANGUAGES, language_of  # noqa: E402
 from debvote_tools.inbox.lines import changed  # noqa: E402
-from debvote_tools.poll.sealed_poll import SealedPoll, read_plain, with_roll  # noqa: E402
+from debvote_tools.poll.sealed import SealedPoll, read_plain, with_roll  # noqa: E402
 
 BERLIN = datetime.timezone(datetime.timedelta(hours=1))
 FIRST, LATER = (datetime.datetime(2026, 12, day, 18, tzinfo=BERLIN) for day in (4, 6))
@@ -367,6 +367,19 @@ CHOOSE = """((name, ranks) => {
 
 OWN = "23456789ab"
 
+# the lowest contrast of a text that is seen with what lies behind it
+CONTRAST = """(() => {
+  const light = (colour) => colour.match(/[\\d.]+/g).slice(0, 3).map((part) => part / 255)
+    .map((part) => part <= 0.04045 ? part / 12.92 : ((part + 0.055) / 1.055) ** 2.4)
+    .reduce((sum, part, place) => sum + part * [0.2126, 0.7152, 0.0722][place], 0);
+  const behind = (node) => { const colour = getComputedStyle(node).backgroundColor;
+    return colour === "rgba(0, 0, 0, 0)" && node.parentElement ? behind(node.parentElement) : colour; };
+  const texts = [...document.querySelectorAll("main *")].filter((node) => node.checkVisibility() &&
+    [...node.childNodes].some((part) => part.nodeType === 3 && part.data.trim()));
+  return Math.min(...texts.map((node) => { const both = [light(getComputedStyle(node).color), light(behind(node))];
+    return (Math.max(...both) + 0.05) / (Math.min(...both) + 0.05); }));
+})()"""
+
 
 @unittest.skipUnless(BROWSER, "chromium is not installed")
 class InBrowser(unittest.TestCase):
@@ -468,6 +481,16 @@ class InBrowser(unittest.TestCase):
         self.assertEqual((found["line"], found["letter"], found["unmarked"]), ("NAME 2,1,-,3", False, True))
         self.assertIn("Answer your letter: then the subject has your own mark", texts_of(dataclasses.replace(SECRET, is_marked=True))["index.html"])
         self.assertFalse(self.chosen(self.window(SECRET), None, "21-3")["unmarked"])
+
+    def test_contrast(self) -> None:
+        for is_dark in (False, True):
+            with Window(390, 800, is_dark=is_dark) as window:
+                (self.folder / "contrast.html").write_bytes(call_files(CALL)["index.html"])
+                window.open(self.folder / "contrast.html")
+                window.ask("document.querySelectorAll('details').forEach((node) => { node.open = true; })")
+                self.chosen(window, "Ada L", "21-3")
+                self.chosen(window, " ada", "21-3")
+                self.assertGreaterEqual(window.ask(CONTRAST), 4.5, is_dark)
 
     def test_on_the_first_screen_of_a_telephone(self) -> None:
         """The line and what sends it are always seen; of four options all but the last are seen with them."""

@@ -15,7 +15,7 @@ from terminal import Terminal
 from debvote_tools.book.book import open_book
 from debvote_tools.cli import command_line
 from debvote_tools.commands import close
-from debvote_tools.result import result_folder
+from debvote_tools.result import folder as result_folder
 
 UNTIL = ("--until", "2026-12-04 18:00", "--zone", "Europe/Berlin")
 

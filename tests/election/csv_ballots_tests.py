@@ -11,7 +11,7 @@ sys.path.insert(0, str(support.ROOT / "python"))
 
 from debvote_tools.inbox.tables import columns_of, lines_of_table  # noqa: E402
 from debvote_tools.cli.faults import Fault, Status  # noqa: E402
-from debvote_tools.poll.sealed_poll import SealedPoll  # noqa: E402
+from debvote_tools.poll.sealed import SealedPoll  # noqa: E402
 
 ROLL = ["ada", "ben", "1"]
 SHOWN = ("Am See", "Im Rathaus Süd", "Keins")

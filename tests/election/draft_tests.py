@@ -15,7 +15,7 @@ sys.path.insert(0, str(support.ROOT / "python"))
 
 from debvote_tools.poll.draft import NEW_POLL, DraftPoll, draft_in, faults_when_sealed, sealed_form  # noqa: E402
 from debvote_tools.cli.faults import Fault, Status  # noqa: E402
-from debvote_tools.poll.sealed_poll import SealedPoll, read_plain  # noqa: E402
+from debvote_tools.poll.sealed import SealedPoll, read_plain  # noqa: E402
 
 GERMAN = """title = "Wo wir uns im Frühling treffen"
 options = ["Am See", "Über der Brücke", "李"]

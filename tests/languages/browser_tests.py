@@ -12,11 +12,11 @@ from tests.support import at_browser
 
 sys.path.insert(0, str(support.ROOT / "python"))
 
-from debvote_tools.poll.call_data import SENTENCES as CALL_SENTENCES  # noqa: E402
+from debvote_tools.poll.call import SENTENCES as CALL_SENTENCES  # noqa: E402
 from debvote_tools.text.language import language_of  # noqa: E402
 from debvote_tools.result.scripts import COUNT_AGAIN, FIND, FIND_IN_OPEN, FIND_IN_SECRET  # noqa: E402
 
-TELEPHONE, SCREEN = (390, 844), (1280, 800)
+TELEPHONE, SMALL, SCREEN = (390, 844), (360, 640), (1280, 800)
 
 # what the page of a call shows once a name is typed and ranks are chosen
 CHOOSE = """((name, ranks) => {
@@ -54,8 +54,13 @@ class InBrowser(support.LanguageTest):
                 # four options: who has won, one's own ballot, the bars and the reasons; few results have a doubt
                 window.open(place / "result" / "index.html")
                 window.ask("document.querySelector('.doubts').remove()")
-                end = window.ask("document.getElementById('Why').parentNode.getBoundingClientRect().bottom")
+                end = window.ask("document.getElementById('Find-your-ballot').parentNode.getBoundingClientRect().bottom")
                 self.assertLessEqual(end, 3 * TELEPHONE[1], f"{place.name}: screens of a telephone")
+                # on a small one the winner, the facts and the first option with its bar are on the first screen
+                window.resize(*SMALL)
+                first = window.ask("document.querySelector('.options li .bar').getBoundingClientRect().bottom")
+                self.assertLessEqual(first, SMALL[1], f"{place.name}: the first screen of a small telephone")
+                window.resize(*TELEPHONE)
             self.check_call(window, language, places["open"])
             for place in places.values():
                 self.check_count(window, language, place / "result")
@@ -116,7 +121,7 @@ class InBrowser(support.LanguageTest):
         self.assertEqual(rows[2], said(language, COUNT_AGAIN, "page_same", ballots=ballots))
         self.assertEqual(rows[-1], said(language, COUNT_AGAIN, "second"))
         # a page that shows another winner says so
-        window.ask("document.querySelector('.outcome b').textContent = '9 Nobody'; document.getElementById('Again-button').click()")
+        window.ask("document.querySelector('#Result b').textContent = 'Nobody'; document.getElementById('Again-button').click()")
         other = said(language, COUNT_AGAIN, "page_differs", where=said(language, COUNT_AGAIN, "the_result"))
         window.until(f"document.getElementById('Again-answer').textContent.includes({json.dumps(other)})")
 
@@ -126,7 +131,8 @@ class InBrowser(support.LanguageTest):
 
         window.open(place / "result" / "index.html")
         found = self.found(window, "Person 02")
-        self.assertEqual((found[0], "e02 2,1,4,3" in found[1]), (sentence("counts", name="e02"), True))
+        self.assertEqual((found[0], found[-1]), (sentence("counts", name="e02"), sentence("line", line="e02 2,1,4,3")))
+        self.assertEqual(len(found), 6)
         self.assertEqual(self.found(window, "e05"), [sentence("no_ballot", name="e05")])
         self.assertEqual(self.found(window, "nobody"), [sentence("no_elector", name="nobody")])
         self.assertEqual(self.found(window, ""), [sentence("type_name")])
@@ -139,7 +145,7 @@ class InBrowser(support.LanguageTest):
         codes, aliases = {row[0]: row[3] for row in rows}, {row[0]: row[4] for row in rows}
         window.open(place / "result" / "index.html")
         found = self.found(window, "e02", codes["e02"])
-        self.assertEqual((found[0], f"{aliases['e02']} 2,1,4,3" in found[1]), (sentence("counts", name="e02"), True))
+        self.assertEqual((found[0], found[-1]), (sentence("counts", name="e02"), sentence("line", line=f"{aliases['e02']} 2,1,4,3")))
         self.assertEqual(self.found(window, "e05", codes["e05"]), [sentence("no_ballot", alias=aliases["e05"])])
         self.assertEqual(self.found(window, "e02", "1234"), [sentence("type_code")])
         self.assertEqual(self.found(window, "", codes["e02"]), [sentence("type_name")])
@@ -153,7 +159,7 @@ class InBrowser(support.LanguageTest):
             "document.getElementById('Answer').replaceChildren(); document.getElementById('Show').click();"
         )
         window.until("document.getElementById('Answer').textContent !== ''")
-        answers: list[str] = window.ask("[...document.querySelectorAll('#Answer p')].map((row) => row.textContent)")
+        answers: list[str] = window.ask("[...document.querySelectorAll('#Answer p, #Answer li')].map((row) => row.textContent)")
         return answers
 
 

@@ -99,11 +99,11 @@ class Translations(support.LanguageTest):
                 self.assertEqual([by_msgfmt.plural(n) for n in range(200)], [here.plural(n) for n in range(200)])
 
     def test_sentences_with_numbers_and_places(self) -> None:
-        for code, wanted in (("en", ("1 is needed", "3 are needed")), ("de", ("n\u00f6tig ist 1", "n\u00f6tig sind 3"))):
-            said = [language_of(code).say_number("{number} is needed", "{number} are needed", number) for number in (1, 3)]
+        for code, wanted in (("en", ("1 file", "3 files")), ("de", ("1 Datei", "3 Dateien"))):
+            said = [language_of(code).say_number("{number} file", "{number} files", number) for number in (1, 3)]
             self.assertEqual(tuple(said), wanted)
-        self.assertEqual(language_of("de").say("Quorum: {wanted}.", wanted="{x}"), "Quorum: {x}.")
-        self.assertEqual(language_of("fr").in_a_row(["a", "b", "c"]), "a\u00a0; b\u00a0; c")
+        self.assertEqual(language_of("de").say("The line: {line}", line="{x}"), "Die Zeile: {x}")
+        self.assertEqual(language_of("fr").between("{before}; {after}"), "\u00a0; ")
 
     def test_numbers_and_dates(self) -> None:
         first = datetime.datetime(2027, 1, 1, 8, 5, 0, tzinfo=datetime.UTC)

@@ -21,10 +21,11 @@ from terminal import Terminal  # noqa: E402
 
 from debvote_tools.book import queries  # noqa: E402
 from debvote_tools.book.book import open_book  # noqa: E402
+from debvote_tools.book.election import POLL_WITH_NAMES  # noqa: E402
 from debvote_tools.cli import command_line  # noqa: E402
 from debvote_tools.outbox import files as letter_files  # noqa: E402
 from debvote_tools.commands import held  # noqa: E402
-from debvote_tools.inbox import signatures  # noqa: E402
+from debvote_tools.inbox import signature  # noqa: E402
 
 RANKS, OTHER = "1,2,4,3", "2,1,4,3"
 LAKE = "At the lake, then In the town hall, then Further discussion, then Sell the house and meet there"
@@ -68,6 +69,11 @@ class LettersTest(support.ElectionTest):
     def add(self, *letters: str, words: tuple[str, ...] = ("--yes",)) -> support.Ended:
         self.write("inbox.mbox", mailbox(*letters))
         return self.election("add", *words, "inbox.mbox")
+
+    @property
+    def mark(self) -> str:
+        """That of the poll."""
+        return hashlib.sha256((self.folder / "call" / "poll.toml").read_bytes()).hexdigest()[:16]
 
     def numbers(self) -> dict[str, object]:
         return json.loads(self.done("status", "--json").output)
@@ -287,7 +293,7 @@ class ReadOnce(LettersTest):
     def test_judging_again_asks_debvote_nothing(self) -> None:
         letters = [letter("ada", f"adaa {RANKS}"), letter("ben", f"I vote ben {RANKS} today"), letter("cleo", f"cleo {RANKS}")]
         self.write("inbox.mbox", mailbox(*letters, letter("dan", "1,2,4,3")))
-        self.assertEqual(self.with_counter("add", "--yes", "inbox.mbox")[1], ["explain", "explain", "steps"])
+        self.assertEqual(self.with_counter("add", "--yes", "inbox.mbox")[1], ["explain", "steps"])
         self.assertEqual(self.with_counter("add", "--yes", "inbox.mbox")[1], [])
         shown, runs = self.with_counter("held")
         self.assertEqual(runs, [])
@@ -389,8 +395,7 @@ class Held(LettersTest):
 
     def test_what_it_quotes_of_ours_is_not_shown(self) -> None:
         """But for a line that may be a ballot, each line keeps its number. What others wrote is shown."""
-        mark = hashlib.sha256((self.folder / "call" / "poll.toml").read_bytes()).hexdigest()[:16]
-        ours = f"> Vote on\n> the mark [{mark}]\n>\n> cleo 1,2\n> until Friday"
+        ours = f"> Vote on\n> the mark [{self.mark}]\n>\n> cleo 1,2\n> until Friday"
         self.add(letter("cleo", f"I am for the lake.\n\nVote wrote:\n\n{ours}\n\nAnd Dan wrote:\n> I am not"))
         shown = self.done("held", 3).output
         lines = "   1  I am for the lake.\n   2  \n      .. 7 lines of a letter of ours, which it quotes\n  10  \n  11  And Dan wrote:\n  12  > I am not\n"
@@ -680,7 +685,6 @@ class Signed(LettersTest):
         self.keys = pgp.keys()
         self.set_clock("2026-11-20T09:00:00+00:00")
         self.call_with("ada", "cleo")
-        self.mark = hashlib.sha256((self.folder / "call" / "poll.toml").read_bytes()).hexdigest()[:16]
         self.set_clock("2026-11-25T09:00:00+00:00")
 
     def call_with(self, *names: str) -> None:
@@ -722,7 +726,7 @@ class Signed(LettersTest):
         (place / "gpgv").chmod(0o755)
         self.write("inbox.mbox", mailbox(self.signed("ada")))
         env = {"PATH": f"{place}:{support.environment()['PATH']}", "XDG_STATE_HOME": str(self.state)}
-        with mock.patch.object(signatures, "SECONDS", 0.2), mock.patch.dict(os.environ, env), contextlib.chdir(self.folder):
+        with mock.patch.object(signature, "SECONDS", 0.2), mock.patch.dict(os.environ, env), contextlib.chdir(self.folder):
             with contextlib.redirect_stdout(io.StringIO()) as said, contextlib.redirect_stderr(io.StringIO()):
                 command_line.main(support.ELECTION.parent, ["add", "--yes", "inbox.mbox"])
         self.assertIn("gpgv did not answer about its signature in time", said.getvalue())
@@ -770,7 +774,6 @@ class TakenBack(LettersTest):
         self.assertIn("Set aside: 1", self.done("held").output)
         self.assertIn("its ballot was struck", self.done("held", "1").output)
 
-
     def test_all_come_back_by_one_command(self) -> None:
         """But for those that somebody has to look at, as before."""
         box = (letter("ada", f"ada {RANKS}"), letter("ben", f"ben {RANKS}"), letter("cleo", f"cleo {RANKS}"), letter("dan", "hello"))
@@ -783,6 +786,53 @@ class TakenBack(LettersTest):
         self.assertIn("\n2 letters wait.\n", said)
         self.assertEqual(self.exported()[0], f"ben {OTHER}\nada {RANKS}\ncleo {RANKS}\n")
         self.assert_fault(self.election("held", "--enter"), 9, "--enter: no letter was taken back that has one ballot")
+
+
+class OwnMarks(LettersTest):
+    """What an election knows of its electors' own marks."""
+
+    call_words = ("--to", "vote@club.example", "--marked")
+
+    def marked(self, name: str, text: str, of: str = "", **how: object) -> str:
+        """A letter with an own mark in its subject."""
+        book = open_book(self.folder / "election.db")
+        self.addCleanup(book.connection.close)
+        own = {elector.name: elector.mark for elector in queries.electors(book)}[of or name]
+        return letter(name, text, **how).replace("]", f"-{own}]", 1)  # type: ignore[arg-type]
+
+    def test_a_letter_needs_that_of_its_elector(self) -> None:
+        others = (letter("ben", f"ben {RANKS}"), self.marked("cleo", f"cleo {RANKS}", of="ada"))
+        said = self.add(self.marked("ada", f"ada {RANKS}"), *others, self.marked("dan", f"dan {RANKS}", sender="x@y.example")).output
+        self.assertEqual(self.exported()[0], f"ada {RANKS}\n")
+        self.assertEqual(said.count("its subject lacks the own mark of"), 2, said)
+        self.assertIn("its subject has the own mark of dan", said)
+
+    def test_a_new_letter_with_the_subject_of_the_page(self) -> None:
+        by_page = self.marked("ada", f"I vote:\n\nada {RANKS}").replace("my ballot", "Ballot: Where we meet in spring")
+        self.add(by_page, self.marked("ben", f"I vote:\n\nben {RANKS}"))
+        self.assertEqual(self.exported()[0], f"ada {RANKS}\n")
+
+    def test_lines_that_are_offered(self) -> None:
+        self.add(self.marked("ada", RANKS, sender="x@y.example"), letter("ben", "ben 1 2 4 3"), self.marked("cleo", "> cleo 2,1,3,-"))
+        listed = self.done("held").output
+        for number, line in enumerate((f"ada {RANKS}", f"ben {RANKS}", "cleo 2,1,3,-"), start=1):
+            self.assertIn(f"line 1: {line}\n", listed)
+            self.done("held", number, "--enter", 1)
+        self.assertEqual(self.exported()[0], f"ada {RANKS}\nben {RANKS}\ncleo 2,1,3,-\n")
+
+
+class Secret(OwnMarks):
+    """Ballots come under names, and the mark is that of the poll that everybody sees."""
+
+    poll = support.POLL + "secret = true\n"
+
+    def test_the_mark_of_the_poll_with_names_is_that_of_another_vote(self) -> None:
+        book = open_book(self.folder / "election.db")
+        self.addCleanup(book.connection.close)
+        of_names = hashlib.sha256(queries.sealed(book, POLL_WITH_NAMES) or b"").hexdigest()[:16]
+        self.assertIn("it has the mark of another vote", self.add(letter("ada", f"ada {RANKS}").replace(support.ANY_MARK, of_names)).output)
+        self.add(self.marked("ada", f"ada {RANKS}", number=2))
+        self.assertEqual(self.exported()[0], f"ada {RANKS}\n")
 
 
 class Family(LettersTest):

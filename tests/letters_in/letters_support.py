@@ -7,20 +7,21 @@ import pathlib
 import re
 import subprocess
 import sys
-from collections.abc import Mapping, Sequence
+from collections.abc import Collection, Mapping, Sequence
 
 ROOT = pathlib.Path(__file__).resolve().parent.parent.parent
 PROGRAM = pathlib.Path(os.environ.get("DEBVOTE", ROOT / "crates" / "debvote" / "out" / "debvote"))
 SAMPLES = ROOT / "tests" / "letters"
 sys.path.insert(0, str(ROOT / "python"))
 
+from debvote_tools.book.queries import Elector  # noqa: E402
 from debvote_tools.debvote import findings_in  # noqa: E402
 from debvote_tools.inbox.known import Ballot, Known, Names  # noqa: E402
-from debvote_tools.inbox.judge import JudgedLetter, Outcome, judge_all  # noqa: E402
-from debvote_tools.inbox.parse import ParsedLetter, as_json, from_json, parse  # noqa: E402
-from debvote_tools.inbox.readings import read_all  # noqa: E402
+from debvote_tools.inbox.rules import JudgedLetter, Outcome, judge_all  # noqa: E402
+from debvote_tools.inbox.letter import ParsedLetter, as_json, from_json, parse  # noqa: E402
+from debvote_tools.inbox.candidates import read_all  # noqa: E402
 from debvote_tools.inbox.reasons import Because  # noqa: E402
-from debvote_tools.inbox.sources import RawLetter  # noqa: E402
+from debvote_tools.inbox.mailbox import RawLetter  # noqa: E402
 
 NAMES = ("ada", "ben", "cleo", "dan", "eve", "fay", "gus", "hal", "ida")
 POLL = f"""title = "Where we meet in spring"
@@ -90,21 +91,31 @@ def names(**other: object) -> Names:
     return Names(**{**usual, **other})  # type: ignore[arg-type]
 
 
-def known(**other: object) -> Known:
-    """What is known of a vote that was called three days ago and has no end."""
+def known(
+    *,
+    addresses: Mapping[str, Sequence[str]] | None = None,
+    keys: Mapping[str, str] | None = None,
+    own_marks: Mapping[str, str] = OWN,
+    roll: Collection[str] = NAMES,
+    **other: object,
+) -> Known:
+    """What is known of a vote that was called three days ago and has no end; with `keys` letters have to be signed."""
+    listed = {name: [f"{name}@club.example"] for name in NAMES} if addresses is None else addresses
+    electors = {
+        name: Elector(number, name, number, name, tuple(listed.get(name, ())), (keys or {}).get(name, ""), mark=own_marks[name])
+        for number, name in enumerate(roll)
+    }
     usual: dict[str, object] = {
         "mark": MARK,
         "subject": BY_PAGE,
-        "own_marks": OWN,
+        "electors": electors,
         "is_marked": False,
-        "roll": frozenset(NAMES),
-        "addresses": {name: (f"{name}@club.example",) for name in NAMES},
+        "is_signed": keys is not None,
         "called": CALLED,
         "end": None,
         "first_close": None,
         "now": NOW,
         "our_letters": OURS,
-        "keys": None,
         "decisions": {},
     }
     return Known(**{**usual, **other})  # type: ignore[arg-type]

@@ -11,7 +11,7 @@ import unittest.mock
 
 from letters_support import NAMES, RANKS, answer, letter, mailbox, outcomes, parsed
 
-from debvote_tools.inbox.sources import MAX_LETTER, NotRead, Source, are_letters, letters_of_file, letters_of_folder, parts_of
+from debvote_tools.inbox.mailbox import MAX_LETTER, NotRead, Source, are_letters, letters_of_file, letters_of_folder, parts_of
 
 LINE = b"From somebody Mon Nov 23 10:00:00 2026\n"
 ADA, BEN = letter("ada", f"ada {RANKS}\n"), letter("ben", f"ben {RANKS}\n")

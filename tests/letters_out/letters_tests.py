@@ -172,6 +172,43 @@ class Refused(OutTest):
         self.assertEqual([message["To"] for message in self.written("receipts").values()], ["ada@new.example"])
 
 
+class OwnWords(OutTest):
+    """What the secretary writes begins each letter that asks for a ballot, and a name of the society is in From."""
+
+    call_words = None
+    letter = f"Dear friends,\n\npaper goes into the box in the hall.\nIf you are unsure write ada {RANKS} and sign.\n\nYours, Eve\n"
+
+    def setUp(self) -> None:
+        super().setUp()
+        self.write("letter.txt", self.letter)
+        self.set_clock("2026-11-20T09:00:00+00:00")
+        self.done("call", "--to", "Wahlleitung T\u00fcV <vote@club.example>", "--at", AT, "--until", "2026-12-04 18:00", "--zone", "UTC")
+        self.set_clock("2026-11-23T10:00:00+00:00")
+
+    def test_each_begins_so(self) -> None:
+        found = {kind: self.written(kind) for kind in ("call", "reminders")}
+        self.write("letter.txt", "It ends later.\n")
+        self.done("call", "--until", "2026-12-06 18:00", "--zone", "UTC")
+        found["extension"] = self.written("call")
+        self.add_lines("ada 1,2")
+        found["receipts"] = self.written("receipts")
+        first = self.letter.replace("If you are unsure write ada", "|If you are unsure write\n|ada")
+        begins = {"call": first, "reminders": first, "extension": "It ends later.\n", "receipts": "Dear Ada,\n"}
+        for kind, letters in found.items():
+            message = letters["ada"]
+            self.assertTrue(message.get_content().startswith(begins[kind]), message.get_content())
+            self.assertEqual(message["From"], "Wahlleitung T\u00fcV <vote@club.example>")
+            self.assertEqual((message["To"], message["Reply-To"]), ("ada@club.example", None))
+
+    def test_an_answer_that_quotes_all_of_it_without_marks_goes_in(self) -> None:
+        """No line of ours reads as a ballot, also where the secretary's own words have one."""
+        for name, message in self.written("call").items():
+            head = f"In-Reply-To: {message['Message-ID']}\nSubject: Re: {message['Subject']}\n"
+            text = f"{name} {RANKS}\n\nOn Monday the secretary wrote:\n{message.get_content()}"
+            self.add_letters(letter(name, text, head=head, number=name, time="Mon, 23 Nov 2026 09:59:00 +0000"))
+        self.assertEqual(json.loads(self.done("status", "--json").output)["voters"], 9)
+
+
 class CodesOnRoll(OutTest):
     poll = support.POLL + "secret = true\n"
     call_words = None
@@ -365,12 +402,13 @@ class Receipts(OutTest):
         output = self.done("letters", "receipts").output
         self.assertTrue(output.startswith(said), output)
         self.assertEqual([file.stem for file in self.files("receipts")], ["cleo", "eve"])
-        self.assertEqual(self.done("letters", "receipts").output, f"{said}There is no letter to send.\n")
+        self.assertEqual(self.done("letters", "receipts").output, f"{said}5 letters wait until you have looked at them: debvote-election held\nThere is no letter to send.\n")
         held = self.done("held").output.replace("\n        ", "\n")
         self.assertIn("no ballot found\nother words: Who are you?\n", held)
         self.assertIn(f"no ballot found\nother words: Benjamin Lind {RANKS}\nsame address: ada, ben\n", held)
         self.done("held", 1, 2, "--set-aside")
-        self.assertEqual(self.done("letters", "receipts").output, "There is no letter to send.\n")
+        waits = "3 letters wait until you have looked at them: debvote-election held\n"
+        self.assertEqual(self.done("letters", "receipts").output, f"{waits}There is no letter to send.\n")
 
     def test_undo_names_those_whose_receipts_no_longer_hold(self) -> None:
         self.add_lines(f"ada {RANKS}")
@@ -685,10 +723,13 @@ class Result(OutTest):
         self.published()
         texts = self.texts("result")
         self.assertEqual(sorted(texts), support.NAMES)
-        self.assertIn(f"Dear Ada, {TITLE} Winner: Option 1: At the lake The result is published at: {AT} ", texts["ada"])
-        self.assertIn(f"Your own ballot, in words: {AT}#ada What is doubtful", texts["ada"])
+        begin = f"Dear Ada, Your own ballot, in words: {AT}#ada {TITLE} Winner: Option 1: At the lake. It beats each option that was not dropped: "
+        numbers = "Option 2: In the town hall by 2 to 0 and Option 4: Further discussion by 2 to 0."
+        self.assertIn(f"{begin}{numbers} The result is published at: {AT} What is doubtful", texts["ada"])
+        for text in texts.values():
+            self.assertIn(" ".join(self.read("letters/result.txt").decode().split()), text)
         self.assertIn(f"{AT}#ben", texts["ben"])
-        self.assertIn("It has no ballot of yours that counts.", texts["cleo"])
+        self.assertIn("Dear Cleo, The result has no ballot of yours that counts.", texts["cleo"])
         self.assertNotIn("#", texts["cleo"])
         for name in ("SHA256SUMS", "index.html"):
             checksum = hashlib.sha256(self.read(f"result/{name}")).hexdigest()

@@ -93,49 +93,54 @@ class Sending(SendTest):
         self.assertEqual(len(marks), 1)
         self.assertIn("There is no letter to send: the server has taken all that are due.\n", self.send("call").output)
 
-    def not_reached(self) -> list[str]:
-        """Whom `status` names, in both of its forms."""
-        found = json.loads(self.done("status", "--json").output)["refused_letters"]
-        said = f"Not reached by the call: {', '.join(found)}\n"
-        self.assertEqual(said in self.done("status").output, bool(found))
+    def not_reached(self) -> dict[str, str]:
+        """Whom `status` names, in both of its forms, with the reason."""
+        found, said = json.loads(self.done("status", "--json").output)["not_reached"], self.done("status").output
+        for reason in {*found.values()}:
+            names = [name for name, why in found.items() if why == reason]
+            self.assertIn(f"Not reached by the call: {reason} ({len(names)}):\n  {' '.join(names)}\n", said)
+        self.assertEqual("Not reached" in said, bool(found))
         return found
 
     def test_who_was_refused_is_named_until_a_letter_is_taken(self) -> None:
         """By each later run, of whatever letters, and by `status`. Else nobody sees that somebody was never asked to vote."""
-        self.assertEqual(self.not_reached(), [])
+        self.assertEqual(self.not_reached(), {})
         named = "Not reached by the call: ada (refused: 550 5.1.1 no such user)\n"
         self.server.rcpt_answers = {"ada@club.example": "550 5.1.1 no such user"}
         self.assertIn("Refused: ada, ada@club.example: 550 5.1.1 no such user\n", self.send("call").output)
         self.add_lines(f"ben {RANKS}")
         for ended in (self.send("receipts"), self.send("call"), self.done("letters", "receipts")):
             self.assertIn(named, ended.output)
-            self.assertEqual(self.not_reached(), ["ada"])
+            self.assertEqual(self.not_reached(), {"ada": "refused"})
         self.server.rcpt_answers = {}
         self.assertNotIn("Not reached", self.send("reminders").output)
-        self.assertEqual(self.not_reached(), [])
+        self.assertEqual(self.not_reached(), {})
 
     def test_who_got_no_letter_is_named(self) -> None:
         """One whose address changed since, and those whom a run that was cut off did not come to; not who gets it printed."""
         self.write("members.csv", support.members_of(support.NAMES).replace("gus@club.example", ""))
         self.done("roll", "--yes")
-        self.assertEqual(self.not_reached(), [])
+        self.assertEqual(self.not_reached(), {})
         self.server.at = lambda step, number: (step, number) == ("data", 6)
+        self.assertEqual(json.loads(self.done("status", "--json").output)["printed"], [])
         self.assertEqual(self.send("call").status, 7)
         self.server.at = lambda step, number: False
-        self.assertEqual(self.not_reached(), ["hal", "ida"])
+        self.assertEqual(self.not_reached(), {"hal": "no letter", "ida": "no letter"})
+        self.assertEqual(json.loads(self.done("status", "--json").output)["printed"], ["gus"])
+        self.assertIn("Get the call printed (1):\n  gus\n", self.done("status").output)
         ended = self.send("call")
         self.assertIn("Without an address: gus. Print letters/call/", ended.output)
         self.assertNotIn("Not reached", ended.output)
         self.write("members.csv", support.members_of(support.NAMES).replace("ada@club", "ada@new"))
         self.done("roll", "--yes")
-        self.assertEqual(self.not_reached(), ["ada", "gus"])
+        self.assertEqual(self.not_reached(), {"ada": "no letter", "gus": "no letter"})
         self.assertIn("Not reached by the call: ada (no letter), gus (no letter)\n", self.done("letters", "receipts").output)
         self.send("call")
-        self.assertEqual(self.not_reached(), [])
+        self.assertEqual(self.not_reached(), {})
 
     def test_letters_that_are_files_reach_those_to_whom_they_are_written(self) -> None:
         self.written("call")
-        self.assertEqual(self.not_reached(), [])
+        self.assertEqual(self.not_reached(), {})
 
     def came_back(self, name: str, what: str, sender: str = "mailer-daemon@mail.example") -> None:
         """A mail server reports that a letter to an elector did not arrive."""
@@ -164,7 +169,7 @@ class Sending(SendTest):
                 self.done("call", "--until", f"2026-12-{5 + len(self.rows('call')) // 11:02} 18:00", "--zone", "UTC")
                 self.assertEqual(self.send("call").status, 0)
                 self.came_back("ada", what)
-                self.assertEqual(self.not_reached(), ["ada"])
+                self.assertEqual(self.not_reached(), {"ada": "came back"})
                 self.assertIn("Not reached by the call: ada (came back)\n", self.done("letters", "receipts").output)
                 first = parsed(self.server.taken[0].data)
                 ended = self.send("call")
@@ -172,14 +177,14 @@ class Sending(SendTest):
                 self.assertNotIn("Not reached", ended.output)
                 again = parsed(self.server.taken[-1].data)
                 self.assertEqual((again["To"], again["Message-ID"]), ("ada@club.example", first["Message-ID"]))
-                self.assertEqual(self.not_reached(), [])
+                self.assertEqual(self.not_reached(), {})
 
     def test_what_is_no_letter_that_came_back(self) -> None:
         """Of a stranger without the own mark, an answer of a person, and one that a program writes at the elector's address."""
         self.send("call")
         self.came_back("ada", "nothing")
         self.came_back("ben", "text", sender="ben@club.example")
-        self.assertEqual(self.not_reached(), [])
+        self.assertEqual(self.not_reached(), {})
         self.assertIn("There is no letter to send", self.send("call").output)
 
     def test_an_old_address_that_refuses_is_no_fault(self) -> None:

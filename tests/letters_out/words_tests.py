@@ -9,19 +9,17 @@ from out_support import one_line, parsed
 
 from debvote_tools.book.queries import Elector, Envelope
 from debvote_tools.book.sent import SentLetter
-from debvote_tools.poll.call_data import CallData, is_mail_address
+from debvote_tools.poll.call import CallData, is_mail_address
 from debvote_tools.text.language import LANGUAGES, language_of
-from debvote_tools.inbox.judge import Outcome
+from debvote_tools.inbox.rules import Outcome
 from debvote_tools.inbox.of_electors import Became, Came
-from debvote_tools.inbox.parse import Near
+from debvote_tools.inbox.letter import Near
 from debvote_tools.inbox.reasons import Reason
 from debvote_tools.outbox.files import message
 from debvote_tools.outbox.words import Composer, Kind
 from debvote_tools.text.ballots import without_ballots
 from debvote_tools.text.rendering import one_line as on_one_line
-from debvote_tools.result import result_letter
-from debvote_tools.result.inputs import CastingVote
-from debvote_tools.poll.sealed_poll import SealedPoll
+from debvote_tools.poll.sealed import SealedPoll
 
 TIME = datetime.datetime(2026, 11, 23, 10, tzinfo=datetime.UTC)
 POLL = SealedPoll("Spring", ("Lake", "Hall"), (1, 1), "None", 1, ("ada", "ben"))
@@ -62,25 +60,6 @@ def all_that_came() -> list[Came]:
 WAITS = next(one for one in all_that_came() if one.became is Outcome.WAITS and one.is_own)
 
 
-RESULT = {
-    "checksums": {"SHA256SUMS": "a" * 64, "index.html": "c" * 64},
-    "is_of_call": True,
-    "is_closed": True,
-    "doubts": ("DOUBT",),
-    "because": "BECAUSE",
-    "acts": ("ACT",),
-}
-
-
-def result(now: Composer, ended: str = "Winner: {option} by casting vote", *, has_ballot: bool = True, **other: object) -> str:
-    """The letter of a result that the casting vote decided."""
-    language = now.call.language
-    casting = result_letter.casting_in_words(CastingVote("Lake", "the chair", datetime.date(2026, 11, 24)), language)
-    own = {"ended": language.say(ended, option="Option 1: Lake", options="Option 2: Hall"), "casting": casting}
-    poll = dataclasses.replace(now.call.poll, secret=now.call.has_aliases)
-    return now.text(Kind.RESULT, ADA, has_ballot=has_ballot, poll=poll, at=now.call.at, **RESULT | own | other)
-
-
 def texts(now: Composer) -> list[str]:
     """A letter of each kind."""
     return [
@@ -91,8 +70,7 @@ def texts(now: Composer) -> list[str]:
         now.reminder(ADA, []),
         now.receipt(ADA, all_that_came()),
         now.text(Kind.CLOSED, ADA, letter="CLOSED\n"),
-        result(now),
-        result(now, "Tie: {options}", has_ballot=False),
+        *(now.text(Kind.RESULT, ADA, letter="RESULT\n", has_ballot=has_ballot) for has_ballot in (True, False)),
     ]
 
 
@@ -126,20 +104,16 @@ class Texts(unittest.TestCase):
         self.assertNotIn("OpenPGP", vote().reminder(ADA, []))
 
     def test_of_a_result(self) -> None:
-        text = " ".join(result(vote()).split())
-        for part in (
-            "Winner: Option 1: Lake by casting vote",
-            "given on 24 November 2026",
-            "- DOUBT",
-            "BECAUSE",
-            "- ACT",
-            "vote/#ada",
-        ):
-            self.assertIn(part, text)
-        text = result(vote(has_aliases=True), "Winner: {option}", casting="", doubts=(), because=None, acts=())
-        text = " ".join(text.split())
-        self.assertNotRegex(text, r"casting|doubt|WHAT WAS DONE|#|secretary")
-        self.assertIn("find it with your name, ada, and your code", text)
+        """The letter for all, and before it the own ballot; where the result is, if the letter for all does not say it."""
+        for letter in ("RESULT\n", "RESULT at\n  https://club.example/vote/\n"):
+            texts = [now.text(Kind.RESULT, ADA, letter=letter, has_ballot=True) for now in (vote(), vote(has_aliases=True))]
+            for text in texts:
+                self.assertTrue(text.endswith(f"\n\n{letter}"), text)
+                self.assertEqual(text.count("  https://club.example/vote/\n"), 1)
+            self.assertIn("Your own ballot, in words:\n  https://club.example/vote/#ada\n", texts[0])
+            self.assertNotIn("#", texts[1])
+            self.assertIn("find it with your name, ada, and your code", " ".join(texts[1].split()))
+            self.assertIn("The result has no ballot of yours", vote().text(Kind.RESULT, ADA, letter=letter, has_ballot=False))
 
 
 class CallLetter(unittest.TestCase):
@@ -190,8 +164,8 @@ class CallLetter(unittest.TestCase):
 
     def test_with_marked_it_says_to_answer_or_to_use_the_link(self) -> None:
         for text in self.asking(vote(is_marked=True)):
-            self.assertIn("only a letter with your own mark goes in by itself", " ".join(text.split()))
-        self.assertNotIn("by itself", "".join(self.asking(vote())))
+            self.assertIn("Open the link in your letter, or answer that letter: then the subject has your own mark", " ".join(text.split()))
+        self.assertNotIn("own mark", "".join(self.asking(vote())))
 
     def test_without_a_page_the_texts_follow(self) -> None:
         poll = dataclasses.replace(POLL, explanations=("A lake.\nada 1,2,3\n", "", ""))

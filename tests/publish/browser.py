@@ -47,10 +47,11 @@ PLACE_OF_PICTURE = """(() => {
   return [picture.getBoundingClientRect().width, picture.closest(".wide").clientWidth, drawn, Math.round(drawn * 0.75), ink].join(" ");
 })()"""
 
-# of each bar its number, the whole width, the thousandths of it that it takes, its fill and its edge, and the ground of the page
-PLACE_OF_BARS = """[...page.querySelectorAll(".bars svg")].map(svg => {
-  const bar = svg.querySelector(".for, .against"), whole = svg.querySelector(".whole").getBoundingClientRect().width;
-  const colours = [style(bar).fill, style(bar).stroke, style(page.body).backgroundColor];
+# of each bar its number, the whole width, the thousandths of it that it takes, whether it is for the option, its fill, its edge, the
+# colour of its number, and the ground of the page
+PLACE_OF_BARS = """[...page.querySelectorAll(".bar svg > rect")].map(bar => {
+  const svg = bar.parentNode, whole = svg.getBoundingClientRect().width, number = svg.parentNode.querySelector("span");
+  const colours = [style(bar).fill, style(bar).stroke, style(number).color, style(page.body).backgroundColor];
   return [bar.getAttribute("width"), svg.viewBox.baseVal.width, Math.round(1000 * bar.getBoundingClientRect().width / whole),
     bar.classList.contains("for"), ...colours.map(colour => colour.replaceAll(", ", ","))].join("|");
 }).join(" ")"""
@@ -59,12 +60,12 @@ LOOKS = [WIDTH_AND_COLOURS, PLACE_OF_DOUBTS, PLACE_OF_PICTURE, PLACE_OF_BARS]
 
 
 # a heading within a summary is newer than tidy
-SUMMARY = re.compile(r"<summary>(<h2 [^>]*>.*?</h2>)</summary>")
+SUMMARY = re.compile(r"<summary>(<h3 [^>]*>.*?</h3>)(.*?)</summary>")
 
 
 def try_tidy(expect, folders):
     for folder in folders:
-        page = SUMMARY.sub(r"\1", (folder / "index.html").read_text(encoding="utf-8"))
+        page = SUMMARY.sub(r"\1\2", (folder / "index.html").read_text(encoding="utf-8"))
         found = support.run(["tidy", "-q", "-e"], input=page)
         expect(f"{folder.name}: tidy", found[1:], ("", 0))
 
@@ -127,18 +128,20 @@ def try_pictures(expect, folders, scratch, wanted):
 
 
 def try_bars(expect, folders, scratch):
-    """Each bar is as long as its number says, and is seen on the ground of the page by its fill or its edge, light and dark."""
+    """Each bar is as long as its number says, is seen on the ground of the page by its edge, and its number can be read, light and dark."""
     fills = set()
     for is_dark in (False, True):
         said = browser_says(scratch, folders, WIDTHS, PLACE_OF_BARS, is_dark)
         bars = [bar.split("|") for page in said for bar in page.split()]
         expect("chromium: there are bars", len(bars) > 2 * len(folders), True)
-        for number, whole, thousandths, is_for, fill, edge, paper in bars:
+        for number, whole, thousandths, is_for, fill, edge, ink, paper in bars:
             wanted = 1000 * int(number) / int(whole)
-            expect(f"chromium: a bar of {number} of {whole}", abs(int(thousandths) - wanted) <= 10, True)
-            expect(f"chromium: a bar can be seen, dark {is_dark}", contrast(fill if is_for == "true" else edge, paper) >= 3, True)
+            # one that is folded has no width
+            expect(f"chromium: a bar of {number} of {whole}", thousandths == "NaN" or abs(int(thousandths) - wanted) <= 10, True)
+            expect(f"chromium: a bar can be seen, dark {is_dark}", contrast(edge, paper) >= 3, True)
+            expect(f"chromium: its number can be read, dark {is_dark}", contrast(ink, fill) >= 4.5, True)
             fills.add((is_dark, is_for, fill))
-    expect("chromium: full bars and hollow ones have each one fill in light and one in dark", len(fills), 4)
+    expect("chromium: bars for and against have each one fill in light and one in dark", len(fills), 4)
 
 
 def try_doubts(expect, folders, scratch):

@@ -17,8 +17,11 @@ TEXTS = {
     "shade": ["ink", "link", "faint"],
     "mark": ["ink", "link", "faint"],
     "warned": ["ink", "link", "warning"],
+    "link": ["paper"],
 }
-DRAWN = {"paper": ["line", "link", "bar", "warning", "ink"], "shade": ["line", "link", "ink"], "mark": ["line", "ink"]}
+DRAWN = {"paper": ["line", "link", "warning", "ink"], "shade": ["line", "link", "ink"], "mark": ["line", "ink"]}
+# the numbers within bars, and the edges of bars
+DRAWN |= {"for": ["ink"], "against": ["ink"]}
 
 NAMED = r"--([a-z]+): *([^;]+);"
 SCREENS_IN_DARK = "screen and (prefers-color-scheme: dark)"
@@ -57,7 +60,7 @@ def value(table, name):
 class ColoursTest(expecting.Expecting):
     def test_what_is_written_can_be_read(self):
         for scheme, table in zip(("light", "dark", "a slip on paper"), colours()[:3], strict=True):
-            for least, pairs in ((4.5, TEXTS), (3, DRAWN)):
+            for least, pairs in ((4.5, TEXTS | {"for": ["ink"], "against": ["ink"]}), (3, DRAWN)):
                 for ground, names in pairs.items():
                     for name in names:
                         found = browser.contrast(value(table, ground), value(table, name))
@@ -67,7 +70,7 @@ class ColoursTest(expecting.Expecting):
         light, dark, _, others = colours()
         known = {*TEXTS, *DRAWN, *(name for table in (TEXTS, DRAWN) for names in table.values() for name in names)}
         self.expect("names of colours", set(light), known)
-        own = {name for name in light if not light[name].startswith("var(")} | {"bar"}
+        own = {name for name in light if not light[name].startswith("var(")}
         self.expect(
             "colours that have one in light and another in dark", {name for name in light if dark[name] != light[name]}, own
         )

@@ -1,4 +1,4 @@
-"""Compares what debvote-publish makes with tests/reference.py on random polls: the data, the sentences of Why, the refused lines.
+"""Compares what debvote-publish makes with tests/reference.py on random polls: the data, the sentences of the result, the refused lines.
 
 `result.json` and `votes.csv` are made a second time from the count of the reference, and each part of the page is compared with it
 (page.py). Each sentence is taken apart: each of its clauses has to hold by the votes and the rounds of the reference, and it has to
@@ -34,16 +34,16 @@ from tests.support import forks
 
 PROGRAM, PUBLISH, SECONDS = support.PROGRAM, support.PUBLISH, support.SECONDS
 
-# how many random polls without a fault are published; from ENOUGH on all kinds of clauses have to occur
+# how many random polls without a fault are published; from ENOUGH on all kinds of sentences have to occur
 POLLS, ENOUGH = int(os.environ.get("DEBVOTE_PUBLISHED_POLLS", "200")), 200
 
-# the kinds of clauses, each of which has to occur
+# the kinds of sentences, each of which has to occur
 KINDS = {
-    "reached the quorum", "missed the quorum", "has its majority", "has a majority of a ratio", "missed its majority",
-    "needs nothing", "loses directly", "loses by a chain", "loses, its own defeat removed", "defeats few", "defeats each of a few",
-    "defeats each of many", "defeats some of many", "a removed defeat against it", "alone in the set", "all others dropped",
-    "left in a tie", "left with a removed defeat", "left with many", "chosen by the casting vote",
-    "lost by the casting vote",
+    "needs nothing", "missed the quorum", "has what it needs", "missed its majority", "missed a majority of a ratio",
+    "equal to the default option", "its own defeat removed", "loses directly", "loses by a chain", "left in a tie",
+    "left with a removed defeat", "left with many", "lost by the casting vote", "a tie of two", "a tie of many", "the casting vote",
+    "the default option, a few failed", "the default option, many failed", "a circle", "circles", "beats by chains", "beats one",
+    "beats each of two", "beats each of many",
 }  # fmt: skip
 
 
@@ -170,117 +170,103 @@ def demand(holds, why):
 
 
 PAIR = r"#(\d+) by (\d+) to (\d+)"
-LIST = rf"{PAIR}(?:, {PAIR})*(?: and {PAIR})?"
-
-VERDICTS = {
-    "was dropped": lambda count, option: option in count.dropped,
-    "has lost": lambda count, option: option not in count.dropped and option not in count.final,
-    "is left in the tie": lambda count, option: option in count.final and count.winner is None,
-    "has won": lambda count, option: option == count.winner,
-    "has lost by the casting vote": lambda count, option: option in count.final and count.winner not in (None, option),
-}
+# whom an option beats: one or two with their numbers, or the nearest of more
+BEATEN = rf"(?:{PAIR}(?: and {PAIR})?|(\d+) options, most narrowly {PAIR})"
 
 
 def try_sentences(page, count, shown):
-    """Takes each sentence of Why apart, in which options have the names that people read. Returns the kinds of clauses found."""
+    """Takes the sentences of an option and of the result apart, in which options have the names that people read. Returns their kinds."""
     part = page.partition('<h2 id="Why">')[2].partition("</section>")[0]
-    entries = re.findall(r"<li>(.*)</li>", part)
+    entries = re.findall(r'<span class="number">(\d+)</span>.*?<p class="reason">(.*?)</p>', part, re.DOTALL)
     met = collections.Counter()
-    demand(len(entries) == len(count.poll.names), "a sentence for each option")
-    for option, entry in enumerate(entries, start=1):
-        named = re.findall(r'<b data-option="(\d+)">Option (\d+): (.*?)</b>', entry)
-        demand(all(number == said for number, said, _ in named), "its numbers")
-        names = {int(number): html.unescape(re.sub("</?bdi>", "", name)) for number, _, name in named}
-        demand(names == {number: shown.get(number, count.poll.names[number]) for number in names}, "its names")
-        text = re.sub(r'<b data-option="(\d+)">.*?</b>', r"#\1", entry)
-        found = re.fullmatch(rf"#{option} ([a-z ]+): (.*)\.", text)
-        demand(found and VERDICTS[found[1]](count, option), f"verdict of {text}")
-        kinds = [kind_of(clause, option, count) for clause in found[2].split("; ")]
+    demand(sorted(int(option) for option, _ in entries) == list(count.poll.options), "sentences for each option")
+    for option, entry in entries:
+        kinds = [kind for kind in reason_kinds(sentences_in(entry, count, shown), int(option), count)]
         met.update(kinds)
-        demand_whole(kinds, option, count)
-    try_deciding_numbers(page, entries, count)
+        demand_whole(kinds, int(option), count)
+    met.update([try_deciding(page, count, shown)])
     return met
 
 
-def try_deciding_numbers(page, entries, count):
-    """What decided stands below who has won, as Why has it: for the winner, or for each of a few options that are tied."""
-    result = page.partition('<h2 id="Result">')[2].partition("</section>")[0]
-    said = [f"In numbers: {entry.partition(': ')[2].partition(': ')[2]}" for entry in entries]
-    told = [said[count.winner - 1]] if count.winner else [entries[option - 1] for option in count.final if len(count.final) <= 3]
-    demand([text for text in [*said, *entries] if f"<p>{text}</p>" in result] == told, f"{told} in {result}")
+def sentences_in(text, count, shown):
+    """The sentences of a text, in which each option is its number after a #; it has to have its name."""
+    named = re.findall(r'<b data-option="(\d+)">Option (\d+): (.*?)</b>', text)
+    demand(all(number == said for number, said, _ in named), "its numbers")
+    names = {int(number): html.unescape(re.sub("</?bdi>", "", name)) for number, _, name in named}
+    demand(names == {number: shown.get(number, count.poll.names[number]) for number in names}, "its names")
+    bare = re.sub(r'<b data-option="(\d+)">.*?</b>', r"#\1", text)
+    found = re.findall(r"[^.]+\.", bare)
+    demand("".join(found) == bare, f"sentences: {bare}")
+    return [sentence.strip() for sentence in found]
+
+
+def reason_kinds(sentences, option, count):
+    """The kind of each sentence about an option, which has to hold."""
+    loser = option
+    for sentence in sentences:
+        for pattern, check in REASONS:
+            found = re.fullmatch(pattern, sentence)
+            if found:
+                break
+        else:
+            raise Wrong(f"unknown sentence {sentence}")
+        if check is not loses:
+            yield check(found, option, count)
+            continue
+        by, said = int(found["by"]), found["loser"]
+        demand((said == "it") == (loser == option) and said in ("it", f"#{loser}"), sentence)
+        demand((by, loser) in count.defeats - gone_for(option, count), sentence)
+        demand((int(found["over"]), int(found["under"])) == (count.votes[by, loser], count.votes[loser, by]), sentence)
+        loser = by
+    if loser != option:
+        yield loses(loser, option, count, sum(" beats " in sentence and not sentence.startswith("It ") for sentence in sentences))
+
+
+def in_sets(option, count):
+    """The last round in whose set an option is, from 1; 0 if it is in none."""
+    return max((place for place, (final, _) in enumerate(count.rounds, start=1) if option in final), default=0)
+
+
+def gone_for(option, count):
+    """The defeats that are removed when an option is out of the set."""
+    return {pair for _, removed in count.rounds[: in_sets(option, count)] for pair in removed}
+
+
+def loses(last, option, count, steps):
+    """A chain of defeats ends in the set that the option has left, directly if it can, and then at the winner if it can."""
+    within, gone = count.rounds[in_sets(option, count)][0], gone_for(option, count)
+    demand(last in within, f"{option} loses to {last}")
+    direct = [a for a, b in count.defeats - gone if b == option and a in within]
+    demand((steps == 1) == bool(direct), f"{option} loses by the shortest chain")
+    demand(not direct or count.winner not in direct or last == count.winner, f"{option} loses to the winner")
+    return "loses directly" if steps == 1 else "loses by a chain"
 
 
 def demand_whole(kinds, option, count):
-    """What a sentence has to say."""
-    wanted = set()
+    """What the sentences of an option have to say."""
+    default, votes = count.poll.default, count.votes
+    wanted = collections.Counter()
+    if option != default and count.voters > votes[option, default] + votes[default, option]:
+        wanted["equal to the default option"] = 1
     if option in count.dropped:
-        wanted = {"missed the quorum" if count.dropped[option] == "quorum" else "missed its majority"}
-        demand(set(kinds) == wanted, f"{kinds} of a dropped option")
-        return
-    if option == count.poll.default:
-        wanted.add("needs nothing")
+        is_ratio = count.poll.ratios[option] > 1
+        missed = {"quorum": "missed the quorum", "majority": "missed a majority of a ratio" if is_ratio else "missed its majority"}
+        wanted[missed[count.dropped[option]]] = 1
     else:
-        demand(any(kind.startswith("has ") for kind in kinds), f"its majority in {kinds}")
-        wanted |= {"reached the quorum"} if count.poll.quorum else set()
-    if option not in count.final:
-        demand(any(kind.startswith("loses") for kind in kinds), f"its loss in {kinds}")
-        was_in = any(option in final for final, _ in count.rounds)
-        removed = sum(any(pair[0] == option for pair in pairs) for _, pairs in count.rounds)
-        demand(kinds.count("loses, its own defeat removed") == (removed if was_in else 0), f"removed defeats in {kinds}")
-    elif len(count.final) > 1:
-        demand(any(kind.startswith("left") for kind in kinds), f"with whom it is left in {kinds}")
-    else:
-        removed = sum(any(pair[1] == option for pair in pairs) for _, pairs in count.rounds)
-        demand(kinds.count("a removed defeat against it") == removed, f"removed defeats in {kinds}")
-        others = len(count.poll.names) - len(count.dropped) - 1
-        beaten = any(pair[0] == option for pair in count.defeats)
-        demand(any(kind.startswith("defeats") for kind in kinds) == beaten, f"its defeats in {kinds}")
-        demand(others or "all others dropped" in kinds, f"that it is alone in {kinds}")
-    demand(wanted <= set(kinds), f"{wanted} in {kinds}")
-
-
-def kind_of(clause, option, count):
-    """The kind of a clause, which has to hold for an option."""
-    for pattern, check in CLAUSES:
-        found = re.fullmatch(pattern, clause)
-        if found:
-            return check(found, option, count)
-    raise Wrong(f"unknown clause {clause}")
-
-
-def least_majority(option, count):
-    """The least number of votes that would be a majority, tried one by one."""
-    votes = dict(count.votes)
-    for number in range(100_000):
-        votes[option, count.poll.default] = number
-        if reference.meets_majority(count.poll, votes, option):
-            return number
-
-
-def reached(found, option, count):
-    over, least = int(found[1]), int(found[2])
-    demand(over == count.votes[option, count.poll.default] >= least, found[0])
-    demand(reference.meets_quorum(count.poll, least) and not reference.meets_quorum(count.poll, least - 1), found[0])
-    return "reached the quorum"
-
-
-def missed(found, option, count):
-    over, least = int(found[1]), int(found[2])
-    demand(over == count.votes[option, count.poll.default] < least, found[0])
-    demand(reference.meets_quorum(count.poll, least) and not reference.meets_quorum(count.poll, least - 1), found[0])
-    return "missed the quorum"
-
-
-def majority(found, option, count):
-    default = count.poll.default
-    demand((int(found[2]), int(found[3])) == (count.votes[option, default], count.votes[default, option]), found[0])
-    demand((found[1] == "its") == reference.meets_majority(count.poll, count.votes, option), found[0])
-    demand(found[1] == "no" or (found[4] is None) == (count.poll.ratios[option] == 1), found[0])
-    if found[4] is not None:
-        demand((int(found[4]), int(found[5])) == (count.poll.ratios[option], least_majority(option, count)), found[0])
-    if found[1] == "no":
-        return "missed its majority"
-    return "has its majority" if found[4] is None else "has a majority of a ratio"
+        wanted["needs nothing" if option == default else "has what it needs"] = 1
+        if option not in count.final:
+            own = sum(any(pair == (option, b) for _, removed in count.rounds for pair in removed) for b in count.poll.options)
+            wanted["its own defeat removed"] = own
+            wanted += collections.Counter(kind for kind in kinds if kind.startswith("loses"))
+            demand(sum(kind.startswith("loses") for kind in kinds) == 1, f"its loss in {kinds}")
+        elif 1 < len(count.final) <= 3:
+            wanted += collections.Counter(kind for kind in kinds if kind.startswith("left"))
+            demand(sum(kind.startswith("left") for kind in kinds) == len(count.final) - 1, f"with whom it is left in {kinds}")
+        elif len(count.final) > 3:
+            wanted["left with many"] = 1
+        if option in count.final and count.winner not in (None, option):
+            wanted["lost by the casting vote"] = 1
+    demand(collections.Counter(kinds) == +wanted, f"{kinds} of {option} in place of {+wanted}")
 
 
 def needs_nothing(found, option, count):
@@ -288,124 +274,164 @@ def needs_nothing(found, option, count):
     return "needs nothing"
 
 
-def pairs_in(text):
-    return [tuple(map(int, pair)) for pair in re.findall(PAIR, text)]
+def needs(found, option, count):
+    """What it needs and has, whatever for."""
+    over = count.votes[option, count.poll.default]
+    demand((int(found["needed"]), int(found["has"])) == (pages.needed_by(count, option), over), found[0])
+    is_enough = reference.meets_quorum(count.poll, over) and reference.meets_majority(count.poll, count.votes, option)
+    ratio = count.poll.ratios[option]
+    if "quorum" in found[0]:
+        demand(not reference.meets_quorum(count.poll, over) and count.dropped[option] == "quorum", found[0])
+        return "missed the quorum"
+    if "times" in found[0]:
+        demand(int(found["ratio"]) == ratio > 1 and ("more than" in found[0]) == count.poll.is_more_than, found[0])
+    if "against" not in found[0]:
+        demand(is_enough and option not in count.dropped, found[0])
+        return "has what it needs"
+    demand(not is_enough and count.dropped[option] == "majority", found[0])
+    demand("times" in found[0] or ratio == 1, found[0])
+    return "missed a majority of a ratio" if "times" in found[0] else "missed its majority"
 
 
-def loses(found, option, count):
-    """The chain leads, by defeats that are not removed yet, to an option of the set that this one has left."""
-    number = max((place for place, (final, _) in enumerate(count.rounds, start=1) if option in final), default=0)
-    gone = {pair for _, removed in count.rounds[:number] for pair in removed}
-    loser, chain = option, pairs_in(found[0])
-    for by, own, other in chain:
-        demand((by, loser) in count.defeats - gone, found[0])
-        demand((own, other) == (count.votes[loser, by], count.votes[by, loser]), found[0])
-        loser = by
-    demand(loser in count.rounds[number][0], found[0])
-    direct = [a for a, b in count.defeats - gone if b == option and a in count.rounds[number][0]]
-    demand((len(chain) == 1) == bool(direct), f"{found[0]}, the shortest")
-    demand(not direct or count.winner not in direct or chain[0][0] == count.winner, f"{found[0]}, to the winner")
-    return "loses directly" if len(chain) == 1 else "loses by a chain"
+def equal(found, option, count):
+    default = count.poll.default
+    same = sum(ranks[option - 1] == ranks[default - 1] for ranks in count.last.values())
+    demand(int(found[1]) == same > 0, found[0])
+    return "equal to the default option"
 
 
 def own_removed(found, option, count):
-    """All defeats by the option that the round removes."""
-    removed = sorted(pair for pair in count.rounds[int(found["round"]) - 1][1] if pair[0] == option)
-    demand(pairs_in(found[1]) == [(b, count.votes[a, b], count.votes[b, a]) for a, b in removed], found[0])
-    demand(("these" in found[0]) == (len(removed) > 1), found[0])
-    return "loses, its own defeat removed"
+    other = int(found["other"])
+    demand((option, other) in count.rounds[int(found["round"]) - 1][1], found[0])
+    demand((int(found["over"]), int(found["under"])) == (count.votes[option, other], count.votes[other, option]), found[0])
+    return "its own defeat removed"
 
 
-def against_removed(found, option, count):
-    """All defeats of the option that the round removes."""
-    removed = sorted(pair for pair in count.rounds[int(found["round"]) - 1][1] if pair[1] == option)
-    demand(pairs_in(found[1]) == [(a, count.votes[a, b], count.votes[b, a]) for a, b in removed], found[0])
-    return "a removed defeat against it"
+def against(found, option, count):
+    """Two options that are left, with their numbers and the round that has removed a defeat of one by the other."""
+    a, b = int(found["a"]), int(found["b"])
+    demand({a, b} <= set(count.final) and a != b and option in (a, None), found[0])
+    demand((int(found["over"]), int(found["under"])) == (count.votes[a, b], count.votes[b, a]), found[0])
+    rounds = [number for number, (_, removed) in enumerate(count.rounds, start=1) if {(a, b), (b, a)} & removed]
+    demand([int(found["round"])] if found["round"] else [] == rounds, found[0])
+    return "left with a removed defeat" if rounds else "left in a tie"
 
 
-def beaten_by(option, count):
-    return sorted(b for a, b in count.defeats if a == option)
+def left_with_many(found, option, count):
+    demand(int(found[1]) == len(count.final) - 1 > 2, found[0])
+    return "left with many"
 
 
-def others_of(option, count):
-    return [other for other in count.poll.options if other != option and other not in count.dropped]
-
-
-def defeats_few(found, option, count):
-    beaten = beaten_by(option, count)
-    demand(pairs_in(found[2]) == [(b, count.votes[option, b], count.votes[b, option]) for b in beaten], found[0])
-    is_each = 1 < len(beaten) == len(others_of(option, count))
-    demand(bool(found[1]) == is_each and len(beaten) <= 3, found[0])
-    return "defeats each of a few" if is_each else "defeats few"
-
-
-def defeats_many(found, option, count):
-    beaten, others = beaten_by(option, count), others_of(option, count)
-    wanted = "each" if beaten == others else str(len(beaten))
-    demand((found[1], int(found[2])) == (wanted, len(others)) and len(beaten) > 3, found[0])
-    ((nearest, own, other),) = pairs_in(found[3])
-    margins = {b: count.votes[option, b] - count.votes[b, option] for b in beaten}
-    demand(margins[nearest] == min(margins.values()), found[0])
-    demand((own, other) == (count.votes[option, nearest], count.votes[nearest, option]), found[0])
-    return "defeats each of many" if wanted == "each" else "defeats some of many"
-
-
-def alone_in_set(found, option, count):
-    demand(int(found[1]) == len(count.rounds) and count.final == [option], found[0])
-    return "alone in the set"
-
-
-def others_dropped(found, option, count):
-    demand(not others_of(option, count), found[0])
-    return "all others dropped"
-
-
-def left_with(found, option, count):
-    if len(count.final) > 4:
-        demand(found[1] == f"{len(count.final) - 1} other options", found[0])
-        return "left with many"
-    others = re.findall(r"#(\d+) \((\d+) to (\d+)(?:, a defeat that was removed in round (\d+))?\)", found[1])
-    wanted = []
-    for other in count.final:
-        rounds = [
-            str(number) for number, (_, removed) in enumerate(count.rounds, start=1) if {(option, other), (other, option)} & removed
-        ]
-        if other != option:
-            wanted.append((str(other), str(count.votes[option, other]), str(count.votes[other, option]), *(rounds or [""])))
-    demand(others == wanted, f"{found[0]} in place of {wanted}")
-    return "left with a removed defeat" if any(row[3] for row in others) else "left in a tie"
-
-
-def casting_chose(found, option, count):
-    if found[1] is None:
-        demand(option == count.winner == count.casting, found[0])
-        return "chosen by the casting vote"
-    demand(int(found[1]) == count.winner == count.casting != option, found[0])
+def lost_by_casting(found, option, count):
+    demand(int(found[1]) == count.winner == count.casting != option and option in count.final, found[0])
     return "lost by the casting vote"
 
 
-REMOVED = r"but (?:this defeat was|these defeats were) the weakest, and (?:was|were) removed in round (?P<round>\d+)"
-CLAUSES = [
-    (r"it reached the quorum: (\d+) prefers? it to the default option, (\d+) (?:is|are) needed", reached),
-    (r"it did not reach the quorum: (\d+) prefers? it to the default option, (\d+) (?:is|are) needed", missed),
-    (r"it has (its|no) majority: (\d+) to (\d+)(?:, and its ratio is (\d+), so (\d+) (?:is|are) needed)?", majority),
-    (r"it needs no quorum and no majority", needs_nothing),
-    (rf"it loses to {PAIR}(?:, which loses to {PAIR})*", loses),
-    (rf"it defeats ((?:.(?!but))*), {REMOVED}", own_removed),
-    (rf"(#.*) defeats? it, {REMOVED}", against_removed),
-    (rf"it defeats (each other option that was not dropped: )?({LIST})", defeats_few),
-    (rf"it defeats (each|\d+) of the (\d+) other options that were not dropped, most narrowly ({PAIR})", defeats_many),
-    (r"no other option is in the set of round (\d+)", alone_in_set),
-    (r"all other options were dropped", others_dropped),
-    (r"it is left with (.*), and no defeat among them is left", left_with),
-    (r"the casting vote chose (?:it|#(\d+))", casting_chose),
+HAS = r"(?P<needed>\d+), and has (?P<has>\d+)\."
+TO = r"(?P<over>\d+) to (?P<under>\d+)"
+AGAINST = rf"#(?P<a>\d+) against #(?P<b>\d+): {TO}(?:, a defeat that was set aside in round (?P<round>\d+))?\."
+REASONS = [
+    (r"It needs no quorum and no majority\.", needs_nothing),
+    (r"It needs (?P<needed>\d+) to reach the quorum, and has (?P<has>\d+)\.", needs),
+    (rf"It needs {HAS}", needs),
+    (rf"It needs more for it than against it, {HAS}", needs),
+    (rf"It needs (?:more than )?(?P<ratio>\d+) times as many for it as against it, {HAS}", needs),
+    (r"(\d+) ranked it equal to the default option\.", equal),
+    (rf"It beats #(?P<other>\d+) by {TO}, but this defeat was set aside in round (?P<round>\d+) as the weakest\.", own_removed),
+    (rf"#(?P<by>\d+) beats (?P<loser>it|#\d+) by {TO}\.", loses),
+    (AGAINST, against),
+    (r"It is left with (\d+) other options, and no defeat among them is left\.", left_with_many),
+    (r"The casting vote chose #(\d+)\.", lost_by_casting),
 ]
+
+
+# ---------------------------------------------------------------- what decides it
+def try_deciding(page, count, shown):
+    """The name of the winner stands alone, and below it what decides it. Returns its kind."""
+    part = page.partition('<section class="outcome" aria-labelledby="Result">')[2].partition("</section>")[0]
+    head, text = re.search(r'<h2 id="Result">(.*?)</h2>\s*<p>(.*?)</p>', part, re.DOTALL).groups()
+    said = " ".join(sentences_in(text, count, shown))
+    if count.winner is None:
+        demand(head == "A tie", head)
+        tied = pages.in_words([f"#{option}" for option in count.final])
+        start = f"No option has won yet: {tied} are tied. The casting vote has to choose one of them."
+        rest = said.removeprefix(start).strip()
+        if len(count.final) > 2:
+            demand(rest == "No defeat among them is left.", said)
+            return "a tie of many"
+        against(re.fullmatch(AGAINST, rest), count.final[0], count)
+        return "a tie of two"
+    name = pages.escaped(shown.get(count.winner, count.poll.names[count.winner]))
+    name = f"<bdi>{name}</bdi>" if count.winner in shown else name
+    demand(head == f'<b data-option="{count.winner}">{name}</b>', f"{head} in place of {name}")
+    if len(count.final) > 1:
+        demand(said == f"has won by the casting vote. These options were left: {pages.in_words([f'#{o}' for o in count.final])}.", said)
+        return "the casting vote"
+    if count.winner == count.poll.default:
+        return default_won(said, count)
+    return option_won(said.removeprefix("has won. "), count)
+
+
+def default_won(said, count):
+    """Each other option was dropped: what those need and have, or the nearest of many."""
+    start = "has won. It is the default option. All other options were dropped."
+    lacks = {o: pages.needed_by(count, o) - count.votes[o, count.poll.default] for o in count.dropped}
+    found = re.findall(r"#(\d+),? needs (\d+) and has (\d+)\.", said)
+    is_few = len(lacks) < 4
+    form = " ".join(f"#{o} needs {n} and has {h}." if is_few else f"The nearest, #{o}, needs {n} and has {h}." for o, n, h in found)
+    demand(said == f"{start} {form}" and set(lacks) == set(count.poll.options) - {count.poll.default}, said)
+    for option, needed, has in found:
+        demand((int(needed), int(has)) == (pages.needed_by(count, int(option)), count.votes[int(option), count.poll.default]), said)
+    shown = [lacks[int(option)] for option, _, _ in found]
+    demand(shown == (sorted(lacks.values()) if is_few else [min(lacks.values())]), said)
+    return "the default option, a few failed" if is_few else "the default option, many failed"
+
+
+def option_won(said, count):
+    """Whom the winner beats, and which defeats were removed before."""
+    winner, removed = count.winner, [pair for _, pairs in count.rounds for pair in sorted(pairs)]
+    others = [other for other in count.poll.options if other != winner and other not in count.dropped]
+    beaten = {b for a, b in count.defeats - set(removed) if a == winner}
+    demand(not any(b == winner for _, b in count.defeats - set(removed)), f"nothing beats it: {said}")
+    if removed:
+        a, b = removed[-1]
+        last = f"#{a} over #{b} by {count.votes[a, b]} to {count.votes[b, a]}."
+        start = f"Options beat each other in a circle, so the weakest defeat was set aside: {last}"
+        if len(removed) > 1:
+            start = f"Options beat each other in circles, so {len(removed)} weakest defeats were set aside, the last of them {last}"
+        demand(said.startswith(start), said)
+        demand_beaten(rf" Then it beats {BEATEN}, and nothing beats it\.", said.removeprefix(start), beaten, count)
+        return "circles" if removed[1:] else "a circle"
+    if beaten != set(others):
+        chains = reference.transitive_defeats([o for o in count.poll.options if o not in count.dropped], count.defeats)
+        demand({b for a, b in chains if a == winner} >= set(others), said)
+        demand_beaten(rf"It beats {BEATEN}, and each other one by a chain of defeats\.", said, beaten, count)
+        return "beats by chains"
+    each = "each option that was not dropped"
+    form = {1: rf"It beats {BEATEN}\.", 2: rf"It beats {each}: {BEATEN}\."}.get(len(beaten), rf"It beats {each}, most narrowly {PAIR}\.")
+    demand_beaten(form, said, beaten, count)
+    return {1: "beats one", 2: "beats each of two"}.get(len(beaten), "beats each of many")
+
+
+def demand_beaten(pattern, said, beaten, count):
+    """Those that the winner beats with their numbers, or the nearest of more than two."""
+    demand(re.fullmatch(pattern, said), said)
+    pairs = [tuple(map(int, pair)) for pair in re.findall(PAIR, said.rpartition(" over ")[2] if " over " in said else said)]
+    margins = {b: count.votes[count.winner, b] - count.votes[b, count.winner] for b in beaten}
+    demand(all((own, other) == (count.votes[count.winner, b], count.votes[b, count.winner]) for b, own, other in pairs), said)
+    shown = sorted(beaten, key=lambda b: margins[b]) if len(beaten) < 3 else None
+    if shown is None:
+        demand(len(pairs) == 1 and margins[pairs[0][0]] == min(margins.values()), said)
+        number = re.search(r"(\d+) options, most", said)
+        demand(number is None or int(number[1]) == len(beaten), said)
+    else:
+        demand({b for b, _, _ in pairs} == beaten and [margins[b] for b, _, _ in pairs] == sorted(margins.values()), said)
 
 
 # ---------------------------------------------------------------- the refused lines
 def try_refused(page, count):
     """The page has each refused line with its cause, in their order, and nothing else."""
-    part = page.partition('<h2 id="Refused-lines">')[2].partition("</section>")[0]
+    part = page.partition('<h3 id="Refused-lines">')[2].partition("</section>")[0]
     found = []
     for entry in pages.sections_of(page)["Refused-lines"].all("li"):
         which = re.fullmatch(r"lines? (\d+)(?: to (\d+))?: (.*?): ((?:late|bad [a-z ]+): .*)", entry.text(), re.DOTALL)
@@ -447,7 +473,7 @@ def with_names(poll, count, names):
 
 
 def meet(seed):
-    """Publishes the poll of a seed. Returns the kinds of clauses, or none if the poll is refused, and what is wrong."""
+    """Publishes the poll of a seed. Returns the kinds of sentences, or none if the poll is refused, and what is wrong."""
     election = random_polls().election_of(seed)
     try:
         names = reference.poll_in(election.poll).names.values()
@@ -503,7 +529,7 @@ def is_toml_1_0(file):
 
 
 def try_made(folder, count, names):
-    """Compares data, names, refused lines and sentences of a folder. Returns the kinds of clauses found."""
+    """Compares data, names, refused lines and sentences of a folder. Returns the kinds of sentences found."""
     data, table, page = ((folder / name).read_text() for name in ("result.json", "votes.csv", "index.html"))
     version = subprocess.run([PROGRAM, "--version"], capture_output=True, text=True).stdout.strip()
     document = document_of(count, version, names)
@@ -519,7 +545,7 @@ def try_made(folder, count, names):
 
 
 def try_published(expect, name, folder, casting):
-    """Compares an existing folder. Returns the kinds of clauses found."""
+    """Compares an existing folder. Returns the kinds of sentences found."""
     poll_bytes = (folder / "poll.toml").read_bytes()
     count = count_of(poll_bytes, (folder / "ballots.txt").read_bytes(), casting)
     poll = tomllib.loads(poll_bytes.decode())
@@ -534,7 +560,7 @@ def try_published(expect, name, folder, casting):
 
 
 def try_random_polls(expect, met):
-    """Compares this many random polls without a fault, on all processors. Other polls have had these kinds of clauses."""
+    """Compares this many random polls without a fault, on all processors. Other polls have had these kinds of sentences."""
     wrong, passed, seed = [], 0, 1
     with concurrent.futures.ProcessPoolExecutor() as pool:
         while passed < POLLS:
@@ -545,5 +571,5 @@ def try_random_polls(expect, met):
             seed += POLLS
     expect(f"random polls ({passed} of seeds 1 to {seed - 1}): what is wrong", wrong[:3], [])
     if POLLS >= ENOUGH:
-        expect("random polls: kinds of clauses that were never met", sorted(KINDS - set(met)), [])
-    expect("random polls: kinds of clauses that are not known", sorted(set(met) - KINDS), [])
+        expect("random polls: kinds of sentences that were never met", sorted(KINDS - set(met)), [])
+    expect("random polls: kinds of sentences that are not known", sorted(set(met) - KINDS), [])

@@ -84,7 +84,7 @@ def try_recasts_and_a_last_envelope(expect, scratch):
         expect(f"{ends}: its words", (said in page, "voted again" in page), (True, bool(said)))
         given = hashlib.sha256((room / "poll.toml").read_bytes()).hexdigest()
         plain = hashlib.sha256((room / ends / "poll.toml").read_bytes()).hexdigest()
-        named = [f"has the checksum (SHA-256) <code>{given}</code>" in page, f"must have this checksum, the poll's: <code>{plain}</code>" in page]
+        named = [f"has the checksum (SHA-256) <code>{given}</code>" in page, f"have this checksum, the poll's? <code>{plain}</code>" in page]
         expect(f"{ends}: the checksums of the poll", named, [given != plain, True])
 
 

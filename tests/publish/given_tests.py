@@ -38,9 +38,10 @@ def try_names(expect, scratch):
     for name, wanted in [
         ("the heading", '<h1 dir="auto">Ob die Satzung geändert wird</h1>'),
         ("the window", "<title>Result: Ob die Satzung geändert wird</title>"),
-        ("the winner", f'<p class="outcome">{bold(2, 2, label[1])} has won.'),
-        ("an option", f"<li>{bold(1, 1, label[0])}, majority ratio 3 (plain name, on the result sheet: Amend it)</li>"),
-        ("the table", f'<th scope="row">Option 1: {label[0]} <span class="ended">dropped: majority</span></th>'),
+        ("the winner", f'<h2 id="Result"><b data-option="2">{label[1]}</b></h2>\n<p>has won. It beats {bold(3, 3, label[2])} by 10 to 1.</p>'),
+        ("an option", f"<li>{bold(1, 1, label[0])}, majority ratio 3 (plain name, on the result sheet: Amend it): 6 are the quorum,"),
+        ("the table", f'<th scope="row">Option 1: {label[0]} <span class="chip">no majority</span></th>'),
+        ("a bar", f'</span><span class="number">1</span><span class="unseen">: </span><b>{label[0]}</b>'),
         ("a ballot", f"Option 2: {label[1]}; then Option 3: {label[2]}; then Option 1: {label[0]}</li>"),
         *([("the picture", "The picture has the plain names.")] if HAS_PICTURES else []),
         ("a text", f'<p class="whose">About {bold(1, 1, label[0])}, in the words of those who publish this page.'),
@@ -67,7 +68,7 @@ def try_languages(expect, scratch):
         expect(f"{code}: its status", publish(room, *FILES, "--language", code, "result")[1:], ("", 0))
         page = (room / "result" / "index.html").read_text()
         expect(f"{code}: its language", (f'<html lang="{code}">' in page, said in page), (True, True))
-        places.append(re.findall(r'<h2 id="(.*?)">', page))
+        places.append(re.findall(r'<h[23] id="(.*?)">', page))
     expect("all languages: the same places", places[1:], places[:1] * 3)
 
 
@@ -79,7 +80,7 @@ def try_honest_words(expect, scratch):
     page = (room / "result" / "index.html").read_text()
     sections = pages.sections_of(page)
     said = "This is the count of the files in this folder. No count shows whether they are what the electors sent; see "
-    expect("honest words: below the result", said in sections["Result"].text(), True)
+    expect("honest words: below what is checked", said in sections["Check-it"].text(), True)
     unseen = sections["What-nobody-can-see-from-here"]
     # a line feed is a space to a reader
     rows = [" ".join(entry.text().split()) for entry in unseen.all("li")]
@@ -93,25 +94,29 @@ def try_honest_words(expect, scratch):
     ]:
         expect(f"nobody can see: {start}", [check in row for row in rows if row.startswith(start)], [True])
     expect("nobody can see: how many", len(rows), 6)
-    seen = ["Result", "Find-your-ballot", "The-result-in-bars", "Why"]
-    folded = ["Options", "Votes", "Defeats", "Rounds", "Ballots", "Who-voted"]
-    folded += ["Refused-lines", "What-was-done", "What-nobody-can-see-from-here", "Count-again-here", "How-to-verify"]
+    seen = ["Result", "Why", "Find-your-ballot", "Check-it"]
+    folded = ["Options", "Votes", "Defeats", "Ballots", "Who-voted", "Refused-lines"]
+    folded += ["What-was-done", "What-nobody-can-see-from-here", "How-to-verify"]
     expect("the order of the parts", list(sections), [*seen, *folded])
-    heads = {name: [head.one("h2").attributes["id"] for head in part.all("summary") if list(head.all("h2"))] for name, part in sections.items()}
+    heads = {name: [head.one("h3").attributes["id"] for head in part.all("summary") if list(head.all("h3"))] for name, part in sections.items()}
     expect("what is folded, under its heading", {name: head for name, head in heads.items() if head}, {name: [name] for name in folded})
     verify = sections["How-to-verify"]
-    heads = [head.text() for head in verify.all("h3")]
+    heads = [head.text() for head in verify.all("h4")]
     program = subprocess.run([PROGRAM, "--version"], capture_output=True, text=True).stdout.strip()
-    wanted = ["What is enough for an elector", "To count again", f"With the program {program}", "Without debvote"]
-    expect("how to verify: what is enough comes first", heads, wanted)
-    own, letter, *_ = [entry.text() for entry in verify.all("li")]
+    wanted = ["To count again", f"With the program {program}", "Without debvote"]
+    expect("how to verify: its parts", heads, wanted)
+    own, winner, sums, letter, again = [" ".join(entry.text().split()) for entry in sections["Check-it"].one("ol").all("li")]
     poll_sum = hashlib.sha256((room / "result" / "poll.toml").read_bytes()).hexdigest()
-    expect("how to verify: one's own ballot", own.startswith("Your own ballot. Find your ballot must show it as you sent it. If you"), True)
-    expect("how to verify: one's own letter", letter.endswith(f"must have this checksum, the poll's: {poll_sum}."), True)
+    expect("check it: one's own ballot", own.startswith("Is your ballot as you sent it? Find your ballot shows it. If you did not vote"), True)
+    expect("check it: the winner", winner.startswith("Does your letter of the result name the same winner? "), True)
+    expect("check it: both checksums", sums.startswith("Does it have the checksums of SHA256SUMS and index.html, this page, "), True)
+    expect("check it: one's own letter", letter, f"Does your letter of the call have this checksum, the poll's? {poll_sum}")
     text = verify.text()
     for said in ["Ask your secretary where to get it", "It is better taken from elsewhere", "/usr/share/doc/debvote/reference.py"]:
         expect(f"how to verify: {said}", said in text, True)
-    again = next(section for section in pages.tree_of(page).all("section") if "Count again here" in section.text())
+    again = sections["Check-it"]
+    links = {link.attributes["href"]: "download" in link.attributes for link in again.all("a")}
+    expect("check it: what is downloaded", [name for name, is_loaded in links.items() if is_loaded], ["SHA256SUMS", "index.html"])
     for said in ["Your browser can count the ballots again", "a second opinion from the same web site", "Nothing is sent."]:
         expect(f"count again here: {said}", said in again.text(), True)
     expect("count again here: it promises no proof", re.search("(?i)prove|verified|certain", again.text()), None)
@@ -200,7 +205,7 @@ def try_commands(expect, scratch):
     others = {"package.json": '{"type": "module"}', "hmac.py": "boom", "a\nb": "", 'c"d': ""}
     for name, text in others.items():
         (folder / name).write_text(text)
-    page = (folder / "index.html").read_text().partition('<h2 id="How-to-verify">')[2]
+    page = (folder / "index.html").read_text().partition('<h3 id="How-to-verify">')[2]
     found = re.findall(r"<pre><code>(.*?)</code></pre>\n(?:<p>It prints:</p>\n<pre><code>(.*?)</code></pre>)?", page, re.DOTALL)
     expect("commands: how many", len({command for command, _ in found}), 14)
     answers = {}

@@ -6,8 +6,10 @@ import email.utils
 import hashlib
 import json
 import os
+import pathlib
 import re
 import shutil
+import signal
 import sqlite3
 import sys
 import tomllib
@@ -22,14 +24,15 @@ sys.path.append(str(support.ROOT / "python"))
 
 from debvote_tools.book import letters, queries  # noqa: E402
 from debvote_tools.book.book import open_book  # noqa: E402
+from debvote_tools import files  # noqa: E402
+from debvote_tools.cli import command_line  # noqa: E402
 from debvote_tools.commands import publish as command  # noqa: E402
 from debvote_tools.book.election import Election  # noqa: E402
-from debvote_tools.inbox import parse  # noqa: E402
-from debvote_tools.inbox.sources import RawLetter  # noqa: E402
+from debvote_tools.inbox.letter import as_json, parse  # noqa: E402
+from debvote_tools.inbox.mailbox import RawLetter  # noqa: E402
 from debvote_tools.text.language import ENGLISH  # noqa: E402
-from debvote_tools.result.done import told_acts  # noqa: E402
-from debvote_tools.result.inputs import Act, Chronicle, Done, Publication  # noqa: E402
-from debvote_tools.result.result_folder import Made  # noqa: E402
+from debvote_tools.result.facts import Act, Chronicle, Facts, told, told_acts  # noqa: E402
+from debvote_tools.result.folder import Made  # noqa: E402
 
 ELECTION = support.ROOT / "bin" / "debvote-election"
 
@@ -110,6 +113,41 @@ class OfElections(support.PublishTest):
         self.add(lines, words=("--came-before-close", "yes"))
         self.say("close", *words)
 
+    def starts(self, *words, most):
+        """Runs a command, which may start debvote only so often."""
+        program = self.folder / "counting"
+        program.mkdir(exist_ok=True)
+        starts = program / "starts"
+        starts.write_text("")
+        (program / "debvote").write_text(f'#!/bin/sh\necho $1 >> {starts}\nexec {support.PROGRAM} "$@"\n')
+        (program / "debvote").chmod(0o755)
+        output, faults, status = self.run_words(*words, path=os.pathsep.join([str(program), support.PATH]))
+        self.expect(f"{words}: {output} {faults}", status in (0, 1), True)
+        found = starts.read_text().split()
+        self.expect(f"{words}: {found}", 1 <= len(found) + (words[0] == "close") <= most + (words[0] == "close"), True)
+
+    def add_letters(self):
+        """Letters that were added and wait, of which debvote has to say which lines may be ballots."""
+        now = email.utils.format_datetime(datetime.datetime.now(datetime.UTC))
+        for number, name in enumerate(["zoe-mueller", "cleo"]):
+            text = f"Received: by mx; {now}\nFrom: x@x.example\nSubject: x\n\n{name} 1,2,3\n"
+            (self.folder / f"{number}.eml").write_text(text)
+            self.say("add", f"{number}.eml")
+
+    def in_child(self, patch, *words):
+        """Runs a command in a child with this patch, and returns the status of the child."""
+        child = os.fork()
+        if child == 0:
+            try:
+                os.chdir(self.folder)
+                for output in (1, 2):
+                    os.dup2(os.open(os.devnull, os.O_WRONLY), output)
+                with self.state_of_this(), patch:
+                    os._exit(command_line.main(support.PROGRAM.parent, list(words)))
+            finally:
+                os._exit(70)
+        return os.waitstatus_to_exitcode(os.waitpid(child, 0)[1])
+
     def acts(self):
         book = open_book(self.folder / "election.db")
         with contextlib.closing(book.connection):
@@ -186,6 +224,8 @@ class OfOpenVotes(OfElections):
         done = [item.text().partition("): ")[2] for item in sections["What-was-done"].all("li")]
         struck = "The secretary struck envelope 3: its line does not count. The reason, in the secretary's words: Zoë has sent it <b>twice</b>"
         self.expect("what was done", done[:2], ["The call was made; it named no time until which one could vote.", struck])
+        tie = "Tie: Option 1: 72 Euro and Option 2: Größe. Option 1: 72 Euro against Option 2: Größe: 1 to 1."
+        self.expect("the letter has the numbers of a tie", tie in self.letter().replace("\n", " "), True)
         checksum = hashlib.sha256(files["ballots.txt"]).hexdigest()
         self.expect("the close", done[2:], [f"The vote was closed. Lines in time: 3. Checksum: {checksum}."])
         self.checksums_of_letters(files, "ballots.txt")
@@ -337,7 +377,7 @@ class OfOpenVotes(OfElections):
             time = book.acts()[-1].time.replace(second=0)
             for line in (b"zoe-mueller 1,2,3", b"cleo 1,2,3"):
                 data = b"Received: by mx; %s\nFrom: x@x.example\n\n%s\n" % (email.utils.format_datetime(time).encode(), line)
-                letter = letters.keep_letter(act, "letter.eml", data, "", parse.as_json(parse.parse(RawLetter("letter.eml", data))))
+                letter = letters.keep_letter(act, "letter.eml", data, "", as_json(parse(RawLetter("letter.eml", data))))
                 letters.decide(act, letter, "entered")
                 queries.add_envelopes(act, [queries.NewEnvelope(line, letter=letter, time=time)], [None], is_late=True)
         self.say("publish", "--force", "--because", "so be it")
@@ -353,7 +393,8 @@ class OfOpenVotes(OfElections):
         nobody = "No elector has a ballot that counts: nobody's vote has decided this."
         refused = "More than half of the lines of the ballot file are refused: 1 of 1."
         self.expect("doubts", self.doubts(), [nobody, refused, "The vote was not closed when this page was made: more ballots may come in."])
-        given = [text.text() for text in self.sections()["Result"].one("div", "given").all("p")]
+        page = pages.tree_of((self.folder / "result" / "index.html").read_text())
+        given = [text.text() for text in next(page.all("div", "given")).all("p")]
         self.expect("the reason", given[1:], ["A <test>.", "No more."])
         self.expect("it is in the act", [doubt["kind"] for doubt in self.acts()[-1].detail["doubts"]], ["no ballot", "mostly refused", "not closed"])
         self.add("ada-lovelace 1,2,3\n")
@@ -414,12 +455,13 @@ class OfOpenVotes(OfElections):
     def test_what_the_letter_tells_of_what_was_done(self):
         """All but what is plain: also that the clock went back."""
         time = datetime.datetime(2026, 12, 4, tzinfo=datetime.UTC)
-        plain = {Done.CALLED, Done.CALLED_UNTIL, Done.TAKEN_BACK, Done.KEYRING}
+        plain = {"called", "called until", "taken back", "keyring"}
         places = {"until": time, "before": time, "number": 1, "envelope": 1, "noted": 1, "there": 1}
-        for done in Done:
-            if done is not Done.CLOSED:
-                chronicle = Chronicle((Act(time, done, places),))
-                self.expect(str(done), len(told_acts(Publication(None, b"", chronicle=chronicle), ENGLISH)), 0 if done in plain else 1)
+        kinds = {*told(ENGLISH).DONE, "roll changed"}
+        self.expect("how many kinds", (len(kinds), plain <= kinds), (13, True))
+        for done in kinds:
+            chronicle = Chronicle((Act(time, done, places),))
+            self.expect(done, len(told_acts(Facts(None, b"", chronicle=chronicle), ENGLISH)), 0 if done in plain else 1)
 
     def test_what_was_done_after_the_close(self):
         self.say("call", "--until", "2099-12-04 18:00", "--zone", "Europe/Berlin")
@@ -485,7 +527,7 @@ class OfOpenVotes(OfElections):
             for seconds, line in lines:
                 time = close + datetime.timedelta(seconds=seconds)
                 data = b"Received: by mx; %s\nFrom: x@x.example\n\n%s\n" % (email.utils.format_datetime(time).encode(), line)
-                known = parse.as_json(parse.parse(RawLetter("letter.eml", data)))
+                known = as_json(parse(RawLetter("letter.eml", data)))
                 letter = letters.keep_letter(act, "letter.eml", data, "", known)
                 letters.decide(act, letter, "entered")
                 queries.add_envelopes(act, [queries.NewEnvelope(line, letter=letter, time=time)], [None], is_late=True)
@@ -587,6 +629,8 @@ class OfOpenVotes(OfElections):
         self.expect("in the letter", said in self.letter().replace("\n", " "), True)
         said = "Winner: Option 1: 72 Euro by casting vote"
         self.expect("so does the letter say who has won", said in self.letter(), True)
+        numbers = f"{said}. These options were left: Option 1: 72 Euro and Option 2: Größe."
+        self.expect("with what decides it", numbers in self.letter().replace("\n", " "), True)
         self.stops("publish", "--casting", "Groesse", *cast, said=["an earlier publication has a casting vote for 72 Euro"])
         self.reopened_with("cleo 1,2,3\n")
         self.replace("--casting", "72 Euro", *cast, "--language", "en")
@@ -619,6 +663,63 @@ class OfOpenVotes(OfElections):
         sums = {name: hashlib.sha256((self.folder / "result" / name).read_bytes()).hexdigest() for name in acts[-1].detail["checksums"]}
         self.expect("the same folder, and no act", (sums, len(self.acts())), (acts[-1].detail["checksums"], len(acts)))
 
+    def left(self):
+        return [name for name in os.listdir(self.folder) if name.startswith(".")]
+
+    def test_a_publication_that_is_killed_after_its_act(self):
+        """Made again it comes back in its place, whatever a kill has left there, and nothing else is left."""
+        self.say("call")
+        self.add("ada-lovelace 1,2,3\n")
+        self.say("close")
+        self.say("publish")
+        rename, moved = pathlib.Path.rename, []
+
+        def kill(*_):
+            os.kill(os.getpid(), signal.SIGKILL)
+
+        def kill_between(file, target):
+            moved.append(kill() if moved else rename(file, target))
+
+        for language, patch, is_there, left in [
+            ("en", unittest.mock.patch.object(Made, "take_place", kill), True, 1),
+            ("fr", unittest.mock.patch.object(pathlib.Path, "rename", kill_between), False, 2),
+        ]:
+            before, acts = self.files(), len(self.acts())
+            self.expect(f"{language}: killed", self.in_child(patch, "publish", "--language", language), -signal.SIGKILL)
+            self.expect(f"{language}: what is left", ((self.folder / "result").exists(), len(self.left())), (is_there, left))
+            self.say("publish")
+            sums = {name: hashlib.sha256(data).hexdigest() for name, data in self.files().items()}
+            last = self.acts()[-1].detail["checksums"]
+            self.expect(f"{language}: it came back", ({name: sums[name] for name in last}, len(self.acts())), (last, acts + 1))
+            self.expect(f"{language}: it is the new one", (self.files() == before, self.left()), (False, []))
+        # a run that lasts keeps its folder
+        lasting = self.folder / ".debvote-result-lasting"
+        lasting.mkdir()
+        (lasting / "poll.toml").touch()
+        with files.locked(lasting, is_directory=True):
+            self.say("publish")
+        self.expect("that of a run that lasts", self.left(), [lasting.name])
+
+    def test_a_folder_that_can_not_take_its_place(self):
+        """The one that was there comes back; once it can, the new one takes its place."""
+        self.say("call")
+        self.add("ada-lovelace 1,2,3\n")
+        self.say("close")
+        self.say("publish")
+        before, rename, moved = self.files(), pathlib.Path.rename, []
+
+        def fail_second(file, target):
+            moved.append(file)
+            if len(moved) == 2:
+                raise OSError(28, "No space left on device", str(file))
+            return rename(file, target)
+
+        patch = unittest.mock.patch.object(pathlib.Path, "rename", fail_second)
+        self.expect("it fails", self.in_child(patch, "publish", "--language", "en"), 7)
+        self.expect("the old one is back", self.files() == before, True)
+        self.say("publish")
+        self.expect("the new one", (self.files() == before, self.left()), (False, []))
+
     def test_a_folder_that_is_counted_otherwise_takes_no_place(self):
         self.say("call")
         self.add("ada-lovelace 1,2,3\nzoe-mueller 1,2,3\n")
@@ -634,10 +735,17 @@ class OfOpenVotes(OfElections):
             output, faults, status = self.run_words("publish", "--language", "es", path=path)
             self.expect(f"{task}: {faults}", (status, NOTHING_DONE in faults), (9, True))
             self.expect(f"{task}: nothing was changed", (self.files() == files, len(self.acts())), (True, acts))
-        starts = self.folder / "starts"
-        (program / "debvote").write_text(f'#!/bin/sh\necho $1 >> {starts}\nexec {support.PROGRAM} "$@"\n')
-        self.run_words("publish", "--language", "es", path=path)
-        self.expect("debvote is started at most eight times", len(starts.read_text().splitlines()) <= 8, True)
+        self.starts("publish", "--language", "es", most=8)
+
+    def test_how_often_debvote_is_started(self):
+        self.say("call")
+        self.add("ada-lovelace 1,2,3\nno-one 1,2,3\n")
+        self.add_letters()
+        self.starts("count", most=3)
+        self.starts("close", "--force", "--because", "no ballots", most=3)
+        self.starts("count", most=3)
+        self.starts("publish", most=8)
+        self.starts("publish", most=8)
 
     def test_hostile_texts(self):
         """Each text of a person stands as text on the page, whatever is in it, and in the letters."""
@@ -659,7 +767,7 @@ class OfOpenVotes(OfElections):
         cast = ("--casting", hostile_name(self.folder), "--cast-by", f"by {hostile}", "--cast-on", "2026-11-20")
         self.say("publish", *cast, "--about", "about", "--force", "--because", f"force {hostile}", "--language", "en")
         reading.try_page(self.expect, "hostile", self.folder / "result")
-        seen = ["Result", "Find-your-ballot", "The-result-in-bars", "Why", "About-this-vote"]
+        seen = ["Result", "Why", "Find-your-ballot", "Check-it", "About-this-vote"]
         self.expect("the text about the vote stands above what is folded", list(self.sections())[: len(seen)], seen)
         page = pages.tree_of((self.folder / "result" / "index.html").read_text())
         shown = " ".join(part.text() for part in page.all("main"))
@@ -779,7 +887,7 @@ class OfSecretVotes(OfElections):
         self.expect("nothing is made", (len(self.acts()), (self.folder / "call").exists()), (acts, False))
         code = self.secrets()[0].code
         (self.folder / "texts" / "2.txt").write_text(f"x {code}\n")
-        self.expect("a code", "index.html would have the code of an elector in it" in self.run_words("call", "--yes")[1], True)
+        self.expect("a code", " would have the code of an elector in it" in self.run_words("call", "--yes")[1], True)
         (self.folder / "texts" / "2.txt").unlink()
         self.say("call", "--yes")
         self.expect("the act", self.acts()[-1].detail["agreed"], [hashlib.sha256("Zoë is for it.\n".encode()).hexdigest()])
@@ -789,6 +897,28 @@ class OfSecretVotes(OfElections):
         self.add("ada-lovelace 3,2,9\n")
         self.say("close")
         self.say("publish")
+
+    def test_how_often_debvote_is_started(self):
+        self.called()
+        self.add_letters()
+        self.starts("close", "--force", "--because", "no ballots", most=3)
+        self.starts("count", most=3)
+        self.starts("publish", "--yes", most=8)
+        self.add("cleo 1,2,3\n")
+        self.say("reopen", "--because", "Cleo's letter", "--in-time", "6")
+        self.starts("close", "--force", "--because", "no ballots", most=3)
+        self.starts("publish", "result-2", "--yes", most=8)
+
+    def test_a_text_of_an_option_that_nobody_was_asked_about(self):
+        """A call that did not ask leaves the question to the publication."""
+        (self.folder / "texts").mkdir()
+        (self.folder / "texts" / "1.txt").write_text("Zoë is for it.\n")
+        unasked = unittest.mock.patch("debvote_tools.commands.call.agreed_texts", return_value=[])
+        self.expect("called", self.in_child(unasked, "call"), 0)
+        self.add("ada-lovelace 3,2,9\n")
+        self.say("close")
+        self.stops("publish", said=["texts/1.txt:\n  Zoë is for it.\n", "these texts may tell who voted what"])
+        self.say("publish", "--yes")
 
     def test_two_results_that_can_be_compared(self):
         self.called()

@@ -84,7 +84,7 @@ def tree_of(page):
 
 def sections_of(page):
     """The parts of a page by the places of their headings."""
-    return {section.one("h2").attributes["id"]: section for section in tree_of(page).all("section")}
+    return {section.attributes["aria-labelledby"]: section for section in tree_of(page).all("section")}
 
 
 def doubts_of(page):
@@ -112,106 +112,103 @@ class Parts:
 
     def check(self):
         for check in (
-            self.head, self.bars, self.rule, self.options, self.table, self.defeats, self.rounds, self.ballots, self.who_voted,
+            self.headings, self.facts, self.lines, self.rule, self.bars, self.options, self.table, self.defeats, self.rounds, self.ballots,
+            self.who_voted,
         ):  # fmt: skip
             check()
 
     # ------------------------------------------------------------ the head
-    def head(self):
-        """The numbers with which the page begins."""
+    def headings(self):
+        """Each part has a heading with its place, and a part of a group is one deeper than the group."""
+        for place, section in self.sections.items():
+            heads = [node.attributes.get("id") for tag in ("h2", "h3") for node in section.all(tag)]
+            demand_equal(f"the heading of {place}", heads, [place])
+        levels = [int(node.tag[1]) for node in headings_in(tree_of(self.page))]
+        demand_equal("the first heading", levels[0], 1)
+        demand_equal("headings that skip a level", [level for before, level in zip(levels, levels[1:]) if level > before + 1], [])
+
+    def facts(self):
+        """The numbers below the winner."""
         count, poll = self.count, self.count.poll
-        rows = self.sections["Result"].one("dl")
-        found = dict(zip((name.text() for name in rows.all("dt")), (value.text() for value in rows.all("dd"))))
+        found = [entry.text() for entry in tree_of(self.page).one("ul", "facts").all("li")]
+        reached = any(count.votes[option, poll.default] >= least_of(count) for option in poll.ratios)
+        quorum = [f"quorum {least_of(count)}, {'reached' if reached else 'not reached'}"] if poll.quorum else []
+        refused = sum(reply not in ("counted", "replaced") for reply in count.replies)
+        lines = f"{refused} of {len(count.lines)} lines refused"
+        demand_equal("the facts", found, [f"{count.voters} of {len(poll.roll)} voted", *quorum, lines])
+
+    def lines(self):
+        """How many lines there are, and where voters and valid lines differ."""
+        count, poll = self.count, self.count.poll
         valid = sum(reply in ("counted", "replaced") for reply in count.replies)
-        lines = f"{len(count.lines)} in the ballot file: {valid} valid, {len(count.lines) - valid} refused"
+        wanted = f"{len(count.lines)} lines are in the ballot file: {valid} valid, {len(count.lines) - valid} refused."
         if valid != count.voters:
             of = "1 voter has" if count.voters == 1 else f"{count.voters} voters have"
-            lines += f". {of} {valid} valid lines: electors who voted again account for the difference, "
-            lines += "and the last valid line of each counts"
-        electors = len(poll.roll)
-        votes = "1 vote" if least_of(count) == 1 else f"{least_of(count)} votes"
-        quorum = f"{votes}: at least {poll.quorum}Q, where Q is half of the square root of the number of electors"
-        wanted = {
-            "Electors": str(electors),
-            "Voters": f"{count.voters}, which is {share(count.voters, electors)} of the electors: those with a ballot that counts",
-            "Quorum": quorum if poll.quorum else "none",
-            "Lines": lines,
-        }
+            wanted += f" {of} {valid} valid lines: electors who voted again account for the difference, "
+            wanted += "and the last valid line of each counts."
         if poll.last_envelope is not None:
-            wanted["Last envelope"] = f"{poll.last_envelope}: a line with a greater number is late, and is refused"
-        if poll.is_more_than:
-            wanted["Majority"] = "more than the ratio, where the Constitution of Debian has at least the ratio"
-        demand_equal("the head", found, wanted)
+            wanted += f" The last envelope is {poll.last_envelope}: a line with a greater number is late, and is refused."
+        demand_equal("the lines", " ".join(next(self.sections["Refused-lines"].all("p")).text().split()), wanted)
 
     def rule(self):
-        """The wording of majorities, folded below the sentences of Why."""
-        said = self.sections["Why"].one("details").one("p").text()
+        """The wording of majorities, and the quorum, below the options."""
+        poll, said = self.count.poll, self.sections["Options"].text()
         at_least = "At least the ratio times as many electors must prefer it as prefer the default option, and in any case more."
         more_than = "More than the ratio times as many electors must prefer it as prefer the default option."
-        wanted = (False, True) if self.count.poll.is_more_than else (True, False)
-        demand_equal("the wording of majorities", (at_least in said, more_than in said), wanted)
+        debian = "(more than the ratio, where the Constitution of Debian has at least the ratio)"
+        wanted = (False, True, True) if poll.is_more_than else (True, False, False)
+        demand_equal("the wording of majorities", (at_least in said, more_than in said, debian in said), wanted)
+        least = least_of(self.count)
+        of = f"The quorum is {least} vote{'' if least == 1 else 's'}: at least {poll.quorum}Q, where Q is half of the square root"
+        demand_equal("the quorum", (of in said, "No quorum is asked for." in said), (poll.quorum > 0, poll.quorum == 0))
 
     # ------------------------------------------------------------ the bars
     def bars(self):
-        """The winner first, then as the rounds leave the options, and of each the numbers, the bars and the marks."""
+        """The winner first, then as the rounds leave the options; of each the name, the chip, the numbers, the bar and the mark."""
         count, poll = self.count, self.count.poll
         default, least = poll.default, least_of(count)
         whole = max(count.voters, least, 1)
-        entries = list(self.sections["The-result-in-bars"].one("ol", "bars").all("li"))
-        legend = self.sections["The-result-in-bars"].one("details").one("p")
-        has = "elector has" if count.voters == 1 else "electors have"
-        said = (f"default option, {self.name(default)}." in legend.text(), "dashed mark" in legend.text())
-        demand_equal("the legend of the bars", said, (True, poll.quorum > 0))
-        end = f"The whole width stands for {whole}, and {count.voters} {has} voted."
-        demand_equal("the end of the legend", legend.text()[-len(end) :], end)
+        hint = next(self.sections["Why"].all("p", "hint")).text()
+        said = (f"prefer each option to {self.name(default)} (from the left)" in hint, f"stands for {whole}." in hint)
+        demand_equal("the hint of the bars", said, (True, whole != count.voters))
         last = {o: max((n for n, (kept, _) in enumerate(count.rounds, 1) if o in kept), default=0) for o in poll.options}
         order = sorted(poll.options, key=lambda o: (o != count.winner, o in count.dropped, -last[o], o))
-        demand_equal("how many bars", len(entries), len(order))
-        for option, entry in zip(order, entries):
-            said = [text.text() for text in entry.all("p")]
+        lists = [list(found.all("li")) for found in self.sections["Why"].all("ol", "options")]
+        sizes = [len(order)] if len(order) <= 8 else [5, len(order) - 5]
+        demand_equal("how many options are seen, and folded", list(map(len, lists)), sizes)
+        for option, entry in zip(order, [entry for entries in lists for entry in entries]):
+            chip = self.chip(option) + (" · default option" if option == default else "")
+            head = entry.one("p", "option")
+            demand_equal(f"the head of {option}", [part.text() for part in head.inner if isinstance(part, Node)], [self.name(option), chip])
+            demand_equal(f"the number of {option}", head.one("span", "number").text(), str(option))
+            bars = list(entry.all("div", "bar"))
             if option == default:
-                demand_equal("the default option", said, [f"{self.name(option)} is the default option, and {self.verdict(option)}."])
-                demand_equal("its bars", list(entry.all("svg")), [])
+                demand_equal("the bar of the default option", bars, [])
                 continue
             over, under = count.votes[option, default], count.votes[default, option]
-            needed = poll.ratios[option] * under + 1 if poll.is_more_than else max(poll.ratios[option] * under, under + 1)
-            quorum = [f"Quorum: {wanted_words(least)}. "] if poll.quorum else []
-            beyond = ", more than there is room for in this bar, so it has no mark" if needed > whole else ""
-            ended = {None: "Kept.", "quorum": "Dropped for the quorum.", "majority": "Dropped for its majority."}
-            marks = "".join(quorum) + f"Majority, with the ratio {poll.ratios[option]}: {wanted_words(needed)}{beyond}. "
-            demand_equal(
-                f"the words of {option}",
-                said,
-                [
-                    f"{self.name(option)} {self.verdict(option)}.",
-                    f"{over} {'prefers' if over == 1 else 'prefer'} it to the default option:",
-                    f"{under} {'prefers' if under == 1 else 'prefer'} the default option to it:",
-                    marks + ended[count.dropped.get(option)],
-                ],
-            )
-            wanted = [("for", over, whole), ("against", under, whole)]
-            demand_equal(f"the bars of {option}", [bar_of(svg) for svg in entry.all("svg")], wanted)
-            places = [("quorum", least)] if poll.quorum else []
-            places += [("majority", needed)] if needed <= whole else []
-            found = [marks_of(svg) for svg in entry.all("svg")]
-            demand_equal(f"the marks of {option}", found, [places, []])
+            (bar,) = bars
+            demand_equal(f"the numbers of {option}", [part.text() for part in bar.all("span")], [f"{over} for", f"{under} against"])
+            needed = needed_by(count, option)
+            demand_equal(f"the bar of {option}", bar_of(bar.one("svg")), (whole, over, whole - under, under, [needed] if needed <= whole else []))
 
-    def verdict(self, option):
+    def chip(self, option):
         count = self.count
         if option in count.dropped:
-            return "was dropped"
+            return f"no {count.dropped[option]}"
         if option == count.winner:
-            return "has won"
-        if option not in count.final:
-            return "has lost"
-        return "is left in the tie" if count.winner is None else "has lost by the casting vote"
+            return "won"
+        return "tied" if count.winner is None and option in count.final else "lost"
 
     # ------------------------------------------------------------ options, votes, defeats, rounds
     def options(self):
-        poll = self.count.poll
+        count, poll = self.count, self.count.poll
         kinds = {o: "the default option" if o == poll.default else f"majority ratio {poll.ratios[o]}" for o in poll.options}
         plain = {o: f" (plain name, on the result sheet: {poll.names[o]})" if o in self.names else "" for o in poll.options}
-        demand_equal("Options", self.entries("Options"), [f"{self.name(o)}, {kinds[o]}{plain[o]}" for o in poll.options])
+        wanted = []
+        for o in poll.options:
+            needs = "" if o == poll.default else f": {least_of(count)} are the quorum, {majority_of(count, o)} a majority; it has {count.votes[o, poll.default]}"
+            wanted.append(f"{self.name(o)}, {kinds[o]}{plain[o]}{needs}")
+        demand_equal("Options", self.entries("Options"), wanted)
 
     def table(self):
         """The table: its numbers, which cells are marked as those of a defeat, and how each row is marked."""
@@ -229,7 +226,7 @@ class Parts:
     def mark(self, option):
         count = self.count
         if option in count.dropped:
-            return f"dropped: {count.dropped[option]}", "dropped"
+            return f"no {count.dropped[option]}", "dropped"
         if option == count.winner:
             return "won", "won"
         return ("tied", "left") if count.winner is None and option in count.final else (None, None)
@@ -244,10 +241,11 @@ class Parts:
     def rounds(self):
         wanted = []
         for kept, removed in self.count.rounds:
-            pairs = in_words([f"{self.name(a)} over {self.name(b)}" for a, b in sorted(removed)])
+            votes = self.count.votes
+            pairs = in_words([f"{self.name(a)} over {self.name(b)} by {votes[a, b]} to {votes[b, a]}" for a, b in sorted(removed)])
             then = f"Removed: {pairs}." if removed else "No defeat is within it, and the count ends."
             wanted.append(f"The set is {in_words(list(map(self.name, kept)))}. {then}")
-        demand_equal("Rounds", self.entries("Rounds", "ol"), wanted)
+        demand_equal("Rounds", self.entries("Defeats", "ol"), wanted)
 
     # ------------------------------------------------------------ ballots and electors
     def ballots(self):
@@ -276,38 +274,53 @@ class Parts:
         count, section = self.count, self.sections["Who-voted"]
         voted = [name for voter, name in enumerate(count.poll.roll) if voter in count.last]
         absent = [name for voter, name in enumerate(count.poll.roll) if voter not in count.last]
-        heads = [head.text() for head in section.all("h3")]
+        heads = [head.text() for head in section.all("h4")]
         demand_equal("who voted, heads", heads, [f"Voted ({len(voted)})", f"No ballot that counts ({len(absent)})"])
         lists = [[(entry.text(), entry.attributes.get("id")) for entry in names.all("li")] for names in section.all("ul", "roll")]
         wanted = [names for names in ([(name, None) for name in voted], [(name, name) for name in absent]) if names]
         demand_equal("who voted", lists, wanted)
-        said = f"{len(voted)} of {len(count.poll.roll)} electors have a ballot that counts."
+        said = f"{len(voted)} of {len(count.poll.roll)} electors have a ballot that counts, which is {share(len(voted), len(count.poll.roll))}."
         demand_equal("who voted, number", next(section.all("p")).text(), said)
 
 
+def headings_in(node):
+    """The headings of a page, in their order."""
+    for part in node.inner:
+        if isinstance(part, Node):
+            if re.fullmatch("h[1-6]", part.tag):
+                yield part
+            yield from headings_in(part)
+
+
 def bar_of(svg):
-    """The kind of a bar, its number and the whole width, which its drawing, its frame and its label have to agree on."""
+    """The whole width of a bar, the width of those for, from where those against begin and their width, and the marks."""
     whole = int(svg.attributes["viewbox"].split()[2])
-    frame, bar = svg.all("rect")
-    demand_equal("the frame of a bar", (frame.attributes["class"], frame.attributes["width"]), ("whole", str(whole)))
-    number = int(bar.attributes["width"])
-    demand_equal("the role of a bar", svg.attributes["role"], "img")
-    demand_equal("the label of a bar", svg.attributes["aria-label"], f"A bar of {number}; the whole width is {whole}")
-    return bar.attributes["class"], number, whole
+    over, under = svg.one("rect", "for"), svg.one("rect", "against")
+    demand_equal("a reader has the numbers of a bar as text", svg.attributes["aria-hidden"], "true")
+    marks = [int(re.match(r"M(\d+) ", mark.attributes["d"])[1]) for mark in svg.all("path")]
+    return whole, int(over.attributes["width"]), int(under.attributes["x"]), int(under.attributes["width"]), marks
 
 
-def marks_of(svg):
-    return [(mark.attributes["class"], int(re.match(r"M(\d+) ", mark.attributes["d"])[1])) for mark in svg.all("path")]
+def majority_of(count, option):
+    """The least number that is a majority, tried one by one."""
+    poll, under = count.poll, count.votes[count.poll.default, option]
+    for number in range(200_000):
+        if number > under and (number > poll.ratios[option] * under or (not poll.is_more_than and number == poll.ratios[option] * under)):
+            return number
+
+
+def needed_by(count, option):
+    """What an option needs: of what it was dropped for, or of quorum and majority."""
+    dropped = count.dropped.get(option)
+    if dropped is not None:
+        return least_of(count) if dropped == "quorum" else majority_of(count, option)
+    return max(least_of(count), majority_of(count, option))
 
 
 def least_of(count):
     """The least number of votes that meets the quorum."""
     square = count.poll.quorum**2 * len(count.poll.roll)
     return next(number for number in range(20_000) if (2 * number) ** 2 >= square)
-
-
-def wanted_words(number):
-    return "1 is needed" if number == 1 else f"{number} are needed"
 
 
 def in_words(texts):

@@ -9,6 +9,8 @@ import html.parser
 import re
 import tomllib
 
+import page as pages
+
 # of scripts a page has its own alone
 UNWANTED_TAGS = {"link", "iframe", "img", "object", "embed", "form", "base", "audio", "video", "image", "use"}
 EMPTY_TAGS = {"meta", "br", "hr", "input"}  # in HTML; those of a picture end themselves
@@ -77,18 +79,19 @@ def try_page(expect, name, folder):
     expect(f"{name}: its names", [option for option in [*names, *plain_names] if option not in text], [])
     title = sheet.splitlines()[0].removeprefix("Poll: ")
     expect(f"{name}: its title", poll.get("shown_title", title) in text, True)
-    try_outcome(expect, name, sheet.splitlines()[-1], text, names, plain_names)
+    try_outcome(expect, name, sheet.splitlines()[-1], text, names, plain_names, folder)
     try_numbers(expect, name, folder)
 
 
-def try_outcome(expect, name, decision, text, names, plain_names):
-    """The page begins with what the last line of the sheet says."""
+def try_outcome(expect, name, decision, text, names, plain_names, folder):
+    """The page begins with what the last line of the sheet says: the name of the winner stands alone."""
     winner = re.match(r"Winner: (\d+) ", decision)
     if winner:
-        is_said = f"Option {winner[1]}: {names[int(winner[1]) - 1]} has won." in text
+        head = pages.sections_of((folder / "index.html").read_text())["Result"].one("h2").text()
         # the name of an option may have these words itself
         is_by_casting = not decision.endswith(f" {plain_names[int(winner[1]) - 1]}")
-        is_said = is_said and ("Several options were left, and the casting vote chose" in text) == is_by_casting
+        is_said = head == names[int(winner[1]) - 1] and "has won" in text
+        is_said = is_said and ("has won by the casting vote. These options were left: " in text) == is_by_casting
     else:
         is_said = "No option has won yet: " in text and " are tied." in text
     expect(f"{name}: its outcome", is_said, True)

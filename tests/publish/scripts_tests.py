@@ -16,8 +16,8 @@ from tests.support import at_browser
 
 sys.path.append(str(support.ROOT / "python"))
 
-from debvote_tools.result import command_line, result_folder  # noqa: E402
-from debvote_tools.result.inputs import SecretVote  # noqa: E402
+from debvote_tools.result import command_line, folder  # noqa: E402
+from debvote_tools.result.facts import SecretVote  # noqa: E402
 
 NEEDS_BROWSER = unittest.skipUnless(at_browser.BROWSER, "chromium is not installed")
 
@@ -48,7 +48,8 @@ class Page(at_browser.Window):
         return self.found()
 
     def found(self):
-        return self.ask("[...document.querySelectorAll('#Answer p')].map((node) => node.textContent)")
+        """Each paragraph and each step of the lists, which are numbered."""
+        return self.ask("[...document.querySelectorAll('#Answer p, #Answer li')].map((node) => node.textContent)")
 
     def count_again(self, letter="", files=None):
         """What the page says after a press of the button, or of that for files from the disk."""
@@ -99,9 +100,9 @@ class ScriptsTest(support.PublishTest):
         programs = support.PROGRAM.parent
         files = {"poll": str(room / "poll.toml"), "ballots": str(room / "ballots")}
         given = command_line.Arguments(**files, casting=None, desks=1, language="en", target="result")
-        two = command_line.publication_of(given, programs)
+        two = command_line.facts_of(given, programs)
         made_room = plain_room(self.scratch / name)
-        with result_folder.made(dataclasses.replace(two, **changes), made_room / "result", programs) as made:
+        with folder.made(dataclasses.replace(two, **changes), made_room / "result", programs) as made:
             made.take_place(made_room / "result")
         return made_room
 
@@ -113,18 +114,24 @@ class ScriptsTest(support.PublishTest):
     def test_finding_a_ballot(self):
         window = self.window
         self.page_of(window)
-        ballot = 'ada 2,1,-: Option 2: <i>B</i> & "C"; then Option 1: 72 Euro; not ranked: Option 3: N'
+        ballot = ['Option 2: <i>B</i> & "C"', "Option 1: 72 Euro", "Not ranked: Option 3: N", "The line: ada 2,1,-"]
         for name in ("ada", " Ada ", "ÁDA"):
-            self.expect(name, window.find(name)[1:], [ballot])
-        self.expect("equal ranks", window.find("ben")[1], 'ben -,1,1: equally Option 2: <i>B</i> & "C" and Option 3: N; not ranked: Option 1: 72 Euro')
-        self.expect("hyphens alone", window.find("cleo")[1], "cleo -,-,-: nothing is preferred")
+            self.expect(name, window.find(name), ["This ballot counts for ada:", *ballot])
+        equal = ['equally Option 2: <i>B</i> & "C" and Option 3: N', "Not ranked: Option 1: 72 Euro", "The line: ben -,1,1"]
+        self.expect("equal ranks", window.find("ben")[1:], equal)
+        self.expect("hyphens alone", window.find("cleo")[1:], ["nothing is preferred", "The line: cleo -,-,-"])
+        self.expect("without its hyphens", window.find("a-d-a"), ["No elector has the name a-d-a. Type it as it is on the roll."])
         self.expect("no ballot", window.find("dan"), ["dan is on the roll, and no ballot counts for this name."])
         self.expect("nobody", window.find("Zoë"), ["No elector has the name zoë. Type it as it is on the roll."])
         self.expect("a place of the page", window.find("Votes"), ["No elector has the name votes. Type it as it is on the roll."])
         self.expect("nothing typed", window.find(" "), ["Type your name."])
-        window.ask("location.hash = '#ben'")
-        window.until("document.getElementById('Answer').textContent.includes('ben')")
-        self.expect("the address names an elector", window.found()[0], "This ballot counts for ben:")
+        for address, name in (("ben", "ben"), ("ada/23456789ab", "ada")):
+            window.ask(f"location.hash = '#{address}'")
+            window.until(f"document.getElementById('Answer').textContent.includes('{name}')")
+            self.expect(f"the address {address} names an elector", window.found()[0], f"This ballot counts for {name}:")
+            window.until("document.querySelectorAll('.folded[open]').length === 0")
+            top = window.ask("document.getElementById('Find-your-ballot').getBoundingClientRect().top")
+            self.expect(f"{address}: it is shown at once", -1 <= top < 900, True)
         others = ["This page shows other ballots than its files have. Tell the other electors."]
         for what, change in [
             ("other ranks", lambda text: text.replace("<code>2,1,-</code>", "<code>1,2,-</code>")),
@@ -142,7 +149,7 @@ class ScriptsTest(support.PublishTest):
         window = self.window
         self.page_of(window, room=room)
         for name in roll[:-1]:
-            self.expect(name, window.find(name), [f"This ballot counts for {name}:", f"{name} 1,2,3: Option 1: A; then Option 2: B; then Option 3: N"])
+            self.expect(name, window.find(name), [f"This ballot counts for {name}:", "Option 1: A", "Option 2: B", "Option 3: N", f"The line: {name} 1,2,3"])
         self.expect("no ballot", window.find(roll[-1]), [f"{roll[-1]} is on the roll, and no ballot counts for this name."])
         self.expect("counted again", window.count_again()[0].startswith("The same, line for line"), True)
 
@@ -151,7 +158,7 @@ class ScriptsTest(support.PublishTest):
         window = self.window
         self.page_of(window, room=self.secret)
         alias = alias_of(self.code, "zoe-muller")
-        wanted = [f"{alias} 2,1,-: Option 2: B; then Option 1: A; not ranked: Option 3: N"]
+        wanted = ["Option 2: B", "Option 1: A", "Not ranked: Option 3: N", f"The line: {alias} 2,1,-"]
         for name in ("zoe-muller", "Zoë Müller", "  ZOE  MÜLLER "):
             self.expect(name, window.find(name, f" {self.code[:16].upper()} {self.code[16:]}")[1:], wanted)
         none = window.find("cleo", self.code)
@@ -178,7 +185,7 @@ class ScriptsTest(support.PublishTest):
         code = alias_of(self.code, "zoe-muller")
         window = self.window
         self.page_of(window, room=by_code)
-        self.expect("in groups", window.find(f"{code[:16].upper()} {code[16:]}")[1:], [f"{code} 2,1,-: Option 2: B; then Option 1: A; not ranked: Option 3: N"])
+        self.expect("in groups", window.find(f"{code[:16].upper()} {code[16:]}")[1:], ["Option 2: B", "Option 1: A", "Not ranked: Option 3: N", f"The line: {code} 2,1,-"])
         short = "A code has 32 digits, 0 to 9 and a to f. Type yours as it is on your slip."
         self.expect("half of it", window.find(code[:16]), [short])
         self.expect("no ballot", window.find(alias_of(self.code, "cleo")), ["The code is on the roll, and no ballot counts under it."])
@@ -204,7 +211,8 @@ class ScriptsTest(support.PublishTest):
         window = self.window
         self.page_of(window, room=room)
         found = window.find("zoe")
-        self.expect("one real name", found[::2], ["This ballot counts for ada:", "This ballot counts for ben:"])
+        counts = [said for said in found if said.startswith("This ballot counts")]
+        self.expect("one real name", counts, ["This ballot counts for ada:", "This ballot counts for ben:"])
         window.ask("document.getElementById('Name').focus()")
         window.press("1")
         window.until("document.getElementById('Answer').textContent === ''")
@@ -218,21 +226,21 @@ class ScriptsTest(support.PublishTest):
         """A link, or the address of the page, opens the folded part that it leads to; on paper all are open, without a script too."""
         window = self.window
         self.page_of(window)
-        unfolded = "[...document.querySelectorAll('.folded[open] h2')].map((node) => node.id)"
+        unfolded = "[...document.querySelectorAll('.folded[open] h3')].map((node) => node.id)"
         self.expect("all are folded", window.ask(unfolded), [])
-        window.ask("""document.querySelector('nav a[href="#Votes"]').click()""")
-        self.expect("by a link", window.ask(unfolded), ["Votes"])
+        window.ask("""document.querySelector('a[href="#Who-voted"]').click()""")
+        self.expect("by a link", window.ask(unfolded), ["Who-voted"])
         window.ask("document.querySelector('.folded[open]').open = false")
-        window.ask("""document.querySelector('nav a[href="#Votes"]').click()""")
-        self.expect("by the same link again", window.ask(unfolded), ["Votes"])
-        for address, part in (("ada", "Ballots"), ("dan", "Who-voted"), ("%", None)):
+        window.ask("""document.querySelector('a[href="#Who-voted"]').click()""")
+        self.expect("by the same link again", window.ask(unfolded), ["Who-voted"])
+        for address, part in (("Votes", "Votes"), ("How-to-verify", "How-to-verify"), ("%", None)):
             window.ask(f"location.hash = '#{address}'")
             window.until(f"{json.dumps(part)} === null || {unfolded}.includes({json.dumps(part)})")
         with Page() as window:
             window.for_paper()
             self.page_of(window)
             seen = window.ask("[...document.querySelectorAll('.folded')].map((part) => part.children[1].getBoundingClientRect().height > 0)")
-            self.expect("on paper", (seen, window.ask(unfolded)), ([True] * 11, []))
+            self.expect("on paper", (seen, window.ask(unfolded)), ([True] * 9, []))
 
     @NEEDS_BROWSER
     def test_counting_again(self):
@@ -248,6 +256,13 @@ class ScriptsTest(support.PublishTest):
             said = " ".join(window.count_again(typed))
             self.expect(f"typed {typed}", ("Yours is the same." in said, LETTER_OTHER in said), (True, False))
         self.expect("that of another file", LETTER_OTHER in window.count_again(sums["index.html"])[3], True)
+        for name in ("index.html", "SHA256SUMS"):
+            data = (folder / name).read_bytes()
+            said = f"The checksum of {name} is {hashlib.sha256(data).hexdigest()}."
+            self.expect(f"{name} alone", window.count_again(files={name: data}), [said])
+            self.expect(f"{name}, typed", window.count_again(hashlib.sha256(data).hexdigest(), {name: data}), [f"Yours is the same. {said}"])
+            other = window.count_again(hashlib.sha256(data).hexdigest(), {name: data + b"x"})
+            self.expect(f"{name}, changed", LETTER_OTHER in other[0], True)
         sum_of_poll = sums["poll.toml"]
         for typed, number in ((sum_of_poll[:63], 63), (f"{sum_of_poll[:16]} {sum_of_poll[16:20]}", 20), (f"{sum_of_poll}0", 65), ("?", 0)):
             part = f"A checksum has 64 digits, 0 to 9 and a to f, and you have typed {number}."
@@ -256,7 +271,8 @@ class ScriptsTest(support.PublishTest):
     @NEEDS_BROWSER
     def test_counting_again_on_changed_pages(self):
         changes = {
-            "the result": ('class="outcome"><b data-option="2">Option 2', 'class="outcome"><b data-option="1">Option 1'),
+            "the result": ('<h2 id="Result"><b data-option="2"><bdi>&lt;i&gt;B', '<h2 id="Result"><b data-option="2"><bdi>&lt;i&gt;C'),
+            "the names of title and options  ": ('<span class="unseen">: </span><b><bdi>72', '<span class="unseen">: </span><b><bdi>73'),
             "the names of title and options": ('<h1 dir="auto">Größe', '<h1 dir="auto">Grösse'),
             "the names of title and options ": ("(plain name, on the result sheet: A)", "(plain name, on the result sheet: B)"),
             "the table of votes": ("<td>0</td>", "<td>1</td>"),

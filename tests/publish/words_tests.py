@@ -1,6 +1,5 @@
 """The words for a ballot and for a share, which are written down here one by one; and of which closes letters tell."""
 
-import dataclasses
 import datetime
 import sys
 
@@ -10,7 +9,7 @@ from tests.support import expecting
 sys.path.append(str(support.ROOT / "python"))
 
 from debvote_tools.text.ballots import ranks_in_words  # noqa: E402
-from debvote_tools.result.inputs import Closed  # noqa: E402
+from debvote_tools.result.facts import Act  # noqa: E402
 from debvote_tools.result.page import share  # noqa: E402
 
 
@@ -39,10 +38,11 @@ def try_shares(expect):
 def try_plain_closes(expect):
     """The letters of the result tell each close of which more is to be told than its time."""
     time = datetime.datetime.now(datetime.UTC)
-    close = Closed(time, lines=1, checksum="", is_early=False, waiting=0, after_end=0, came=None, struck=None)
-    expect("a plain close", close.is_plain, True)
-    for more in ({"is_early": True}, {"waiting": 1}, {"after_end": 1}, {"because": "a reason"}, {"came": 0, "struck": 0}):
-        expect(f"a close with {more}", dataclasses.replace(close, **more).is_plain, False)
+    plain = {"lines": 1, "checksum": "", "early": False, "waiting": 0, "after_end": 0, "came": None, "struck": None}
+    expect("a plain close", Act(time, "closed", plain).is_quiet, True)
+    expect("a close with a reason", Act(time, "closed", plain, "a reason").is_quiet, False)
+    for more in ({"early": True}, {"waiting": 1}, {"after_end": 1}, {"came": 0, "struck": 0}):
+        expect(f"a close with {more}", Act(time, "closed", plain | more).is_quiet, False)
 
 
 class WordsTest(expecting.Expecting):

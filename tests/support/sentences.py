@@ -12,7 +12,7 @@ PACKAGE = ROOT / "python" / "debvote_tools"
 LOCALE = PACKAGE / "locale"
 
 # the functions whose first argument is a sentence, and those whose first two are its singular and its plural
-WITH_ONE = {"say", "marked", "between"}
+WITH_ONE = {"say", "say_each", "marked", "between"}
 WITH_TWO = {"say_number", "numbered"}
 
 
@@ -31,7 +31,7 @@ def in_code() -> dict[tuple[str, ...], str]:
     found: dict[tuple[str, ...], str] = {}
     templates = jinja2.Environment(extensions=["jinja2.ext.i18n"])
     for file in sorted(PACKAGE.rglob("templates/*")):
-        said = templates.extract_translations(file.read_text(encoding="utf-8"), ["say", "say_number", "part", "folded", "to"])
+        said = templates.extract_translations(file.read_text(encoding="utf-8"), ["say", "say_number", "say_each", "marked"])
         for line, name, words in said:
             texts = words if isinstance(words, tuple) else (words,)
             texts = texts[:2] if name in WITH_TWO else texts[:1]

@@ -8,6 +8,7 @@ pub mod TakingVotes
 pub mod TakenVotes
 pub mod Explaining
 pub mod Performing
+pub mod OneText
 pub mod Status
 pub mod Words
 -- what private functions say about their parts

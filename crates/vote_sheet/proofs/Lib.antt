@@ -20,5 +20,6 @@ pub mod NormalRanks
 pub mod NormalRanksAreOne
 pub mod Publishing
 pub mod VerifiedOnce
+pub mod VerificationsExist
 pub mod SheetExists
 pub mod PictureLaws

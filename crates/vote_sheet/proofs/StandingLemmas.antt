@@ -25,7 +25,7 @@ use Rattle.vote_poll_text.specs.declared.TheConstants.{MAX_VOTER_NAME}
 use Rattle.vote_steps.specs.History.{ranks_read}
 use Rattle.vote_steps.specs.Recasts.{last_ballot}
 use Rattle.vote_sheet.specs.LastBallots.{last_valid_ballots, readings_in_time, voter_count}
-use Rattle.vote_sheet.specs.Standing.{SaysTheSame, StandingSaysTheSame, ballot_line, ballot_lines, standing_lines, standing_text}
+use Rattle.vote_sheet.specs.Standing.{SaysTheSame, StandingSaysTheSame, ballot_line, ballot_lines, standing_text}
 
 abbrev pub EachLineIsRead : Type 0
 EachLineIsRead = (poll : PollContent) (line : List ℕ) → IsReading poll line (reading poll line)
@@ -330,6 +330,10 @@ of_place read poll lines P each i ranks below is =
     let here : 0 + i ≡ i = omega arith in
     let Q : ℕ → Type 0 = λ v. P v ranks (line_text (get_or poll.roll i []) ranks) in
     subst Q (sym here) (each i ranks (spelled_at read poll lines i ranks (ap (last_of poll lines) (sym here) ∙ is)))
+
+-- the lines of the text of `standing`
+abbrev standing_lines : PollContent → List (List ℕ) → List (List ℕ)
+standing_lines poll lines = ballot_lines poll.roll (last_valid_ballots poll lines)
 
 standing_are_lines : EachLineIsRead → (poll : PollContent) (lines : List (List ℕ)) → AreLines (standing_text poll lines) (standing_lines poll lines)
 standing_are_lines read poll lines =

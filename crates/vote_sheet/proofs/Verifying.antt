@@ -84,7 +84,7 @@ module _ (poll : PollContent) (S : Option ℕ → Text → Type 0) (unique : (ca
         ]
 
     -- the next line has more lines in common
-    longer : IsCasting poll (Some upto) → longest < common_lines text t → Searched poll S text (upto + 1) (Some upto) (common_lines text t)
+    pub longer : IsCasting poll (Some upto) → longest < common_lines text t → Searched poll S text (upto + 1) (Some upto) (common_lines text t)
     longer vote_next more = record {
       none = none_more;
       most = λ casting u vote below is.
@@ -99,7 +99,7 @@ module _ (poll : PollContent) (S : Option ℕ → Text → Type 0) (unique : (ca
     }
 
     -- the next line has no more
-    no_longer : common_lines text t ≤ longest → Searched poll S text (upto + 1) closest longest
+    pub no_longer : common_lines text t ≤ longest → Searched poll S text (upto + 1) closest longest
     no_longer most = record {
       none = none_more;
       most = λ casting u vote below is.

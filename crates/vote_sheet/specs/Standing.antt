@@ -27,11 +27,8 @@ ballot_lines (voter ∷ voters) [] = []
 ballot_lines (voter ∷ voters) (ballot ∷ ballots) = ballot_line voter ballot ++ ballot_lines voters ballots
 
 -- the lines of the ballots that stand, in the order of the roll
-abbrev pub standing_lines : PollContent → List Text → List Text
-standing_lines poll lines = ballot_lines poll.roll (last_valid_ballots poll lines)
-
 abbrev pub standing_text : PollContent → List Text → Text
-standing_text poll lines = text_of_lines (standing_lines poll lines)
+standing_text poll lines = text_of_lines (ballot_lines poll.roll (last_valid_ballots poll lines))
 
 -- The second lines say the same about the voters as the first, and nothing else: there are as many lines as voters, each is a ballot
 -- that is not late, and the last valid ballot of each elector is the same.

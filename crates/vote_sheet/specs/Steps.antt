@@ -2,7 +2,6 @@
 use Rattle.std.specs.Prelude.{◌≡◌, List, [], ◌∷◌, codes, decimal}
 use Rattle.std.specs.List.{flat_map}
 use Rattle.vote_poll.specs.PollContent.{PollContent, elector_count, option_count}
-use Rattle.vote_poll.specs.declared.LineFault.{LineFault}
 use Rattle.vote_poll.specs.declared.LineFault.TheVariants.{Shape, RankCount, Roll}
 use Rattle.vote_poll.specs.Readings.{readings}
 use Rattle.vote_steps.specs.declared.Reply.{Reply}
@@ -13,16 +12,13 @@ use Rattle.vote_steps.specs.Boxes.{BoxState}
 use Rattle.vote_steps.specs.HeldLines.{AreCastInOrder, HoldsLines}
 use Rattle.vote_sheet.specs.Texts.{Text, line}
 
-abbrev pub line_fault_words : LineFault → Text
-line_fault_words Shape = codes "bad shape"
-line_fault_words RankCount = codes "bad rank count"
-line_fault_words Roll = codes "bad not on roll"
-
 abbrev pub reply_words : Reply → Text
 reply_words Counted = codes "counted"
 reply_words Replaced = codes "replaced"
 reply_words Superseded = codes "superseded"
-reply_words (BadLine fault) = line_fault_words fault
+reply_words (BadLine Shape) = codes "bad shape"
+reply_words (BadLine RankCount) = codes "bad rank count"
+reply_words (BadLine Roll) = codes "bad not on roll"
 reply_words Late = codes "late"
 reply_words BoxClosed = codes "closed"
 
@@ -45,3 +41,7 @@ check_text poll = line (codes "poll ok: " ∷ decimal (option_count poll) ∷ co
 -- a poll and its lines have at most one such text
 abbrev pub StepsAreDetermined : Type 0
 StepsAreDetermined = (poll : PollContent) (lines : List Text) (text other : Text) → IsStepsText poll lines text → IsStepsText poll lines other → text ≡ other
+
+-- a poll and its lines have such a text
+abbrev pub StepsExist : Type 0
+StepsExist = (poll : PollContent) (lines : List Text) → (text : Text) × IsStepsText poll lines text

@@ -1,11 +1,12 @@
 -- The result of comparing a text with the sheets of a poll and its lines.
-use Rattle.std.specs.Prelude.{◌≡◌, ◌≢◌, ℕ, ◌+◌, ◌<◌, ◌≤◌, ◌==◌, if◌then◌else◌, List, [], ◌∷◌, ◌++◌, length, take, Option, Some, None, IfSome, slice_get, string_bytes, codes, decimal}
+use Rattle.std.specs.Prelude.{◌≡◌, ◌≢◌, ℕ, ◌+◌, ◌<◌, ◌≤◌, ◌==◌, if◌then◌else◌, List, [], ◌∷◌, ◌++◌, length, take, Ok, Option, Some, None, IfSome, slice_get, string_bytes, codes, decimal}
 use Rattle.std.specs.List.{All, concat}
 use Rattle.std.specs.declared.string.String.{String}
 use Rattle.vote_poll_text.specs.Lines.{IsUnbroken, feed_count, lines_of, text_of_lines}
 use Rattle.vote_poll_text.specs.Shown.{shown}
 use Rattle.vote_poll.specs.Options.{IsOption}
 use Rattle.vote_poll.specs.PollContent.{PollContent, option_count}
+use Rattle.vote_poll.specs.PollFile.{poll_in}
 use Rattle.vote_sheet.specs.Counted.{IsLastLine}
 use Rattle.vote_sheet.specs.Sheet.{name_of}
 use Rattle.vote_sheet.specs.SheetOf.{IsSheet}
@@ -133,6 +134,12 @@ VerificationsAreDetermined =
     (poll : PollContent) (lines : List Text) (text words others : Text) (said other : Verification) →
     IsVerification poll lines text said → AreVerificationWords poll lines text said words →
     IsVerification poll lines text other → AreVerificationWords poll lines text other others → (said ≡ other) × (words ≡ others)
+
+-- a law: of each text something is said in words, for each poll that is read from a poll file and any lines
+abbrev pub VerificationsExist : Type 0
+VerificationsExist =
+    (file : Text) (poll : PollContent) (lines : List Text) (text : Text) → poll_in file ≡ Ok poll
+    → (said : Verification) × (words : Text) × IsVerification poll lines text said × AreVerificationWords poll lines text said words
 
 -- the words are those of this verification of the text
 abbrev pub SaysInWords : {Z : Type 0} → PollContent → List Text → Text → String Z × Verification → Type 0

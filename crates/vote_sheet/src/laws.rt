@@ -5,9 +5,9 @@ ghost use Rattle.vote_sheet.specs.Limits.{LimitsAreAsWritten};
 ghost use Rattle.vote_sheet.specs.Publishing.{KeepsTheOrder, NormalRanksTellTheOrderAlone, PublishedFilesHaveTheSameSheet, PublishedFilesSayTheSame, normal_ranks};
 ghost use Rattle.vote_sheet.specs.SheetLaws.{CondorcetWinnersAreNamed, LikedOptionsStay, LikedWinnersStay, UnanimityRules};
 ghost use Rattle.vote_sheet.specs.Standing.{StandingHasTheSameSheet, StandingSaysTheSame};
-ghost use Rattle.vote_sheet.specs.Verify.{NamesTheFirstLine, VerificationsAreDetermined};
+ghost use Rattle.vote_sheet.specs.Verify.{NamesTheFirstLine, VerificationsAreDetermined, VerificationsExist};
 
-use crate::sheet::sheet_is_unique;
+use crate::sheet::{sheet_exists, sheet_is_unique};
 use vote_count::{
     condorcet_winners_win, final_set_is_one, final_set_is_pareto, final_set_is_schulze,
     raised_ballots_raise, raised_winners_win, winners_are_in_the_set,
@@ -112,6 +112,15 @@ pub fn the_first_line_is_named()
 pub fn verifications_are_determined()
     ensures { VerificationsAreDetermined }
 {
+    sheet_is_unique();
+}
+
+/// Of each text `verify` says something, for each poll that is read from a poll file and any lines. By
+/// [`verifications_are_determined`] it is one thing, in the same words.
+pub fn verifications_exist()
+    ensures { VerificationsExist }
+{
+    sheet_exists();
     sheet_is_unique();
 }
 

@@ -6,8 +6,8 @@
 //!   replies. Its text is a function of the sheet, the poll and the number of lines (`sheet_text`). Each poll that is read from a
 //!   poll file has a sheet ([`sheet_exists`]), and only one ([`sheet_is_unique`]): it is the same for every number of desks and
 //!   every order in which the lines are cast, byte for byte.
-//! - [`steps_text`] returns the reply of the box to each line, if one desk casts the lines in their order. By
-//!   [`steps_are_determined`] the poll and the lines determine this text.
+//! - [`steps_text`] returns the reply of the box to each line, if one desk casts the lines in their order. There
+//!   is such a text for each poll and its lines ([`steps_exist`]), and only one ([`steps_are_determined`]).
 //! - [`verify_sheet`] compares a text with the sheets of a box, without a casting vote and with each ([`Verification`]).
 //! - [`standing_text`] returns the ballots that stand, as a ballot file.
 //! - [`picture_of_box`] returns what the sheet of the same box says, as a graph in the language of Graphviz.
@@ -31,7 +31,7 @@ mod verify;
 pub use picture::{picture_exists, picture_is_unique, picture_of_box};
 pub use sheet::{sheet_exists, sheet_is_unique, sheet_of_box};
 pub use standing::standing_text;
-pub use steps::{check_text, reply_words, steps_are_determined, steps_text};
+pub use steps::{check_text, reply_words, steps_are_determined, steps_exist, steps_text};
 pub use verify::{Verification, verify_sheet};
 
 /// The maximum number of bytes of a line that [`verify_sheet`] shows.

@@ -2,11 +2,11 @@
 
 ghost use Rattle.std.specs.Prelude.{◌≡◌, IfOk, string_bytes};
 ghost use Rattle.vote_poll_text.specs.Adding.{Adds};
-ghost use Rattle.vote_sheet.specs.Steps.{IsStepsText, StepsAreDetermined, check_text, reply_words, step_line, step_lines};
+ghost use Rattle.vote_sheet.specs.Steps.{IsStepsText, StepsAreDetermined, StepsExist, check_text, reply_words, step_line, step_lines};
 
 use std::alloc::{AllocError, Global};
 use vote_poll::{LineFault, Lines, Poll};
-use vote_steps::laws::order_leaves_no_choice;
+use vote_steps::laws::{lines_can_be_cast, order_leaves_no_choice};
 use vote_steps::{Reply, Step, cast_all};
 
 /// The words of a reply, as `steps` writes them.
@@ -71,4 +71,11 @@ pub fn steps_are_determined()
     ensures { StepsAreDetermined }
 {
     order_leaves_no_choice();
+}
+
+/// A poll and its lines have a text of `steps`. By [`steps_are_determined`] they have only one.
+pub fn steps_exist()
+    ensures { StepsExist }
+{
+    lines_can_be_cast();
 }

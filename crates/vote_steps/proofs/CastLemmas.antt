@@ -3,22 +3,25 @@ use Rattle.std.proofs.Common.{◌≡◌, ℕ, zero, suc, ◌+◌, ◌-◌, ◌<�
 use Rattle.std.specs.Prelude.{All, slice_get}
 use Rattle.std.proofs.lemmas.Bool.{cases_lt, ne_eqb}
 use Rattle.std.proofs.lemmas.List.{take_at}
+use Rattle.std.specs.Str.{bytes_eq}
 use Rattle.std.proofs.lemmas.List.Elements.{All-nil, All-push}
+use Rattle.std.proofs.lemmas.List.Quantifiers.{position-Some}
 use Rattle.std.proofs.lemmas.Option.{get_or_from_slice_get, slice_get_within, slice_get-get_or}
 use mathlib.Core.List.{append-nil}
-use Rattle.vote_poll.specs.PollContent.{PollContent, last_in_time}
-use Rattle.vote_poll.specs.Readings.{reading, readings}
+use Rattle.vote_poll.specs.PollContent.{PollContent, elector_count, last_in_time, option_count}
+use Rattle.vote_poll.specs.Readings.{IsReading, ReadingFits, reading, readings}
 use Rattle.vote_poll.specs.declared.Reading.{Reading}
-use Rattle.vote_poll.specs.declared.Reading.TheVariants.{Bad}
+use Rattle.vote_poll.specs.declared.Reading.TheVariants.{Bad, Ballot}
 use Rattle.vote_poll.specs.declared.LineFault.TheVariants.{Shape}
 use Rattle.vote_steps.specs.declared.step.Reply.{Reply}
 use Rattle.vote_steps.specs.declared.step.Step.{Step}
 use Rattle.vote_steps.specs.declared.step.Step.TheVariants.{Cast, Close}
 use Rattle.vote_steps.specs.History.{before_close, is_closed, is_used, reply_to}
-use Rattle.vote_steps.specs.Boxes.{BoxState, IsLegal}
+use Rattle.vote_steps.specs.Boxes.{BoxState, IsLegal, box_of}
 use Rattle.vote_steps.specs.Recasts.{HasOwnReading}
 use Rattle.vote_steps.proofs.HistoryLemmas.{before_close-append_open, is_closed-append, is_used-cast}
-use Rattle.vote_steps.specs.HeldLines.{AreCastInOrder, HasSizes, HoldsLines, OrderLeavesNoChoice}
+use Rattle.vote_steps.specs.HeldLines.{AreCastInOrder, HasSizes, HoldsLines, LinesCanBeCast, OrderLeavesNoChoice}
+use Rattle.vote_steps.proofs.BoxLemmas.{IsLegal-append}
 use Rattle.vote_steps.proofs.LineLemmas.{take_next}
 use Rattle.vote_steps.proofs.StandingLemmas.{as_long}
 
@@ -144,6 +147,52 @@ holds_lines poll lines b sizes steps legal =
           let P : List Step → Type 0 = All (HasOwnReading (readings poll lines)) in
           subst P (sym steps) (All-push (HasOwnReading (readings poll lines)) xs Close (casts_of_own (last_in_time poll) (readings poll lines) (length lines) (omega (arith, as_long poll lines))) tt);
     }
+
+-- ---- there is such a history
+abbrev pub EachLineIsRead : Type 0
+EachLineIsRead = (poll : PollContent) (line : List ℕ) → IsReading poll line (reading poll line)
+
+reading_fits : (poll : PollContent) (line : List ℕ) (r : Reading) → IsReading poll line r → ReadingFits (option_count poll) (elector_count poll) r
+reading_fits poll line (Bad fault) is = tt
+reading_fits poll line (Ballot place ranks) is = ((position-Some (bytes_eq is.0) poll.roll place [] is.3).0, is.2)
+
+reading_at-fits : EachLineIsRead → (poll : PollContent) (lines : List (List ℕ)) (k : ℕ) → ReadingFits (option_count poll) (elector_count poll) (reading_at (readings poll lines) k)
+reading_at-fits read poll [] k = tt
+reading_at-fits read poll (line ∷ lines) zero = reading_fits poll line (reading poll line) (read poll line)
+reading_at-fits read poll (line ∷ lines) (suc k) = reading_at-fits read poll lines k
+
+none_is_legal : (poll : PollContent) (limit : ℕ) → IsLegal (box_of poll limit [])
+none_is_legal poll limit [] after step none = cc
+none_is_legal poll limit (first ∷ before) after step none = cc
+
+-- each cast may follow those before it: its stamp is new, and it has their reply
+casts_are_legal : EachLineIsRead → (poll : PollContent) (lines : List (List ℕ)) (k : ℕ) → k ≤ length lines → IsLegal (box_of poll (length lines) (casts_of (last_in_time poll) (readings poll lines) k))
+unfolding casts_of
+casts_are_legal read poll lines zero h = none_is_legal poll (length lines)
+casts_are_legal read poll lines (suc k) h =
+    let last = last_in_time poll in
+    let all = readings poll lines in
+    let r = reading_at all k in
+    IsLegal-append (box_of poll (length lines) (casts_of last all k)) (Cast 1 (suc k) r (reply_to last (casts_of last all k) (suc k) r)) (casts_are_legal read poll lines k (omega arith))
+    (record {
+      desk_fits = (omega arith, omega arith);
+      stamp_fits = (omega arith, omega arith);
+      stamp_new = casts_of_unused last all k (suc k) (omega arith);
+      reading_fits = reading_at-fits read poll lines k;
+      answered = refl;
+    })
+
+pub lines_can_be_cast : EachLineIsRead → LinesCanBeCast
+lines_can_be_cast read poll lines =
+    let last = last_in_time poll in
+    let all = readings poll lines in
+    let casts = casts_of last all (length lines) in
+    let closed = box_of poll (length lines) (casts ++ Close ∷ []) in
+    let legal : IsLegal closed = IsLegal-append (box_of poll (length lines) casts) Close (casts_are_legal read poll lines (length lines) (omega arith)) (casts_of_open last all (length lines)) in (
+      closed,
+      holds_lines poll lines closed (refl, refl, refl, refl) refl legal,
+      in_order last all closed.steps (ap (λ k. casts_of last all k ++ Close ∷ []) (sym (as_long poll lines))),
+    )
 
 -- ---- there is only one such history
 split_at : (steps : List Step) (k : ℕ) (step : Step) → slice_get steps k ≡ Some step → steps ≡ take k steps ++ step ∷ drop (suc k) steps

@@ -37,3 +37,7 @@ abbrev pub OrderLeavesNoChoice : Type 0
 OrderLeavesNoChoice =
     (poll : PollContent) (lines : List (List ℕ)) (b other : BoxState) → HoldsLines poll lines b → HoldsLines poll lines other
     → AreCastInOrder (readings poll lines) b.steps → AreCastInOrder (readings poll lines) other.steps → b ≡ other
+
+-- any lines of a poll are held by a box, as desk 1 cast them in their order
+abbrev pub LinesCanBeCast : Type 0
+LinesCanBeCast = (poll : PollContent) (lines : List (List ℕ)) → (b : BoxState) × HoldsLines poll lines b × AreCastInOrder (readings poll lines) b.steps

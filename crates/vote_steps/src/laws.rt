@@ -1,8 +1,10 @@
-//! The meaning of the definitions on histories. Each law is the contract of a function that does nothing.
+//! The meaning of the definitions on histories. Each law is the contract of a function that calls other laws or does nothing.
 ghost use Rattle.vote_steps.specs.Recasts.{OrderDoesNotMatter, TheGreatestStands, EachCastIsCounted};
 ghost use Rattle.vote_steps.specs.Laws.{CastsAreAtDesks, RepliesAsInTheExamples, StampsAreDistinct, EachStampIsUsed, ClosesOnce, HasRoomForAll, VotesAreRecounted};
-ghost use Rattle.vote_steps.specs.HeldLines.{OrderLeavesNoChoice};
+ghost use Rattle.vote_steps.specs.HeldLines.{LinesCanBeCast, OrderLeavesNoChoice};
 ghost use Rattle.vote_steps.specs.Standing.{LastLinesStand, LinesAreCounted};
+
+use vote_poll::each_line_is_read;
 
 /// Of each voter's ballots that came before the close and are not late, the one with the greatest stamp stands.
 pub fn the_greatest_stands()
@@ -72,3 +74,10 @@ pub fn lines_are_counted()
 pub fn order_leaves_no_choice()
     ensures { OrderLeavesNoChoice }
 {}
+
+/// There is a history in which desk 1 casts the lines of a poll in their order.
+pub fn lines_can_be_cast()
+    ensures { LinesCanBeCast }
+{
+    each_line_is_read();
+}

@@ -23,8 +23,6 @@ class Detail(TypedDict, total=False):
     electors: int
     codes: int
     on_roll: bool
-    # addresses: the electors with another address, and so another own mark
-    new_addresses: list[int]
     # call, extend and announce; times, the zone of --until and addresses as the command line names
     # them
     until: str

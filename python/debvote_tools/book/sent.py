@@ -4,7 +4,7 @@ holds.
 
 import datetime
 import json
-from collections.abc import Iterable
+from collections.abc import Iterable, Iterator
 from typing import Any, NamedTuple
 
 from debvote_tools.book.book import Book, NewAct, from_text
@@ -97,30 +97,26 @@ WHERE state <> 'written' OR (kind, for_act) NOT IN by_server GROUP BY elector, a
 """
 
 
-class LastState(NamedTuple):
-    """The last state of the letters to an address, and the act that noted it."""
-
-    act: int
-    state: str
-    reply: str
-
-
-def last_states(book: Book, since: int) -> dict[tuple[int, str], LastState]:
-    """The last state of what was written since an act, by elector and address."""
-    return {(row[0], row[1]): LastState(*row[2:5]) for row in book.rows(LAST_STATES, since)}
-
-
-def addresses_before(book: Book, since: int) -> dict[int, list[tuple[int, tuple[str, ...]]]]:
-    """The addresses that electors had when an act was done and later, each with the act that
-    replaced them, by elector.
+def last_states(book: Book, since: int) -> dict[tuple[int, str], tuple[int, str, str]]:
+    """The last state of what was written since an act, by elector and address: the act that noted
+    it, the state, and what the server said.
     """
-    found: dict[int, list[tuple[int, tuple[str, ...]]]] = {}
-    last: dict[int, tuple[str, ...]] = {}
-    for act, elector, mail in book.rows(
-        "SELECT act, elector, mail FROM elector_state ORDER BY act"
-    ):
-        addresses = tuple(json.loads(mail))
-        if act > since and elector in last and last[elector] != addresses:
-            found.setdefault(elector, []).append((act, last[elector]))
-        last[elector] = addresses
-    return found
+    rows = book.rows(LAST_STATES, since)
+    return {(row[0], row[1]): (row[2], row[3], row[4]) for row in rows}
+
+
+# a state of an elector, and the next one, which has other addresses
+OLD_ADDRESSES = """
+SELECT before.elector, after.act, before.mail FROM elector_state AS before JOIN elector_state AS after USING (elector)
+WHERE after.act > ? AND after.mail <> before.mail AND before.act =
+  (SELECT max(act) FROM elector_state AS earlier WHERE earlier.elector = after.elector AND earlier.act < after.act)
+ORDER BY after.act
+"""
+
+
+def old_addresses(book: Book, since: int) -> Iterator[tuple[int, int, list[str]]]:
+    """The addresses that electors had when an act was done and later: the elector, the act that
+    replaced the addresses, and these.
+    """
+    for elector, act, mail in book.rows(OLD_ADDRESSES, since):
+        yield elector, act, json.loads(mail)

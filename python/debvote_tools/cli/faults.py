@@ -1,7 +1,8 @@
 """How a run ends: the exit statuses, and the fault that ends one."""
 
+import contextlib
 import enum
-from collections.abc import Sequence
+from collections.abc import Iterator, Sequence
 
 
 class Status(enum.IntEnum):
@@ -79,6 +80,15 @@ def stop_at(faults: Sequence[Fault]) -> None:
         first, *others = [one for fault in faults for one in (fault, *fault.others)]
         first.others = tuple(others)
         raise first
+
+
+@contextlib.contextmanager
+def kept_in(faults: list[Fault]) -> Iterator[None]:
+    """A fault within is kept, to be raised with others."""
+    try:
+        yield
+    except Fault as fault:
+        faults.append(fault)
 
 
 class Told(Fault):

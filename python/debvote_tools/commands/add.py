@@ -1,11 +1,11 @@
 """Enter ballots from letters, files, tables or standard input, and print the reply to each."""
 
 import collections
-import dataclasses
 import itertools
 import os
 import re
 from collections.abc import Iterator, Sequence
+from typing import NamedTuple
 
 from debvote_tools.book import acting, queries
 from debvote_tools.book.acts import Detail
@@ -24,7 +24,7 @@ from debvote_tools.inbox.lines import MARK, NOTHING_ADDED, lines_in
 from debvote_tools.inbox.plan import FileLines
 from debvote_tools.inbox.tables import Columns, OptionNames, are_table, columns_of, lines_of_table
 from debvote_tools.inbox.vote import LATE_REPLY, JudgedLine, Vote, summary
-from debvote_tools.poll.sealed_poll import read_plain
+from debvote_tools.poll.sealed import read_plain
 
 FORCE = "add it anyway with --force"
 
@@ -77,7 +77,7 @@ def run(election: Election, arguments: Arguments) -> None:
     vote = Vote(election, election.history())
     found = came.read_files(election, arguments.files, is_table=arguments.csv)
     if not came.are_all_letters(found):
-        take_lines(election, vote, [file for file in found.values() if file], arguments)
+        take_lines(vote, [file for file in found.values() if file], arguments)
         return
     if of_lines := given(arguments, "csv", "again", "force"):
         words = "only for lines and tables, and these are letters"
@@ -85,7 +85,7 @@ def run(election: Election, arguments: Arguments) -> None:
     # what reads letters takes a while to be imported
     from debvote_tools.inbox.letters_in import take_letters
 
-    take_letters(election, vote, found, is_look=arguments.look, is_agreed=arguments.yes)
+    take_letters(vote, found, is_look=arguments.look, is_agreed=arguments.yes)
 
 
 def demand_words(arguments: Arguments) -> None:
@@ -108,11 +108,9 @@ def demand_words(arguments: Arguments) -> None:
 
 
 # ---------------------------------------------------------------- lines
-@dataclasses.dataclass(frozen=True)
-class Plan:
+class Plan(NamedTuple):
     """Which lines would be entered, by the book as it is now."""
 
-    decided_at: int = dataclasses.field(compare=False)
     openness: History
     files: tuple[FileLines, ...]
 
@@ -127,11 +125,9 @@ class Plan:
             yield from (NewEnvelope(line.as_entered, line.line.place, source) for line in file.new)
 
 
-def take_lines(
-    election: Election, vote: Vote, came_files: Sequence[CameFile], arguments: Arguments
-) -> None:
+def take_lines(vote: Vote, came_files: Sequence[CameFile], arguments: Arguments) -> None:
     """Enters the lines that are new, and prints the replies; or tells what would become of them."""
-    files, book = read_lines(vote, came_files, arguments), election.book
+    files, book = read_lines(vote, came_files, arguments), vote.book
     answer: bool | None = None
 
     def plan() -> Plan:
@@ -140,32 +136,31 @@ def take_lines(
         plans.demand_same_call(vote, history, "run the command again", NOTHING_ADDED)
         takes_again, is_reopened = arguments.again, history.is_reopened
         found = plans.sorted_out(book, files, takes_again=takes_again, is_reopened=is_reopened)
-        return Plan(history.last.number, history.openness(), found)
+        return Plan(history.openness(), found)
 
     def show(found: Plan) -> bool:
         nonlocal answer
         stop_at(list(doubts(vote, found, arguments)))
         if not found.new_lines:
-            tell(*report(election, vote, found, (), ()))
+            tell(*report(vote, found, (), ()))
             tell("There is nothing new, and nothing was added.")
             return False
         said = arguments.came_before_close
         answer = plans.came_before_close(found.openness, said, NOTHING_ADDED)
         return True
 
-    def act(found: Plan) -> None:
+    def act(found: Plan, seen: int) -> None:
         def told(numbers: range, replies: Sequence[str]) -> Iterator[str]:
-            yield from report(election, vote, found, numbers, replies)
+            yield from report(vote, found, numbers, replies)
             yield f"Added {summary(replies)}."
 
         plans.enter(
-            book,
             vote,
             "add",
             detail_of(vote, found, arguments, answer),
             found.envelopes,
             told,
-            decided_at=found.decided_at,
+            seen,
             is_late=found.openness.is_late(answer),
             is_same=lambda: plan() == found,
         )
@@ -173,13 +168,13 @@ def take_lines(
     if arguments.look:
         with book.snapshot():
             found, lines, first = plan(), queries.lines_in_time(book), queries.last_envelope(book)
-        look(election, vote, found, lines, first + 1, arguments)
-    elif plans.agreed_act(plan, show, act).openness.is_closed:
-        tell(f"Next: {election.command('count')}")
+        look(vote, found, lines, first + 1, arguments)
+    elif plans.agreed_act(vote, plan, show, act).openness.is_closed:
+        tell(f"Next: {vote.election.command('count')}")
     else:
-        more = f"add more ballots with {election.command('add', 'FILE')}"
-        end = f"when the vote is over: {election.command('close')}"
-        tell(f"Next: {election.command('status')}; {more}, and {end}")
+        command = vote.election.command
+        more = f"add more ballots with {command('add', 'FILE')}"
+        tell(f"Next: {command('status')}; {more}, and when the vote is over: {command('close')}")
 
 
 def read_lines(vote: Vote, files: Sequence[CameFile], arguments: Arguments) -> list[FileLines]:
@@ -232,7 +227,6 @@ def detail_of(vote: Vote, plan: Plan, arguments: Arguments, answer: bool | None)
 
 
 def look(
-    election: Election,
     vote: Vote,
     plan: Plan,
     lines: Sequence[bytes],
@@ -248,7 +242,7 @@ def look(
         tell(
             "Note: add will ask whether these lines came before the close; this preview assumes that they did."
         )
-    tell_many(report(election, vote, plan, numbers, replies))
+    tell_many(report(vote, plan, numbers, replies))
     stop_at(list(doubts(vote, plan, arguments)))
     tell(f"These would be {summary(replies)}. Nothing was changed.")
 
@@ -401,11 +395,9 @@ def cure_of(file: FileLines, refused: JudgedLine, arguments: Arguments) -> str:
 
 
 # ---------------------------------------------------------------- what is printed
-def report(
-    election: Election, vote: Vote, plan: Plan, numbers: Sequence[int], replies: Sequence[str]
-) -> Iterator[str]:
+def report(vote: Vote, plan: Plan, numbers: Sequence[int], replies: Sequence[str]) -> Iterator[str]:
     if numbers:
-        yield from plans.notes(election, plan.openness, "what is added")
+        yield from plans.notes(vote.election, plan.openness, "what is added")
     for file in plan.files:
         yield from (f"{line.where}: it is empty, and was left out" for line in file.empty)
         yield from repeated_words(file)

@@ -7,7 +7,7 @@ from debvote_tools.text import times
 from debvote_tools.cli.arguments import flag, option
 from debvote_tools.book import queries
 from debvote_tools.book.acts import Detail
-from debvote_tools.poll.call_data import (
+from debvote_tools.poll.call import (
     call_files,
     CallData,
     demand_web_address,
@@ -16,8 +16,7 @@ from debvote_tools.poll.call_data import (
 )
 from debvote_tools.cli.console import tell
 from debvote_tools.book import acting
-from debvote_tools.result.agreed_texts import agreed_texts, texts_of_poll
-from debvote_tools.result.publication import current_data, until_of
+from debvote_tools.result.publication import agreed_texts, current_data, texts_of_poll, until_of
 from debvote_tools.commands.codes import CODES, SLIPS, write_slips
 from debvote_tools.commands.roll import demand_read
 from debvote_tools.book.election import (
@@ -36,11 +35,10 @@ from debvote_tools.made_files import OWN, PUBLIC, write_made
 from debvote_tools.poll.draft import checked, lacks_codes, letter_text_in, tell_checked
 from debvote_tools.book.reporting import act_time
 from debvote_tools.poll.until import demand_future, parse_until
-from debvote_tools.cli.faults import Fault, Status, stop_at
+from debvote_tools.cli.faults import Fault, Status, kept_in, stop_at
 from debvote_tools.files import read_at_most
-from debvote_tools.inbox.signatures import read_keyring
-from debvote_tools.poll.aliases import aliased_poll
-from debvote_tools.poll.codes import demand_no_code
+from debvote_tools.inbox.signature import read_keyring
+from debvote_tools.poll.secret import aliased_poll, demand_no_code
 from debvote_tools.poll.marks import new_own_mark
 
 EXTENSION = "extension.txt"
@@ -100,19 +98,21 @@ def run(election: Election, arguments: Arguments) -> None:
 
 # ---------------------------------------------------------------- the acts
 def call(election: Election, arguments: Arguments) -> None:
-    history, said = election.history(), announced(arguments, None)
-    demand_read(election, history)
-    found = checked(election, deadline=said.get("until"), address=said.get("to"))
-    poll, is_on_roll, faults = found.poll, history.has_codes_on_roll, []
-    if poll.secret and arguments.names:
-        cure = "leave it out: in a secret vote no names are published"
-        faults.append(Fault("--names", "the vote is secret", cure, Status.BAD_WORDS))
+    history, faults = election.history(), list[Fault]()
+    said, is_on_roll = announced(arguments, None, faults), history.has_codes_on_roll
     if is_on_roll and arguments.marked:
         reason = "codes are on the roll, so no elector can be given an own mark"
         faults.append(Fault("--marked", reason, "leave it out", Status.BAD_WORDS))
-    if lacks_codes(election, history, poll):
-        reason = "the vote is secret, and electors have no codes"
-        faults.append(Fault(None, reason, f"run {election.command('codes')} first"))
+    with kept_in(faults):
+        demand_read(election, history)
+        found = checked(election, deadline=said.get("until"), address=said.get("to"))
+        poll = found.poll
+        if poll.secret and arguments.names:
+            cure = "leave it out: in a secret vote no names are published"
+            faults.append(Fault("--names", "the vote is secret", cure, Status.BAD_WORDS))
+        if lacks_codes(election, history, poll):
+            cure = f"run {election.command('codes')} first"
+            raise Fault(None, "the vote is secret, and electors have no codes", cure)
     stop_at(faults)
     electors = queries.electors(election.book)
     public = poll
@@ -142,8 +142,9 @@ def call_again(election: Election, arguments: Arguments) -> None:
     """Extends the vote, or adds what the call did not say yet. A new end is refused after a close,
     and if it is not later than the end that electors know.
     """
-    history = election.history()
-    said = announced(arguments, history.announced("zone"))
+    history, faults = election.history(), list[Fault]()
+    said = announced(arguments, history.announced("zone"), faults)
+    stop_at(faults)
     demand_no_change(election, history, arguments, said)
     before = current_data(election, history).letter_text
     # after a close no letter begins with it
@@ -231,22 +232,25 @@ def sealed_by(
 
 
 # ---------------------------------------------------------------- the words of the command line
-def announced(arguments: Arguments, earlier_zone: str | None) -> Detail:
-    """What the act keeps of these options, after a check. An extension is in the zone of the end
-    before, unless it names another.
+def announced(arguments: Arguments, earlier_zone: str | None, faults: list[Fault]) -> Detail:
+    """What the act keeps of these options, if they are right. An extension is in the zone of the
+    end before, unless it names another.
     """
     said: Detail = {}
-    if arguments.until is not None:
-        until, zone = parse_until(arguments.until, arguments.zone, earlier_zone)
-        demand_future(until, times.now())
-        said["until"] = until.isoformat()
-        if zone is not None:
-            said["zone"] = zone
-    if arguments.to is not None:
-        said["to_name"], said["to"] = named_address(arguments.to)
-    if arguments.at is not None:
-        demand_web_address(arguments.at)
-        said["at"] = arguments.at
+    with kept_in(faults):
+        if arguments.until is not None:
+            until, zone = parse_until(arguments.until, arguments.zone, earlier_zone)
+            demand_future(until, times.now())
+            said["until"] = until.isoformat()
+            if zone is not None:
+                said["zone"] = zone
+    with kept_in(faults):
+        if arguments.to is not None:
+            said["to_name"], said["to"] = named_address(arguments.to)
+    with kept_in(faults):
+        if arguments.at is not None:
+            demand_web_address(arguments.at)
+            said["at"] = arguments.at
     return said
 
 
@@ -321,6 +325,8 @@ def report(election: Election, data: CallData) -> None:
         f"Checksum of the poll: {data.poll.checksum}",
         f"Mark of the poll, at the end of each subject: {data.mark}",
     ]
+    if data.is_marked:
+        lines.append("A letter goes in by itself only with the own mark of its elector.")
     if data.until is not None:
         lines.append(f"End of the vote: {times.time_in_words(data.until)}")
     if data.is_extended:

@@ -5,7 +5,7 @@ from debvote_tools.cli.console import tell
 from debvote_tools.book.election import Election, History
 from debvote_tools.poll.draft import checked, lacks_codes, tell_checked
 from debvote_tools.book.reporting import quorum_words, wrapped
-from debvote_tools.poll.sealed_poll import SealedPoll
+from debvote_tools.poll.sealed import SealedPoll
 
 # how many names are printed; with --all all of them
 MAX_SHOWN = 200

@@ -3,7 +3,7 @@
 from debvote_tools.cli.arguments import flag
 from debvote_tools.book import queries
 from debvote_tools.book.acts import Detail
-from debvote_tools.poll.call_data import CallData
+from debvote_tools.poll.call import CallData
 from debvote_tools.cli.console import tell
 from debvote_tools.book import acting
 from debvote_tools.result.publication import current_data
@@ -14,10 +14,8 @@ from debvote_tools.made_files import OWN, write_made
 from debvote_tools.poll.draft import checked
 from debvote_tools.book.reporting import count_of
 from debvote_tools.cli.faults import Fault
-from debvote_tools.poll.sealed_poll import SealedPoll
-from debvote_tools.poll.aliases import alias_of
-from debvote_tools.poll.codes import codes_csv, new_code
-from debvote_tools.poll.slips import slips
+from debvote_tools.poll.sealed import SealedPoll
+from debvote_tools.poll.secret import alias_of, codes_csv, new_code, slips
 
 SLIPS, CODES = "slips.html", "codes.csv"
 NOT_SECRET = "the vote is not secret, so it needs no codes"

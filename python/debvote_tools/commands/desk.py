@@ -2,7 +2,6 @@
 own terminal.
 """
 
-import dataclasses
 import functools
 import os
 import re
@@ -11,7 +10,6 @@ from collections.abc import Callable, Iterator, Sequence
 
 from debvote_tools.book import acting, queries
 from debvote_tools.book.acts import Detail
-from debvote_tools.book.book import Book
 from debvote_tools.book.election import Election, History
 from debvote_tools.cli.console import is_yes, tell, typed
 from debvote_tools.cli.faults import Fault, Status
@@ -19,12 +17,13 @@ from debvote_tools.cli.terminal_text import shown_line, shown_text
 from debvote_tools.files import BALLOTS_LIMIT
 from debvote_tools.inbox import plan as plans
 from debvote_tools.inbox.lines import Line, lines_in
-from debvote_tools.inbox.plan import agreed_act, came_before_close, electors_of
+from debvote_tools.inbox.plan import agreed_act, electors_of
 from debvote_tools.inbox.vote import JudgedLine, Vote, change_words, summary
 from debvote_tools.poll.plain_names import alike
 
 QUIT = b"q"
 NOTHING_CAST = "nothing was entered"
+REPORTED = "the ballots reported so far were entered, and nothing else"
 
 # in bytes; what one read of a pipe brings at most
 READ = 65_536
@@ -36,93 +35,91 @@ MAX_NAMES = 9
 Arguments = plans.Arguments
 
 
-@dataclasses.dataclass(frozen=True)
-class Shown:
-    """The state of the book by which ballots are shown before the question, or at a pipe before
-    they are cast.
-    """
-
-    decided_at: int = dataclasses.field(compare=False)
-    openness: History
-    # those of the elector of a ballot at a terminal
-    envelopes: list[queries.Envelope]
-
-
 class Desk:
     """A desk, and the replies to what was cast there."""
 
-    def __init__(self, election: Election, book: Book, answer: str | None) -> None:
-        self.election, self.book = election, book
+    def __init__(self, election: Election, answer: str | None) -> None:
         self.vote = Vote(election, election.history())
         # what --came-before-close says, and what was said of the ballots of this desk
         self.answer = answer
         self.came_before_close: bool | None = None
         self.replies: list[str] = []
-        # the number of the next line that comes
         self.next_line = 1
 
     @functools.cached_property
     def texts(self) -> list[tuple[queries.Elector, str]]:
         """The electors, each with what a part of a name is looked for in."""
-        return [
-            (elector, f"{alike(elector.name)}\n{alike(elector.who)}")
-            for elector in queries.electors(self.book)
-        ]
+        electors = queries.electors(self.vote.book)
+        return [(one, f"{alike(one.name)}\n{alike(one.who)}") for one in electors]
 
-    def now(self, elector: int | None = None) -> Shown:
-        history = History(self.book.acts())
-        plans.demand_same_call(self.vote, history, "start the desk again", NOTHING_CAST)
-        envelopes = queries.envelopes(self.book, "elector = ?", elector)
-        return Shown(history.last.number, history.openness(), envelopes)
-
-    def ask_if_reopened(self, shown: Shown, done: str) -> None:
+    def ask_if_reopened(self, history: History, done: str = REPORTED) -> None:
         """If the vote was opened again, asks once whether what is cast came before the first close."""
         if self.came_before_close is None:
-            self.came_before_close = came_before_close(shown.openness, self.answer, done)
+            self.came_before_close = plans.came_before_close(history, self.answer, done)
 
     def lines_of(self, data: bytes) -> list[Line]:
         lines = lines_in(data, "desk", self.next_line)
         self.next_line += len(lines)
         return lines
 
-    def cast(self, lines: list[JudgedLine], shown: Shown, elector: int | None = None) -> None:
-        """The act, and the replies to it. Raises `Overtaken` if the state is not the one that was
-        shown.
+    def is_late(self, history: History) -> bool:
+        return history.is_late(self.came_before_close)
+
+    def enter(
+        self,
+        lines: list[JudgedLine],
+        show: Callable[[History], bool] = lambda _: True,
+        elector: int | None = None,
+    ) -> None:
+        """Casts lines if `show` says so. It shows one anew if another act changed whether the vote
+        is open, or what came of its elector.
         """
-        detail: Detail = {"lines": len(lines)}
-        if shown.openness.is_reopened:
-            detail["came_before_close"] = self.came_before_close
+
+        def plan() -> tuple[History, list[queries.Envelope]]:
+            history = History(self.vote.book.acts())
+            plans.demand_same_call(self.vote, history, "start the desk again", NOTHING_CAST)
+            return history.openness(), queries.envelopes(self.vote.book, "elector = ?", elector)
+
+        def show_all(now: tuple[History, list[queries.Envelope]]) -> bool:
+            self.ask_if_reopened(now[0])
+            return show(now[0])
+
+        def act(now: tuple[History, list[queries.Envelope]], seen: int) -> None:
+            detail: Detail = {"lines": len(lines)}
+            if now[0].is_reopened:
+                detail["came_before_close"] = self.came_before_close
+            plans.enter(
+                self.vote,
+                "desk",
+                detail,
+                lambda _: [queries.NewEnvelope(one.as_entered, one.line.place) for one in lines],
+                report,
+                seen,
+                is_late=self.is_late(now[0]),
+                is_same=lambda: plan() == now,
+                what="ballots to be reported",
+            )
 
         def report(numbers: range, replies: Sequence[str]) -> Iterator[str]:
             self.replies += replies
             return self.vote.report(lines, numbers, replies)
 
-        plans.enter(
-            self.book,
-            self.vote,
-            "desk",
-            detail,
-            lambda _: [queries.NewEnvelope(line.as_entered, line.line.place) for line in lines],
-            report,
-            decided_at=shown.decided_at,
-            is_late=shown.openness.is_late(self.came_before_close),
-            is_same=lambda: self.now(elector) == shown,
-            what="ballots to be reported",
-        )
+        agreed_act(self.vote, plan, show_all, act)
 
 
 def run(election: Election, arguments: Arguments) -> None:
     if sys.stdin is None:
         cure = "run it at a terminal"
         raise Fault("standard input", "it is closed", cure, Status.BAD_BALLOTS, NOTHING_CAST)
-    desk = Desk(election, acting.book_for_act(election, arguments), arguments.came_before_close)
-    shown = desk.now()
-    tell(*plans.notes(election, shown.openness, "what is entered"))
+    acting.book_for_act(election, arguments)
+    desk = Desk(election, arguments.came_before_close)
+    history = election.history()
+    tell(*plans.notes(election, history, "what is entered"))
     if desk.vote.is_signed:
         words = "in this vote letters must be signed, and a desk checks no signature"
         tell(f"Note: {words}: enter only ballots on paper or by word of mouth.")
     try:
-        desk.ask_if_reopened(shown, NOTHING_CAST)
+        desk.ask_if_reopened(history, NOTHING_CAST)
         if sys.stdin.isatty():
             at_terminal(desk)
         else:
@@ -141,24 +138,12 @@ def from_pipe(desk: Desk) -> None:
             if line.is_empty:
                 tell(f"{line.where}: it is empty, and was left out")
             elif why := plans.too_long(line):
-                add = desk.election.command("add", "--force", "FILE")
+                add = desk.vote.election.command("add", "--force", "FILE")
                 tell(f"{line.where}: {why}; it was not entered.", f"  To add it from a file: {add}")
             else:
                 lines.append(line)
         if lines:
-            shown_and_cast(desk, desk.vote.read(lines), lambda _: True)
-
-
-def shown_and_cast(
-    desk: Desk, lines: list[JudgedLine], show: Callable[[Shown], bool], elector: int | None = None
-) -> None:
-    done = "the ballots reported so far were entered, and nothing else"
-
-    def show_all(shown: Shown) -> bool:
-        desk.ask_if_reopened(shown, done)
-        return show(shown)
-
-    agreed_act(lambda: desk.now(elector), show_all, lambda shown: desk.cast(lines, shown, elector))
+            desk.enter(desk.vote.read(lines))
 
 
 def whole_lines() -> Iterator[bytes]:
@@ -201,19 +186,19 @@ def ask_and_cast(desk: Desk, line: Line) -> bool:
         tell("It was not entered.")
         return True
     [read] = desk.vote.read([meant])
-    [elector] = electors_of(desk.book, desk.vote, [read.as_entered])
+    [elector] = electors_of(desk.vote, [read.as_entered])
     answer: bool | None = None
 
-    def show(shown: Shown) -> bool:
+    def show(history: History) -> bool:
         nonlocal answer
         answer = is_yes(
-            question(desk, read, shown, elector), "Type y to enter it, or n to drop it."
+            question(desk, read, history, elector), "Type y to enter it, or n to drop it."
         )
         if answer is False:
             tell("It was not entered.")
         return bool(answer)
 
-    shown_and_cast(desk, [read], show, elector)
+    desk.enter([read], show, elector)
     return answer is not None
 
 
@@ -245,7 +230,7 @@ def completed(desk: Desk, line: Line) -> Line | None:
     return Line(line.source, line.place, full, full, full)
 
 
-def question(desk: Desk, line: JudgedLine, shown: Shown, elector: int | None) -> str:
+def question(desk: Desk, line: JudgedLine, history: History, elector: int | None) -> str:
     """Shows what a ballot would be, in words, or why debvote would refuse it. Returns the question
     whether to cast it.
     """
@@ -257,10 +242,10 @@ def question(desk: Desk, line: JudgedLine, shown: Shown, elector: int | None) ->
         tell(f"It would be refused: {shown_line(line.as_entered)}{why}", desk.vote.right_words())
         return "It would not count. Enter it anyway?"
     tell(desk.vote.in_words(line))
-    if shown.openness.is_late(desk.came_before_close):
+    if desk.is_late(history):
         tell("It is late, and will not count.")
     elif elector is not None:
-        lines = queries.lines_of_electors(desk.book, {elector})
+        lines = queries.lines_of_electors(desk.vote.book, {elector})
         if (earlier := desk.vote.standing(lines).get(line.voter)) is not None:
             words = desk.vote.ranks_in_words(earlier)
             tell(f"{line.voter} has a ballot: {words}. It will be replaced.")

@@ -14,7 +14,7 @@ from debvote_tools.cli.faults import Fault, Status, stop_at
 from debvote_tools.cli.terminal_text import shown_line, shown_text
 from debvote_tools.inbox import letter_words, letters_in
 from debvote_tools.inbox.known import Decision
-from debvote_tools.inbox.judge import JudgedLetter, Outcome
+from debvote_tools.inbox.rules import JudgedLetter, Outcome
 from debvote_tools.inbox.letters_in import Plan
 from debvote_tools.inbox.lines import lines_in, name_in
 from debvote_tools.inbox.plan import agreed_act
@@ -49,10 +49,10 @@ def run(election: Election, arguments: Arguments) -> None:
     # stops before the call
     vote = Vote(election, election.history())
     if arguments.set_aside or arguments.wait:
-        decide(election, vote, arguments)
+        decide(vote, arguments)
     elif is_act:
-        enter(election, vote, arguments)
-    found = all_letters(election, vote)
+        enter(vote, arguments)
+    found = all_letters(vote)
     waiting = [letter for letter in found if letter.waits]
     if arguments.numbers and not is_act:
         for letter in chosen_letters(found, arguments.numbers):
@@ -89,9 +89,9 @@ def demand_words(arguments: Arguments) -> bool:
     return bool(chosen)
 
 
-def all_letters(election: Election, vote: Vote) -> list[JudgedLetter]:
-    kept = letters.letters(election.book)
-    return letters_in.judged(election, election.history(), kept, vote=vote)
+def all_letters(vote: Vote) -> list[JudgedLetter]:
+    kept, history = letters.letters(vote.book), vote.election.history()
+    return letters_in.judged(vote.election, history, kept, vote=vote)
 
 
 def chosen_letters(found: Sequence[JudgedLetter], numbers: Sequence[int]) -> list[JudgedLetter]:
@@ -102,24 +102,23 @@ def chosen_letters(found: Sequence[JudgedLetter], numbers: Sequence[int]) -> lis
     return [by_number[number] for number in dict.fromkeys(numbers)]
 
 
-def decide(election: Election, vote: Vote, arguments: Arguments) -> None:
+def decide(vote: Vote, arguments: Arguments) -> None:
     """The act that sets letters aside, or has them wait again."""
     state: ActName = letters.SET_ASIDE if arguments.set_aside else letters.PUT_BACK
 
-    def plan() -> tuple[int, list[int]]:
-        decided_at = election.book.last_number()
-        chosen = chosen_letters(all_letters(election, vote), arguments.numbers)
+    def plan() -> list[int]:
+        chosen = chosen_letters(all_letters(vote), arguments.numbers)
         if entered := [letter for letter in chosen if letter.outcome is Outcome.ENTERED]:
             cure = "strike takes out one envelope, undo takes back the last act"
             raise Fault(f"letter {entered[0].number}", "its ballot was entered", cure)
-        return decided_at, [letter.number for letter in chosen]
+        return [letter.number for letter in chosen]
 
-    def act(now: tuple[int, list[int]]) -> None:
-        with election.book.act(state, {"letters": now[1]}, seen=now[0]) as act:
-            for number in now[1]:
+    def act(numbers: list[int], seen: int) -> None:
+        with vote.book.act(state, {"letters": numbers}, seen=seen) as act:
+            for number in numbers:
                 letters.decide(act, number, state)
 
-    agreed_act(plan, lambda _: True, act)
+    agreed_act(vote, plan, lambda _: True, act)
 
 
 # ---------------------------------------------------------------- entering
@@ -135,17 +134,17 @@ class Chosen(NamedTuple):
         return self.ballot.partition(" ")[0]
 
 
-def enter(election: Election, vote: Vote, arguments: Arguments) -> None:
+def enter(vote: Vote, arguments: Arguments) -> None:
     """The act that enters ballots of letters, of all that were taken back if none is named. A
     letter waits no longer once each elector who has a ballot in it has one entered.
     """
-    typed = None if arguments.typed is None else ballot_of(election, vote, arguments.typed)
+    typed = None if arguments.typed is None else ballot_of(vote, arguments.typed)
     chosen: list[Chosen] = []
     faults: dict[int, Fault] = {}
 
     def plan() -> Plan:
         nonlocal chosen
-        history, found = election.history(), all_letters(election, vote)
+        history, found = vote.election.history(), all_letters(vote)
         wanted = chosen_letters(found, arguments.numbers)
         if not arguments.numbers:
             wanted = [one for one in found if one.decision is Decision.TAKEN_BACK]
@@ -153,7 +152,7 @@ def enter(election: Election, vote: Vote, arguments: Arguments) -> None:
         faults.clear()
         for letter in sorted(wanted, key=lambda one: (one.time is None, one.time or one.number)):
             try:
-                demand_not_entered(election, history, letter)
+                demand_not_entered(vote, history, letter)
                 chosen += chosen_in(letter, arguments.enter, typed)
                 if letter.outcome is Outcome.COPY:
                     cure = "to enter its ballot once more, have the letter wait first with --wait"
@@ -162,7 +161,7 @@ def enter(election: Election, vote: Vote, arguments: Arguments) -> None:
             except Fault as fault:
                 faults[letter.number] = fault
         if not arguments.force:
-            faults.update(voted_since(election, vote, found, chosen))
+            faults.update(voted_since(vote, found, chosen))
         if arguments.numbers:
             stop_at(list(faults.values()))
         chosen = [one for one in chosen if one.letter.number not in faults]
@@ -174,9 +173,8 @@ def enter(election: Election, vote: Vote, arguments: Arguments) -> None:
         if len(late) > 1:
             words = "some of these letters arrived before the first close, and some after it"
             raise Fault("--enter", words, "enter those that arrived before it apart")
-        ballots = [(one.letter.number, one.ballot) for one in chosen]
-        done = done_with(election, chosen)
-        return Plan(history.last.number, history, found, ballots, late.pop(), done)
+        new = [letters_in.envelope_of(one.letter, one.ballot) for one in chosen]
+        return Plan(new, done_with(vote, chosen), late.pop())
 
     def show(_: Plan) -> bool:
         for one in chosen:
@@ -188,24 +186,24 @@ def enter(election: Election, vote: Vote, arguments: Arguments) -> None:
             raise Fault("held", "you did not say yes", "run the command again when you agree")
         return True
 
-    def act(now: Plan) -> None:
-        numbers = list(dict.fromkeys(number for number, _ in now.ballots))
+    def act(now: Plan, seen: int) -> None:
+        numbers = list(dict.fromkeys(one.letter.number for one in chosen))
         detail: Detail = {"lines": [one.line for one in chosen if one.line]}
         if len(numbers) == 1:
             detail["letter"] = numbers[0]
         else:
             detail["letters"] = numbers
-        now.enter(election, vote, "enter", detail)
+        letters_in.enter(vote, "enter", detail, now, seen)
 
-    agreed_act(plan, show, act)
+    agreed_act(vote, plan, show, act)
 
 
-def ballot_of(election: Election, vote: Vote, text: str) -> str:
+def ballot_of(vote: Vote, text: str) -> str:
     """The ballot that was typed. Debvote is asked about it and all lines of its elector at once."""
     lines = lines_in(text.encode("utf-8", "surrogateescape"), "--as")
     line = lines[0].repaired if len(lines) == 1 else b""
-    numbers = queries.elector_numbers(election.book, [name_in(line).decode("ascii")])
-    others = (one.line for one in queries.envelopes_of(election.book, [*numbers.values()]))
+    numbers = queries.elector_numbers(vote.book, [name_in(line).decode("ascii")])
+    others = (one.line for one in queries.envelopes_of(vote.book, [*numbers.values()]))
     answer = vote.answers([line, *others])[line] if line else "it is not one line"
     if answer is not None:
         shown = shown_line(text.encode("utf-8", "backslashreplace"))
@@ -213,14 +211,14 @@ def ballot_of(election: Election, vote: Vote, text: str) -> str:
     return line.decode("ascii")
 
 
-def demand_not_entered(election: Election, history: History, letter: JudgedLetter) -> None:
+def demand_not_entered(vote: Vote, history: History, letter: JudgedLetter) -> None:
     name = f"letter {letter.number}"
     if letter.outcome is Outcome.ENTERED:
-        late = queries.envelopes(election.book, f"letter = ? AND {queries.LATE}", letter.number)
+        late = queries.envelopes(vote.book, f"letter = ? AND {queries.LATE}", letter.number)
         if not late:
             raise Fault(name, "it was entered", "there is nothing to do")
         numbers = [str(envelope.number) for envelope in late]
-        reopen = election.command("reopen", "--in-time", *numbers, "--because", "TEXT")
+        reopen = vote.election.command("reopen", "--in-time", *numbers, "--because", "TEXT")
         close = "" if history.is_closed else "close again and "
         cure = f"if it came in time, {close}run {reopen}"
         raise Fault(name, "it was entered, and is late", cure)
@@ -232,8 +230,10 @@ def chosen_in(letter: JudgedLetter, lines: str | None, typed: str | None) -> lis
     """
     name = f"letter {letter.number}"
     if typed is not None:
-        sharing = letter.known.electors_by_address.get(letter.parsed.sender, [])
-        possible, chosen = {*letter.electors, *sharing}, Chosen(letter, 0, typed)
+        known, marked = letter.known, letter.known.marked_elector(letter.parsed)
+        sharing = known.electors_by_address.get(letter.parsed.sender, ())
+        possible = {*letter.electors, *sharing, *filter(None, [marked])}
+        chosen = Chosen(letter, 0, typed)
         if possible and chosen.elector not in possible:
             words = f"neither its sender nor a line of {name} is of {chosen.elector}"
             raise Fault("--as", words, "check the name; if it is right, enter the ballot at a desk")
@@ -261,11 +261,11 @@ def chosen_in(letter: JudgedLetter, lines: str | None, typed: str | None) -> lis
 
 
 def voted_since(
-    election: Election, vote: Vote, found: Sequence[JudgedLetter], chosen: Sequence[Chosen]
+    vote: Vote, found: Sequence[JudgedLetter], chosen: Sequence[Chosen]
 ) -> Iterator[tuple[int, Fault]]:
     """A fault for each letter with a ballot of an elector who has a later one."""
     parsed = [letter.parsed for letter in found]
-    ballots = letters_in.ballots_in(election, vote, {one.elector for one in chosen}, parsed)
+    ballots = letters_in.ballots_in(vote, {one.elector for one in chosen}, parsed)
     for letter, _, ballot in chosen:
         time, later = letter.time, ballots.get(ballot.partition(" ")[0], [])
         if any(time is None or one.time > time for one in later):
@@ -286,7 +286,7 @@ def demand_one_order(chosen: Sequence[Chosen]) -> None:
         last[one.elector] = one
 
 
-def done_with(election: Election, chosen: Sequence[Chosen]) -> list[int]:
+def done_with(vote: Vote, chosen: Sequence[Chosen]) -> list[int]:
     """The letters in which each elector who has a ballot then has one entered, also if that was
     struck.
     """
@@ -297,8 +297,8 @@ def done_with(election: Election, chosen: Sequence[Chosen]) -> list[int]:
     for letter in {one.letter.number: one.letter for one in chosen}.values():
         names, entered = {line.elector for line in letter.ballots}, electors[letter.number]
         if not names <= entered:
-            condition = f"letter = ? AND envelope.{queries.NOT_UNDONE}"
-            for envelope in queries.envelopes(election.book, condition, letter.number):
+            condition = f"letter = ? AND {queries.NOT_UNDONE}"
+            for envelope in queries.envelopes(vote.book, condition, letter.number):
                 entered.add(name_in(envelope.line).decode("ascii"))
         if names <= entered:
             done.append(letter.number)

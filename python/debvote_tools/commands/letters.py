@@ -24,7 +24,7 @@ from debvote_tools.outbox import files, smtp
 from debvote_tools.outbox.due import WAS_REFUSED, LettersDue, unreached
 from debvote_tools.outbox.smtp import Server
 from debvote_tools.outbox.words import Kind
-from debvote_tools.poll.call_data import demand_mail_address, demand_web_address
+from debvote_tools.poll.call import demand_mail_address, demand_web_address
 
 # how many electors without an address are named
 MOST = 20
@@ -89,6 +89,9 @@ def run(election: Election, arguments: Arguments) -> int:
         tell(
             f"No receipt is about these letters that wait, since no elector alone has the sender's address: {numbers}"
         )
+    if due.letters_waiting:
+        wait = count_of(due.letters_waiting, "letter waits", "letters wait")
+        tell(f"{wait} until you have looked at them: {election.command('held')}")
     if server is None:
         tell_files(due, place, written, lost)
     else:

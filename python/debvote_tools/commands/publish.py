@@ -2,34 +2,37 @@
 
 import contextlib
 import dataclasses
+import datetime
 import itertools
 import os
 import pathlib
-from collections.abc import Iterator, Sequence
+from collections.abc import Iterator
 
 from debvote_tools.text import times
 from debvote_tools.cli.arguments import flag, option, positional
 from debvote_tools.book.book import DoneAct, Overtaken
 from debvote_tools.cli.console import tell
+from debvote_tools.cli.terminal_text import odd_sign
 from debvote_tools.debvote import casting_words
 from debvote_tools.book import acting
-from debvote_tools.result.agreed_texts import agreed_texts, demand_yes, texts_of_poll
 from debvote_tools.commands import count
 from debvote_tools.book.election import LETTERS, RESULT, RESULT_LETTER, Election, History
 from debvote_tools.made_files import OWN, write_made
-from debvote_tools.result.publication import Words, detail_of, last_publication, publication_of
 from debvote_tools.book.reporting import act_time
-from debvote_tools.inbox.waiting import in_time, left, waiting_letters
+from debvote_tools.inbox.waiting import in_time, waiting_letters
 from debvote_tools.cli.faults import Fault, Status
-from debvote_tools.files import locked
+from debvote_tools.files import file_text, locked, read_whole, uninterrupted
 from debvote_tools.text.language import LANGUAGES
-from debvote_tools.result import result_folder
-from debvote_tools.result.counting import Counted
-from debvote_tools.result.doubts import Doubt, Kind
-from debvote_tools.result.inputs import Publication, casting_vote_of, text_in
-from debvote_tools.result.names import CHECKSUMS
+from debvote_tools.result import folder, publication
+from debvote_tools.result.facts import CHECKSUMS, Facts
+from debvote_tools.result.folder import NOTHING_DONE
+from debvote_tools.result.publication import Words
 
-NOTHING_DONE = "nothing was published"
+# of the text for the page in bytes, and of the name of who gave the casting vote in characters
+TEXT_LIMIT, NAME_LIMIT = 65_536, 200
+
+# the name is between quotation marks, so that nothing in it reads as words of the program
+REFUSED_IN_NAME = '"\u201c\u201d\u201e\u201f\u2033\uff02\u00ab\u00bb'
 
 
 class Arguments(acting.Arguments, checks=True):
@@ -59,35 +62,7 @@ class Arguments(acting.Arguments, checks=True):
 
 
 def run(election: Election, arguments: Arguments) -> int:
-    folder = pathlib.Path(arguments.target) if arguments.target else election.path(RESULT)
-    counted, is_new = publish(election, arguments, folder)
-    as_before = "" if is_new else ", as it was published before; nothing was changed in the book"
-    tell(counted.sheet.last_line, counted.verified, f"Made the folder {folder}{as_before}.")
-    if counted.sheet.winner is not None:
-        letter = election.path(LETTERS) / RESULT_LETTER
-        send = (
-            f"send {letter} to all electors"
-            if election.history().has_codes_on_roll
-            else election.command("letters", "result")
-        )
-        tell(f"Next: put the folder {folder} on the web site as it is, then {send}")
-    else:
-        chosen = election.command(
-            "publish", *casting_words("NAME"), "--cast-by", "WHO", "--cast-on", "DATE"
-        )
-        tell(
-            f"Next: it is a tie: ask for the casting vote, and then give its option, its holder and its day: {chosen}"
-        )
-    return counted.status
-
-
-def publish(
-    election: Election, arguments: Arguments, target_folder: pathlib.Path
-) -> tuple[Counted, bool]:
-    """Makes the folder. Returns what was counted, and whether this publication differs from the
-    last.
-
-    The folder is whole and counted before the act, and takes its place after the act. So a kill
+    """The folder is whole and counted before the act, and takes its place after the act. So a kill
     leaves no folder that the book does not know, and `publish` without options makes the folder of
     the last act again.
     """
@@ -95,27 +70,24 @@ def publish(
     book = acting.book_for_count(election, arguments)
     history, sealed = election.history(), election.sealed()
     count.demand_countable(election, history, sealed)
-    before, given = last_publication(history), words_of(arguments)
-    demand_place(target_folder, before)
+    target = pathlib.Path(arguments.target) if arguments.target else election.path(RESULT)
+    before, given = publication.last_publication(history), words_of(arguments)
+    demand_place(target, history)
     again = before if given == Words(is_forced=arguments.force) else None
     words = given if again is None else Words(**again.detail["words"])
     count.demand_option(sealed.public, words.casting)
     waiting = in_time(waiting_letters(election, history)) if history.is_closed else []
-    publication = with_letters_left(publication_of(election, words), waiting, history)
+    facts = publication.facts_of(election, words, waiting)
     if again is not None and any(
-        doubt.stops and doubt.as_data() not in again.detail["doubts"]
-        for doubt in publication.doubts
+        doubt.stops and doubt.as_data() not in again.detail["doubts"] for doubt in facts.doubts
     ):
         # the reason of then is not one for what came since
-        publication = dataclasses.replace(publication, is_forced=False)
-    agreed = (
-        []
-        if publication.secret is None
-        else agreed_in_secret(history, publication, is_agreed=arguments.yes)
-    )
-    with result_folder.made(publication, target_folder, election.program_folder) as made:
-        detail = detail_of(
-            words, made.checksums, made.doubts, decides=made.counted.sheet.is_by_casting
+        facts = dataclasses.replace(facts, is_forced=False)
+    agreed = agreed_in_secret(history, facts, is_agreed=arguments.yes) if facts.secret else []
+    with folder.made(facts, target, election.program_folder) as made:
+        sheet = made.answers.sheet
+        detail = publication.detail_of(
+            words, made.checksums, made.facts, decides=sheet.is_by_casting
         )
         if waiting:
             detail["left"] = waiting
@@ -124,35 +96,53 @@ def publish(
             raise would_differ(again)
         if agreed:
             detail["agreed"] = agreed
-        with alone(election):
+        with alone(election), uninterrupted():
             if is_new:
-                with book.act("publish", detail, seen=history.last.number):
-                    pass
+                with book.act("publish", detail, seen=history.last.number) as act:
+                    act.insert("sealed", name=f"{LETTERS}/{RESULT_LETTER}", data=made.letter)
             elif book.last_number() != history.last.number:
                 raise Overtaken
-            made.take_place(target_folder)
+            made.is_in_book = True
+            made.take_place(target)
             write_made(election.path(LETTERS), {RESULT_LETTER: made.letter}, OWN)
-        return made.counted, is_new
+    as_before = "" if is_new else ", as it was published before; nothing was changed in the book"
+    tell(sheet.last_line, made.answers.verified, f"Made the folder {target}{as_before}.")
+    if sheet.winner is None:
+        cast = (*casting_words("NAME"), "--cast-by", "WHO", "--cast-on", "DATE")
+        ask = "it is a tie: ask for the casting vote, and then give its option, its holder and its day"
+        tell(f"Next: {ask}: {election.command('publish', *cast)}")
+    else:
+        send = election.command("letters", "result")
+        if history.has_codes_on_roll:
+            send = f"send {election.path(LETTERS) / RESULT_LETTER} to all electors"
+        tell(f"Next: put the folder {target} on the web site as it is, then {send}")
+    return made.answers.status
 
 
-def demand_place(target_folder: pathlib.Path, last: DoneAct | None) -> None:
+def demand_place(target_folder: pathlib.Path, history: History) -> None:
     """Stops unless the place is free, or has what was published last: an earlier result, or that of
     another election, stays.
+
+    A run that was killed after its act has left its folder beside the place; then the place has
+    what was published before.
     """
-    place = result_folder.real_place(target_folder)
-    if result_folder.is_free(place) or (
-        last and result_folder.is_publication(place, last.detail["checksums"][CHECKSUMS])
-    ):
+    place = folder.real_place(target_folder)
+    if folder.is_free(place):
+        return
+    sums = [act.detail["checksums"][CHECKSUMS] for act in publication.publications(history)]
+    was_killed = sums and any(
+        folder.is_publication(beside, sums[-1]) for beside in folder.left_beside(place)
+    )
+    if any(folder.is_publication(place, sum) for sum in sums[-2 if was_killed else -1 :]):
         return
     named = next(
         one for one in (target_folder, place, pathlib.Path(RESULT)) if one.name not in ("", "..")
     )
     others = (named.with_name(f"{named.name}-{number}") for number in itertools.count(2))
     other = next(other for other in others if not os.path.lexists(other))
-    words = "what this election has published last, since its last close"
-    raise result_folder.in_use(
+    raise folder.in_use(
         target_folder,
-        words,
+        "what this election has published last, since its last close",
         f"name another folder, as {other}: no result is replaced by a later one",
     )
 
@@ -163,21 +153,7 @@ def would_differ(last: DoneAct) -> Fault:
     )
     why = "another version of a program makes it, or more was done since that the page tells"
     cure = "leave it as it is; or publish it once more, with a letter of its own: --force"
-    return Fault(None, f"{words}: {why}", cure, Status.DOUBT, "nothing was published")
-
-
-def with_letters_left(
-    publication: Publication, numbers: Sequence[int], history: History
-) -> Publication:
-    """The publication with a doubt about the letters that arrived in time and wait, but for those
-    that the close tells. It stops unless an earlier publication had it.
-    """
-    told = set(history.closes[-1].detail.get("left", [])) if history.closes else set[int]()
-    if not (found := [number for number in numbers if number not in told]):
-        return publication
-    places = {"number": len(found), "letters": ", ".join(map(str, found))}
-    doubt = Doubt(Kind.LETTERS_LEFT, places, stops=not left(history).issuperset(found))
-    return dataclasses.replace(publication, doubts=(*publication.doubts, doubt))
+    return Fault(None, f"{words}: {why}", cure, Status.DOUBT, NOTHING_DONE)
 
 
 @contextlib.contextmanager
@@ -189,55 +165,76 @@ def alone(election: Election) -> Iterator[None]:
     except BlockingIOError:
         words = "another command is publishing this election now"
         raise Fault(
-            None, words, "run the command again when it is done", done="nothing was published"
+            None, words, "run the command again when it is done", done=NOTHING_DONE
         ) from None
 
 
+# ---------------------------------------------------------------- words of those who publish
 def words_of(arguments: Arguments) -> Words:
-    vote = None
+    """What the command line says, checked."""
+    reason, about = arguments.because if arguments.force else None, None
+    by, on = arguments.cast_by, arguments.cast_on
     if arguments.casting is not None:
-        today = times.now().astimezone().date()
-        vote = casting_vote_of(arguments.casting, arguments.cast_by, arguments.cast_on, today)
-    elif arguments.cast_by is not None or arguments.cast_on is not None:
+        by, on = holder_and_day(by, on)
+    elif by is not None or on is not None:
         words = "they describe the casting vote of --casting"
-        raise Fault(
-            "--cast-by, --cast-on",
-            words,
-            "give --casting too",
-            Status.BAD_WORDS,
-            "nothing was published",
-        )
-    reason = arguments.because if arguments.force else None
+        raise bad_words("--cast-by, --cast-on", words, "give --casting too")
+    if reason is not None:
+        reason = acting.demand_reason(reason, "--force", has_paragraphs=True)
+    if arguments.about is not None:
+        data = read_whole(arguments.about, TEXT_LIMIT, "give a file that you may read with --about")
+        about = file_text(data, arguments.about, "write it, or leave --about out")
     return Words(
         casting=arguments.casting,
-        cast_by=vote.by if vote else None,
-        cast_on=vote.on.isoformat() if vote and vote.on else None,
-        about=None if arguments.about is None else text_in(arguments.about),
+        cast_by=by,
+        cast_on=on,
+        about=about,
         is_forced=arguments.force,
-        because=None
-        if reason is None
-        else acting.demand_reason(reason, "--force", has_paragraphs=True),
+        because=reason,
         language=arguments.language,
     )
 
 
-def agreed_in_secret(history: History, publication: Publication, *, is_agreed: bool) -> list[str]:
-    """Asks before a secret vote is published: about texts that are new, and about what two results
-    would show.
+def holder_and_day(by: str | None, on: str | None) -> tuple[str, str]:
+    """Whose the casting vote was, and when it was given: a day that is not to come."""
+    if by is None or on is None:
+        cure = 'say it with --cast-by "NAME" --cast-on 2026-12-05'
+        raise bad_words(
+            "--casting", "the page must say whose casting vote it was, and when it was given", cure
+        )
+    if not by.strip() or odd_sign(by, refused=REFUSED_IN_NAME) is not None or len(by) > NAME_LIMIT:
+        reason = f"it must be a name on one line, of at most {NAME_LIMIT} characters, without quotation marks"
+        raise bad_words("--cast-by", reason, "write it again")
+    try:
+        day = datetime.date.fromisoformat(on)
+    except ValueError:
+        raise bad_words("--cast-on", f"`{on}` is not a day", "write it as 2026-12-05") from None
+    if day > times.now().astimezone().date():
+        cure = "write the day on which it was given"
+        raise bad_words("--cast-on", f"{day} is in the future", cure)
+    return by.strip(), day.isoformat()
+
+
+def bad_words(option: str, reason: str, cure: str) -> Fault:
+    return Fault(option, reason, cure, Status.BAD_WORDS, NOTHING_DONE)
+
+
+def agreed_in_secret(history: History, facts: Facts, *, is_agreed: bool) -> list[str]:
+    """Asks before a secret vote is published: about texts that are new, by where they are from, and
+    about what two results would show.
     """
-    agreed = agreed_texts(history, texts_of(publication), is_agreed=is_agreed, done=NOTHING_DONE)
-    if publication.secret and publication.secret.compared and not is_agreed:
-        words = f"a comparison with the earlier result shows how these voted: {', '.join(publication.secret.compared)}"
-        demand_yes(f"Publish it, although {words}?", words, NOTHING_DONE)
-    return agreed
-
-
-def texts_of(publication: Publication) -> dict[str, str]:
-    """The texts that would be published, by where they are from."""
-    acts = publication.chronicle.acts if publication.chronicle else ()
-    texts = {"--about": publication.about, "--because": publication.because}
-    texts["--cast-by"] = publication.casting.by if publication.casting else None
+    acts = facts.chronicle.acts if facts.chronicle else ()
+    texts = {"--about": facts.about, "--because": facts.because}
+    texts["--cast-by"] = facts.casting.by if facts.casting else None
     texts |= {f"the reason for the act of {act_time(act.time)}": act.because for act in acts}
-    return texts_of_poll(publication.poll) | {
-        where: text for where, text in texts.items() if text is not None
-    }
+    given = {where: text for where, text in texts.items() if text is not None}
+    agreed = publication.agreed_texts(
+        history,
+        publication.texts_of_poll(facts.poll) | given,
+        is_agreed=is_agreed,
+        done=NOTHING_DONE,
+    )
+    if facts.secret and facts.secret.compared and not is_agreed:
+        words = f"a comparison with the earlier result shows how these voted: {', '.join(facts.secret.compared)}"
+        publication.demand_yes(f"Publish it, although {words}?", words, NOTHING_DONE)
+    return agreed

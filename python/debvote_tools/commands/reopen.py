@@ -1,6 +1,5 @@
 """Open the vote again after a close, for ballots that came in time; the result page says so."""
 
-import dataclasses
 import operator
 from collections.abc import Iterator, Sequence
 
@@ -35,23 +34,18 @@ class Arguments(acting.Arguments):
     force: bool = flag("Enter them although their electors have later ballots that count")
 
 
-@dataclasses.dataclass(frozen=True)
-class Plan:
-    """The late envelopes that are entered anew, and what stands against it."""
-
-    decided_at: int = dataclasses.field(compare=False)
-    history: History = dataclasses.field(compare=False)
-    offered: Sequence[Envelope]
-    is_forced: bool
+# the late envelopes that are entered anew, and whether later ballots stand against it
+Plan = tuple[list[Envelope], bool]
 
 
 def run(election: Election, arguments: Arguments) -> None:
     because = acting.demand_reason(arguments.because, "reopen")
     book = acting.book_for_act(election, arguments)
-    vote, numbers = Vote(election, election.history()), arguments.in_time
+    history, numbers = election.history(), arguments.in_time
+    vote = Vote(election, history)
 
     def plan() -> Plan:
-        nonlocal numbers
+        nonlocal history, numbers
         history = election.history()
         demand_closed(election, history)
         if numbers is None:
@@ -60,36 +54,36 @@ def run(election: Election, arguments: Arguments) -> None:
         older = list(faults_of_older(book, offered))
         if not arguments.force:
             stop_at(older)
-        return Plan(history.last.number, history, offered, bool(older))
+        return offered, bool(older)
 
-    def act(found: Plan) -> None:
-        in_time = [envelope.number for envelope in found.offered]
+    def act(found: Plan, seen: int) -> None:
+        offered, is_forced = found
+        in_time = [envelope.number for envelope in offered]
         detail: Detail = {"because": because, "in_time": in_time}
-        if found.is_forced:
+        if is_forced:
             detail["force"] = True
 
         def report(new_numbers: range, replies: Sequence[str]) -> Iterator[str]:
-            closed = act_time(found.history.closes[-1].time)
+            closed = act_time(history.closes[-1].time)
             yield f"The vote is open again; the close at {closed} stays in the log and on the result page."
-            for number, envelope in zip(new_numbers, found.offered):
+            for number, envelope in zip(new_numbers, offered):
                 line = without_code(envelope.line, has_codes=vote.has_codes)
                 yield f"Envelope {number}, entered anew from late envelope {envelope.number}: {line}"
 
         plans.enter(
-            book,
             vote,
             "reopen",
             detail,
             lambda _: [
                 NewEnvelope(late.line, late.place, late.source, late.letter, late.time)
-                for late in found.offered
+                for late in offered
             ],
             report,
-            decided_at=found.decided_at,
+            seen,
             is_late=False,
         )
 
-    plans.agreed_act(plan, lambda _: True, act)
+    plans.agreed_act(vote, plan, lambda _: True, act)
     if left := [envelope.number for envelope in late_left(book)]:
         again_command = election.command("reopen", "--in-time", "NUMBER", "--because", "TEXT")
         cure = f"if one of them came before the first close, close again and run {again_command}"

@@ -4,12 +4,11 @@ import operator
 import re
 from collections.abc import Sequence
 
-from debvote_tools.inbox.addresses import address_key
+from debvote_tools.inbox.mime import address_key
 from debvote_tools.cli.arguments import flag
 from debvote_tools.book import queries
-from debvote_tools.book.acts import Detail
 from debvote_tools.book.book import Book
-from debvote_tools.poll.call_data import is_mail_address
+from debvote_tools.poll.call import is_mail_address
 from debvote_tools.cli.console import is_terminal, is_yes, tell
 from debvote_tools.book import acting
 from debvote_tools.book.election import MEMBERS_FILE, Election, History
@@ -102,16 +101,11 @@ def change_addresses(book: Book, changed: Sequence[Member], seen: int) -> None:
     if not changed:
         tell("Nothing was changed.")
         return
-    now, moved = [], []
-    for member in changed:
-        assert member.known is not None
-        elector = member.known._replace(addresses=member.addresses, key=member.key)
-        if "address" in member.changes:
-            elector = elector._replace(mark=new_own_mark())
-            moved.append(elector.number)
-        now.append(elector)
-    detail: Detail = {"electors": len(changed), "new_addresses": moved}
-    with book.act("addresses", detail, seen=seen) as act:
+    now = []
+    for member, known in ((member, member.known) for member in changed if member.known):
+        mark = new_own_mark() if "address" in member.changes else known.mark
+        now.append(known._replace(addresses=member.addresses, key=member.key, mark=mark))
+    with book.act("addresses", {"electors": len(changed)}, seen=seen) as act:
         queries.put_electors(act, now)
     tell(*(f"{member.name}: {changes_in_words(member)}" for member in changed))
     tell(f"{count_of(len(changed), 'elector')} changed; the result page says how many.")

@@ -14,7 +14,7 @@ from debvote_tools.book.election import LETTERS, RESULT_LETTER, Election, Histor
 from debvote_tools.book.reporting import act_time, count_of, quorum_words, wrapped
 from debvote_tools.inbox.waiting import Arrived, stopping, waiting_letters
 from debvote_tools.inbox.lines import ballot_file
-from debvote_tools.cli.terminal_text import shown_line, shown_text
+from debvote_tools.cli.terminal_text import shown_line
 
 # how many characters the bar of those who have voted has
 BAR = 50
@@ -163,10 +163,10 @@ def words_of(
         stops = "count and publish stop" if history.is_closed else "close stops"
         numbers = ", ".join(map(str, state.stopping))
         yield f"These arrived in time, and {stops} while they wait: {numbers}"
-    if state.not_reached:
-        yield f"Not reached by the letter of the call ({len(state.not_reached)}):"
-        yield from (f"  {name}: {shown_text(why)}" for name, why in state.not_reached.items())
-    yield from named("Get the letter of the call printed", state.printed)
+    for reason in dict.fromkeys(state.not_reached.values()):
+        names = [name for name, why in state.not_reached.items() if why == reason]
+        yield from named(f"Not reached by the call: {reason}", names)
+    yield from named("Get the call printed", state.printed)
     yield f"Last act: {state.act}, digest {state.digest}"
     yield f"Next: {what_next(election, state)}"
 

@@ -35,30 +35,24 @@ def run(election: Election, arguments: Arguments) -> None:
     book = acting.book_for_act(election, arguments)
     vote = Vote(election, election.history())
 
-    decided_at = 0
-
-    def plan() -> Envelope:
-        nonlocal decided_at
-        decided_at = book.last_number()
-        return demand_envelope(election, book, arguments.number)
-
     def show(envelope: Envelope) -> bool:
         if is_terminal() and not arguments.yes:
             words = f"Strike {in_words(envelope, vote)}? This cannot be undone."
             demand_yes("strike", words, "it has to be struck")
         return True
 
-    def act(envelope: Envelope) -> None:
+    def act(envelope: Envelope, seen: int) -> None:
         detail: Detail = {"envelope": envelope.number, "because": because}
-        with book.act("strike", detail, seen=decided_at) as act:
+        with book.act("strike", detail, seen=seen) as act:
             queries.strike_envelopes(act, [envelope.number])
             # a letter waits on if it has ballots of others that were not entered
             states = {kept.number: kept.state for kept in letters.letters(book)}
-            number = envelope.letter or 0
-            if states.get(number) in (letters.ENTERED, letters.STRUCK):
-                letters.decide(act, number, letters.STRUCK)
+            letter = envelope.letter or 0
+            if states.get(letter) in (letters.ENTERED, letters.STRUCK):
+                letters.decide(act, letter, letters.STRUCK)
 
-    envelope = agreed_act(plan, show, act)
+    number = arguments.number
+    envelope = agreed_act(vote, lambda: demand_envelope(election, book, number), show, act)
     tell(f"Struck {in_words(envelope, vote)}, because: {because}")
     if envelope.elector is not None:
         elector = name_in(envelope.line).decode("ascii")

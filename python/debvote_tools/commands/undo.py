@@ -1,10 +1,10 @@
 """Take back the last act that entered lines; a second undo takes back the one before."""
 
-import dataclasses
-from collections.abc import Iterator, Sequence
+from collections.abc import Iterator
+from typing import NamedTuple
 
 from debvote_tools.book import acting, letters, queries, sent
-from debvote_tools.book.book import Book, DoneAct
+from debvote_tools.book.book import DoneAct
 from debvote_tools.book.election import Election, History
 from debvote_tools.book.reporting import act_time, count_of
 from debvote_tools.cli.arguments import flag
@@ -19,19 +19,17 @@ class Arguments(acting.Arguments):
     yes: bool = flag("Take it back without asking")
 
 
-@dataclasses.dataclass(frozen=True)
-class Plan:
+class Plan(NamedTuple):
     """What an `undo` takes back, or would, and what it changes."""
 
-    decided_at: int = dataclasses.field(compare=False)
     act: DoneAct
     # those of the act that are not struck yet
-    envelopes: Sequence[queries.Envelope]
+    envelopes: list[queries.Envelope]
     # the current ballots now and then, of the electors whose envelopes they are
     before: dict[str, str]
     after: dict[str, str]
     # the electors whose receipts tell of one of these ballots
-    receipts: Sequence[str]
+    receipts: list[str]
 
     @property
     def letters(self) -> list[int]:
@@ -56,13 +54,13 @@ def run(election: Election, arguments: Arguments) -> None:
             demand_yes("undo", f"Take back {found.what}?", "you want to take it back")
         return True
 
-    def act(found: Plan) -> None:
-        with book.act("undo", {"act": found.act.number}, seen=found.decided_at) as act:
+    def act(found: Plan, seen: int) -> None:
+        with book.act("undo", {"act": found.act.number}, seen=seen) as act:
             queries.strike_envelopes(act, (envelope.number for envelope in found.envelopes))
             for letter in found.letters:
                 letters.decide(act, letter, letters.TAKEN_BACK)
 
-    undone = agreed_act(lambda: what_is_taken_back(election, book, vote), show, act)
+    undone = agreed_act(vote, lambda: what_is_taken_back(vote), show, act)
     none = None if is_asked else "no ballot is left"
     tell(f"Took back {undone.what}.", *consequences(vote, undone, none))
     again = f"; {election.command('held', '--enter')} enters these letters again"
@@ -76,10 +74,11 @@ def demand_yes(command: str, question: str, when: str) -> None:
         raise Fault(command, "you did not say yes", f"run the command again when {when}")
 
 
-def what_is_taken_back(election: Election, book: Book, vote: Vote) -> Plan:
+def what_is_taken_back(vote: Vote) -> Plan:
     """The last act that entered lines, and what it changes to take it back. Stops if there is none,
     or if the vote is closed.
     """
+    book, election = vote.book, vote.election
     with book.snapshot():
         history = History(book.acts())
         demand_open(election, history)
@@ -87,7 +86,7 @@ def what_is_taken_back(election: Election, book: Book, vote: Vote) -> Plan:
         if number is None:
             words = "there is nothing to take back"
             raise Fault("undo", words, f"see {election.command('status')}")
-        condition = f"envelope.act = ? AND {queries.NOT_STRUCK}"
+        condition = f"act = ? AND {queries.NOT_STRUCK}"
         envelopes = queries.envelopes(book, condition, number)
         electors = {envelope.elector for envelope in envelopes if envelope.elector is not None}
         lines = queries.lines_of_electors(book, electors)
@@ -97,7 +96,7 @@ def what_is_taken_back(election: Election, book: Book, vote: Vote) -> Plan:
     written = sent.sent_letters(book, Kind.RECEIPTS)
     having = {letter.elector for letter in written if about & set(letter.about)}
     names = [elector.name for elector in queries.electors(book) if elector.number in having]
-    return Plan(history.last.number, history.act(number), envelopes, before, after, names)
+    return Plan(history.act(number), envelopes, before, after, names)
 
 
 def demand_open(election: Election, history: History) -> None:

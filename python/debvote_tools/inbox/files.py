@@ -14,9 +14,9 @@ from debvote_tools.cli.console import tell
 from debvote_tools.cli.faults import Fault, Status, stop_at
 from debvote_tools.files import BALLOTS_LIMIT
 from debvote_tools.inbox.lines import NOTHING_ADDED
-from debvote_tools.inbox.sources import NotRead, are_letters, kind_not_read
+from debvote_tools.inbox.mailbox import NotRead, are_letters, kind_not_read
 from debvote_tools.inbox.tables import PACKED, PDF, kind_of
-from debvote_tools.poll.sealed_poll import REQUIRED
+from debvote_tools.poll.sealed import REQUIRED
 
 # what names standard input on the command line, and how messages name it
 HYPHEN, STANDARD_INPUT = "-", "standard input"

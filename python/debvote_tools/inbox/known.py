@@ -1,5 +1,5 @@
-"""All that letters are judged by, beside themselves: the vote, the list of members and the book, as
-they are now.
+"""What letters are judged by, beside themselves: the vote, the electors and the book, as they are
+now.
 """
 
 import collections
@@ -8,10 +8,11 @@ import datetime
 import enum
 import functools
 import re
-from collections.abc import Collection, Mapping, Sequence
+from collections.abc import Collection, Mapping
 
-from debvote_tools.inbox.addresses import address_key
-from debvote_tools.inbox.parse import ParsedLetter
+from debvote_tools.book.queries import Elector
+from debvote_tools.inbox.mime import address_key
+from debvote_tools.inbox.letter import ParsedLetter
 from debvote_tools.poll.marks import MARKS
 from debvote_tools.poll.plain_names import without_accents
 
@@ -41,7 +42,7 @@ def as_compared(subject: str) -> str:
 
 @dataclasses.dataclass(frozen=True)
 class Names:
-    """The names of the electors, which stay from the call on: those on the roll, and the real ones."""
+    """The names of the electors, which never change after the call: on the roll, and real ones."""
 
     roll: frozenset[str]
     language: str
@@ -49,9 +50,7 @@ class Names:
 
     @functools.cached_property
     def electors_by_real_name(self) -> dict[str, list[str]]:
-        """All electors by their real names, folded. Few letters ask for it, and with many electors
-        it takes a while.
-        """
+        """All electors by folded real name. Few letters need it, and it takes a while."""
         found: dict[str, list[str]] = collections.defaultdict(list)
         for elector, who in self.real_names.items():
             for fold in self.folds(who):
@@ -59,9 +58,8 @@ class Names:
         return dict(found)
 
     def folds(self, name: str) -> set[str]:
-        """A name as one on a roll is made from it, but whole: there a long one is cut, and letters
-        of other scripts are left out, so other words may be where they were. The signs that are
-        written as an apostrophe are no letters.
+        """A name as `roll` makes one from it, but whole: `roll` cuts a long name, and omits letters of
+        other scripts, where other words may have been. Signs in place of an apostrophe are no letters.
         """
         plain = (without_accents(name, language).lower() for language in (self.language, ""))
         folds = {NO_NAME.sub("-", one).strip("-") for one in plain}
@@ -72,25 +70,21 @@ class Names:
 class Known:
     """All that a letter is judged by, beside itself, as it is now. Times have a zone."""
 
-    # of the poll: the mark and the roll
+    # the mark of the poll, and the subject that the page of the call makes, without a mark
     mark: str
-    roll: frozenset[str]
-    # the subject that the page of the call makes, without a mark
     subject: str
-    # the own mark of each elector who has one, and whether no letter goes in without it
-    own_marks: Mapping[str, str]
+    # the electors on the list, by name
+    electors: Mapping[str, Elector]
+    # whether letters need the own mark of their elector, and a signature
     is_marked: bool
-    # of each elector: the addresses as the list has them
-    addresses: Mapping[str, Sequence[str]]
-    # the first call that was not taken back; the end as it is now; the first close
+    is_signed: bool
+    # the first call that was not taken back, the end as it is now, and the first close
     called: datetime.datetime
     end: datetime.datetime | None
     first_close: datetime.datetime | None
     now: datetime.datetime
     # the Message-IDs of the letters that were written to each elector
     our_letters: Mapping[str, Collection[str]]
-    # the fingerprint of each elector's key; None where letters need no signature
-    keys: Mapping[str, str] | None
     # what acts decided, by the keys of the letters
     decisions: Mapping[str, Decision]
 
@@ -100,12 +94,12 @@ class Known:
         return mark is not None and mark[1] == self.mark
 
     def passes_over(self, line: str) -> bool:
-        """Whether a line may be anywhere in a letter: where letters have to be signed, the mark."""
-        return self.keys is not None and self.is_mark(line)
+        """Whether a line may be anywhere in a letter: the mark may, if letters have to be signed."""
+        return self.is_signed and self.is_mark(line)
 
     @functools.cached_property
     def electors_by_mark(self) -> dict[str, str]:
-        return {mark: elector for elector, mark in self.own_marks.items() if mark}
+        return {elector.mark: name for name, elector in self.electors.items() if elector.mark}
 
     def marked_elector(self, letter: ParsedLetter) -> str | None:
         """The elector whose own mark the subject of a letter has; None if it has several, or none.
@@ -117,29 +111,15 @@ class Known:
     @functools.cached_property
     def electors_by_address(self) -> dict[str, list[str]]:
         found: dict[str, list[str]] = collections.defaultdict(list)
-        for elector, addresses in self.addresses.items():
-            for key in dict.fromkeys(filter(None, map(address_key, addresses))):
-                found[key].append(elector)
+        for name, elector in self.electors.items():
+            for key in dict.fromkeys(filter(None, map(address_key, elector.addresses))):
+                found[key].append(name)
         return dict(found)
 
     def elector_of(self, letter: ParsedLetter) -> str | None:
         """The one elector whose address the sender of a letter has."""
         electors = self.electors_by_address.get(letter.sender, [])
         return electors[0] if len(electors) == 1 else None
-
-    def likely_elector(self, letter: ParsedLetter) -> str | None:
-        """The one elector who may have sent a letter: whose own mark it has, or whose address; None
-        if both differ.
-        """
-        marked, electors = self.marked_elector(letter), self.electors_by_address.get(letter.sender)
-        if marked is None:
-            return self.elector_of(letter)
-        return marked if marked in (electors or [marked]) else None
-
-    def may_have_sent(self, letter: ParsedLetter) -> set[str]:
-        """The electors whose own mark a letter has, or whose address its sender has."""
-        marked = self.marked_elector(letter)
-        return {*self.electors_by_address.get(letter.sender, ()), *([marked] if marked else ())}
 
     def is_subject_of_page(self, subject: str) -> bool:
         """Whether a subject is the one that the page of the call makes, but for its marks and

@@ -7,8 +7,8 @@ from collections.abc import Iterator, Sequence
 
 from debvote_tools.book.reporting import act_time, count_of
 from debvote_tools.cli.terminal_text import shown_line, shown_text
-from debvote_tools.inbox.greeting import above_end, is_empty, is_quoted
-from debvote_tools.inbox.judge import JudgedLetter, Outcome
+from debvote_tools.inbox.letter import is_quoted
+from debvote_tools.inbox.rules import JudgedLetter, Outcome, above_end
 from debvote_tools.inbox.reasons import for_secretary
 from debvote_tools.inbox.vote import IS_CODE, Vote
 
@@ -90,13 +90,6 @@ def more_words(letter: JudgedLetter) -> list[str]:
     if letter.shared_with:
         found.append(f"same address: {', '.join(letter.shared_with)}")
     return [*found, *(f"line {number}{IS_CODE}" for number in letter.code_lines)]
-
-
-def reply_words(
-    vote: Vote, numbers: Sequence[int], replies: Sequence[str], ballots: Sequence[str]
-) -> Iterator[str]:
-    for number, reply, ballot in zip(numbers, replies, ballots):
-        yield f"{number} {reply}  {vote.ballot_in_words(ballot)}"
 
 
 # ---------------------------------------------------------------- what waits
@@ -185,7 +178,7 @@ def quotations(lines: Sequence[str]) -> Iterator[range]:
         is_head = ORIGINAL.match(line) or (FROM.match(line) and any(map(SUBJECT.match, head)))
         if is_quoted(line):
             first, last = (index if first is None else first), index
-        elif first is not None and last is not None and (is_head or not is_empty(line)):
+        elif first is not None and last is not None and (is_head or line.strip()):
             yield range(above(lines, first), last + 1)
             first = None
         if is_head:
@@ -198,11 +191,11 @@ def quotations(lines: Sequence[str]) -> Iterator[range]:
 def above(lines: Sequence[str], first: int) -> int:
     """Where the head of a quotation begins: one line or two, the last of which ends in a colon."""
     index = first - 1
-    while index >= 0 and is_empty(lines[index]):
+    while index >= 0 and not lines[index].strip():
         index -= 1
     if index < 0 or not lines[index].rstrip().endswith(":"):
         return first
-    return index - (index > 0 and not is_empty(lines[index - 1]) and lines[index - 1][:1].isupper())
+    return index - (index > 0 and bool(lines[index - 1].strip()) and lines[index - 1][:1].isupper())
 
 
 def quoted_of_ours(letter: JudgedLetter) -> set[int]:

@@ -2,9 +2,9 @@
 now, and enters the ballots of those that are plainly ballots.
 """
 
-import dataclasses
 import pathlib
 from collections.abc import Collection, Iterable, Iterator, Mapping, Sequence
+from typing import NamedTuple
 
 from debvote_tools.book import letters, queries
 from debvote_tools.book.acts import ActName, Detail
@@ -20,15 +20,15 @@ from debvote_tools.files import sha256_of
 from debvote_tools.inbox import letter_words, plan
 from debvote_tools.inbox.known import Ballot, Decision, Known, Names
 from debvote_tools.inbox.files import CameFile, safe
-from debvote_tools.inbox.judge import JudgedLetter, Outcome, judge_all
+from debvote_tools.inbox.rules import JudgedLetter, Outcome, judge_all
 from debvote_tools.inbox.lines import NOTHING_ADDED
-from debvote_tools.inbox.parse import ParsedLetter, as_json, from_json, parse
-from debvote_tools.inbox.readings import answers_in, read_all
+from debvote_tools.inbox.letter import ParsedLetter, as_json, from_json, parse
+from debvote_tools.inbox.candidates import answers_in, read_all
 from debvote_tools.inbox.reasons import Reason
-from debvote_tools.inbox.signatures import find_gpgv, verified
-from debvote_tools.inbox.sources import PassedOver, RawLetter, letters_of_file, letters_of_folder
+from debvote_tools.inbox.signature import find_gpgv, verified
+from debvote_tools.inbox.mailbox import PassedOver, RawLetter, letters_of_file, letters_of_folder
 from debvote_tools.inbox.vote import Vote
-from debvote_tools.poll.call_data import SUBJECT
+from debvote_tools.poll.call import SUBJECT
 from debvote_tools.text import times
 
 SLOW = Reason.SLOW_SIGNATURE()
@@ -36,30 +36,26 @@ SLOW = Reason.SLOW_SIGNATURE()
 
 # ---------------------------------------------------------------- what `add` does with them
 def take_letters(
-    election: Election,
-    vote: Vote,
-    files: Mapping[str, CameFile | None],
-    *,
-    is_look: bool,
-    is_agreed: bool,
+    vote: Vote, files: Mapping[str, CameFile | None], *, is_look: bool, is_agreed: bool
 ) -> None:
     """Keeps the letters that are new, and enters the ballots that go in; or tells what would become
     of them.
     """
     raws, passed_over = read(files)
-    new = new_of(election, raws)
-    found = parsed(election, vote, new)
+    new = new_of(vote, raws)
+    found = parsed(vote, new)
     if not is_look:
-        keep(election, vote, new, found)
+        keep(vote, new, found)
     for one in passed_over:
         tell(f"{shown_text(one.where)}: {one.why.what}, and was passed over; {one.why.cure}")
     if not is_look:
         tell(f"{count_of(len(new), 'new letter')}; {len(raws) - len(new)} came before.")
-        enter_letters(election, vote, is_agreed=is_agreed)
+        enter_letters(vote, is_agreed=is_agreed)
         return
-    history = election.history()
-    all_letters = judged(election, history, letters.letters(election.book), found, vote=vote)
-    tell_letters(election, vote, history, all_letters)
+    history = vote.election.history()
+    kept = letters.letters(vote.book)
+    all_letters = judged(vote.election, history, kept, found, vote=vote)
+    tell_letters(vote, history, all_letters)
     keys = {letter.key for letter in found}
     number = sum(letter.parsed.key in keys for letter in all_letters)
     would = letter_words.counts(all_letters, len(going_in(all_letters)))
@@ -87,8 +83,8 @@ def read(files: Mapping[str, CameFile | None]) -> tuple[list[RawLetter], list[Pa
     return found, passed_over
 
 
-def new_of(election: Election, raws: Sequence[RawLetter]) -> list[RawLetter]:
-    known = letters.known_digests(election.book)
+def new_of(vote: Vote, raws: Sequence[RawLetter]) -> list[RawLetter]:
+    known = letters.known_digests(vote.book)
     # of letters with the same bytes the first that is not parted off, or else the first
     chosen: dict[str, RawLetter] = {}
     for raw in raws:
@@ -105,16 +101,14 @@ def is_new(digest: str, is_parted_off: bool, known: Collection[tuple[str, bool]]
     return (digest, False) not in known and not (is_parted_off and (digest, True) in known)
 
 
-def keep(
-    election: Election, vote: Vote, raws: Sequence[RawLetter], found: Sequence[ParsedLetter]
-) -> None:
+def keep(vote: Vote, raws: Sequence[RawLetter], found: Sequence[ParsedLetter]) -> None:
     if not raws:
         return
-    with election.book.act("letters", {"letters": len(raws)}) as act:
+    with vote.book.act("letters", {"letters": len(raws)}) as act:
         # their lines were read by the poll of this call
         cure = "run the command again"
-        plan.demand_same_call(vote, election.history(), cure, NOTHING_ADDED)
-        known = letters.known_digests(election.book)
+        plan.demand_same_call(vote, vote.election.history(), cure, NOTHING_ADDED)
+        known = letters.known_digests(vote.book)
         for raw, letter in zip(raws, found):
             # another command may have kept it meanwhile
             if is_new(letter.digest, letter.is_parted_off, known):
@@ -122,87 +116,83 @@ def keep(
                 letters.keep_letter(act, where, raw.data, letter.identity, known_of_it)
 
 
-@dataclasses.dataclass(frozen=True)
-class Plan:
+class Plan(NamedTuple):
     """The ballots of letters that would go in, by the book as it is now."""
 
-    decided_at: int = dataclasses.field(compare=False)
-    history: History = dataclasses.field(compare=False)
-    # all that are judged
-    letters: Sequence[JudgedLetter] = dataclasses.field(compare=False)
-    # each with the number of its letter
-    ballots: Sequence[tuple[int, str]]
+    envelopes: list[NewEnvelope]
+    # the letters that wait no longer then
+    done: list[int]
     is_late: bool
-    # the numbers of the letters that are entered with them, and wait no longer
-    done: Collection[int]
 
-    def enter(
-        self, election: Election, vote: Vote, name: ActName, detail: Detail, end: Iterable[str] = ()
-    ) -> None:
-        """The act that enters them. Each envelope has the time of its letter."""
-        by_number = {letter.number: letter for letter in self.letters}
-        lines = [ballot for _, ballot in self.ballots]
 
-        def envelopes(act: NewAct) -> Iterator[NewEnvelope]:
-            for number in self.done:
-                letters.decide(act, number, letters.ENTERED)
-            for number, ballot in self.ballots:
-                letter = by_number[number]
-                yield NewEnvelope(ballot.encode(), "", letter.source, number, letter.time)
+def envelope_of(letter: JudgedLetter, ballot: str) -> NewEnvelope:
+    return NewEnvelope(ballot.encode(), "", letter.source, letter.number, letter.time)
 
-        def report(numbers: range, replies: Sequence[str]) -> Iterator[str]:
-            yield from letter_words.reply_words(vote, numbers, replies, lines)
-            yield from end
 
-        plan.enter(
-            election.book,
-            vote,
-            name,
-            detail,
-            envelopes,
-            report,
-            decided_at=self.decided_at,
-            is_late=self.is_late,
-        )
+def enter(
+    vote: Vote,
+    name: ActName,
+    detail: Detail,
+    now: Plan,
+    seen: int,
+    end: Sequence[str] = (),
+) -> None:
+    """The act that enters ballots of letters."""
+
+    def envelopes(act: NewAct) -> list[NewEnvelope]:
+        for number in now.done:
+            letters.decide(act, number, letters.ENTERED)
+        return now.envelopes
+
+    def report(numbers: range, replies: Sequence[str]) -> Iterator[str]:
+        for number, reply, envelope in zip(numbers, replies, now.envelopes):
+            yield f"{number} {reply}  {vote.ballot_in_words(envelope.line.decode('ascii'))}"
+        yield from end
+
+    late = now.is_late
+    plan.enter(vote, name, detail, envelopes, report, seen, is_late=late)
 
 
 def going_in(found: Iterable[JudgedLetter]) -> list[JudgedLetter]:
     return [letter for letter in found if letter.outcome is Outcome.GOES_IN]
 
 
-def enter_letters(election: Election, vote: Vote, *, is_agreed: bool) -> None:
+def enter_letters(vote: Vote, *, is_agreed: bool) -> None:
     """Enters the ballots that go in, once they are agreed to."""
+    election, found = vote.election, list[JudgedLetter]()
+    history = election.history()
 
     def plan_now() -> Plan:
+        nonlocal history, found
         history = election.history()
         plan.demand_same_call(vote, history, "run the command again", NOTHING_ADDED)
-        found = judged(election, history, letters.letters(election.book), vote=vote)
-        ballots = [(letter.number, letter.ballots[0].ballot) for letter in going_in(found)]
-        numbers = [number for number, _ in ballots]
-        return Plan(history.last.number, history, found, ballots, history.is_closed, numbers)
+        found = judged(election, history, letters.letters(vote.book), vote=vote)
+        new = [envelope_of(letter, letter.ballots[0].ballot) for letter in going_in(found)]
+        return Plan(new, [letter.number for letter in going_in(found)], history.is_closed)
 
     def show(now: Plan) -> bool:
-        tell_letters(election, vote, now.history, now.letters)
-        if not now.ballots:
-            tell(letter_words.counts(now.letters, 0))
-        elif is_agreed or agreed(count_of(len(now.ballots), "ballot")):
+        tell_letters(vote, history, found)
+        if not now.done:
+            tell(letter_words.counts(found, 0))
+        elif is_agreed or agreed(count_of(len(now.done), "ballot")):
             return True
         else:
-            waits = letter_words.wait_words(sum(letter.waits for letter in now.letters))
+            waits = letter_words.wait_words(sum(letter.waits for letter in found))
             tell(f"Nothing was entered. The letters are kept, and wait: {waits}.")
         return False
 
-    def act(now: Plan) -> None:
-        number = len(now.ballots)
-        end = letter_words.counts(now.letters, number)
-        now.enter(election, vote, "add", {"letters": number, "lines": number}, [end])
+    def act(now: Plan, seen: int) -> None:
+        number = len(now.done)
+        detail: Detail = {"letters": number, "lines": number}
+        end = letter_words.counts(found, number)
+        enter(vote, "add", detail, now, seen, [end])
 
-    last = plan.agreed_act(plan_now, show, act)
+    plan.agreed_act(vote, plan_now, show, act)
     undo = f"; {election.command('undo')} takes back what was entered last"
     waiting = f"{election.command('held')}, which lists the letters that wait"
-    is_waiting = any(letter.outcome is Outcome.WAITS for letter in last.letters)
+    is_waiting = any(letter.outcome is Outcome.WAITS for letter in found)
     following = waiting if is_waiting else election.command("status")
-    tell(f"Next: {following}{'' if last.history.is_closed else undo}")
+    tell(f"Next: {following}{'' if history.is_closed else undo}")
 
 
 def agreed(ballots: str) -> bool:
@@ -213,30 +203,25 @@ def agreed(ballots: str) -> bool:
     return bool(is_yes(f"Enter {ballots}?"))
 
 
-def tell_letters(
-    election: Election, vote: Vote, history: History, found: Sequence[JudgedLetter]
-) -> None:
+def tell_letters(vote: Vote, history: History, found: Sequence[JudgedLetter]) -> None:
     if new := going_in(found):
         if history.is_closed:
-            tell(*plan.notes(election, history, "what is added"))
+            tell(*plan.notes(vote.election, history, "what is added"))
         tell(*letter_words.going_in(new, vote))
     tell(*letter_words.table([one for one in found if one.outcome is Outcome.WAITS]))
 
 
 # ---------------------------------------------------------------- how they are judged
 def parsed(
-    election: Election,
-    vote: Vote,
-    raws: Sequence[RawLetter],
-    known: Mapping[str, str | None] | None = None,
+    vote: Vote, raws: Sequence[RawLetter], known: Mapping[str, str | None] | None = None
 ) -> list[ParsedLetter]:
     """What letters say, with their signatures if letters have to be signed. Debvote is asked about
     lines of which it is not `known` yet what it says.
     """
-    found, keyring = [parse(raw) for raw in raws], keyring_of(election)
+    found, keyring = [parse(raw) for raw in raws], keyring_of(vote.election)
     if keyring is not None and found:
         found = verified(raws, found, keyring, find_gpgv())
-    return read_all(found, names_of(election), vote, known) if found else []
+    return read_all(found, names_of(vote.election), vote, known) if found else []
 
 
 def names_of(election: Election) -> Names:
@@ -264,24 +249,24 @@ def judged(
     if not kept and not looked_at:
         return []
     asked = vote or Vote(election, history)
-    found = kept_letters(election, asked, kept)
+    found = kept_letters(asked, kept)
     by_key = {letter.key: kept_letter for letter, kept_letter in zip(found, kept)}
     all_letters = [*found, *looked_at]
 
     def ballots_of(names: Collection[str]) -> dict[str, list[Ballot]]:
-        return ballots_in(election, asked, names, all_letters)
+        return ballots_in(asked, names, all_letters)
 
-    letters_now = judge_all(all_letters, circumstances_of(election, history, by_key), ballots_of)
+    letters_now = judge_all(all_letters, known_of(election, history, by_key), ballots_of)
     no_codes_expected = election.sealed().counted.secret and not asked.has_codes
     for letter in letters_now:
         if (kept_letter := by_key.get(letter.parsed.key)) is not None:
             letter.number, letter.source = kept_letter.number, kept_letter.source
         if no_codes_expected:
-            letter.code_lines = letter.parsed.readings.code_lines
+            letter.code_lines = letter.parsed.code_lines
     return letters_now
 
 
-def kept_letters(election: Election, vote: Vote, kept: Sequence[KeptLetter]) -> list[ParsedLetter]:
+def kept_letters(vote: Vote, kept: Sequence[KeptLetter]) -> list[ParsedLetter]:
     """What is known of the letters.
 
     A signature is checked anew if the letter came before the present keyring, or gpgv was too slow:
@@ -289,22 +274,21 @@ def kept_letters(election: Election, vote: Vote, kept: Sequence[KeptLetter]) -> 
     signature, since only then a copy is known as one.
     """
     found = [from_json(letter.known) for letter in kept]
-    sealed = queries.last_act_that_sealed(election.book, KEYRING)
+    sealed = queries.last_act_that_sealed(vote.book, KEYRING)
     old = [
         index
         for index, (letter, one) in enumerate(zip(found, kept))
         if (one.act < sealed and not letter.is_never_signed) or letter.why_unsigned == SLOW
     ]
-    check_again(election, vote, kept, found, [index for index in old if kept[index].is_undecided])
+    check_again(vote, kept, found, [index for index in old if kept[index].is_undecided])
     if any(letter.signature is not None and one.is_undecided for letter, one in zip(found, kept)):
         decided = [index for index in old if not kept[index].is_undecided]
         unsigned = [index for index in decided if found[index].signature is None]
-        check_again(election, vote, kept, found, unsigned)
+        check_again(vote, kept, found, unsigned)
     return found
 
 
 def check_again(
-    election: Election,
     vote: Vote,
     kept: Sequence[KeptLetter],
     found: list[ParsedLetter],
@@ -316,26 +300,26 @@ def check_again(
     raws = [
         RawLetter(
             found[index].where,
-            letters.source_of(election.book, kept[index].source),
+            letters.source_of(vote.book, kept[index].source),
             found[index].is_parted_off,
         )
         for index in indices
     ]
     known = answers_in(found, vote.roll) if indices else {}
-    for index, letter in zip(indices, parsed(election, vote, raws, known)):
+    for index, letter in zip(indices, parsed(vote, raws, known)):
         found[index] = letter
 
 
 def ballots_in(
-    election: Election, vote: Vote, names: Collection[str], found: Sequence[ParsedLetter]
+    vote: Vote, names: Collection[str], found: Sequence[ParsedLetter]
 ) -> dict[str, list[Ballot]]:
     """The ballots of some electors that are in and not struck. A line with an elector's name that
     debvote refuses is no ballot of theirs. What it has said of the lines of letters it is not asked
     again.
     """
-    numbers = queries.elector_numbers(election.book, names)
+    numbers = queries.elector_numbers(vote.book, names)
     by_number = {number: name for name, number in numbers.items()}
-    envelopes = queries.envelopes_of(election.book, by_number)
+    envelopes = queries.envelopes_of(vote.book, by_number)
     known = answers_in(found, vote.roll) if envelopes else {}
     lines = {envelope.line: envelope.line.decode("utf-8", "replace") for envelope in envelopes}
     answers = {line: known[text] for line, text in lines.items() if text in known}
@@ -349,28 +333,22 @@ def ballots_in(
     return ballots
 
 
-def circumstances_of(
-    election: Election, history: History, by_key: Mapping[str, KeptLetter]
-) -> Known:
+def known_of(election: Election, history: History, by_key: Mapping[str, KeptLetter]) -> Known:
     call, sealed, electors = history.call, election.sealed(), queries.electors(election.book)
     assert call is not None
-    ids, keys = letters.our_message_ids(election.book), None
-    if keyring_of(election) is not None:
-        keys = {elector.name: elector.key for elector in electors}
+    ids = letters.our_message_ids(election.book)
     states = ((key, kept.state) for key, kept in by_key.items())
     return Known(
         mark=sealed.public.mark,
         subject=election.language.say(SUBJECT, title=sealed.public.name),
-        own_marks={elector.name: elector.mark for elector in electors},
+        electors={elector.name: elector for elector in electors},
         is_marked=bool(history.announced("marked")),
-        roll=frozenset(sealed.counted.roll),
-        addresses={elector.name: elector.addresses for elector in electors},
+        is_signed=keyring_of(election) is not None,
         called=call.time,
         end=history.until,
         first_close=history.closes[0].time if history.closes else None,
         now=times.now(),
         our_letters={elector.name: ids.get(elector.number, []) for elector in electors},
-        keys=keys,
         decisions={key: Decision(state) for key, state in states if state != letters.WAITS},
     )
 

@@ -9,8 +9,8 @@ from debvote_tools.book import letters, queries
 from debvote_tools.book.election import Election, History
 from debvote_tools.book.queries import Elector, Envelope
 from debvote_tools.inbox import letters_in
-from debvote_tools.inbox.addresses import address_key
-from debvote_tools.inbox.judge import JudgedLetter, Outcome
+from debvote_tools.inbox.mime import address_key
+from debvote_tools.inbox.rules import JudgedLetter, Outcome
 from debvote_tools.inbox.vote import Vote
 
 # what belongs to no elector has this in place of a name

@@ -44,16 +44,19 @@ class Arguments(acting.Arguments):
 
 # ---------------------------------------------------------------- plan, question, act
 def agreed_act(
-    plan: Callable[[], Plan], show: Callable[[Plan], bool], act: Callable[[Plan], object]
+    vote: Vote,
+    plan: Callable[[], Plan],
+    show: Callable[[Plan], bool],
+    act: Callable[[Plan, int], object],
 ) -> Plan:
     """Shows a plan, which may ask, and does it unless `show` says no. Returns the last plan.
 
-    If another act came since the plan was made, `act` raises `Overtaken`. Then it plans again, and
-    shows the new plan if it differs: what was agreed to is what is done.
+    `act` gets the number of the last act before the plan, and raises `Overtaken` if others came
+    since. Then the plan is made anew, and shown again if it differs: what was agreed to is done.
     """
     shown: Plan | None = None
     while True:
-        found = plan()
+        seen, found = vote.book.last_number(), plan()
         if found != shown:
             if shown is not None and is_terminal():
                 tell(MEANWHILE)
@@ -61,19 +64,18 @@ def agreed_act(
                 return found
             shown = found
         with contextlib.suppress(Overtaken):
-            act(found)
+            act(found, seen)
             return found
 
 
 def enter(
-    book: Book,
     vote: Vote,
     name: ActName,
     detail: Detail,
     envelopes: Callable[[NewAct], Iterable[NewEnvelope]],
     report: Callable[[range, Sequence[str]], Iterable[str]],
+    seen: int,
     *,
-    decided_at: int,
     is_late: bool,
     is_same: Callable[[], bool] | None = None,
     what: str = "lines",
@@ -81,12 +83,13 @@ def enter(
     """The act that enters lines, and the report on it, by the numbers of the envelopes and the
     replies. `envelopes` gives what goes in, and may write rows of its own.
 
-    `decided_at` is the last act that was known when this was decided. If others came since,
-    `is_same` says within the act whether the decision would be the same.
+    If other acts came since the one that was seen, `is_same` says within the act whether the plan
+    would be the same.
     """
+    book = vote.book
     with contextlib.ExitStack() as stack:
         with book.act(name, detail) as act:
-            if act.number != decided_at + 1 and not (is_same and is_same()):
+            if act.number != seen + 1 and not (is_same and is_same()):
                 raise Overtaken
             new = list(envelopes(act))
             if not is_late:
@@ -94,35 +97,29 @@ def enter(
             # whoever enters a ballot sees the reply to it: until then interrupts wait
             stack.enter_context(uninterrupted())
             first, lines = queries.last_envelope(book) + 1, [envelope.line for envelope in new]
-            electors = electors_of(book, vote, lines)
+            electors = electors_of(vote, lines)
             queries.add_envelopes(act, new, electors, is_late=is_late)
-        numbers = range(first, first + len(new))
+        numbers, replies = range(first, first + len(new)), [LATE_REPLY] * len(new)
         done = f"were entered nevertheless ({envelope_words(numbers)})"
         try:
-            # they depend on the lines of the same electors alone
-            replies = (
-                [LATE_REPLY] * len(new)
-                if is_late
-                else vote.replies(
-                    queries.lines_after(book, act.number - 1, frozenset(filter(None, electors))),
-                    lines,
-                )
-            )
+            if not is_late:
+                # replies depend on the lines of the same electors alone
+                known = frozenset(filter(None, electors))
+                before = queries.lines_after(book, act.number - 1, known)
+                replies = vote.replies(before, lines)
             tell_many(report(numbers, replies))
         except OutputFailed as fault:
-            cure = "see debvote-election status"
-            raise Fault(
-                None, "the output failed", cure, fault.status, f"the {what} {done}"
-            ) from None
+            cure, done = "see debvote-election status", f"the {what} {done}"
+            raise Fault(None, "the output failed", cure, fault.status, done) from None
         except Fault as fault:
             raise fault.with_done(f"the lines {done}") from None
 
 
-def electors_of(book: Book, vote: Vote, lines: Sequence[bytes]) -> list[int | None]:
+def electors_of(vote: Vote, lines: Sequence[bytes]) -> list[int | None]:
     """For each line, the elector whose name it begins with."""
     names = list(map(name_in, lines))
     on_roll = vote.names_on_roll & {name.decode("ascii") for name in set(names)}
-    numbers = queries.elector_numbers(book, on_roll)
+    numbers = queries.elector_numbers(vote.book, on_roll)
     return list(map({name.encode(): number for name, number in numbers.items()}.get, names))
 
 

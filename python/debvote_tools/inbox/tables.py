@@ -18,7 +18,7 @@ from debvote_tools.cli.faults import Fault, Status
 from debvote_tools.cli.terminal_text import shown_text
 from debvote_tools.inbox.lines import BLANKS, NOTHING_ADDED, Line
 from debvote_tools.poll.plain_names import without_accents
-from debvote_tools.poll.sealed_poll import SealedPoll
+from debvote_tools.poll.sealed import SealedPoll
 from debvote_tools.text.ballots import NUMBERS, UNRANKED
 
 PACKED, PDF = "a ZIP, as word processors and spreadsheets save", "a PDF"

@@ -55,7 +55,8 @@ class Vote:
     """The vote that lines are entered for, as it was called. Stops before the call."""
 
     def __init__(self, election: Election, history: History) -> None:
-        self.call, self.debvote = election.called(history), election.debvote
+        self.election, self.book, self.debvote = election, election.book, election.debvote
+        self.call = election.called(history)
         poll = election.sealed().counted
         # the names of all options as people read them, the default last
         self.poll_bytes, self.option_names, self.roll = poll.as_bytes(), poll.names, poll.roll

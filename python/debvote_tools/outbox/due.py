@@ -2,6 +2,8 @@
 ones. And whom the call has not reached.
 """
 
+import collections
+import dataclasses
 import datetime
 import itertools
 import re
@@ -9,31 +11,20 @@ import secrets
 from collections.abc import Callable, Iterator, Mapping, Sequence
 
 from debvote_tools.book import letters, queries, sent
-from debvote_tools.book.election import Election, History
+from debvote_tools.book.election import LETTERS, RESULT_LETTER, Election, History
 from debvote_tools.book.queries import Elector
 from debvote_tools.book.sent import REFUSED, TAKEN, WRITTEN, About, SentLetter
 from debvote_tools.cli.faults import Fault, Status
-from debvote_tools.debvote import casting_words
-from debvote_tools.inbox.addresses import address_key
-from debvote_tools.inbox.judge import Outcome
+from debvote_tools.inbox.letter import decoded
 from debvote_tools.inbox.lines import ballot_file
+from debvote_tools.inbox.mime import MAX_PARTS, Part, address_key
 from debvote_tools.inbox.of_electors import NOBODY, Became, Came, of_electors
-from debvote_tools.inbox.parse import decoded
-from debvote_tools.inbox.parts import MAX_PARTS, Part
+from debvote_tools.inbox.rules import Outcome
 from debvote_tools.outbox.words import Composer, Kind
-from debvote_tools.poll.call_data import is_mail_address
+from debvote_tools.poll.call import is_mail_address
 from debvote_tools.poll.marks import OWN_LENGTH, OWN_SIGNS
-from debvote_tools.result.doubts import Doubt
-from debvote_tools.result.inputs import Publication
-from debvote_tools.result.publication import (
-    Words,
-    chronicle_of,
-    closing_letter,
-    current_data,
-    last_publication,
-)
-from debvote_tools.result.result_letter import letter_values
-from debvote_tools.result.sheet import sheet_in
+from debvote_tools.result.publication import closing_letter, current_data, last_publication
+from debvote_tools.text.language import language_of
 from debvote_tools.text.times import now
 
 # how long a run of reminders goes on, and how soon after it the next one is asked about
@@ -82,8 +73,16 @@ class LettersDue:
         # are in no elector's receipt, by number
         self.earlier: list[SentLetter] = []
         self.in_no_receipt: list[int] = []
+        # how many letters wait in all, if they were looked at
+        self.letters_waiting = 0
         # each kind has a method of its name
         self.text_of: TextOf = getattr(self, kind)()
+
+    def what_came(self) -> dict[str, list[Came]]:
+        came = of_electors(self.election, self.history)
+        letters = (one.letter for items in came.values() for one in items)
+        self.letters_waiting = len({one.number for one in letters if one and one.waits})
+        return came
 
     @property
     def waiting(self) -> list[SentLetter]:
@@ -145,7 +144,7 @@ class LettersDue:
         off, or whose letters the server refused for now, goes on; else each run is a new one.
         """
         self.demand_not_over()
-        came = of_electors(self.election, self.history)
+        came = self.what_came()
         silent = {
             number: elector
             for number, elector in self.electors.items()
@@ -189,7 +188,7 @@ class LettersDue:
         """A letter to each elector about all that came since the last one, also to an address that
         they had before. Those that no server has taken yet go out, too.
         """
-        came = of_electors(self.election, self.history)
+        came = self.what_came()
         self.in_no_receipt = [
             one.letter.number
             for one in came[NOBODY]
@@ -234,14 +233,11 @@ class LettersDue:
         was written to them since.
         """
         last = {letter.elector: letter.for_act for letter in self.letters}
-        return {
-            elector: [
-                address
-                for act, old in lists
-                if act > last.get(elector, 0) and (address := address_in(old))
-            ]
-            for elector, lists in sent.addresses_before(self.election.book, self.called).items()
-        }
+        found: dict[int, list[str]] = collections.defaultdict(list)
+        for elector, act, addresses in sent.old_addresses(self.election.book, self.called):
+            if act > last.get(elector, 0) and (address := address_in(addresses)):
+                found[elector].append(address)
+        return found
 
     def failed_elsewhere(self, letter: SentLetter) -> bool:
         """Whether no server has taken it, and its elector has the address no longer. A file may
@@ -265,28 +261,17 @@ class LettersDue:
         if self.composer.call.at is None:
             why, cure = "the letter must say where the result is published", "give it: --at URL"
             raise Fault("--at", why, cure, Status.BAD_WORDS, "nothing was written")
-        book, debvote = self.election.book, self.election.debvote
-        sealed, words = self.election.sealed(), Words(**act.detail["words"])
-        poll = sealed.counted.as_bytes()
+        book, code = self.election.book, act.detail["words"]["language"]
+        letter = (queries.sealed(book, f"{LETTERS}/{RESULT_LETTER}", act.number) or b"").decode()
         ballots = ballot_file(queries.lines_after(book, act.number))
-        sheet = sheet_in(debvote.answer("count", poll, ballots, *casting_words(words.casting)).text)
-        standing = debvote.standing(poll, ballots)
-        before = History(self.history.acts[: act.number])
-        publication = Publication(
-            sealed.public,
-            b"",
-            self.election.language,
-            casting=words.vote,
-            chronicle=chronicle_of(book, before, is_secret=sealed.is_aliased),
-            closed=b"",
-            because=words.because,
-            at=self.composer.call.at,
-        )
-        doubts = map(Doubt.from_data, act.detail["doubts"])
-        values = letter_values(publication, sheet, doubts, act.detail["checksums"])
+        poll = self.election.sealed().counted.as_bytes()
+        standing = self.election.debvote.standing(poll, ballots)
+        if code is not None:
+            call = dataclasses.replace(self.composer.call, language=language_of(code))
+            self.composer = dataclasses.replace(self.composer, call=call)
         self.to_each(act.number)
         return lambda elector, _: self.composer.text(
-            self.kind, elector, has_ballot=elector.name in standing, **values
+            self.kind, elector, has_ballot=elector.name in standing, letter=letter
         )
 
     def too_early(self, words: str, command: str) -> Fault:
@@ -377,9 +362,11 @@ def unreached(election: Election, history: History) -> Iterator[tuple[Elector, s
             last = states.get((elector.number, address))
             if last is None:
                 yield elector, NO_LETTER, ""
-            elif last.state == REFUSED:
-                yield elector, WAS_REFUSED, last.reply
-            elif back.get(elector.number, 0) > last.act:
+                continue
+            act, state, reply = last
+            if state == REFUSED:
+                yield elector, WAS_REFUSED, reply
+            elif back.get(elector.number, 0) > act:
                 yield elector, CAME_BACK, ""
 
 

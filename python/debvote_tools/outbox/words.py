@@ -13,12 +13,12 @@ import re
 from collections.abc import Collection, Iterator, Sequence
 
 from debvote_tools.book.queries import Elector
-from debvote_tools.inbox.judge import Outcome
+from debvote_tools.inbox.rules import Outcome
 from debvote_tools.inbox.of_electors import Became, Came
 from debvote_tools.inbox.reasons import for_elector
-from debvote_tools.poll.call_data import CallData
+from debvote_tools.poll.call import CallData
 from debvote_tools.poll.plain_names import without_accents
-from debvote_tools.poll.words import BY_PYTHON
+from debvote_tools.poll.secret import BY_PYTHON
 from debvote_tools.text.ballots import without_ballots
 from debvote_tools.text.language import Language, marked
 from debvote_tools.text.rendering import one_line, render_letter

@@ -13,10 +13,10 @@ from debvote_tools.book import queries
 from debvote_tools.cli.console import tell, tell_as_it_is
 from debvote_tools.book.election import LETTER_TEXT, POLL_FILE, TEXTS, Election, History
 from debvote_tools.book.reporting import count_of
-from debvote_tools.cli.faults import Fault, Status, stop_at
+from debvote_tools.cli.faults import Fault, Status, kept_in, stop_at
 from debvote_tools.files import POLL_LIMIT, file_text, read_whole
 from debvote_tools.poll.plain_names import bad_options, bad_title, plain_options, plain_title
-from debvote_tools.poll.sealed_poll import KEYS, SealedPoll, is_set, plain_form, read_plain
+from debvote_tools.poll.sealed import KEYS, SealedPoll, is_set, plain_form, read_plain
 from debvote_tools.result.sheet import Sheet, sheet_in
 from debvote_tools.cli.terminal_text import LINE_ENDS, shown_text
 
@@ -49,13 +49,11 @@ IS_TOML = re.compile(r"(?m)^poll(?:: | ok)")
 
 
 class DraftPoll(NamedTuple):
-    """The poll as it is written: the values of its keys, of whatever type, and what is wrong with
-    each by itself.
-    """
+    """The poll as it is written: the values of its keys, of whatever type."""
 
     folder: pathlib.Path
     values: Mapping[str, Any]
-    # title and options as people read them, the default last; empty where it is no text
+    # as people read them, the default option last; empty where it is no text
     title: str
     names: Sequence[str]
     # the texts about options, by their numbers
@@ -89,9 +87,7 @@ def bad_poll(file: object, reason: str, cure: str) -> Fault:
 
 
 def faults_of_keys(values: Mapping[str, Any], file: object) -> list[Fault]:
-    """Keys that are not the secretary's, and values that have no plain form, so that debvote could
-    not name them.
-    """
+    """Keys that are set elsewhere, and values that debvote can't be given to name them."""
     faults = []
     for key, value in values.items():
         if key in SET_ELSEWHERE:
@@ -116,7 +112,7 @@ def has_plain_form(value: object) -> bool:
 
 
 def texts_in(folder: pathlib.Path, option_count: int) -> tuple[dict[int, str], list[Fault]]:
-    """The texts of a folder by the numbers of their options, and all that is wrong with them."""
+    """The texts by the numbers of their options, and all that is wrong with them."""
     texts: dict[int, str] = {}
     faults, size = [], 0
     try:
@@ -134,10 +130,8 @@ def texts_in(folder: pathlib.Path, option_count: int) -> tuple[dict[int, str], l
             reason = "it is not the text of an option of this poll"
             faults.append(Fault(file, reason, cure, Status.BAD_WORDS, None))
             continue
-        try:
+        with kept_in(faults):
             texts[int(number[1])] = text_in(file, TEXTS_LIMIT)
-        except Fault as fault:
-            faults.append(fault)
     size = sum(len(text.encode()) for text in texts.values())
     if size > TEXTS_LIMIT:
         reason = f"the texts have {size} bytes together; at most {TEXTS_LIMIT} are allowed"
@@ -176,8 +170,8 @@ def sealed_form(
     deadline: str | None = None,
     address: str | None = None,
 ) -> bytes:
-    """The poll in plain form as it would be sealed, for debvote to say what is wrong with it: what
-    is missing stays missing, and a value of another type, or a key that no poll has, stays there.
+    """The poll as it would be sealed, for debvote to say what is wrong: a missing key stays missing,
+    a value of another type or an unknown key stays.
     """
     title, plain_names = plain_title(draft.title, language), plain_options(draft.names, language)
     made = {
@@ -210,7 +204,7 @@ def sealed_form(
 
 # ---------------------------------------------------------------- asking debvote
 class Checked(NamedTuple):
-    """What a call would seal, without a fault; and the sheet of the poll without ballots."""
+    """What a call would seal, and the sheet of the poll without ballots."""
 
     poll: SealedPoll
     sheet: Sheet
@@ -220,9 +214,7 @@ class Checked(NamedTuple):
 def checked(
     election: Election, *, deadline: str | None = None, address: str | None = None
 ) -> Checked:
-    """The poll as it would be sealed. All that is wrong with it, or with the text of the letters,
-    is said at once.
-    """
+    """Checks the poll, with its texts, and the text of the letters. Raises all faults at once."""
     try:
         draft = draft_in(election.folder)
     except Fault as fault:
@@ -242,10 +234,8 @@ def checked(
         cure = f"run {election.command('roll')} first"
         faults.append(Fault(None, "there are no electors yet", cure, done=None))
     letter_text = ""
-    try:
+    with kept_in(faults):
         letter_text = letter_text_in(election.folder)
-    except Fault as fault:
-        faults.append(fault)
     data = sealed_form(draft, roll or ["nobody"], language, deadline=deadline, address=address)
     stop_at([*faults, *faults_by_debvote(election, data)])
     sheet = sheet_in(election.debvote.answer("count", data).text)

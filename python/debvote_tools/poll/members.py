@@ -8,7 +8,7 @@ import unicodedata
 from collections.abc import Callable, Hashable, Iterable, Iterator, Mapping, Sequence
 from typing import NamedTuple, TypeVar
 
-from debvote_tools.inbox.addresses import ADDRESS, address_key
+from debvote_tools.inbox.mime import ADDRESS, address_key
 from debvote_tools.book.queries import Elector
 from debvote_tools.inbox.tables import Row, read_table
 from debvote_tools.book.reporting import listed
@@ -23,8 +23,7 @@ from debvote_tools.poll.plain_names import (
 )
 from debvote_tools.cli.terminal_text import shown_text, steering
 
-# the heads of each column, without case, accents and what is no letter, the preferred ones first;
-# some names are in two columns
+# the heads of each column, small letters alone, the preferred ones first
 HEADS = {
     "who": "who, vorname nachname, vorname name, firstname lastname, prenom nom, nombre apellidos, name, nom, nombre",
     "mail": "mail, email, emailadresse, emailaddress, courriel, correo, correoelectronico",
@@ -41,12 +40,11 @@ AGAIN = "then run debvote-election roll again"
 # the fingerprint of a key of OpenPGP
 FINGERPRINT = re.compile(r"[0-9A-F]{40}")
 
-# several addresses of one member have spaces, commas or semicolons between; a mail program writes
-# one within < and >
+# a mail program writes an address within < and >
 IN_BRACKETS = re.compile(r"<([^<>]*)>")
 BETWEEN_ADDRESSES = re.compile(r"[\s,;]+")
 
-# the first cell of a row below the members, which a spreadsheet has summed up
+# the first cell of a row with a sum
 SUM = re.compile(
     r"(?:(?:grand |sub)?totale?s?|sum|(?:gesamt|zwischen)?summe|gesamt|insgesamt|anzahl|somme|suma)[ :=]*[\d.,]*"
 )
@@ -62,22 +60,21 @@ NAMED_LIMIT = 10
 
 
 class Member(NamedTuple):
-    """A row of the list. A cell that is empty or missing is an empty text."""
+    """A row of the list."""
 
     line: int
     name: str
     who: str
     addresses: tuple[str, ...]
-    # a fingerprint in capital letters
     key: str
-    # the elector of the book who is the same person; None if there is none
+    # the same person in the book
     known: Elector | None = None
-    # the whole name that was proposed; empty if none was
+    # the whole name that was proposed, if one was
     proposal: str = ""
 
     @property
     def is_new(self) -> bool:
-        """Whether the roll gets them now, for the first time or again."""
+        """Whether they are not on the roll yet, or no longer."""
         return self.known is None or self.known.position is None
 
     @property
@@ -86,7 +83,7 @@ class Member(NamedTuple):
 
     @property
     def changes(self) -> dict[str, tuple[str, str]]:
-        """What is not as the book has it of an elector on the roll: before, and now."""
+        """What differs from the book, of an elector on the roll: before, and now."""
         known = self.known
         if known is None or self.is_new:
             return {}
@@ -107,9 +104,7 @@ Wrong = tuple[int | None, str, str]
 
 
 class Roll(NamedTuple):
-    """The members in the order of the list, after the call in that of the sealed poll; and all that
-    is wrong with them.
-    """
+    """The members in the order of the list, after the call in that of the sealed poll."""
 
     file: object
     electors: tuple[Member, ...]
@@ -120,7 +115,7 @@ class Roll(NamedTuple):
 
 # ---------------------------------------------------------------- the table
 def members_in(file: pathlib.Path) -> Roll:
-    """Reads the list of members in a file. Raises `Fault` if it is no table with their columns."""
+    """Reads the list of members. Raises `Fault` if it is no table with their columns."""
     unread = "the list of members is a CSV file, as a spreadsheet saves it: put it there"
     return members_of(read_whole(file, TABLE_LIMIT, unread, f", {AGAIN}"), file)
 
@@ -241,8 +236,8 @@ def roll_of(
 
 
 def with_known(rows: Sequence[Member], known: Sequence[Elector]) -> list[Member]:
-    """The members, each with the elector of the same name, or else of the same `who`, of the last
-    list if possible, and with their name. If several would fit, none of them does.
+    """Finds each member in the book: by the name on the roll, else by `who`, among the electors on
+    the roll, else among all. Nobody is found if several fit.
     """
     found: dict[int, Elector] = {}
     last = [elector for elector in known if elector.position is not None]
@@ -276,14 +271,14 @@ def grouped(
 
 
 def several(entries: Iterable[Entry], form: Callable[[Entry], Hashable]) -> list[list[Entry]]:
-    """The groups of entries that have a form in common. An empty form is shared with nobody."""
+    """The groups that have a form in common, but for the empty one."""
     return [group for text, group in grouped(entries, form).items() if text and len(group) > 1]
 
 
 def with_proposals(
     electors: Sequence[Member], known: Sequence[Elector], language: str
 ) -> list[Member]:
-    """The electors, each with a name, made of `who` or of an address if possible."""
+    """Proposes a name for each who has none, from `who` or an address."""
     wholes = {}
     for elector in electors:
         texts = [elector.who, *(address.partition("@")[0] for address in elector.addresses)]
@@ -300,9 +295,7 @@ def with_proposals(
 
 
 def wrong_people(rows: Sequence[Member], electors: Sequence[Member]) -> Iterator[Wrong]:
-    """Members of whom nobody knows which name is whose, and names and keys that are missing or that
-    several have.
-    """
+    """Names that are missing, or not clearly of one person, and keys that several have."""
     given = {row.line: row.name for row in rows}
     by_who = grouped(electors, lambda elector: elector.who)
     for who, group in by_who.items():

@@ -1,6 +1,4 @@
-"""Plain names, by which debvote counts: made from names in any language. And which names people
-can't tell apart.
-"""
+"""Plain names, by which debvote counts, and names that people can't tell apart."""
 
 import collections
 import itertools
@@ -17,8 +15,8 @@ SHOWN_LIMIT = 200
 
 PLAIN_NAME = re.compile(r"[!-~](?:[ -~]*[!-~])?")
 
-# a title, and what belongs to it: `Dr. rer. nat.`, `Univ.-Prof.`, `Dipl.-Ing. (FH)`; some are words
-# or names without their point, and how people are addressed stands before the whole name alone
+# titles, as `Dr. rer. nat.`, `Univ.-Prof.`, `Dipl.-Ing. (FH)`; some are names without their point,
+# and `Frau` and the like are titles only before a name
 TITLE = re.compile(
     r"(?i:(?<![^,])\s*(?:Frau|Herrn?|Mrs?|Ms|Mme|Mlle|Sra?|Srta)\b\.?(?=\s))|"
     r"(?<!\w)(?i:(?:Dr|Prof)\b\.?|(?:Mag|Ing|Univ|Dipl)\.(?:-\w+\.?)?|Ph\.? ?D\b\.?|[BM]\.? ?Sc\b\.?|MBA\b|LL\. ?M\.)"
@@ -41,8 +39,7 @@ PUNCTUATION = {
     **{"\u00d7": "x", "\u2044": "/", "\u20ac": "EUR"},
 }
 
-# what nobody sees, beside format characters (Cf): fillers, joiners and the marks that choose the
-# form of a character
+# what nobody sees, beside format characters (Cf): fillers, joiners, variation selectors
 UNSEEN = {"\u034f", "\u115f", "\u1160", "\u17b4", "\u17b5", "\u2800", "\u3164", "\uffa0"}
 UNSEEN |= {chr(number) for number in (*range(0xFE00, 0xFE10), *range(0xE0100, 0xE01F0))}
 
@@ -55,10 +52,8 @@ REFUSED_IN_NAMES = f"{LINE_ENDS}\ufff9\ufffa\ufffb"
 
 # ---------------------------------------------------------------- plain text
 def without_accents(text: str, language: str) -> str:
-    """The text with plain letters for those with accents, as the language spells them. Letters of
-    other scripts stay.
-
-    The page of the result does the same with the real name that an elector types.
+    """The text without accents, as the language spells it. Letters of other scripts stay. The page
+    of the result does the same.
     """
     if text.isascii():
         return text
@@ -70,9 +65,7 @@ def without_accents(text: str, language: str) -> str:
 
 
 def spelled_by(table: Mapping[str, str], text: str) -> str:
-    """The text with the letters of the table spelled as it says: Ä is Ae, and AE within capital
-    letters.
-    """
+    """Spells letters by a table: Ä is Ae, and AE within capital letters."""
     parts = []
     for before, letter, after in zip(f" {text}", text, f"{text[1:]} "):
         spelled = table.get(letter.lower(), letter)
@@ -89,9 +82,7 @@ def is_plain(text: str, limit: int) -> bool:
 
 
 def plain_text(text: str, language: str, limit: int) -> str:
-    """The text as it is where it is plain already, or its plain form; empty if no letter and no
-    digit is left.
-    """
+    """The plain form of a text; empty if no letter and no digit is left."""
     if is_plain(text, limit):
         return text
     words = re.sub(r"[^!-~]+", " ", without_accents(text, language)).strip()
@@ -101,9 +92,8 @@ def plain_text(text: str, language: str, limit: int) -> str:
 def made_different(
     bases: Sequence[str], taken: Collection[str], limit: int, joint: str
 ) -> list[str]:
-    """A name for each base. No name looks like another, or like a name that is taken.
-
-    Equal bases all get a number, since a ballot for the bare name could be meant for any of them.
+    """A name for each base that looks like no other and like none that is taken. Equal bases all get
+    a number: a ballot for the bare name could be meant for any of them.
     """
     used = set(map(alike, taken))
     several = {form for form, count in collections.Counter(map(alike, bases)).items() if count > 1}
@@ -127,9 +117,7 @@ def plain_title(title: str, language: str) -> str:
 
 
 def plain_options(names: Sequence[str], language: str) -> list[str]:
-    """The plain names of all options, the default last. An empty name stays empty, so that it is
-    refused.
-    """
+    """The plain names of all options. An empty name stays empty, so that it is refused."""
     bases = {
         number: plain_text(name, language, OPTION_LIMIT) or f"Option {number}"
         for number, name in enumerate(names, start=1)
@@ -142,10 +130,8 @@ def plain_options(names: Sequence[str], language: str) -> list[str]:
 
 # ---------------------------------------------------------------- electors
 def elector_name(who: str, language: str) -> str:
-    """The name on the roll to propose for a real name, in the words that people would type; empty
-    where nothing is left. It may be too long.
-
-    `Meier, Dr. Anna` is anna-meier.
+    """Proposes a name on the roll: `Meier, Dr. Anna` is anna-meier. It may be too long, or empty if
+    nothing is left.
     """
     for text in (TITLE.sub(" ", who), who):
         parts = [
@@ -164,8 +150,8 @@ def is_elector_name(name: str) -> bool:
 
 
 def similar_names(names: Iterable[str]) -> Iterable[tuple[str, str]]:
-    """Pairs of names that are the same if one sign of each is left out, or but for the order of
-    their words. Numbers make no difference.
+    """Pairs of names that differ by one sign, or by the order of their words. Numbers make no
+    difference.
     """
     bare: dict[str, str] = {}
     for name in names:
@@ -190,9 +176,7 @@ class BadName(NamedTuple):
 
 
 def alike(text: str) -> str:
-    """The text without case, accents, blanks and unseen characters: names with one such form look
-    alike.
-    """
+    """The text without case, accents, blanks and unseen characters."""
     if text.isascii():
         return "".join(text.split()).lower()
 
@@ -210,9 +194,7 @@ def bad_title(title: str) -> list[BadName]:
 
 
 def bad_options(names: Sequence[str], plain_names: Sequence[str]) -> list[BadName]:
-    """Which names of options people can't read or tell apart. That two plain names are equal
-    debvote says itself.
-    """
+    """Names of options that people can't read or tell apart. Of equal plain names debvote speaks."""
     options = list(enumerate(zip(names, plain_names), start=1))
     found = [BadName(at, name, why) for at, (name, _) in options for why in bad_characters(name)]
     for (first, (name, plain)), (second, (other, other_plain)) in itertools.combinations(

@@ -1,6 +1,7 @@
 """The end of a vote, as `call --until` and `--zone` name it."""
 
 import datetime
+import zoneinfo
 
 from debvote_tools.cli.faults import Fault, Status
 from debvote_tools.text.times import minute_in_words, time_in_words
@@ -10,29 +11,26 @@ def parse_until(
     text: str, zone: str | None, earlier_zone: str | None = None
 ) -> tuple[datetime.datetime, str | None]:
     """The time that `--until` names, and its zone: its own offset, `--zone`, or the zone of the end
-    before; None if it is that of this computer.
+    before; None for that of this computer.
     """
     text, named = text.strip(), earlier_zone if zone is None else zone
     try:
         time = datetime.datetime.fromisoformat(text)
         if time.tzinfo is None and zone is None and named is not None and named[0] in "+-":
             time = datetime.datetime.fromisoformat(text + named)
+        offset = time.utcoffset() or datetime.timedelta()
         # a date alone is midnight to Python
-        if len(text) <= len("2026-12-04") or (
-            time.utcoffset() or datetime.timedelta()
-        ) % datetime.timedelta(minutes=1):
+        if len(text) <= len("2026-12-04") or offset % datetime.timedelta(minutes=1):
             raise ValueError
         if time.tzinfo is None:
             return in_zone(time, named), named
     except (ValueError, OverflowError):
+        reason = "it is not a date with a time of day, or there is no such day or time"
         cure = 'write it as "2026-12-04 18:00", as "2026-12-04 18:00+01:00" or in another form of ISO 8601, or with --zone Europe/Berlin'
-        raise bad_until(
-            "it is not a date with a time of day, or there is no such day or time", cure
-        ) from None
+        raise bad_until(reason, cure) from None
     if zone is not None:
-        raise Fault(
-            "--zone", "the time has an offset already", "leave out one of the two", Status.BAD_WORDS
-        )
+        reason = "the time has an offset already"
+        raise Fault("--zone", reason, "leave out one of the two", Status.BAD_WORDS)
     time = time.replace(microsecond=0)
     return time, time.isoformat()[len("2026-12-04T18:00:00") :]
 
@@ -45,39 +43,28 @@ def demand_future(time: datetime.datetime, by: datetime.datetime) -> None:
 
 
 def in_zone(plain: datetime.datetime, name: str | None) -> datetime.datetime:
-    """The time of a clock in a zone, or of the clock of this computer. The clock has to show it
-    just once.
-    """
-    # it takes a while to be imported, and a desk needs no zones
-    import zoneinfo
-
+    """The time when a clock in a zone, or of this computer, shows this. It has to do so just once."""
     try:
         zone = None if name is None else zoneinfo.ZoneInfo(name)
     except (zoneinfo.ZoneInfoNotFoundError, ValueError, OSError):
         cure = "write one as Europe/Berlin, or give the offset in the time, as +01:00"
-        raise Fault(
-            "--zone", "this computer knows no time zone of this name", cure, Status.BAD_WORDS
-        ) from None
+        reason = "this computer knows no time zone of this name"
+        raise Fault("--zone", reason, cure, Status.BAD_WORDS) from None
     folded = [plain.replace(fold=fold) for fold in (0, 1)]
-    first, second = (
-        time.astimezone() if zone is None else time.replace(tzinfo=zone) for time in folded
-    )
+    times = [one.replace(tzinfo=zone) if zone else one.astimezone() for one in folded]
+    shown = [one.astimezone(datetime.UTC).astimezone(zone).replace(tzinfo=None) for one in times]
     where = "where this computer is" if name is None else f"in {name}"
-    if not any(
-        time.astimezone(datetime.UTC).astimezone(zone).replace(tzinfo=None) == plain
-        for time in (first, second)
-    ):
-        raise bad_until(
-            f"{where} there is no such time: the clocks that are put forward on that day skip it",
-            "write another time",
+    if plain not in shown:
+        reason = (
+            f"{where} there is no such time: the clocks that are put forward on that day skip it"
         )
-    if first.utcoffset() != second.utcoffset():
-        both = " or ".join(f'"{time.isoformat(" ", "minutes")}"' for time in (first, second))
-        raise bad_until(
-            f"{where} this time comes twice, since clocks are put back on that day", f"write {both}"
-        )
-    # a fixed offset in place of the zone: what is written down says the same on each computer
-    return datetime.datetime.fromisoformat(first.isoformat(timespec="seconds"))
+        raise bad_until(reason, "write another time")
+    if times[0].utcoffset() != times[1].utcoffset():
+        both = " or ".join(f'"{one.isoformat(" ", "minutes")}"' for one in times)
+        reason = f"{where} this time comes twice, since clocks are put back on that day"
+        raise bad_until(reason, f"write {both}")
+    # with a fixed offset it says the same on each computer
+    return datetime.datetime.fromisoformat(times[0].isoformat(timespec="seconds"))
 
 
 def bad_until(reason: str, cure: str) -> Fault:

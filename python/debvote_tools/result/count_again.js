@@ -10,10 +10,31 @@ function carried(id) {
   return Uint8Array.from(atob(node.textContent), (sign) => sign.charCodeAt(0));
 }
 
-(() => {
-  // milliseconds after which the page gets its turn
-  const SLICE = 12;
+// Runs a count in slices of so many milliseconds, after which the page gets its turn. Null where it is not wanted any more.
+async function inSlices(steps, isWanted, tell = () => {}) {
+  for (;;) {
+    const end = performance.now() + 12;
+    let step;
+    do step = steps.next();
+    while (!step.done && performance.now() < end);
+    if (step.done) return step.value;
+    tell(step.value);
+    await new Promise((done) => setTimeout(done));
+    if (!isWanted()) return null;
+  }
+}
 
+// The options of a ballot in its order, those that are equal together, and those that are not ranked.
+function orderOf(ranks) {
+  const withRank = (rank) => [...ranks.keys()].filter((at) => ranks[at] === rank);
+  const steps = [...new Set(ranks)].filter((rank) => rank !== Infinity).sort((a, b) => a - b);
+  return { steps: steps.map(withRank), unranked: withRank(Infinity) };
+}
+
+// Texts as part of a sentence.
+const joined = (texts, and) => (texts.length > 1 ? texts.slice(0, -1).join(", ") + and + texts.at(-1) : texts[0]);
+
+(() => {
   const byId = (id) => document.getElementById(id);
   const answer = byId("Again-answer");
   const more = byId("Again-more");
@@ -40,20 +61,6 @@ function carried(id) {
     answer.scrollIntoView({ block: "nearest" });
   }
 
-  // Runs the count in slices. Null where another count was asked for meanwhile.
-  async function inSlices(steps, isLast) {
-    for (;;) {
-      const end = performance.now() + SLICE;
-      let step;
-      do step = steps.next();
-      while (!step.done && performance.now() < end);
-      if (step.done) return step.value;
-      progress.value = step.value;
-      await new Promise((done) => setTimeout(done));
-      if (!isLast()) return null;
-    }
-  }
-
   async function countAgain(files) {
     const mine = (asked += 1);
     const isLast = () => mine === asked;
@@ -75,10 +82,13 @@ function carried(id) {
     }
   }
 
-  // What there is to say of the files, once they are counted.
+  // What there is to say of the files, once they are counted; of the page and of SHA256SUMS alone the checksums.
   async function told(files, isLast) {
+    if (!files.poll) return aboutChecksums(files);
     const poll = readPoll(files.poll);
-    const tally = await inSlices(count(poll, files.ballots), isLast);
+    const tally = await inSlices(count(poll, files.ballots), isLast, (share) => {
+      progress.value = share;
+    });
     if (tally === null) return null;
     const why = whyNotSecret(poll, tally);
     if (why !== null) return [wrong(files, "no_secret_vote", { why })];
@@ -131,13 +141,11 @@ function carried(id) {
 
   // A ballot in words, as the page says it; its options are said so.
   function ballotWords(ranks, said) {
-    const steps = [...new Set(ranks)].filter((rank) => rank !== Infinity).sort((a, b) => a - b);
-    const withRank = (rank) => [...ranks.keys()].filter((at) => ranks[at] === rank).map(said);
-    const listed = (some) => (some.length > 1 ? some.slice(0, -1).join(", ") + words.and + some.at(-1) : some[0]);
+    const { steps, unranked } = orderOf(ranks);
+    const listed = (some) => joined(some.map(said), words.and);
     if (steps.length === 0) return words.nothing;
-    const step = (some) => (some.length > 1 ? sentence("equally", { options: listed(some) }) : some[0]);
-    const ranked = steps.map((rank) => step(withRank(rank))).join(words.then);
-    const unranked = withRank(Infinity);
+    const step = (some) => (some.length > 1 ? sentence("equally", { options: listed(some) }) : said(some[0]));
+    const ranked = steps.map(step).join(words.then);
     return unranked.length === 0 ? ranked : sentence("unranked", { ranked, unranked: listed(unranked) });
   }
 
@@ -164,15 +172,20 @@ function carried(id) {
       const plain = poll.shown[at] === poll.names[at] ? "" : sentence("plain_name", { name: poll.names[at] });
       return node.querySelector("b")?.textContent === option(poll, at) && node.textContent.includes(plain);
     };
-    return entries.length === poll.names.length && entries.every(isNamed) && document.querySelector("h1").textContent === poll.shownTitle;
+    const whys = [...document.querySelectorAll(".option > span:first-child")].map((node) => node.textContent).sort().join("\n");
+    const isSame = entries.length === poll.names.length && entries.every(isNamed);
+    const all = [...poll.names.keys()].map((at) => option(poll, at)).sort().join("\n");
+    return isSame && whys === all && document.querySelector("h1").textContent === poll.shownTitle;
   }
 
   // Whether the page shows what its files come to: its result, its names, its votes and its ballots.
   function aboutPage(files, poll, tally, outcome, line) {
     const others = [];
-    const options = line.startsWith("Winner: ") ? [parseInt(line.slice(8), 10) - 1] : outcome.set;
-    const named = [...document.querySelectorAll(".outcome b")].map((node) => node.textContent);
-    if (named.join("\n") !== options.map((at) => option(poll, at)).join("\n")) others.push(sentence("the_result"));
+    // the winner stands alone; in a tie the first sentence names all that are left
+    const won = line.startsWith("Winner: ") ? parseInt(line.slice(8), 10) - 1 : null;
+    const named = [...document.querySelectorAll(won === null ? ".outcome p b" : "#Result b")].map((node) => node.textContent);
+    const wanted = won === null ? outcome.set.map((at) => option(poll, at)) : [poll.shown[won]];
+    if (named.slice(0, won === null ? wanted.length : undefined).join("\n") !== wanted.join("\n")) others.push(sentence("the_result"));
     if (!areNamesSame(poll)) others.push(sentence("the_names"));
     const cells = [...document.querySelectorAll('[aria-labelledby="Votes"] tbody td')].map((cell) => cell.textContent);
     const counted = tally.votes.flatMap((row, a) => row.map((votes, b) => (a === b ? "-" : String(votes))));
@@ -202,9 +215,9 @@ function carried(id) {
   // The checksums of both files, beside those that the page names and the one that was typed.
   async function aboutChecksums(files) {
     if (!globalThis.crypto || !crypto.subtle) return [paragraph("no_sums")];
-    const parts = [["poll_sum", files.poll], ["ballots_sum", files.ballots]];
+    const parts = files.poll ? [["poll_sum", files.poll], ["ballots_sum", files.ballots]] : [];
     const { seal } = byId("Again").dataset;
-    if (seal) parts.push(["sealed_sum", Uint8Array.from([...new TextEncoder().encode(seal + "\n"), ...files.ballots])]);
+    if (seal && files.poll) parts.push(["sealed_sum", Uint8Array.from([...new TextEncoder().encode(seal + "\n"), ...files.ballots])]);
     const named = byId("How-to-verify").closest("section").textContent;
     const typed = checksumTyped();
     const nodes = [];
@@ -216,6 +229,12 @@ function carried(id) {
       isFound = isFound || typed === sum;
       nodes.push(element("p", said.join(" "), named.includes(sum) ? "" : "differs"));
     }
+    // no page can name these
+    for (const [file, bytes] of files.others ?? []) {
+      const sum = await sumOf(bytes);
+      isFound = isFound || typed === sum;
+      nodes.push(element("p", (typed === sum ? `${sentence("letter_same")} ` : "") + sentence("file_sum", { file, sum })));
+    }
     return isFound ? nodes : [element("p", sentence(...unlike(typed)), "differs"), ...nodes];
   }
 
@@ -223,14 +242,18 @@ function carried(id) {
   // two are of a kind. Of a file that is too long no more is read than shows it.
   async function chosen() {
     const found = new Map();
+    const others = [];
     for (const file of byId("Again-files").files) {
-      const kind = ["poll", "ballots", "sheet"].find((start) => file.name.toLowerCase().startsWith(start));
+      const kind = ["poll", "ballots", "sheet", "index", "sha256sums"].find((start) => file.name.toLowerCase().startsWith(start));
       if (found.has(kind)) return null;
-      if (kind) found.set(kind, new Uint8Array(await file.slice(0, MOST_BALLOT_BYTES + 1).arrayBuffer()));
+      if (!kind) continue;
+      found.set(kind, new Uint8Array(await file.slice(0, MOST_BALLOT_BYTES + 1).arrayBuffer()));
+      if (kind === "index" || kind === "sha256sums") others.push([file.name, found.get(kind)]);
     }
     const whoseSheet = found.has("sheet") ? "sheet_chosen" : "sheet_of_page";
-    const files = { whoseSheet, arePublished: false, sheet: carried("Sheet-file"), ...Object.fromEntries(found) };
-    return files.poll && files.ballots ? files : null;
+    const files = { whoseSheet, arePublished: false, others, sheet: carried("Sheet-file"), ...Object.fromEntries(found) };
+    const isWhole = Boolean(files.poll) === Boolean(files.ballots) && (files.poll || (others.length > 0 && !found.has("sheet")));
+    return isWhole ? files : null;
   }
 
   async function countChosen() {

@@ -15,16 +15,19 @@
   const nameInput = byId("Name");
   // only in a secret vote; where codes are on the roll, they are typed as the name
   const codeInput = byId("Code");
+  const isByCode = "type_code" in words;
   // what was typed last; an answer to what was typed before is not shown
   let asked = 0;
 
   const say = (...nodes) => byId("Answer").replaceChildren(...nodes);
 
-  function paragraph(...said) {
-    const node = document.createElement("p");
-    node.textContent = sentence(...said);
+  function element(tag, text) {
+    const node = document.createElement(tag);
+    node.textContent = text;
     return node;
   }
+
+  const paragraph = (...said) => element("p", sentence(...said));
 
   // ---- names
   const folded = (text) => text.normalize("NFKD").replace(/[\p{M}\s]/gu, "").toLowerCase();
@@ -40,13 +43,14 @@
   // A code without the gaps that it may be written with.
   const withoutGaps = (code) => code.replace(/[\s-]/g, "").toLowerCase();
 
-  // What may be meant: as it was typed, those whose real name the page has, by the rules of the roll, and a code on the roll.
+  // What may be meant: as it was typed, those whose real name the page has, and by the rules of the roll; or the code on the roll.
   function namesTyped() {
     const typed = nameInput.value.trim();
+    if (typed === "") return [];
+    if (isByCode && codeInput === null) return [withoutGaps(typed)];
     const known = [...document.querySelectorAll(".roll bdi")].filter((node) => folded(node.textContent) === folded(typed));
     const names = known.map((node) => node.parentNode.firstChild.textContent.trim());
-    const all = [typed.toLowerCase(), ...names, nameOnRoll(typed), withoutGaps(typed)];
-    return typed === "" ? [] : [...new Set(all)];
+    return [...new Set([typed.toLowerCase(), ...names, nameOnRoll(typed)])];
   }
 
   async function aliasOf(name, code) {
@@ -58,49 +62,58 @@
   }
 
   // ---- ballots
-  // The ballot of each elector on the roll by the files of the page, null for those who have none; counted once.
+  // The ballot of each elector on the roll by the files of the page, null for those who have none; null if the page carries no files.
+  async function countFiles() {
+    const [pollBytes, ballotBytes] = [carried("Poll-file"), carried("Ballots-file")];
+    if (pollBytes === null) return null;
+    const poll = readPoll(pollBytes);
+    const tally = await inSlices(count(poll, ballotBytes), () => true);
+    const why = whyNotSecret(poll, tally);
+    if (why !== null) throw Object.assign(new Error(why), { key: "no_secret_vote" });
+    return new Map([...poll.electors].map(([name, at]) => [name, tally.standing[at]?.line ?? null]));
+  }
+
+  // counted once
   let counted;
   function ballotsOfFiles() {
-    if (counted !== undefined) return counted;
-    const [pollBytes, ballotBytes] = [carried("Poll-file"), carried("Ballots-file")];
-    if (pollBytes === null) return (counted = null);
-    const poll = readPoll(pollBytes);
-    const steps = count(poll, ballotBytes);
-    let step = steps.next();
-    while (!step.done) step = steps.next();
-    const why = whyNotSecret(poll, step.value);
-    if (why !== null) throw Object.assign(new Error(why), { key: "no_secret_vote" });
-    const lineOf = (ballot) => (ballot === null ? null : ballot.line);
-    counted = new Map([...poll.electors].map(([name, at]) => [name, lineOf(step.value.standing[at])]));
+    counted ??= countFiles();
     return counted;
   }
 
   // The ballot of an elector as the page has it, and where it has them, as its files have it: null if there is none, undefined if
   // there is no such elector.
-  function ballotOf(elector) {
+  function ballotOf(elector, files) {
     const place = byId(elector);
     const isOnPage = place?.closest(".ballots");
     const onPage = isOnPage ? `${elector} ${place.querySelector("code").textContent}` : place?.closest(".roll, .absent") ? null : undefined;
-    const files = ballotsOfFiles();
     if (files !== null && files.get(elector) !== onPage) throw Object.assign(new Error(), { key: "shows_others" });
     return onPage;
   }
 
-  // The ballot as the page has it, without its place.
-  function ballotNode(elector) {
-    const node = document.createElement("p");
+  // A ballot as a numbered list, with the names that the page has for the options, and as the line that came.
+  function ballotNode(line) {
+    const names = [...document.querySelectorAll('[aria-labelledby="Options"] li b')].map((node) => node.textContent);
+    const ranks = line.split(" ")[1].split(",").map((rank) => (rank === "-" ? Infinity : Number(rank)));
+    const { steps, unranked } = orderOf(ranks);
+    const listed = (some) => joined(some.map((at) => names[at]), words.and);
+    const list = document.createElement("ol");
+    list.append(...steps.map((some) => element("li", some.length > 1 ? sentence("equally", { options: listed(some) }) : names[some[0]])));
+    const node = document.createElement("div");
     node.className = "found";
-    node.append(...[...byId(elector).childNodes].map((part) => part.cloneNode(true)));
+    node.append(...(steps.length > 0 ? [list] : [paragraph("nothing")]));
+    if (steps.length > 0 && unranked.length > 0) node.append(paragraph("not_ranked", { options: listed(unranked) }));
+    node.append(paragraph("line", { line }));
     return node;
   }
 
   // What there is to say of electors, of whom those count that are on the roll. Each has a name that is said.
-  function told(electors) {
-    const found = electors.filter(([elector]) => ballotOf(elector) !== undefined);
+  function told(electors, files) {
+    const found = electors.filter(([elector]) => ballotOf(elector, files) !== undefined);
     if (found.length === 0) return [paragraph("no_elector", { name: electors[0][1], alias: electors[0][0] })];
     return found.flatMap(([elector, name]) => {
-      if (ballotOf(elector) === null) return [paragraph("no_ballot", { name, alias: elector })];
-      return [paragraph("counts", { name }), ballotNode(elector)];
+      const line = ballotOf(elector, files);
+      if (line === null) return [paragraph("no_ballot", { name, alias: elector })];
+      return [paragraph("counts", { name }), ballotNode(line)];
     });
   }
 
@@ -110,17 +123,18 @@
     if (names.length === 0) return say(paragraph("type_name"));
     let electors = names.map((name) => [name, name]);
     const code = withoutGaps((codeInput ?? nameInput).value);
-    if ("type_code" in words && !CODE.test(code)) return say(paragraph("type_code"));
+    if (isByCode && !CODE.test(code)) return say(paragraph("type_code"));
     if (codeInput !== null) {
       if (!globalThis.crypto || !crypto.subtle) return say(paragraph("no_alias"));
       electors = await Promise.all(names.map(async (name) => [await aliasOf(name, code), name]));
     }
-    if (mine !== asked) return undefined;
+    let nodes;
     try {
-      return say(...told(electors));
+      nodes = told(electors, await ballotsOfFiles());
     } catch (fault) {
-      return say(paragraph(fault.key ?? "unread", { fault: fault.message }));
+      nodes = [paragraph(fault.key ?? "unread", { fault: fault.message })];
     }
+    return mine === asked ? say(...nodes) : undefined;
   }
 
   function forget() {
@@ -128,12 +142,15 @@
     say();
   }
 
-  // The ballot that the address of the page names.
-  function showNamed() {
-    const elector = location.hash.slice(1);
-    if (codeInput !== null || byId(elector)?.closest(".ballots, .roll") == null) return;
+  // The ballot that the address of the page names, whatever follows a slash; the browser may have gone to its place in the list.
+  async function showNamed() {
+    const [elector] = location.hash.slice(1).split("/");
+    const place = byId(elector);
+    if (codeInput !== null || place?.closest(".ballots, .roll") == null) return;
     nameInput.value = elector;
-    show();
+    await show();
+    place.closest("details").open = false;
+    byId("Find-your-ballot").scrollIntoView();
   }
 
   // a telephone begins a text with a capital letter

@@ -4,126 +4,141 @@ import base64
 import html
 import re
 import shlex
-from collections.abc import Mapping
+from collections.abc import Iterable, Mapping
+from typing import Any
 
 from markupsafe import Markup
 
-from debvote_tools.poll.call_data import explanations_of, paragraphs_of
+from debvote_tools.cli.terminal_text import seen
 from debvote_tools.debvote import standing_in
-from debvote_tools.text.language import ENGLISH, Language
-from debvote_tools.result import done, names, scripts
-from debvote_tools.result.ballots import late_lines, refused_lines, words_by_ranks
-from debvote_tools.result.counting import Counted
-from debvote_tools.result.doubts import Doubt, sentences_of
-from debvote_tools.result.inputs import Publication
-from debvote_tools.result.options import Options
+from debvote_tools.inbox.lines import ballot_lines
+from debvote_tools.poll.secret import ALIAS, BY_OPENSSL, BY_PYTHON, REMAINS, sealed_checksum
+from debvote_tools.poll.call import OPTION, explanations_of, paragraphs_of
+from debvote_tools.result import facts as files
+from debvote_tools.result import scripts
+from debvote_tools.result.facts import Answers, Facts, after_the_end, all_acts, sentences_of
 from debvote_tools.result.picture import MOST_IN_PAGE, drawing_words, picture_in_page
 from debvote_tools.result.result_letter import told_if_it_decides
 from debvote_tools.result.why import Why
+from debvote_tools.text.ballots import IN_A_LIST, BallotWords
+from debvote_tools.text.language import ENGLISH, Language
 from debvote_tools.text.rendering import InHtml, render_page, resources
-from debvote_tools.poll.aliases import sealed_checksum
-from debvote_tools.poll.words import ALIAS, BY_OPENSSL, BY_PYTHON, REMAINS
+from debvote_tools.text.times import date_in_words
 
 # in bytes; larger files are not carried by the page, and the reader chooses them. Those of a secret
 # vote, which the finding of one's own ballot needs too, never come to more: a poll has at most
 # 1,048,576 bytes, and each of 10,000 ballots at most 129
 CARRIED_LIMIT = 4_000_000
 
+# in bytes; if the names of the options in all ballots come to more, ballots have their numbers
+# alone
+NAMES_LIMIT = 2_000_000
 
-def page_of(
-    publication: Publication, counted: Counted, doubts: list[Doubt], checksums: Mapping[str, str]
-) -> bytes:
+# how many characters of a refused line are shown, and how many bytes of such lines in all, or a few
+# more
+SHOWN, TEXTS_LIMIT = 100, 1_000_000
+
+
+def page_of(given: Facts, answers: Answers, checksums: Mapping[str, str]) -> bytes:
     """The page, whole. `checksums` are those of the files beside it, by their names."""
-    language, sheet, poll = publication.language, counted.sheet, publication.poll
+    language, sheet, poll = given.language, answers.sheet, given.poll
     in_html = InHtml(language.code, language.catalog)
-    options = Options(sheet, poll, in_html)
-    why = Why(options)
-    standing = standing_in(counted.standing_text)
-    ballot_words, have_names = words_by_ranks(options, standing, language)
+    chronicle = given.chronicle or files.Chronicle()
+    # a name that is not plain may be written from right to left, and turns nothing around it
+    pairs = enumerate(zip(poll.names, poll.plain_names), start=1)
+    names = {
+        option: name if name == plain else in_html.given(name) for option, (name, plain) in pairs
+    }
+    named, bold = named_options(names, in_html), Markup('<b data-option="{}">{}</b>').format
+    standing, late = standing_in(answers.standing_text), ballot_lines(given.late or b"")
+    lines = ballot_lines(given.ballots)
+    # many ballots are alike
+    have_names = len(standing) * sum(map(len, named.values())) <= NAMES_LIMIT
+    words = BallotWords(
+        [str(named[key] if have_names else key) for key in named], language, IN_A_LIST
+    )
     style, picture = resources(__package__, "fields.css", "given.css", "page.css"), None
-    if counted.picture is not None and len(sheet.names) <= MOST_IN_PAGE:
+    if answers.picture is not None and len(names) <= MOST_IN_PAGE:
         in_words = language.say("The defeats as a graph. The list above says the same in words.")
-        picture, least_width = picture_in_page(counted.picture, in_words)
+        picture, least_width = picture_in_page(answers.picture, in_words)
         style += f".picture svg {{ min-width: {least_width}px; }}\n"
     return render_page(
         __package__,
         "page.html",
         language,
         style=style,
-        script=resources(__package__, names.SCRIPT, "count_again.js", "find.js", "fold.js"),
+        script=resources(__package__, files.SCRIPT, "count_again.js", "find.js", "fold.js"),
         head=in_html.say("Result: {title}", title=poll.name),
         title=poll.name,
+        days=[date_in_words(day, language) for day in chronicle.days],
         colon=language.between(scripts.COLON),
         plain_name=scripts.PLAIN_NAME,
-        publication=publication,
+        facts=given,
         poll=poll,
-        counted=counted,
         sheet=sheet,
-        options=options,
-        numbers=why.deciding(),
-        casting_vote=told_if_it_decides(publication, sheet),
+        version=answers.version,
+        verified=answers.verified,
+        names=names,
+        named=named,
+        framed=framed_options(names, in_html),
+        why=Why(sheet, {option: bold(option, name) for option, name in named.items()}),
+        casting_vote=told_if_it_decides(given, sheet),
         share=share(sheet.voters, sheet.electors, language),
-        doubts=sentences_of(doubts, language, is_secret=poll.secret),
-        because=paragraphs_of(publication.because or ""),
-        about=paragraphs_of(publication.about or ""),
+        doubts=sentences_of(given.doubts, language, is_secret=poll.secret),
+        because=paragraphs_of(given.because or ""),
+        about=paragraphs_of(given.about or ""),
         given_checksum=None
-        if publication.given_checksum == checksums[names.POLL]
-        else publication.given_checksum,
-        why=[why.entry(option) for option in sheet.names],
+        if given.given_checksum == checksums[files.POLL]
+        else given.given_checksum,
         explanations=explanations_of(poll),
+        has_picture=answers.picture is not None,
         picture=picture,
-        picture_command=shlex.join(drawing_words(len(sheet.names))),
-        ballot_words=ballot_words,
+        picture_command=shlex.join(drawing_words(len(names))),
+        ballot_words={ranks: Markup(words.of(ranks)) for ranks in set(standing.values())},
         have_names=have_names,
         standing=standing,
-        refused=refused_lines(counted.refused, publication.ballots, in_html),
-        late=late_lines(publication.late or b"", in_html),
-        acts=done.all_acts(publication, in_html),
-        after_the_end=done.after_the_end(publication, in_html),
-        remains=[language.say(text) for text in REMAINS] if publication.has_aliases else [],
+        refused=runs_of(
+            (
+                (one.envelope, lines[one.envelope - 1], f"{one.word}: {one.hint}")
+                for one in answers.refused
+            ),
+            in_html,
+        ),
+        late=runs_of(((number, line, "") for number, line in enumerate(late, start=1)), in_html),
+        late_number=given.secret.late if given.secret else len(late),
+        acts=all_acts(given, in_html),
+        after_the_end=after_the_end(given, in_html),
+        remains=[language.say(text) for text in REMAINS] if given.has_aliases else [],
         alias=language.say(ALIAS),
         by_python=BY_PYTHON,
         by_openssl=BY_OPENSSL,
         checksums=checksums,
         # in a secret vote that of the close has the line of the seal, too
-        sealed_checksum=sealed_checksum(publication.seal, publication.ballots)
-        if publication.seal
-        else None,
-        files={
-            *checksums,
-            names.CHECKSUMS,
-            *([names.LETTER] if publication.chronicle is None else []),
-        },
-        casting="".join(f" {word}" for word in map(shlex.quote, publication.casting_words)),
+        sealed_checksum=given.seal and sealed_checksum(given.seal, given.ballots),
+        files=sorted({*checksums, files.CHECKSUMS, *([] if given.chronicle else [files.LETTER])}),
+        casting="".join(f" {word}" for word in map(shlex.quote, given.casting_words)),
         example=next(iter(standing), "NAME"),
-        find_words=scripts.find_words(publication),
+        find_words=scripts.find_words(given),
         find_letters=scripts.find_letters(language),
         again_words=scripts.again_words(language),
-        carried=carried_files(poll.as_bytes(), publication.ballots, counted.sheet_text.encode()),
+        carried=carried_files(poll.as_bytes(), given.ballots, answers.sheet_text.encode()),
     )
 
 
-def carried_files(poll: bytes, ballots: bytes, sheet: bytes) -> dict[str, tuple[str, bool]]:
-    """The files at the end of the page that the browser gives back byte for byte, or the sheet
-    alone if they are too large.
+def named_options(names: Mapping[int, str], language: Language) -> dict[int, str]:
+    """The options with their numbers, as in a sentence."""
+    return {key: language.say(OPTION, number=key, name=name) for key, name in names.items()}
 
-    Each by its place (no elector's name has a capital letter) is text, or base64 if it is not
-    plain: a browser changes carriage returns.
-    """
-    are_small = len(poll) + len(ballots) <= CARRIED_LIMIT
-    files = ({"Poll-file": poll, "Ballots-file": ballots} if are_small else {}) | {
-        "Sheet-file": sheet
+
+def framed_options(names: Mapping[int, str], language: InHtml) -> dict[int, str]:
+    """The same where the number is in a frame of its own, and a reader sees no other sign."""
+    number = Markup('</span><span class="number">{}</span><span class="unseen">').format
+    unseen = Markup('<span class="unseen">{}</span>').format
+    said = {key: language.say(OPTION, number=number(key), name="{}") for key in names}
+    return {
+        key: unseen(Markup(said[key].removesuffix("{}"))) + Markup("<b>{}</b>").format(name)
+        for key, name in names.items()
     }
-    carried: dict[str, tuple[str, bool]] = {}
-    for place, data in files.items():
-        is_plain = re.fullmatch(rb"[\t\n\x20-\x7e]*", data) is not None
-        text = (
-            html.escape(data.decode("ascii"), quote=False)
-            if is_plain
-            else base64.b64encode(data).decode("ascii")
-        )
-        carried[place] = Markup(text), not is_plain
-    return carried
 
 
 def share(voters: int, electors: int, language: Language = ENGLISH) -> str:
@@ -136,3 +151,59 @@ def share(voters: int, electors: int, language: Language = ENGLISH) -> str:
     if tenths % 10 == 0:
         return language.say("{whole} %", whole=tenths // 10)
     return language.say("{whole}.{tenths} %", whole=tenths // 10, tenths=tenths % 10)
+
+
+# ---------------------------------------------------------------- lines that do not count
+def runs_of(found: Iterable[tuple[int, bytes, str]], language: InHtml) -> list[dict[str, Any]]:
+    """Lines with their numbers and causes; those that are alike and follow each other are one
+    entry. If the texts are too many, the last have none.
+    """
+    runs: list[dict[str, Any]] = []
+    left = TEXTS_LIMIT
+    for number, line, cause in found:
+        text = line_on_page(line, language) if left > 0 else None
+        same = {"last": number - 1, "cause": cause, "text": text}
+        if runs and runs[-1].items() >= same.items():
+            runs[-1]["last"] = number
+        else:
+            runs.append({"first": number, **same, "last": number})
+            left -= len(text or "")
+    return runs
+
+
+def line_on_page(line: bytes, language: InHtml) -> str:
+    """A line as the page shows it: characters that are not seen by their numbers, and a long line
+    cut.
+    """
+    if not line:
+        return language.say("(an empty line)")
+    text = line.decode("utf-8", "backslashreplace")
+    shown = Markup("<code><bdi>{}</bdi></code>").format("".join(map(seen, text[:SHOWN])))
+    if len(text) <= SHOWN:
+        return shown
+    return language.say(
+        "{text} (the first {shown} of {number} characters)",
+        text=shown,
+        shown=SHOWN,
+        number=len(text),
+    )
+
+
+# ---------------------------------------------------------------- what the page carries
+def carried_files(poll: bytes, ballots: bytes, sheet: bytes) -> dict[str, tuple[str, bool]]:
+    """The files at the end of the page that the browser gives back byte for byte, or the sheet
+    alone if they are too large.
+
+    Each by its place (no elector's name has a capital letter) is text, or base64 if it is not
+    plain: a browser changes carriage returns.
+    """
+    are_small = len(poll) + len(ballots) <= CARRIED_LIMIT
+    found = {"Poll-file": poll, "Ballots-file": ballots} if are_small else {}
+    carried: dict[str, tuple[str, bool]] = {}
+    for place, data in {**found, "Sheet-file": sheet}.items():
+        is_plain = re.fullmatch(rb"[\t\n\x20-\x7e]*", data) is not None
+        text = (
+            html.escape(data.decode(), quote=False) if is_plain else base64.b64encode(data).decode()
+        )
+        carried[place] = Markup(text), not is_plain
+    return carried

@@ -1,38 +1,41 @@
-"""What is published of an election, from its book: the call, the letter of the close, and the
-result.
+"""What is published of an election, from its book: the call, the letter of the close, and the facts
+of a result.
 """
 
 import dataclasses
 import datetime
 import json
-from collections.abc import Iterator, Mapping
+from collections.abc import Iterator, Mapping, Sequence
 from typing import Any
 
-from debvote_tools.text.ballots import in_normal_form
 from debvote_tools.book import letters, queries
 from debvote_tools.book.acts import Detail
 from debvote_tools.book.book import Book, DoneAct, as_text, from_text
-from debvote_tools.poll.call_data import CallData
-from debvote_tools.debvote import casting_words
 from debvote_tools.book.election import LETTER_TEXT, Election, History, Sealed
+from debvote_tools.cli.console import is_terminal, is_yes, tell_aside
 from debvote_tools.cli.faults import Fault
+from debvote_tools.debvote import casting_words
 from debvote_tools.files import sha256_of
-from debvote_tools.text.language import Language, language_of
 from debvote_tools.inbox.lines import ballot_file
-from debvote_tools.result.doubts import Doubt, Kind
-from debvote_tools.result.inputs import (
+from debvote_tools.inbox.waiting import left
+from debvote_tools.poll.secret import aliased_ballots, sealed_checksum
+from debvote_tools.poll.call import CallData
+from debvote_tools.poll.sealed import SealedPoll
+from debvote_tools.result.facts import (
+    BALLOTS,
+    CHECKSUMS,
+    PAGE,
+    POLL,
     Act,
     CastingVote,
     Chronicle,
-    Closed,
-    Done,
-    Publication,
+    Doubt,
+    Facts,
     SecretVote,
 )
-from debvote_tools.result.names import BALLOTS, CHECKSUMS, PAGE, POLL
+from debvote_tools.text.ballots import in_normal_form
+from debvote_tools.text.language import Language, language_of
 from debvote_tools.text.rendering import render_letter
-from debvote_tools.poll.sealed_poll import SealedPoll
-from debvote_tools.poll.aliases import aliased_ballots, sealed_checksum
 
 
 @dataclasses.dataclass(frozen=True)
@@ -51,13 +54,8 @@ class Words:
 
     @property
     def vote(self) -> CastingVote | None:
-        if self.casting is None:
-            return None
-        return CastingVote(
-            self.casting,
-            self.cast_by,
-            datetime.date.fromisoformat(self.cast_on) if self.cast_on else None,
-        )
+        on = datetime.date.fromisoformat(self.cast_on) if self.cast_on else None
+        return None if self.casting is None else CastingVote(self.casting, self.cast_by, on)
 
 
 def current_data(
@@ -97,44 +95,67 @@ def until_of(said: Detail) -> datetime.datetime | None:
     return datetime.datetime.fromisoformat(said["until"]) if "until" in said else None
 
 
-def last_publication(history: History) -> DoneAct | None:
-    """The last publication since the last close."""
+def zone_of(history: History) -> datetime.tzinfo | None:
+    """The zone in which the end was announced."""
+    return history.until.tzinfo if history.until else datetime.UTC
+
+
+# ---------------------------------------------------------------- publications
+def publications(history: History) -> list[DoneAct]:
+    """The publications since the last close."""
     close = history.closes[-1].number if history.closes else 0
-    return next((act for act in reversed(history.named("publish")) if act.number > close), None)
+    return [act for act in history.named("publish") if act.number > close]
 
 
-def publication_of(election: Election, words: Words) -> Publication:
+def last_publication(history: History) -> DoneAct | None:
+    return next(reversed(publications(history)), None)
+
+
+def detail_of(words: Words, checksums: Mapping[str, str], facts: Facts, *, decides: bool) -> Detail:
+    """The detail of the act, with the checksums that the letter of the result names. `decides` says
+    whether the casting vote does.
+    """
+    return {
+        "words": dataclasses.asdict(words),
+        "casting": words.casting if decides else None,
+        "checksums": {name: checksums[name] for name in (POLL, BALLOTS, PAGE, CHECKSUMS)},
+        "doubts": [doubt.as_data() for doubt in facts.doubts],
+    }
+
+
+# ---------------------------------------------------------------- the facts
+def facts_of(election: Election, words: Words, waiting: Sequence[int]) -> Facts:
+    """`waiting` are the letters that arrived in time and wait."""
     with election.book.snapshot():
         history, sealed, book = election.history(), election.sealed(), election.book
         ballots, late = (
             ballot_file(lines(book)) for lines in (queries.lines_in_time, queries.late_lines)
         )
-        has_names = history.announced("names")
-        electors = queries.electors(book) if has_names or sealed.counted.secret else []
-        chronicle = chronicle_of(book, history, is_secret=sealed.counted.secret)
-        doubts = doubts_of(book, history, sealed.public, words.casting)
+        is_secret, has_names = sealed.counted.secret, history.announced("names")
+        electors = queries.electors(book) if has_names or is_secret else []
+        chronicle = chronicle_of(book, history, is_secret=is_secret)
+        doubts = doubts_of(book, history, sealed.public, words.casting, waiting)
     secret = None
-    if sealed.counted.secret:
-        private_ballots, poll_bytes = ballots, sealed.counted.as_bytes()
+    if is_secret:
+        poll_bytes, casting = sealed.counted.as_bytes(), casting_words(words.casting)
         standing = election.debvote.standing(poll_bytes, ballots)
+        sheet = election.debvote.answer("count", poll_bytes, ballots, *casting).text
         ballots = aliased_ballots(standing, queries.public_names(electors))
         secret = SecretVote(
             codes=frozenset(elector.code for elector in electors if elector.code),
             seal=history.closes[-1].detail["seal"],
-            sheet_text=election.debvote.answer(
-                "count", poll_bytes, private_ballots, *casting_words(words.casting)
-            ).text,
+            sheet_text=sheet,
             late=late.count(b"\n"),
             compared=tuple(shown_by_comparison(election, sealed, history, standing, ballots)),
         )
     demand_as_closed(history, ballots)
-    return Publication(
+    return Facts(
         poll=sealed.public,
         ballots=ballots,
         language=election.language if words.language is None else language_of(words.language),
         casting=words.vote,
         chronicle=chronicle,
-        late=None if sealed.counted.secret else late,
+        late=None if is_secret else late,
         closed=closing_letter(history, sealed.public, election.language)
         if history.closes
         else None,
@@ -157,11 +178,9 @@ def early_end(history: History) -> datetime.datetime | None:
 
 
 def closing_letter(history: History, poll: SealedPoll, language: Language) -> bytes:
-    """The letter of the last close; the poll is the public one. The time is in the zone in which
-    the end was announced.
-    """
-    close, zone = history.closes[-1], history.until.tzinfo if history.until else datetime.UTC
-    time = close.time.astimezone(zone)
+    """The letter of the last close; the poll is the public one."""
+    close = history.closes[-1]
+    time = close.time.astimezone(zone_of(history))
     values = {"close": close, "time": time, "poll": poll, "early_end": early_end(history)}
     return render_letter("debvote_tools.outbox", "closing.txt", language, **values).encode()
 
@@ -176,12 +195,8 @@ def demand_as_closed(history: History, ballots: bytes) -> None:
         words = (
             f"the ballots have the checksum {checksum}, and the close recorded {close['checksum']}"
         )
-        raise Fault(
-            None,
-            words,
-            "keep the folder as it is, and tell the maintainers",
-            done="nothing was published",
-        )
+        cure = "keep the folder as it is, and tell the maintainers"
+        raise Fault(None, words, cure, done="nothing was published")
 
 
 def shown_by_comparison(
@@ -206,37 +221,27 @@ def shown_by_comparison(
     return [name for name in sealed.counted.roll if then.get(name) != now.get(name)]
 
 
-def detail_of(
-    words: Words, checksums: Mapping[str, str], doubts: list[Doubt], *, decides: bool
-) -> Detail:
-    """The detail of the act, with the checksums that the letter of the result names. `decides` says
-    whether the casting vote does.
-    """
-    return {
-        "words": dataclasses.asdict(words),
-        "casting": words.casting if decides else None,
-        "checksums": {name: checksums[name] for name in (POLL, BALLOTS, PAGE, CHECKSUMS)},
-        "doubts": [doubt.as_data() for doubt in doubts],
-    }
-
-
-def doubts_of(book: Book, history: History, poll: SealedPoll, casting: str | None) -> list[Doubt]:
-    found = [] if history.is_closed else [Doubt.of(Kind.NOT_CLOSED)]
+def doubts_of(
+    book: Book, history: History, poll: SealedPoll, casting: str | None, waiting: Sequence[int]
+) -> list[Doubt]:
+    found = [] if history.is_closed else [Doubt("not closed")]
     if (until := early_end(history)) is not None:
         closed = history.closes[0].time.astimezone(until.tzinfo)
+        places = {"closed": closed.isoformat(), "until": until.isoformat()}
         # `close --early` has agreed to it
-        found.append(
-            Doubt(
-                Kind.CLOSED_EARLY,
-                {"closed": closed.isoformat(), "until": until.isoformat()},
-                stops=False,
-            )
-        )
+        found.append(Doubt("closed early", places, stops=False))
     found += late_letters_in_time(book, history)
     names = dict(zip(poll.plain_names, poll.names))
     earlier = dict.fromkeys(act.detail["casting"] for act in history.named("publish"))
     others = [option for option in earlier if option is not None and casting not in (None, option)]
-    return found + [Doubt.of(Kind.OTHER_CASTING_VOTE, option=names[option]) for option in others]
+    found += [Doubt("other casting vote", {"option": names[option]}) for option in others]
+    told = history.closes[-1].detail.get("left", []) if history.closes else []
+    if numbers := [number for number in waiting if number not in told]:
+        waits: dict[str, Any] = {"number": len(numbers), "letters": ", ".join(map(str, numbers))}
+        # an earlier publication may have had it
+        stops = not left(history).issuperset(numbers)
+        found.append(Doubt("letters left", waits, stops))
+    return found
 
 
 def late_letters_in_time(book: Book, history: History) -> list[Doubt]:
@@ -252,39 +257,34 @@ def late_letters_in_time(book: Book, history: History) -> list[Doubt]:
     if not late:
         return []
     last = min(time for time in (history.closes[0].time, history.until) if time is not None)
-    # the zone in which the end was announced
-    zone = history.until.tzinfo if history.until else datetime.UTC
-    numbers = {envelope.letter for envelope in late}
-    arrivals = {
-        kept.number: json.loads(kept.known)["arrived"]
-        for kept in letters.letters(book)
-        if kept.number in numbers
-    }
+    numbers: dict[int | None, list[str]] = {}
+    for envelope in late:
+        numbers.setdefault(envelope.letter, []).append(str(envelope.number))
     found = []
-    for number, arrived in arrivals.items():
+    for kept in letters.letters(book):
+        arrived = json.loads(kept.known)["arrived"] if kept.number in numbers else None
         if arrived is not None and from_text(arrived) <= last:
-            envelopes = " ".join(
-                str(envelope.number) for envelope in late if envelope.letter == number
-            )
-            arrival = from_text(arrived).astimezone(zone).isoformat()
-            found.append(
-                Doubt.of(Kind.LATE_LETTER, letter=number, arrival=arrival, envelopes=envelopes)
-            )
+            places = {
+                "letter": kept.number,
+                "arrival": from_text(arrived).astimezone(zone_of(history)).isoformat(),
+                "envelopes": " ".join(numbers[kept.number]),
+            }
+            found.append(Doubt("late letter", places))
     return found
 
 
-# ---------------------------------------------------------------- acts
+# ---------------------------------------------------------------- what was done
 def chronicle_of(book: Book, history: History, *, is_secret: bool) -> Chronicle:
     acts: list[Act] = []
     for before, act in zip([None, *history.acts], history.acts):
         if before is not None and act.went_back(before):
-            acts.append(Act(act.time, Done.CLOCK, {"before": before.time}))
+            acts.append(Act(act.time, "clock", {"before": before.time}))
         acts += acts_of_page(act, book, history, is_secret=is_secret)
     # lines, rows and ballots of desks that came after the end, and count; what came in after a
     # close had come before it, as its act says
     after_the_end = 0
     if history.until is not None:
-        condition = f"{queries.IN_TIME} AND letter IS NULL AND time > ? AND envelope.act < ?"
+        condition = f"{queries.IN_TIME} AND letter IS NULL AND time > ? AND act < ?"
         first_close = history.closes[0].number if history.closes else history.last.number + 1
         after_the_end = len(queries.lines(book, condition, as_text(history.until), first_close))
     return Chronicle(tuple(acts), history.until, after_the_end)
@@ -299,53 +299,70 @@ def acts_of_page(act: DoneAct, book: Book, history: History, *, is_secret: bool)
     reason = None if is_secret else detail.get("because")
     match act.name:
         case "call":
-            yield Act(time, Done.CALLED_UNTIL if until else Done.CALLED, until)
+            yield Act(time, "called until" if until else "called", until)
         case "take back":
-            yield Act(time, Done.TAKEN_BACK)
+            yield Act(time, "taken back")
         case "extend" if until:
-            yield Act(time, Done.EXTENDED, until)
+            yield Act(time, "extended", until)
         case "addresses":
-            yield Act(time, Done.ROLL_CHANGED, {"number": detail["electors"]})
+            yield Act(time, "roll changed", {"number": detail["electors"]})
         case "strike":
-            done = Done.STRUCK_IN_SECRET if is_secret else Done.STRUCK
             for envelope in queries.envelopes(book, "struck = ?", act.number):
+                done = "struck in secret" if is_secret else "struck"
                 yield Act(time, done, {"envelope": envelope.number}, reason)
         case "close":
-            yield close_of(act, book, history)
+            yield Act(time, "closed", close_of(act, book, history), detail.get("because"))
         case "reopen":
-            yield Act(time, Done.REOPENED, because=reason)
+            yield Act(time, "reopened", because=reason)
         case "moved":
             noted, there = detail["noted"] and detail["noted"]["act"], detail["there"]["act"]
-            done = (
-                Done.MOVED_UNKNOWN
-                if noted is None
-                else Done.RESTORED
-                if noted == there
-                else Done.MOVED
-            )
+            done = "restored" if noted == there else "moved from afar" if noted is None else "moved"
             yield Act(time, done, {"noted": noted, "there": there}, detail["because"])
     if detail.get("keyring"):
-        yield Act(time, Done.KEYRING)
+        yield Act(time, "keyring")
 
 
-def close_of(act: DoneAct, book: Book, history: History) -> Closed:
-    """A close, and how many lines in time came in or were struck since the one before."""
-    detail, came, struck = act.detail, None, None
+def close_of(act: DoneAct, book: Book, history: History) -> dict[str, Any]:
+    """What a close says, and how many lines in time came in or were struck since the one before."""
+    detail: Mapping[str, Any] = act.detail
+    places = {key: detail[key] for key in ("lines", "checksum", "early", "waiting", "after_end")}
     earlier = [close.number for close in history.closes if close.number < act.number]
+    came = struck = None
     if earlier:
-        between = "late = 0 AND {0}.act > ? AND {0}.act < ?"
+        between = "late = 0 AND {0} > ? AND {0} < ?"
         came, struck = (
-            len(queries.lines(book, between.format(table), earlier[-1], act.number))
-            for table in ("envelope", "struck")
+            len(queries.lines(book, between.format(column), earlier[-1], act.number))
+            for column in ("act", "struck")
         )
-    return Closed(
-        act.time,
-        lines=detail["lines"],
-        checksum=detail["checksum"],
-        is_early=detail["early"],
-        waiting=detail["waiting"],
-        after_end=detail["after_end"],
-        because=detail.get("because"),
-        came=came,
-        struck=struck,
-    )
+    return places | {"came": came, "struck": struck}
+
+
+# ---------------------------------------------------------------- texts that a secret vote makes public
+def texts_of_poll(poll: SealedPoll) -> dict[str, str]:
+    """The texts of the options, by their files."""
+    return {f"texts/{number}.txt": text for number, text in enumerate(poll.explanations, start=1)}
+
+
+def agreed_texts(
+    history: History, texts: Mapping[str, str], *, is_agreed: bool, done: str
+) -> list[str]:
+    """The checksums of the texts that are new, for the act that makes them public. Shows these, and
+    asks about them once, unless the command line agrees.
+    """
+    known = {checksum for act in history.acts for checksum in act.detail.get("agreed", ())}
+    sums = {sha256_of(text.encode()): where for where, text in texts.items() if text.strip()}
+    new = {checksum: where for checksum, where in sums.items() if checksum not in known}
+    if new and not is_agreed:
+        for where in new.values():
+            tell_aside(f"{where}:", *(f"  {line}" for line in texts[where].strip().split("\n")))
+        demand_yes("May everybody read this?", "these texts may tell who voted what", done)
+    return list(new)
+
+
+def demand_yes(question: str, why: str, done: str) -> None:
+    """Asks at a terminal, and stops unless the answer is yes; elsewhere it stops."""
+    if not is_terminal():
+        cure = "check that this is all right, then repeat the command with --yes"
+        raise Fault(None, f"the vote is secret, and {why}", cure, done=done)
+    if not is_yes(f"The vote is secret. {question}"):
+        raise Fault(None, "you did not say yes", "put it right, then repeat the command", done=done)

@@ -2,15 +2,14 @@
 lead over it.
 """
 
-from collections.abc import Iterable, Mapping
+from collections.abc import Mapping
 
-from debvote_tools.poll.call_data import OPTION
-from debvote_tools.text.language import Language, marked
-from debvote_tools.result.done import told_acts
-from debvote_tools.result.doubts import Doubt, sentences_of
-from debvote_tools.result.inputs import CastingVote, Publication
-from debvote_tools.text.rendering import render_letter
+from debvote_tools.poll.call import OPTION
+from debvote_tools.result.facts import CastingVote, Facts, sentences_of, told, told_acts
 from debvote_tools.result.sheet import Sheet
+from debvote_tools.result.why import Why
+from debvote_tools.text.language import Language, marked
+from debvote_tools.text.rendering import render_letter
 from debvote_tools.text.times import date_in_words
 
 WHOSE = marked(
@@ -21,47 +20,42 @@ NOBODYS = marked(
 )
 
 
-def letter_of(
-    publication: Publication, sheet: Sheet, doubts: Iterable[Doubt], checksums: Mapping[str, str]
-) -> bytes:
+def letter_of(facts: Facts, sheet: Sheet, checksums: Mapping[str, str]) -> bytes:
     """The letter for all, in plain text, with checksums of the files by their names."""
-    values = letter_values(publication, sheet, doubts, checksums)
+    language, is_secret = facts.language, facts.poll.secret
     return render_letter(
-        __package__, "letter.txt", publication.language, elector=None, **values
+        __package__,
+        "letter.txt",
+        language,
+        poll=facts.poll,
+        ended=outcome_in_words(facts, sheet),
+        casting=told_if_it_decides(facts, sheet),
+        at=facts.at,
+        doubts=sentences_of(facts.doubts, language, is_secret=is_secret),
+        because=facts.because,
+        acts=told_acts(facts, language),
+        checksums=checksums,
+        is_of_call=facts.given_checksum is None,
+        is_closed=facts.closed is not None,
     ).encode()
 
 
-def letter_values(
-    publication: Publication, sheet: Sheet, doubts: Iterable[Doubt], checksums: Mapping[str, str]
-) -> dict[str, object]:
-    """What the letter for all says, and that to each elector."""
-    language, poll = publication.language, publication.poll
-    return {
-        "poll": poll,
-        "ended": outcome_in_words(publication, sheet),
-        "casting": told_if_it_decides(publication, sheet),
-        "at": publication.at,
-        "doubts": sentences_of(doubts, language, is_secret=poll.secret),
-        "because": publication.because,
-        "acts": told_acts(publication, language),
-        "checksums": checksums,
-        "is_of_call": publication.given_checksum is None,
-        "is_closed": publication.closed is not None,
+def outcome_in_words(facts: Facts, sheet: Sheet) -> str:
+    """Who has won, or which options are tied, with the numbers that decide it."""
+    language = facts.language
+    said = {
+        option: language.say(OPTION, number=option, name=name)
+        for option, name in enumerate(facts.poll.names, start=1)
     }
-
-
-def outcome_in_words(publication: Publication, sheet: Sheet) -> str:
-    language, names = publication.language, publication.poll.names
-    left = sheet.left if sheet.winner is None else [sheet.winner]
-    options = language.joined(
-        language.say(OPTION, number=option, name=names[option - 1]) for option in left
-    )
     if sheet.winner is None:
-        return language.say("Tie: {options}", options=options)
-    return language.say(
-        "Winner: {option} by casting vote" if sheet.is_by_casting else "Winner: {option}",
-        option=options,
-    )
+        options = language.joined(said[option] for option in sheet.left)
+        ended = language.say("Tie: {options}", options=options)
+    elif sheet.is_by_casting:
+        ended = language.say("Winner: {option} by casting vote", option=said[sheet.winner])
+    else:
+        ended = language.say("Winner: {option}", option=said[sheet.winner])
+    numbers = told(language, "why.jinja").numbers(Why(sheet, said))
+    return f"{ended}. {numbers}" if numbers else ended
 
 
 def casting_in_words(vote: CastingVote, language: Language) -> str:
@@ -70,9 +64,6 @@ def casting_in_words(vote: CastingVote, language: Language) -> str:
     return language.say(WHOSE, name=vote.by, date=date_in_words(vote.on, language))
 
 
-def told_if_it_decides(publication: Publication, sheet: Sheet) -> str:
-    return (
-        casting_in_words(publication.casting, publication.language)
-        if sheet.is_by_casting and publication.casting
-        else ""
-    )
+def told_if_it_decides(facts: Facts, sheet: Sheet) -> str:
+    decides = sheet.is_by_casting and facts.casting
+    return casting_in_words(decides, facts.language) if decides else ""

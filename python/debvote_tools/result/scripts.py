@@ -3,10 +3,10 @@
 import json
 
 from debvote_tools.text.ballots import IN_A_LIST
-from debvote_tools.poll.call_data import OPTION
+from debvote_tools.poll.call import OPTION
 from debvote_tools.text.language import Language, marked
 from debvote_tools.poll.plain_names import PLAIN_LETTERS, PUNCTUATION, SPELLINGS
-from debvote_tools.result.inputs import Publication
+from debvote_tools.result.facts import Facts
 
 PLAIN_NAME = marked("plain name, on the result sheet: {name}")
 COLON = marked("{before}: {after}")
@@ -20,6 +20,10 @@ FIND = {
         "This page shows other ballots than its files have. Tell the other electors."
     ),
     "counts": marked("This ballot counts for {name}:"),
+    "equally": IN_A_LIST.equally,
+    "nothing": IN_A_LIST.nothing,
+    "not_ranked": marked("Not ranked: {options}"),
+    "line": marked("The line: {line}"),
     "type_name": marked("Type your name."),
 }
 CODE_DIGITS = marked("A code has 32 digits, 0 to 9 and a to f. Type yours as it is on your slip.")
@@ -83,6 +87,7 @@ COUNT_AGAIN = {
     "sealed_sum": marked(
         "The checksum of seal.txt and the ballots, as the letter of the close has to have it, is {sum}."
     ),
+    "file_sum": marked("The checksum of {file} is {sum}."),
     "sum_named": marked("This page names it too."),
     "sum_not_named": marked(
         "This page does not name it: the files are others than those from which it was made."
@@ -90,7 +95,7 @@ COUNT_AGAIN = {
     "letter_same": marked("Yours is the same."),
     "letter_other": marked(
         "None of these is the checksum that you typed. If it is that of the poll or of the ballots, and typed right, your letter speaks "
-        "of other files: ask for them. If it is that of this page or of SHA256SUMS: no page can make these."
+        "of other files: ask for them. If it is that of index.html or of SHA256SUMS: choose this file, as you downloaded it."
     ),
     "letter_digits": marked(
         "A checksum has 64 digits, 0 to 9 and a to f, and you have typed {number}."
@@ -110,16 +115,11 @@ COUNT_AGAIN = {
 }
 
 
-def find_words(publication: Publication) -> str:
+def find_words(facts: Facts) -> str:
     """For the script that finds a ballot, as JSON."""
-    own = (
-        FIND_BY_CODE
-        if publication.has_codes
-        else FIND_IN_SECRET
-        if publication.poll.secret
-        else FIND_IN_OPEN
-    )
-    return publication.language.words(FIND | own)
+    own = FIND_BY_CODE if facts.has_codes else FIND_IN_SECRET if facts.poll.secret else FIND_IN_OPEN
+    between = facts.language.between("{entries} and {last}")
+    return facts.language.words(FIND | own, **{"and": between})
 
 
 def find_letters(language: Language) -> str:
@@ -140,7 +140,7 @@ def again_words(language: Language) -> str:
         "then": IN_A_LIST.then,
         "and": "{entries} and {last}",
         "colon": COLON,
-        "semicolon": "{before}; {after}",
+        "semicolon": marked("{before}; {after}"),
     }
     return language.words(
         COUNT_AGAIN | ballots, **{name: language.between(text) for name, text in between.items()}

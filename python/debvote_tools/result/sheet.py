@@ -9,7 +9,7 @@ import json
 import re
 
 from debvote_tools.cli.faults import other_format
-from debvote_tools.poll.sealed_poll import SealedPoll
+from debvote_tools.poll.sealed import SealedPoll
 
 Pair = tuple[int, int]
 
@@ -17,16 +17,8 @@ OPTION_LINE = re.compile(r" *(\d+) (?:ratio (\d+)|default) (.*)")
 QUORUM_LINE = re.compile(r"(\d+)Q, (\d+) votes")
 DEFEAT_LINE = re.compile(r" *(?:drop +)?(\d+) over +(\d+).*")
 
-# what a name may begin with that a spreadsheet would run, and the sign that keeps it from that
+# a spreadsheet would run a name that begins so; an apostrophe before it keeps it from that
 STEERING = ("=", "+", "-", "@", "'")
-
-
-@dataclasses.dataclass(frozen=True)
-class Round:
-    """The options of the set of a round, and the defeats that it removes."""
-
-    options: list[int]
-    removed: list[Pair]
 
 
 @dataclasses.dataclass(frozen=True)
@@ -46,13 +38,14 @@ class Sheet:
     refused: int
     voters: int
     names: dict[int, str]
-    # all options have one but the default option
+    # of all options but the default option
     ratios: dict[int, int]
     # how many electors prefer the first of two options to the second
     votes: dict[Pair, int]
     dropped: dict[int, str]
     defeats: list[Pair]
-    rounds: list[Round]
+    # the options of the set of each round, and the defeats that it removes
+    rounds: list[tuple[list[int], list[Pair]]]
     last_line: str
     # None if it is a tie
     winner: int | None
@@ -66,7 +59,7 @@ class Sheet:
 
     @property
     def left(self) -> list[int]:
-        return self.rounds[-1].options
+        return self.rounds[-1][0]
 
     def ended(self, option: int) -> str:
         """How it ended for an option, in a word: `won`, `left` in a tie, dropped for its `quorum`
@@ -103,12 +96,12 @@ def sheet_of(lines: list[str]) -> Sheet:
     names = {int(option): name for option, _, name in shown}
     rows = [line.split() for line in lines[votes + 2 : dropped]]
     causes = [line.split() for line in lines[dropped + 1 : defeats] if line != "  none"]
-    rounds: list[Round] = []
+    rounds: list[tuple[list[int], list[Pair]]] = []
     for line in lines[first_round:-1]:
         if line.startswith("Round "):
-            rounds.append(Round([int(option) for option in line.split(": ")[1].split()], []))
+            rounds.append(([int(option) for option in line.split(": ")[1].split()], []))
         else:
-            rounds[-1].removed.append(pair_in(line))
+            rounds[-1][1].append(pair_in(line))
     winner = re.fullmatch(r"Winner: (\d+) (.*)", lines[-1])
     outside = re.fullmatch(r"Tie: [\d ]+, casting option (\d+) is not among them", lines[-1])
     return Sheet(
@@ -148,9 +141,7 @@ def pair_in(line: str) -> Pair:
 
 
 def parts_of(pattern: re.Pattern[str], line: str) -> tuple[str, ...]:
-    """The parts of a line, empty where a part is missing. Raises ValueError if the line does not
-    fit.
-    """
+    """The parts of a line, empty where a part is missing. Raises ValueError if it does not fit."""
     parts = pattern.fullmatch(line)
     if parts is None:
         raise ValueError(line)
@@ -160,6 +151,10 @@ def parts_of(pattern: re.Pattern[str], line: str) -> tuple[str, ...]:
 # ---------------------------------------------------------------- as data
 def result_json(sheet: Sheet, poll: SealedPoll, version: str) -> str:
     """The sheet as JSON, a key a line. A label is what people read as the name."""
+
+    def pairs(defeats: list[Pair]) -> list[dict[str, int]]:
+        return [{"over": a, "under": b} for a, b in defeats]
+
     document = {
         "format": "debvote result 1",
         "program": version,
@@ -186,13 +181,10 @@ def result_json(sheet: Sheet, poll: SealedPoll, version: str) -> str:
         ],
         "votes": [[sheet.votes.get((a, b)) for b in sheet.names] for a in sheet.names],
         "defeats": [
-            {"over": a, "under": b, "votes": sheet.votes[a, b], "against": sheet.votes[b, a]}
-            for a, b in sheet.defeats
+            defeat | {"votes": sheet.votes[pair], "against": sheet.votes[pair[::-1]]}
+            for pair, defeat in zip(sheet.defeats, pairs(sheet.defeats))
         ],
-        "rounds": [
-            {"set": step.options, "removed": [{"over": a, "under": b} for a, b in step.removed]}
-            for step in sheet.rounds
-        ],
+        "rounds": [{"set": left, "removed": pairs(removed)} for left, removed in sheet.rounds],
         "outcome": {
             "winner": sheet.winner,
             "is_by_casting_vote": sheet.is_by_casting,
@@ -200,32 +192,21 @@ def result_json(sheet: Sheet, poll: SealedPoll, version: str) -> str:
             "casting_vote_outside": sheet.casting_outside,
         },
     }
-    lines = [
-        f"{json.dumps(key)}: {json.dumps(value, ensure_ascii=False)}"
-        for key, value in document.items()
-    ]
+    lines = (
+        f"{json.dumps(key)}: {json.dumps(document[key], ensure_ascii=False)}" for key in document
+    )
     return "{\n" + ",\n".join(lines) + "\n}\n"
 
 
 def votes_csv(sheet: Sheet) -> str:
     """The table of votes, a row an option: its number, its name, its ratio, how it ended, and the
     votes over each option.
-
-    A name that a spreadsheet would run has an apostrophe before it, and so has one that begins with
-    an apostrophe.
     """
     table = io.StringIO()
     writer = csv.writer(table, lineterminator="\n")
     writer.writerow(["option", "name", "ratio", "ended", *sheet.names])
     for a, name in sheet.names.items():
+        shown = f"'{name}" if name.startswith(STEERING) else name
         votes = [sheet.votes.get((a, b), "") for b in sheet.names]
-        writer.writerow(
-            [
-                a,
-                f"'{name}" if name.startswith(STEERING) else name,
-                sheet.ratios.get(a, ""),
-                sheet.ended(a),
-                *votes,
-            ]
-        )
+        writer.writerow([a, shown, sheet.ratios.get(a, ""), sheet.ended(a), *votes])
     return table.getvalue()

@@ -1,245 +1,126 @@
-"""Why each option has won, is left in a tie, was dropped or has lost: a sentence each, with the
-numbers of the sheet.
+"""Why each option has won, is left in a tie, was dropped or has lost, in numbers. `why.jinja` has
+their sentences, each of which is filled by a row of places.
 """
 
-from collections.abc import Iterator
+from collections.abc import Iterable, Mapping
+from typing import Any
 
-from debvote_tools.text.language import marked, numbered
-from debvote_tools.result.options import Options
-from debvote_tools.result.sheet import Pair
+from debvote_tools.result.sheet import Pair, Sheet
 
-# of more options than these only the numbers of the nearest are in a sentence
-MOST = 3
-
-QUORUM_REACHED = marked("it reached the quorum: {prefer}, {wanted}")
-QUORUM_MISSED = marked("it did not reach the quorum: {prefer}, {wanted}")
-SIMPLE_MAJORITY = marked("it has its majority: {over} to {under}")
-MAJORITY = marked("it has its majority: {over} to {under}, and its ratio is {ratio}, so {wanted}")
-NO_MAJORITY = marked("it has no majority: {over} to {under}, and its ratio is {ratio}, so {wanted}")
-
-DEFEATS_EACH = marked("it defeats each other option that was not dropped: {options}")
-DEFEATS_EACH_OF_MANY = marked(
-    "it defeats each of the {others} other options that were not dropped, most narrowly {option}"
-)
-DEFEATS_MANY = marked(
-    "it defeats {number} of the {others} other options that were not dropped, most narrowly {option}"
-)
-REMOVED_LOST = numbered(
-    "{options} defeats it, but this defeat was the weakest, and was removed in round {round}",
-    "{options} defeat it, but these defeats were the weakest, and were removed in round {round}",
-)
-REMOVED_WON = numbered(
-    "it defeats {options}, but this defeat was the weakest, and was removed in round {round}",
-    "it defeats {options}, but these defeats were the weakest, and were removed in round {round}",
-)
-LEFT_WITH = marked("it is left with {options}, and no defeat among them is left")
-LEFT_WITH_MANY = marked("it is left with {number} other options, and no defeat among them is left")
-BESIDE = marked("{option} ({over} to {under})")
-BESIDE_REMOVED = marked("{option} ({over} to {under}, a defeat that was removed in round {round})")
-LOSES_NEXT = marked("{before}, which loses to {option} by {over} to {under}")
+Row = dict[str, Any]
 
 
 class Why:
-    def __init__(self, options: Options) -> None:
-        self.options, self.sheet, self.language = options, options.sheet, options.language
-        self.say, self.votes = options.language.say, options.sheet.votes
+    """`said` has the options as parts of a sentence."""
 
-    def entry(self, option: int) -> str:
-        """How it ended for an option, and why."""
-        return self.say(
-            "{verdict}: {reasons}.",
-            verdict=self.options.verdict(option),
-            reasons=self.reasons(option),
-        )
+    def __init__(self, sheet: Sheet, said: Mapping[int, str]) -> None:
+        self.sheet, self.said, self.default = sheet, said, sheet.default
+        # what the whole width of a bar means: all voters, or the quorum if it is greater
+        self.whole = max(sheet.voters, sheet.quorum, 1)
+        # the defeats that were removed as the weakest, with their rounds
+        self.removed = {
+            pair: number
+            for number, (_, removed) in enumerate(sheet.rounds, start=1)
+            for pair in removed
+        }
 
-    def deciding(self) -> list[str]:
-        """Why the winner has won, or why options are tied; if many are tied, only the part `Why`
-        has it.
+    def names(self, options: Iterable[int]) -> list[str]:
+        return [self.said[option] for option in options]
+
+    def rows(self, pairs: Iterable[Pair]) -> list[Row]:
+        return [self.row(pair) for pair in pairs]
+
+    def row(self, pair: Iterable[int]) -> Row:
+        """Two options, and how many prefer the first and the second."""
+        a, b = pair
+        over, under = self.sheet.votes[a, b], self.sheet.votes[b, a]
+        removed = self.removed.get((a, b)) or self.removed.get((b, a))
+        names = {"option": self.said[a], "other": self.said[b]}
+        return names | {"over": over, "under": under, "round": removed}
+
+    # ------------------------------------------------------------ beside the default option
+    def majority(self, option: int) -> int:
+        """The least number that is a majority against those who prefer the default option."""
+        ratio, under = self.sheet.ratios[option], self.sheet.votes[self.default, option]
+        return ratio * under + 1 if self.sheet.is_more_than else max(ratio * under, under + 1)
+
+    def needs(self, option: int) -> Row:
+        """How many prefer an option to the default option, the reverse, and rank both equally; and
+        how many it needs: for what it was dropped for, or for quorum and majority.
         """
-        if self.sheet.winner is not None:
-            return [self.say("In numbers: {reasons}.", reasons=self.reasons(self.sheet.winner))]
-        return (
-            [self.entry(option) for option in self.sheet.left]
-            if len(self.sheet.left) <= MOST
-            else []
-        )
+        row, majority = self.row((option, self.default)), self.majority(option)
+        by_cause = {"quorum": self.sheet.quorum, "majority": majority}
+        dropped = self.sheet.dropped.get(option)
+        return row | {
+            "equal": self.sheet.voters - row["over"] - row["under"],
+            "ratio": self.sheet.ratios[option],
+            "needed": by_cause[dropped] if dropped else max(by_cause.values()),
+        }
 
-    def reasons(self, option: int) -> str:
-        if option in self.sheet.dropped:
-            return (
-                self.quorum(option)
-                if self.sheet.dropped[option] == "quorum"
-                else self.majority(option)
-            )
-        if option not in self.sheet.left:
-            found = self.out_of_the_set(option)
-        else:
-            found = self.tied(option) if len(self.sheet.left) > 1 else self.left_alone(option)
-        return self.language.in_a_row([*self.admitted(option), *found])
+    @property
+    def has_quorum(self) -> bool:
+        """Whether some option reaches the quorum."""
+        return any(self.needs(option)["over"] >= self.sheet.quorum for option in self.sheet.ratios)
 
-    # ------------------------------------------------------------ quorum and majority
-    def admitted(self, option: int) -> list[str]:
-        if option == self.sheet.default:
-            return [self.say("it needs no quorum and no majority")]
-        return [
-            *([self.quorum(option)] if self.sheet.quorum_multiple else []),
-            self.majority(option),
-        ]
+    @property
+    def failed(self) -> list[Row]:
+        """What the options that were dropped need, the nearest first."""
+        rows = map(self.needs, self.sheet.dropped)
+        return sorted(rows, key=lambda row: int(row["needed"] - row["over"]))
 
-    def quorum(self, option: int) -> str:
-        said = QUORUM_MISSED if option in self.sheet.dropped else QUORUM_REACHED
-        over, _ = self.options.against_default(option)
-        return self.say(
-            said, prefer=self.options.prefer(over), wanted=self.options.wanted(self.sheet.quorum)
-        )
+    # ------------------------------------------------------------ beside each other
+    def ended(self, option: int) -> str:
+        """As the sheet, but `cast` if the casting vote chose another one."""
+        ended = self.sheet.ended(option)
+        return "cast" if ended == "lost" and option in self.sheet.left else ended
 
-    def majority(self, option: int) -> str:
-        ratio, (over, under) = self.sheet.ratios[option], self.options.against_default(option)
-        said = (
-            NO_MAJORITY
-            if option in self.sheet.dropped
-            else SIMPLE_MAJORITY
-            if ratio == 1
-            else MAJORITY
-        )
-        return self.say(
-            said,
-            over=over,
-            under=under,
-            ratio=ratio,
-            wanted=self.options.wanted(self.options.least(option)),
-        )
-
-    # ------------------------------------------------------------ in the last set
-    def left_alone(self, option: int) -> Iterator[str]:
-        others = [
-            other
-            for other in self.sheet.names
-            if other != option and other not in self.sheet.dropped
-        ]
-        beaten = [other for other in others if (option, other) in self.sheet.defeats]
-        if not others:
-            yield self.say("all other options were dropped")
-        if beaten:
-            yield self.defeated(option, beaten, len(others))
-        yield from self.removed(option, is_winner=False)
-        if len(beaten) < len(others):
-            yield self.say(
-                "no other option is in the set of round {round}", round=len(self.sheet.rounds)
-            )
-
-    def defeated(self, option: int, beaten: list[int], others: int) -> str:
-        """The options that an option defeats, of a number of others, with the votes; of many the
-        nearest.
+    @property
+    def in_order(self) -> list[int]:
+        """The winner, then the options that stay in the set for most rounds, and last those that
+        were dropped.
         """
-        if len(beaten) <= MOST:
-            shown = self.language.joined(self.by((option, other), other) for other in beaten)
-            return self.say(
-                DEFEATS_EACH if 1 < len(beaten) == others else marked("it defeats {options}"),
-                options=shown,
-            )
-        nearest = min(
-            beaten, key=lambda other: self.votes[option, other] - self.votes[other, option]
-        )
-        said = DEFEATS_EACH_OF_MANY if len(beaten) == others else DEFEATS_MANY
-        return self.say(
-            said, number=len(beaten), others=others, option=self.by((option, nearest), nearest)
-        )
 
-    def by(self, defeat: Pair, option: int) -> str:
-        """An option of a defeat, with its numbers."""
-        over, under = self.votes[defeat], self.votes[defeat[::-1]]
-        return self.say(
-            "{option} by {over} to {under}",
-            option=self.options.said[option],
-            over=over,
-            under=under,
-        )
+        def rank(option: int) -> tuple[bool, bool, int, int]:
+            rounds = sum(option in options for options, _ in self.sheet.rounds)
+            return option != self.sheet.winner, option in self.sheet.dropped, -rounds, option
 
-    def tied(self, option: int) -> Iterator[str]:
-        """With which options it is left, and what the casting vote says."""
-        others, winner = [other for other in self.sheet.left if other != option], self.sheet.winner
-        if len(others) <= MOST:
-            yield self.say(
-                LEFT_WITH,
-                options=self.language.joined(self.beside(option, other) for other in others),
-            )
-        else:
-            yield self.say(LEFT_WITH_MANY, number=len(others))
-        if winner == option:
-            yield self.say("the casting vote chose it")
-        elif winner is not None:
-            yield self.say("the casting vote chose {option}", option=self.options.said[winner])
+        return sorted(self.sheet.names, key=rank)
 
-    def beside(self, option: int, other: int) -> str:
-        """Another option that is left, with the numbers of both; if one defeats the other, with the
-        round that removed this defeat.
+    def others(self, option: int) -> list[int]:
+        """The other options that were not dropped."""
+        return [one for one in self.sheet.names if one not in (option, *self.sheet.dropped)]
+
+    def beaten(self, option: int) -> list[Row]:
+        """The defeats by an option that were not removed, the narrowest first."""
+        pairs = [pair for pair in self.sheet.defeats if pair[0] == option]
+        rows = self.rows(pair for pair in pairs if pair not in self.removed)
+        return sorted(rows, key=lambda row: int(row["over"] - row["under"]))
+
+    def set_aside(self, option: int | None = None) -> list[Row]:
+        """The defeats that were removed: all, or those by an option."""
+        return self.rows(pair for pair in self.removed if option in (None, pair[0]))
+
+    def left_with(self, option: int) -> list[Row]:
+        """An option of the last set, and each other one."""
+        return self.rows((option, other) for other in self.sheet.left if other != option)
+
+    def chain(self, option: int) -> list[Row]:
+        """The shortest chain of defeats through which an option is not left: the first defeats it,
+        and each further one the option before. It ends in the set of the round in which the option
+        is out; of several chains it is that to the winner, or else to the least number.
         """
-        pairs = {(option, other), (other, option)}
-        removed = next(
-            (
-                number
-                for number, step in enumerate(self.sheet.rounds, start=1)
-                if pairs & {*step.removed}
-            ),
-            None,
-        )
-        over, under = self.votes[option, other], self.votes[other, option]
-        said = BESIDE if removed is None else BESIDE_REMOVED
-        return self.say(
-            said, option=self.options.said[other], over=over, under=under, round=removed
-        )
-
-    def removed(self, option: int, *, is_winner: bool) -> Iterator[str]:
-        """The defeats that were removed, round by round: those that the option has won, or lost."""
-        for number, step in enumerate(self.sheet.rounds, start=1):
-            pairs = [pair for pair in step.removed if option == pair[0 if is_winner else 1]]
-            shown = [self.by(pair, pair[1 if is_winner else 0]) for pair in pairs]
-            if shown:
-                said, joined = REMOVED_WON if is_winner else REMOVED_LOST, self.language.joined(
-                    shown
-                )
-                yield self.language.say_number(*said, len(shown), options=joined, round=number)
-
-    # ------------------------------------------------------------ out of the set
-    def out_of_the_set(self, option: int) -> Iterator[str]:
-        """Why an option is not left: how it loses to one that is in the set of the round in which
-        it is out.
-        """
-        earlier = [step for step in self.sheet.rounds if option in step.options]
-        gone = {pair for step in earlier for pair in step.removed}
-        within = set(self.sheet.rounds[len(earlier)].options)
-        if earlier:
-            yield from self.removed(option, is_winner=True)
-        said, loser = "", option
-        for winner in self.chain_to(
-            option, within, [pair for pair in self.sheet.defeats if pair not in gone]
-        ):
-            form = LOSES_NEXT if said else marked("it loses to {option} by {over} to {under}")
-            over, under = self.votes[loser, winner], self.votes[winner, loser]
-            said = self.say(
-                form, before=said, option=self.options.said[winner], over=over, under=under
-            )
-            loser = winner
-        yield said
-
-    def chain_to(self, option: int, within: set[int], defeats: list[Pair]) -> list[int]:
-        """The options of the shortest chain of defeats from an option into the set: each defeats
-        the one before it.
-
-        Of several chains it is that to the winner, or else to the least number.
-        """
-        chains: dict[int, list[int]] = {option: []}
+        earlier = [removed for options, removed in self.sheet.rounds if option in options]
+        gone = {pair for removed in earlier for pair in removed}
+        within = {*self.sheet.rounds[len(earlier)][0]}
+        chains: dict[int, list[Pair]] = {option: []}
         last = [option]
-        while not within & chains.keys():
-            step: dict[int, list[int]] = {}
-            for b in last:
-                step |= {
-                    a: [*chains[b], a]
-                    for a, loser in defeats
-                    if loser == b and a not in chains and a not in step
-                }
+        while not (ends := within & chains.keys()):
+            step: dict[int, list[Pair]] = {}
+            for loser in last:
+                for a, b in self.sheet.defeats:
+                    if b == loser and (a, b) not in gone and not (a in chains or a in step):
+                        step[a] = [*chains[loser], (a, b)]
             chains |= step
             last = sorted(step)
-        ends = within & chains.keys()
-        return chains[self.sheet.winner if self.sheet.winner in ends else min(ends)]
+        found = chains[self.sheet.winner if self.sheet.winner in ends else min(ends)]
+        return self.rows(found)

@@ -51,9 +51,9 @@ class Language:
         """A sentence in its form for a number, whose place is `{number}`."""
         return self.made(self.catalog.ngettext(one, many, number)).format(number=number, **places)
 
-    def in_a_row(self, said: Iterable[str]) -> str:
-        """Sentences one after another, with semicolons."""
-        return self.between("{before}; {after}").join(said)
+    def say_each(self, text: str, rows: Iterable[Mapping[str, object]]) -> str:
+        """Says it for each row of places, as part of a sentence."""
+        return self.joined(self.say(text, **row) for row in rows)
 
     def joined(self, entries: Iterable[str]) -> str:
         """The entries as part of a sentence; there is at least one."""

@@ -19,7 +19,7 @@ import jinja2
 from markupsafe import Markup
 
 from debvote_tools.text.ballots import ranks_in_words
-from debvote_tools.text.language import ENGLISH, Language
+from debvote_tools.text.language import ENGLISH, Language, marked
 from debvote_tools.text.times import time_in_words
 
 # mail programs leave lines of this length as they are
@@ -90,12 +90,13 @@ def templates_of(package: str, language: Language, *, is_page: bool) -> jinja2.E
     )
     environment.filters |= PAGE_FILTERS if is_page else LETTER_FILTERS
     for names, place in (
-        (("given", "strong", "exact"), environment.filters),
-        (("say", "say_number", "link", "joined"), environment.globals),
+        (("given", "strong", "exact", "quoted"), environment.filters),
+        (("say", "say_number", "say_each", "link", "joined"), environment.globals),
     ):
         place |= {name: getattr(speaker, name) for name in names}
     environment.globals |= {
         "is_page": is_page,
+        "marked": marked,
         "time_in_words": functools.partial(time_in_words, language=language),
         "ranks_in_words": functools.partial(ranks_in_words, language=language),
     }

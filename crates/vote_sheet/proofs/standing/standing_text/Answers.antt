@@ -1,3 +1,4 @@
+-- The text so far, and the lines of the voters that are left, are the whole text. The next voter's ballot is the last valid one of the lines, by the law `last_lines_stand`.
 use Rattle.std.proofs.Common.{◌≡◌, ℕ, ◌+◌, ◌++◌, [], None, append_assoc, ap, drop, get_or, subst, sym, ◌∙◌, arith, string_bytes, take}
 use mathlib.Core.List.{append-nil}
 use Rattle.std.proofs.lemmas.List.{drop_all}

@@ -1,3 +1,4 @@
+-- After each turn the rest of the text begins with the line of that index. A text without a further line feed has no further line.
 use Rattle.std.proofs.Common.{◌≡◌, ◌==◌, ◌∙◌, arith, ap, drop, sym}
 use Rattle.std.specs.List.{slice_split}
 use Rattle.vote_poll_text.specs.Lines.{without_last_feed}

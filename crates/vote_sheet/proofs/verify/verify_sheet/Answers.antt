@@ -1,3 +1,4 @@
+-- The text was found among the sheets with the shared lines. These lines are those of the count, so what was found is said of the sheets of the poll and its lines.
 use Rattle.std.proofs.Common.{◌≡◌, ◌++◌, ◌∙◌, ap, string_bytes, subst, sym}
 use Rattle.vote_sheet.specs.Counted.{IsWhole, shared_text}
 use Rattle.vote_sheet.specs.Sheet.{Text}

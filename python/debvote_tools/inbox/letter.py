@@ -1,0 +1,421 @@
+"""What the bytes of a letter alone say: who sent it, when it arrived, its text; or why it can't be
+read with certainty.
+"""
+
+import dataclasses
+import datetime
+import email.header
+import email.utils
+import functools
+import hashlib
+import itertools
+import json
+import re
+import typing
+from collections.abc import Callable, Sequence
+from typing import Any
+
+from debvote_tools.inbox.html import read_html
+from debvote_tools.inbox.mailbox import RawLetter
+from debvote_tools.inbox.mime import MAX_PARTS, Part, address_key
+from debvote_tools.inbox.reasons import Because, Reason
+from debvote_tools.poll.marks import marks_in
+
+# in bytes: a text, and all texts of a letter
+MAX_TEXT, MAX_TEXTS = 262_144, 1_048_576
+# in characters: what is read of a field of the head, and a line that may be a ballot
+MAX_FIELD, MAX_LINE = 2_000, 500
+# lines and HTML tags in all texts, and how many lines are shown of a letter with more
+MAX_LINES, SHOWN_LINES = 10_000, 200
+LINE_OR_MARK = b"\n\r\v\f\x1c\x1d\x1e<"
+# a ballot has a digit or a hyphen
+RANK = re.compile("[\\d\u2010-\u2014\u2212-]")
+
+CHARSETS = re.compile(
+    r"utf-?8|us-ascii|ascii|iso-?8859-\d{1,2}|(?:windows-|cp)125\d", re.IGNORECASE
+)
+# a letter in one of these waits, and is shown; some that no mail program uses take quadratic time
+SHOWN_CHARSETS = re.compile(
+    r"(?:us-)?ascii|(?:big5|cp|euc|gb|hz|iso|koi|ks|latin|mac|shift|tis|utf|windows)[\w.:-]*",
+    re.IGNORECASE,
+)
+# control characters that mail programs show as Windows does, such as a dash
+AS_WINDOWS = {
+    number: bytes([number]).decode("cp1252", "replace")
+    for number in range(0x80, 0xA0)
+    if number != ord("\x85")
+}
+# other control characters but tab and line feed: some programs omit them, or end a line there
+CONTROL = re.compile("[\0-\x08\v\f\x0e-\x1f\x7f\x85\u2028\u2029]|\r(?!\n)")
+# mail servers write this field into the head of each letter
+RECEIVED = re.compile(r"received[ \t]*:", re.IGNORECASE)
+# the line that ends a letter
+END = "-- "
+
+# the sender: an address, perhaps with a name before it or a comment after it, in ASCII
+ATOM = r"[\w!#$%&'*+/=?^`{|}~-]+"
+ADDRESS = rf"{ATOM}(?:\.{ATOM})*@[\w-]+(?:\.[\w-]+)*"
+NAME = r"""(?:"(?:[ !#-\[\]-~]|\\[ -~])*"|[\w!#$%&'*+/=?^`{|}~. -])*"""
+SENDER = re.compile(rf"{NAME}<({ADDRESS})>|({ADDRESS})(?: *\([ !-'*-\[\]-~]*\))?", re.ASCII)
+MESSAGE_ID = re.compile(r"<[!-;=?-~]{1,250}>")
+# a time as mail servers write it, and its place in a field Received
+TIME = r"(?:[A-Z][a-z]{2}, *)?\d{1,2} +[A-Z][a-z]{2} +20\d\d +\d{1,2}:\d\d(?::\d\d)? +(?:[+-]\d{4}|UTC?|GMT|[ECMP][SD]T)"
+CLOCK = r"(?<![:\d])\d{1,2}:\d\d:\d\d(?![:\d])"
+ARRIVED = re.compile(rf"; *({TIME})(?: *\([^();]*\))? *\Z")
+# fields by which a program says that it answers by itself, or that a letter came back
+AUTOMATIC = re.compile(
+    r"auto-submitted:(?!\s*(?:no)?\s*(?:;|\Z))|precedence:\s*auto[_-]reply|content-type:\s*multipart/report|return-path:\s*<\s*>"
+    r"|x-auto(?:reply|respond|responder):|from:.*(?:mailer-daemon|postmaster)@",
+    re.IGNORECASE,
+)
+
+
+@dataclasses.dataclass(frozen=True)
+class Body:
+    """The text of a letter: its lines; the indices of those that are joined to others by
+    format=flowed; the other lines in all its parts that may be ballots; and why it can't be read
+    with certainty. Of HTML the first `plain_lines` have plain tags alone, and `first_other` is the
+    first other tag.
+    """
+
+    lines: tuple[str, ...] = ()
+    flowing: tuple[int, ...] = ()
+    is_html: bool = False
+    plain_lines: int = 0
+    first_other: str = ""
+    other_lines: tuple[str, ...] = ()
+    trouble: Because | None = None
+
+
+@dataclasses.dataclass(frozen=True)
+class Signature:
+    """The one good signature, as gpgv reports it: the fingerprint of the key, and the time."""
+
+    fingerprint: str
+    time: datetime.datetime
+
+
+@dataclasses.dataclass(frozen=True)
+class Near:
+    """A line that is near to a ballot: its number in the letter, what may be the ballot, whether
+    that is within other words, and debvote's answer; None if it is a valid ballot.
+    """
+
+    number: int
+    ballot: str
+    is_within: bool
+    answer: str | None = None
+
+
+@dataclasses.dataclass(frozen=True)
+class ReadLine:
+    """What a line of a letter may be, by its number, from 1."""
+
+    number: int
+    # whose ballot: a name on the roll; or those whose name on the roll, or real name, may be meant
+    elector: str = ""
+    on_roll: tuple[str, ...] = ()
+    real: tuple[str, ...] = ()
+    # its ranks, and debvote's answer; None if they are valid
+    ranks: str = ""
+    answer: str | None = None
+    # why it is no ballot by itself, and is only offered to the secretary
+    offered_for: Reason | None = None
+    near: Near | None = None
+
+
+@dataclasses.dataclass(frozen=True)
+class ParsedLetter:
+    """What the bytes of a letter say and, if letters have to be signed, what gpgv says of it."""
+
+    where: str
+    # SHA-256 of its bytes
+    digest: str
+    # the same for all copies: a digest of its Message-ID, sender and text; or of its good signature
+    # and what that signs, since anybody can change the rest
+    identity: str
+    is_parted_off: bool
+    in_reply_to: str
+    # the one address that it came from, in small letters, or empty; and the sender as it is shown
+    sender: str
+    shown_sender: str
+    subject: str
+    # the marks of votes in its subject, each with the own mark of an elector or ""
+    marks: tuple[tuple[str, str], ...]
+    # whether its head says that it answers a letter
+    is_new: bool
+    # by the mail server that received it last
+    arrived: datetime.datetime | None
+    is_automatic: bool
+    body: Body
+    # if letters have to be signed: the good signature, or why there is none
+    signature: Signature | None = None
+    why_unsigned: Because | None = None
+    # what its lines may be, or how many may be ballots if they are more than are read; and the
+    # lines with what looks like a code of a secret vote or an alias
+    read_lines: tuple[ReadLine, ...] = ()
+    crowd: int = 0
+    code_lines: tuple[int, ...] = ()
+
+    @property
+    def key(self) -> str:
+        """Identifies the letter by its bytes. If the same bytes come parted off, and later as a
+        letter of their own, these are two letters.
+        """
+        return f"{self.digest}, parted off" if self.is_parted_off else self.digest
+
+    @property
+    def is_never_signed(self) -> bool:
+        """Whether it has no good signature with any keyring."""
+        never = (Reason.NOT_SIGNED, Reason.NOT_WHOLE, Reason.ODD_LINES)
+        return self.why_unsigned is not None and self.why_unsigned.reason in never
+
+    @property
+    def shown_lines(self) -> tuple[str, ...]:
+        """The lines by number, from 1: those of its text, then those of other parts that may be
+        ballots.
+        """
+        return self.body.lines + self.body.other_lines
+
+
+def parse(raw: RawLetter) -> ParsedLetter:
+    letter = Part(raw.data)
+    senders, subjects = letter.values("from"), letter.values("subject")
+    if (longest := max(map(len, subjects), default=0)) > MAX_FIELD:
+        what = "characters in its subject"
+        letter.found(Reason.TOO_LONG(length=longest, what=what, limit=MAX_FIELD))
+    body, sender = body_of(letter), sender_of(senders)
+    texts = (text for subject in subjects for text in (decoded(subject), subject))
+    answered = letter.values("in-reply-to")
+    has_id = len(answered) == 1 and MESSAGE_ID.fullmatch(answered[0])
+    fields = (f"{name}:{value[:MAX_FIELD]}" for name, value in letter.fields)
+    return ParsedLetter(
+        where=raw.where,
+        digest=hashlib.sha256(raw.data).hexdigest(),
+        identity=identity_of(letter, sender or " ".join(senders), body),
+        is_parted_off=raw.is_parted_off,
+        in_reply_to=answered[0] if has_id else "",
+        sender=sender,
+        shown_sender=", ".join(map(decoded, senders)),
+        subject="; ".join(map(decoded, subjects)),
+        marks=tuple(dict.fromkeys(itertools.chain.from_iterable(map(marks_in, texts)))),
+        is_new=not (answered or letter.values("references")),
+        arrived=arrival_of(letter.value("received")),
+        is_automatic=any(map(AUTOMATIC.match, fields)),
+        body=body,
+    )
+
+
+# ---------------------------------------------------------------- the head
+def decoded(value: str) -> str:
+    """A field as people read it, on one line."""
+    return " ".join(words_in(value).split())
+
+
+def words_in(value: str) -> str:
+    """A field with its encoded words decoded, as Latin-1 if nobody knows their coding."""
+    value = value[:MAX_FIELD].encode("utf-8", "surrogateescape").decode("utf-8", "replace")
+    try:
+        parts = email.header.decode_header(value)
+    except Exception:
+        parts = [(value, None)]
+    return "".join(
+        word if isinstance(word, str) else decoded_bytes(word, charset or "latin-1")
+        for word, charset in parts
+    )
+
+
+def decoded_bytes(data: bytes, charset: str) -> str:
+    """A text in its character set, or in Latin-1. Lone surrogates, which some character sets have,
+    are replaced.
+    """
+    try:
+        text = data.decode(charset if SHOWN_CHARSETS.fullmatch(charset) else "latin-1")
+        text = text.encode("utf-8", "replace").decode("utf-8")
+    except (ValueError, LookupError):
+        text = data.decode("latin-1")
+    return text if text.isascii() else text.translate(AS_WINDOWS)
+
+
+def sender_of(senders: Sequence[str]) -> str:
+    """The address of a letter that has exactly one, else empty. The name before it has to be
+    decodable, and printable on one line.
+    """
+    value = senders[0].replace("\t", " ") if len(senders) == 1 else ""
+    found, shown = SENDER.fullmatch(value[: MAX_FIELD + 1]), words_in(value)
+    is_plain = len(value) <= MAX_FIELD and shown.isprintable() and "=?" not in shown
+    return address_key(found[1] or found[2]) if found is not None and is_plain else ""
+
+
+def arrival_of(received: str) -> datetime.datetime | None:
+    """When the letter arrived: the time at the end of the topmost field Received, which the own
+    mail server wrote. A field with two times has none: a letter whose first line begins with a
+    blank continues that field.
+    """
+    value = received.replace("\t", " ")
+    found = ARRIVED.search(value) if len(value) <= MAX_FIELD else None
+    if found is None or len(re.findall(f"{TIME}|{CLOCK}", value)) > 1:
+        return None
+    try:
+        arrived = email.utils.parsedate_to_datetime(found[1])
+        # a server that does not know its zone writes -0000
+        return arrived.replace(tzinfo=arrived.tzinfo or datetime.UTC).astimezone(datetime.UTC)
+    except ValueError:
+        return None
+
+
+def identity_of(letter: Part, sender: str, body: Body) -> str:
+    """What copies of a letter have in common, though mail programs and servers change its head, its
+    attachments and its line ends.
+    """
+    lines = (line[line.startswith(">From ") :].rstrip() for line in body.lines)
+    text = "\n".join(lines).rstrip("\n")
+    if not body.lines:
+        text = letter.below.decode("latin-1").replace("\r\n", "\n").rstrip()
+    parts = [" ".join(letter.values("message-id")).strip(), sender, text]
+    return hashlib.sha256("\0".join(parts).encode("utf-8", "surrogatepass")).hexdigest()
+
+
+# ---------------------------------------------------------------- the body
+def body_of(letter: Part) -> Body:
+    """The text of a letter, and the other lines of all its parts."""
+    parts = list(itertools.islice(letter.walk(), MAX_PARTS))
+    if len(parts) == MAX_PARTS:
+        letter.found(Reason.TOO_MANY_PARTS())
+    texts = [(part, is_own) for part, is_own in parts if part.kind.startswith("text/")]
+    lengths = [len(part.below) for part, _ in texts] + [len(part.around) for part, _ in parts]
+    for length, limit, what in (
+        (max(lengths, default=0), MAX_TEXT, "a text"),
+        (sum(lengths), MAX_TEXTS, "all its texts"),
+    ):
+        if length > limit:
+            letter.found(Reason.TOO_LONG(length=length, what=f"bytes in {what}", limit=limit))
+            return Body(trouble=letter.trouble)
+    payloads = [part.payload for part, _ in texts]
+    count = sum(len(data) - len(data.translate(None, LINE_OR_MARK)) for data in payloads)
+    if count > MAX_LINES:
+        letter.found(Reason.TOO_LONG(length=count, what="lines and marks", limit=MAX_LINES))
+        shown = decoded_bytes(payloads[0][: SHOWN_LINES * MAX_LINE], "utf-8").splitlines()
+        return Body(tuple(shown[:SHOWN_LINES]), trouble=letter.trouble)
+    first, is_own = texts[0] if texts else (letter, False)
+    is_html_alone = first.kind == "text/html" and len(texts) == 1
+    if not is_own or not (first.kind == "text/plain" or is_html_alone):
+        first.found(Reason.NO_PLAIN_TEXT())
+    read = [text_of(part, is_first=part is first) for part, _ in texts]
+    text, pieces = read[0] if read else (Body(), [])
+    # no program shows text around the parts, but it may be a letter that a mailbox did not part
+    # off; so may text below an encoded one
+    outside = [decoded_bytes(part.around, "utf-8").splitlines() for part, _ in parts]
+    around = list(itertools.chain.from_iterable(outside))
+    below = decoded_bytes(first.below, "utf-8").splitlines()
+    trouble = next(filter(None, (part.trouble for part, _ in parts)), None)
+    if letter.fields and any(map(RECEIVED.match, (*text.lines, *pieces, *around, *below))):
+        trouble = Reason.PARTED_OFF()
+    lines = [line for other, _ in read[1:] for line in other.lines]
+    lines += [line for _, pieces in read for line in pieces] + around
+    own = {" ".join(line.split()) for line in text.lines}
+    others = dict.fromkeys(" ".join(line.split()) for line in lines)
+    other_lines = tuple(line for line in others if line not in own and may_be_ballot(line))
+    return dataclasses.replace(text, other_lines=other_lines, trouble=trouble)
+
+
+def may_be_ballot(line: str) -> bool:
+    """Whether a line may be a ballot. Its blanks do not count, since repairs remove them."""
+    is_short = len(line) <= MAX_LINE or len(" ".join(line.split())) <= MAX_LINE
+    return is_short and RANK.search(line) is not None
+
+
+def is_quoted(line: str) -> bool:
+    return line.lstrip().startswith(">")
+
+
+def text_of(part: Part, *, is_first: bool) -> tuple[Body, list[str]]:
+    """The lines of a part as far as they can be read, and what else in it may be lines. All bytes
+    of the first part have to be in its character set.
+    """
+    charset = part.parameters.get("charset", "")
+    named = charset or "us-ascii"
+    try:
+        if not CHARSETS.fullmatch(named):
+            raise LookupError
+        if is_first:
+            part.payload.decode(named)
+    except (UnicodeDecodeError, LookupError):
+        part.found(Reason.CHARSET(charset=named))
+    if is_first and part.is_cut:
+        part.found(Reason.CUT())
+    text = decoded_bytes(part.payload, charset or "utf-8").removeprefix("\ufeff")
+    if odd := CONTROL.search(text):
+        part.found(Reason.CONTROL(character=f"U+{ord(odd[0]):04X}"))
+    # other kinds of text may be shown as HTML, too
+    html = read_html("" if part.kind == "text/plain" else text)
+    if part.kind == "text/html":
+        return Body(tuple(html.lines), (), True, html.plain_lines, html.first_other), html.pieces
+    lines = text.rstrip("\r\n").splitlines()
+    flow = part.parameters.get("format", "fixed").lower()
+    delsp = part.parameters.get("delsp", "no").lower()
+    if flow not in ("fixed", "flowed") or delsp not in ("no", "yes"):
+        part.found_ambiguous("content-type")
+    flowing, whole = joined(lines, deletes_space=delsp == "yes") if flow == "flowed" else ([], [])
+    return Body(tuple(lines), tuple(flowing)), [*whole, *html.lines, *html.pieces]
+
+
+def joined(lines: Sequence[str], *, deletes_space: bool) -> tuple[list[int], list[str]]:
+    """Joins format=flowed lines: a line that ends with a space continues in the next line of the
+    same quote depth. Returns the indices of the lines that are joined to others, and the joined
+    texts. An empty line that continues another parts no paragraphs.
+    """
+    texts: list[tuple[list[int], list[str]]] = []
+    flowing = []
+    depth, goes_on = -1, False
+    for index, line in enumerate(lines):
+        bare = line.lstrip(">")
+        own_depth = len(line) - len(bare)
+        bare = bare.removeprefix(" ")
+        continues = goes_on and own_depth == depth and bare != END
+        depth, goes_on = own_depth, bare.endswith(" ") and bare != END
+        if continues and not bare:
+            flowing.append(index)
+            continue
+        if not continues:
+            texts.append(([], ["> "] if own_depth else []))
+        texts[-1][0].append(index)
+        texts[-1][1].append(bare[:-1] if deletes_space and goes_on else bare)
+    several = [(indices, words) for indices, words in texts if len(indices) > 1]
+    flowing += [index for indices, _ in several for index in indices]
+    return flowing, ["".join(words) for _, words in several]
+
+
+# ---------------------------------------------------------------- as the book keeps it
+def as_json(letter: ParsedLetter) -> str:
+    return json.dumps(vars(letter), default=as_plain)
+
+
+def as_plain(value: object) -> object:
+    if isinstance(value, datetime.datetime):
+        return value.isoformat()
+    return value.name if isinstance(value, Reason) else vars(value)
+
+
+def from_json(text: str) -> ParsedLetter:
+    letter: ParsedLetter = reader_of(ParsedLetter)(json.loads(text))
+    return letter
+
+
+@functools.cache
+def reader_of(kind: Any) -> Callable[[Any], Any]:
+    """Makes a value of this type from what JSON has of it."""
+    if dataclasses.is_dataclass(kind):
+        of_fields = {name: reader_of(one) for name, one in typing.get_type_hints(kind).items()}
+        return lambda kept: kind(**{name: of_fields[name](kept[name]) for name in kept})
+    first, *others = *typing.get_args(kind), None
+    if type(None) in others or Ellipsis in others:
+        of_one = reader_of(first)
+        if Ellipsis in others:
+            return lambda kept: tuple(map(of_one, kept))
+        return lambda kept: kept if kept is None else of_one(kept)
+    if isinstance(kind, type) and issubclass(kind, datetime.date):
+        return datetime.datetime.fromisoformat
+    if kind is Reason:
+        return lambda kept: Reason[kept]
+    return lambda kept: tuple(kept) if isinstance(kept, list) else kept

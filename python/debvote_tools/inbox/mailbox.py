@@ -1,0 +1,243 @@
+"""What letters come in: one message, an mbox, a Maildir, or a folder of messages. The bytes say
+what a file is, not its name.
+
+No byte is lost: the parts of a file that `parts_of` returns, joined, are the file. Each letter in
+them is kept, or named as not read.
+"""
+
+import dataclasses
+import enum
+import itertools
+import pathlib
+import re
+from collections.abc import Sequence
+
+from debvote_tools.inbox.lines import MARK
+from debvote_tools.inbox.mime import END_OF_HEAD, MAX_HEAD, MAX_LETTER, Part
+
+# where a Maildir has its letters: first those that nobody has looked at, since one that somebody
+# looks at meanwhile moves from the first folder to the second; and where it has unfinished ones
+MAILDIR, UNFINISHED = ("new", "cur"), "tmp"
+
+# a field of a head, and fields that most heads have
+FIELD = re.compile(rb"[!-9;-~]+[ \t]*:")
+KNOWN = re.compile(
+    rb"(?im)^(from|date|subject|to|message-id|received|mime-version|return-path|delivered-to|reply-to|content-type|x-mozilla-status|"
+    rb"von|datum|betreff|an)[ \t]*:"
+)
+MIN_KNOWN = 2
+
+# what editors put before the first line of a file, and the line that begins an mbox
+START = re.compile(rb"(?:%b)?[\r\n]*(From [^\r\n]*\r?\n[\r\n]*)?" % MARK)
+# lines that may begin a letter; in an mbox such a line does if it has the name of a day and after
+# it a time, or is bare as Thunderbird writes it
+FROM_LINE = re.compile(rb"(?im)^>?From [^\r\n]*(?:\r?\n|\Z)")
+DATED = re.compile(
+    rb"From (?>[^\r\n]*?\b(?:Mon|Tue|Wed|Thu|Fri|Sat|Sun),* )(?:[^\r\n]* )?\d\d?:\d\d(?::\d\d)?\s"
+)
+BARE = re.compile(rb"From (?:- ?)?\r?\n")
+# in bytes
+LONGEST_EMPTY_LINE = 2
+
+# how a file of Outlook begins, and what it calls the parts of a letter
+OLE = b"\xd0\xcf\x11\xe0"
+OUTLOOK_PARTS = [
+    name.encode("utf-16-le")
+    for name in ("__nameid_version1.0", "__properties_version1.0", "__substg1.0_")
+]
+
+
+class NotRead(enum.Enum):
+    """Why a file or a letter is passed over, and what to do about it."""
+
+    FOLDER = "it is a folder within the folder", "if it has letters, add it by its own name"
+    MAILBOX = "it is a mailbox of several letters within the folder", "add it by its own name"
+    HIDDEN = (
+        "it is a hidden file, whose name begins with a full stop",
+        "if it is a letter, rename it",
+    )
+    TOO_LONG = "it has more than 10 MiB", "ask for the ballot again, alone and without attachments"
+    OUTLOOK_LETTER = (
+        "it is a letter in the format of Outlook (.msg), which this program does not read",
+        "save it as .eml: in the new Outlook with Save as or Download, from an older Outlook by way of Thunderbird",
+    )
+    OUTLOOK_MAILBOX = (
+        "it is a mailbox in the format of Outlook (.pst), which this program does not read",
+        "fetch the mailbox with Thunderbird, and save the letters there as .eml",
+    )
+    ZIP = "it is a ZIP", "unpack it, and add the folder"
+    PDF = "it is a PDF", "save the letter itself as .eml"
+    NO_LETTER = "it does not look like a letter", "if it is a letter, save it as .eml"
+
+    @property
+    def what(self) -> str:
+        return self.value[0]
+
+    @property
+    def cure(self) -> str:
+        return self.value[1]
+
+
+@dataclasses.dataclass(frozen=True)
+class RawLetter:
+    """A letter as it came. A letter that is parted off waits: it may be text of the letter above it
+    in the mailbox, or have other letters in it.
+    """
+
+    where: str
+    data: bytes
+    is_parted_off: bool = False
+
+
+@dataclasses.dataclass(frozen=True)
+class PassedOver:
+    where: str
+    why: NotRead
+
+
+@dataclasses.dataclass(frozen=True)
+class Source:
+    """The letters of a file or folder in their order, and what was passed over."""
+
+    letters: list[RawLetter]
+    passed_over: list[PassedOver]
+
+
+# ---------------------------------------------------------------- files
+def kind_not_read(data: bytes) -> NotRead | None:
+    """What a file is that has no letters which this program reads; None if it may be read."""
+    if data.startswith(b"!BDN"):
+        return NotRead.OUTLOOK_MAILBOX
+    if data.startswith(OLE) and any(part in data for part in OUTLOOK_PARTS):
+        return NotRead.OUTLOOK_LETTER
+    if data.startswith((b"PK\x03\x04", b"PK\x05\x06")):
+        return NotRead.ZIP
+    return NotRead.PDF if data.startswith(b"%PDF") else None
+
+
+def are_letters(data: bytes) -> bool:
+    """Whether a file begins as an mbox or a message does."""
+    start = begin_of(data)
+    head = END_OF_HEAD.split(data[start.end() : start.end() + MAX_HEAD], maxsplit=1)[0]
+    known = {name.lower() for name in KNOWN.findall(head)}
+    is_known = len(known) >= MIN_KNOWN or begins_mailbox(start)
+    return FIELD.match(head) is not None and is_known
+
+
+def letters_of_file(name: str, data: bytes) -> Source:
+    """The letters of a file that was read whole.
+
+    A letter is parted off if it has others in it, or may be text of the letter above it: no empty
+    line is between, it is within the Content-Length of a letter above, or the parts of that letter
+    do not end. Any sender can write a Content-Length, so it counts only if it ends exactly where
+    the file ends, or before a line with a date that parts letters.
+    """
+    kind = kind_not_read(data) or (None if are_letters(data) else NotRead.NO_LETTER)
+    if kind is not None:
+        return Source([], [PassedOver(name, kind)])
+    found = Source([], [])
+    parts = parts_of(data)
+    possible_ends = ends_of(parts)
+    place, reach, is_ended = 0, 0, True
+    for number, (above, letter, below) in enumerate(parts, start=1):
+        where = f"{name}, message {number}" if len(parts) > 1 else name
+        if len(letter) > MAX_LETTER:
+            found.passed_over.append(PassedOver(where, NotRead.TOO_LONG))
+        else:
+            is_parted_off = place < reach or not is_ended or has_others(letter)
+            found.letters.append(RawLetter(where, letter, is_parted_off))
+        place += len(above + letter)
+        read = Part(letter)
+        lengths = map(re.compile(r"\d{1,15}").match, read.values("content-length"))
+        ends = {place - len(read.below) + int(length[0]) for length in lengths if length}
+        reach = max({reach, *ends & possible_ends})
+        is_ended = bool(below) and not read.is_open
+        place += len(below)
+    return found
+
+
+def ends_of(parts: Sequence[tuple[bytes, bytes, bytes]]) -> set[int]:
+    """Where the text of a letter may end in a file: before a line with a date, or at the end of the
+    file, each with the empty line or without it. The last one may be missing.
+    """
+    place, ends = 0, set[int]()
+    for (above, letter, below), begins in zip(parts, [*(above for above, _, _ in parts[1:]), None]):
+        place += len(above) + len(letter) + len(below)
+        if begins is None or DATED.match(begins):
+            ends |= {place, place - len(below)}
+    return ends | {place + missing for missing in range(LONGEST_EMPTY_LINE + 1)}
+
+
+def letters_of_folder(folder: pathlib.Path) -> Source:
+    """The letters of a Maildir or a folder of messages, by name. Raises OSError."""
+    is_maildir = all((folder / part).is_dir() for part in MAILDIR)
+    own = {folder / part for part in (*MAILDIR, UNFINISHED)} if is_maildir else set()
+    files = [file for file in folder.iterdir() if file not in own]
+    if is_maildir:
+        files += itertools.chain.from_iterable((folder / part).iterdir() for part in MAILDIR)
+    found = Source([], [])
+    for file in sorted(files, key=lambda file: (file.name, file)):
+        one = letter_of_file(file)
+        found.letters.extend(one.letters)
+        found.passed_over.extend(one.passed_over)
+    return found
+
+
+def letter_of_file(file: pathlib.Path) -> Source:
+    """The letter of a file of a folder. A mailbox of several letters is named, and not split."""
+    why = None
+    if file.is_dir():
+        why = NotRead.FOLDER
+    elif file.name.startswith("."):
+        why = NotRead.HIDDEN
+    elif not file.is_file():
+        why = NotRead.NO_LETTER
+    data = b"" if why else file.read_bytes()
+    if why is None and are_letters(data) and len(parts_of(data)) > 1:
+        why = NotRead.MAILBOX
+    return Source([], [PassedOver(str(file), why)]) if why else letters_of_file(str(file), data)
+
+
+# ---------------------------------------------------------------- the parts of a file
+def parts_of(data: bytes) -> list[tuple[bytes, bytes, bytes]]:
+    """The parts of a file: of each the line that begins it, the letter, and the empty line that
+    ends it. Joined they are the file. Only an mbox has several.
+    """
+    start = begin_of(data)
+    is_mailbox = begins_mailbox(start)
+    begins = [start.span()] + [
+        line.span()
+        for line in (FROM_LINE.finditer(data, start.end()) if is_mailbox else ())
+        if parts_letters(line[0]) and FIELD.match(data, line.end())
+    ]
+    parts = []
+    for (begin, letter_begin), (end, _) in zip(begins, [*begins[1:], (len(data), 0)]):
+        letter = data[letter_begin:end]
+        empty = (line for line in (b"\n", b"\r\n") if is_mailbox and letter.endswith(b"\n" + line))
+        below = next(empty, b"")
+        parts.append((data[begin:letter_begin], letter.removesuffix(below), below))
+    return parts
+
+
+def begin_of(data: bytes) -> re.Match[bytes]:
+    start = START.match(data)
+    assert start is not None
+    return start
+
+
+def begins_mailbox(start: re.Match[bytes]) -> bool:
+    return start[1] is not None and parts_letters(start[1])
+
+
+def parts_letters(line: bytes) -> bool:
+    return DATED.match(line) is not None or BARE.match(line) is not None
+
+
+def has_others(letter: bytes) -> bool:
+    """Whether other letters may be in a letter: it has a line that may begin one, but parts none,
+    since it has no date, was changed, or is not in an mbox.
+    """
+    return any(
+        DATED.match(line[0]) or FIELD.match(letter, line.end())
+        for line in FROM_LINE.finditer(letter)
+    )

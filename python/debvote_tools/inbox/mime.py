@@ -1,0 +1,198 @@
+"""The head of a letter and its parts, by the standard and as mail programs write them.
+
+Only a short list of forms is accepted. In any other form mail programs may read different texts, so
+nothing is guessed: the part gets a `trouble`, and what is read of it is only to be shown. Whatever
+the bytes are, reading them takes linear time.
+"""
+
+import base64
+import binascii
+import contextlib
+import functools
+import itertools
+import re
+import string
+from collections.abc import Iterator
+
+from debvote_tools.inbox.reasons import Because, Reason
+
+# in bytes: the longest letter and the longest head that are read; then the most parts, their
+# deepest nesting, and the longest field about a part, in characters
+MAX_LETTER, MAX_HEAD = 10_485_760, 262_144
+MAX_PARTS, MAX_DEPTH, MAX_OF_PART = 100, 12, 4_096
+
+END_OF_HEAD = re.compile(rb"(?:\A|\n)\r?\n")
+LONE_RETURN = re.compile(rb"\r(?!\n)")
+FIELD = re.compile(rb"(?m)^([!-9;-~]+)[ \t]*:([^\n]*(?:\n[ \t][^\n]*)*)")
+# fields alone, without control characters; no field is continued by a line of blanks, which ends
+# the head in some programs
+PLAIN_HEAD = re.compile(
+    rb"(?:[!-9;-~]++:[\t -~\x80-\xff]*+(?:\r?\n[ \t]++[!-~\x80-\xff][\t -~\x80-\xff]*+)*\r?(?:\n|\Z))*"
+)
+
+# a part has each of these fields at most once. Only the parameter `name` may be encoded or in
+# pieces. No text matches in two ways: else a mismatch would take twice as long with each parameter
+DESCRIPTION = ("content-type", "content-transfer-encoding", "content-disposition")
+PARAMETER = re.compile(
+    r"""[ \t]*;[ \t]*([\w-]+|name\*\d*\*?)[ \t]*=[ \t]*("[^"\\]*"|[^\s";()<>@,\\]+)"""
+)
+READ = re.compile(
+    rf"(text/[\w.+-]+|multipart/[\w-]+|message/rfc822)((?:{PARAMETER.pattern})*)[ \t]*;?",
+    re.IGNORECASE,
+)
+# parts that are not read may have parameters of any form
+NOT_READ = re.compile(
+    r"(?:application|audio|font|image|model|video)/[\w.+-]+[ \t]*(?:;.*)?", re.IGNORECASE
+)
+CONTAINERS = [f"multipart/{kind}" for kind in "alternative mixed related signed report".split()]
+PACKED = ["multipart/encrypted"] + [
+    f"application/{kind}" for kind in "pgp-encrypted pkcs7-mime x-pkcs7-mime".split()
+]
+BOUNDARY = re.compile(r"[\w'()+,./:=? -]{0,69}[\w'()+,./:=?-]", re.ASCII)
+
+AS_IT_STANDS = ("", "7bit", "8bit", "binary")
+QUOTED_PRINTABLE = re.compile(rb"[^=]*+(?:=(?:[0-9A-Fa-f]{2}|\r?(?:\n|\Z))[^=]*+)*")
+SOFT_END = re.compile(rb"=(?:\r?\n)?\Z")
+LINE_END = re.compile(rb"(?<![ \t])[ \t]*+(?:\r?\n|\Z)")
+BASE64 = re.compile(rb"(?:[A-Za-z0-9+/]{4})*(?:[A-Za-z0-9+/]{2}==|[A-Za-z0-9+/]{3}=)?")
+
+ADDRESS = re.compile(r'[^\s<>@,;:"()\[\]\\]+@[^\s<>@,;:"()\[\]\\]+')
+SMALL = str.maketrans(string.ascii_uppercase, string.ascii_lowercase)
+
+
+def address_key(address: str) -> str:
+    """An address as it is compared: without case, in ASCII."""
+    return address.strip().translate(SMALL)
+
+
+class Part:
+    """A letter, or a part of one. Its `trouble` is the first form in it that is not accepted."""
+
+    def __init__(self, data: bytes) -> None:
+        self.trouble: Because | None = None
+        end = END_OF_HEAD.search(data, 0, MAX_HEAD)
+        head = data[: MAX_HEAD if end is None else end.start()]
+        self.below = b"" if end is None else data[end.end() :]
+        self.fields = [
+            (name.decode().lower(), on_one_line(value)) for name, value in FIELD.findall(head)
+        ]
+        limit = MAX_HEAD if end is None else MAX_LETTER
+        if len(data) > limit:
+            self.found(Reason.TOO_LONG(length=len(data), what="bytes", limit=limit))
+        if LONE_RETURN.search(data):
+            self.found(Reason.CONTROL(character="U+000D"))
+        if not PLAIN_HEAD.fullmatch(head):
+            self.found_ambiguous("a line of its head")
+        for name in DESCRIPTION:
+            if len(self.values(name)) > 1 or len(self.value(name)) > MAX_OF_PART:
+                self.found_ambiguous(name)
+        self.coding = self.value("content-transfer-encoding").lower()
+        self.kind, self.parameters = self.described()
+        # whether text after it may be in one of its parts
+        self.is_open = any("boundary" in value.lower() for value in self.values("content-type"))
+        # its parts, byte for byte, and what is around them
+        self.inner: list[bytes] = []
+        self.around = b""
+        if self.kind.startswith(("multipart/", "message/")):
+            if self.coding not in AS_IT_STANDS:
+                self.found_ambiguous("content-transfer-encoding")
+            self.open()
+
+    def found(self, trouble: Because) -> None:
+        self.trouble = self.trouble or trouble
+
+    def found_ambiguous(self, what: str) -> None:
+        self.found(Reason.AMBIGUOUS(what=what))
+
+    def values(self, name: str) -> list[str]:
+        """All fields of its head with this name, each on one line."""
+        return [value for key, value in self.fields if key == name]
+
+    def value(self, name: str) -> str:
+        return next(iter(self.values(name)), "")
+
+    def described(self) -> tuple[str, dict[str, str]]:
+        """Its kind, and the parameters of the kind by name, in lower case."""
+        written = self.value("content-type") or "text/plain"
+        kind, read = written.partition(";")[0].strip().lower(), READ.fullmatch(written)
+        pairs = PARAMETER.findall(read[2]) if read else []
+        parameters = {name.lower(): value.strip('"') for name, value in pairs}
+        if kind in PACKED:
+            self.found(Reason.ENCRYPTED())
+        if len(parameters) < len(pairs) or not (read or NOT_READ.fullmatch(written)):
+            self.found_ambiguous("content-type")
+        return kind, parameters
+
+    def open(self) -> None:
+        """Splits it into its parts. Each line that begins like a boundary has to be one, and the
+        last has to end the parts.
+        """
+        boundary = self.parameters.get("boundary", "").rstrip()
+        if self.kind == "message/rfc822":
+            self.inner = [self.below]
+            return
+        is_plain = (
+            self.kind in CONTAINERS
+            and BOUNDARY.fullmatch(boundary) is not None
+            and len(self.values("content-type")) == 1
+        )
+        if not is_plain:
+            self.found_ambiguous("content-type")
+        if not boundary:
+            self.around = self.below
+            return
+        line = rb"(?m)^--%b([^\n]*)\n?" % re.escape(boundary.encode("utf-8", "surrogateescape"))
+        lines = list(itertools.islice(re.finditer(line, self.below), MAX_PARTS))
+        if len(lines) == MAX_PARTS:
+            self.found(Reason.TOO_MANY_PARTS())
+        ends = [found[1].strip(b" \t\r") for found in lines]
+        self.is_open = not is_plain or len(lines) < 2 or ends[-1] != b"--" or any(ends[:-1])
+        if self.is_open:
+            self.found_ambiguous("the lines between its parts")
+        starts = [found.start() for found in lines] + [len(self.below)]
+        below = b"" if self.is_open else self.below[lines[-1].end() :]
+        self.around = self.below[: starts[0]] + below
+        for found, end, what in zip(lines, starts[1:], ends):
+            if what != b"--":
+                part = self.below[found.end() : end]
+                self.inner.append(part[:-2] if part.endswith(b"\r\n") else part.removesuffix(b"\n"))
+
+    def walk(self, depth: int = 0, *, is_own: bool = True) -> Iterator[tuple["Part", bool]]:
+        """Yields the part and all parts within it, each with whether mail programs show it as the
+        text of the letter; others are attachments.
+        """
+        has_name = any(name.startswith("name") for name in self.parameters)
+        is_inline = self.value("content-disposition").lower() in ("", "inline")
+        is_own = is_own and is_inline and not has_name
+        if self.inner and depth == MAX_DEPTH:
+            self.found(Reason.TOO_MANY_PARTS())
+        yield self, is_own
+        for part in self.inner if depth < MAX_DEPTH else ():
+            yield from Part(part).walk(depth + 1, is_own=is_own and self.kind in CONTAINERS)
+
+    @property
+    def is_cut(self) -> bool:
+        """Whether its text ends in a soft line break, in the middle of a line."""
+        return self.coding == "quoted-printable" and SOFT_END.search(self.below) is not None
+
+    @functools.cached_property
+    def payload(self) -> bytes:
+        """Its decoded bytes."""
+        if self.coding in AS_IT_STANDS:
+            return self.below
+        if self.coding == "quoted-printable" and QUOTED_PRINTABLE.fullmatch(self.below):
+            return binascii.a2b_qp(self.below)
+        bare = LINE_END.sub(b"", self.below)
+        if self.coding == "base64" and BASE64.fullmatch(bare):
+            return base64.b64decode(bare)
+        self.found_ambiguous("content-transfer-encoding")
+        with contextlib.suppress(binascii.Error):
+            is_base64 = self.coding == "base64"
+            return base64.b64decode(bare + b"==") if is_base64 else binascii.a2b_qp(self.below)
+        return self.below
+
+
+def on_one_line(value: bytes) -> str:
+    """A field of a head; each byte that is not ASCII is a character of its own."""
+    joined = value.replace(b"\r", b"").replace(b"\n", b"").strip(b" \t")
+    return joined.decode("ascii", "surrogateescape")

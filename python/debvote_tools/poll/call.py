@@ -1,0 +1,239 @@
+"""What a call says, as one value, which addresses it can say, and the files that are made from it."""
+
+import dataclasses
+import datetime
+import functools
+import re
+import urllib.parse
+from collections.abc import Mapping
+
+from debvote_tools.text.ballots import IN_A_LIST, without_ballots
+from debvote_tools.cli.faults import Fault, Status
+from debvote_tools.cli.terminal_text import LINE_ENDS, odd_sign
+from debvote_tools.files import sha256_of
+from debvote_tools.text.language import Language, marked
+from debvote_tools.text.rendering import render_letter, render_page, resources
+from debvote_tools.poll.marks import in_brackets
+from debvote_tools.poll.sealed import SealedPoll
+
+MAIL = re.compile(r"[A-Za-z0-9_][A-Za-z0-9._+=-]*@[A-Za-z0-9-]+(\.[A-Za-z0-9-]+)*")
+MAIL_LIMIT = 254
+
+# `Name <ADDRESS>`, and how many characters such a name may have
+NAMED = re.compile(r"(?P<quote>\"?)(?P<name>.*?)(?P=quote)\s*<(?P<address>[^<>]*)>", re.DOTALL)
+NAME_LIMIT = 100
+
+# printable ASCII without blanks, what ends an address in a letter, and the # of a personal link
+WEB = re.compile(r"[!$-;=?-_a-z~]+")
+WEB_LIMIT = 500
+HOST = re.compile(r"[A-Za-z0-9.-]*[A-Za-z0-9]|\[[0-9A-Fa-f:.]+\]")
+
+# an option in a sentence: its number and its name do not run into each other
+OPTION = marked("Option {number}: {name}")
+SUBJECT = marked("Ballot: {title}")
+
+
+PACKAGE = "debvote_tools.poll"
+
+# the sentences of the script on the page
+SENTENCES = {
+    "option": OPTION,
+    "subject": SUBJECT,
+    "type_name": marked("Type your name as it is on the roll."),
+    "on_roll": marked("On the roll: {names}"),
+    "not_on_roll": marked(
+        "{name} is not on the roll of this poll; the names on the roll are below."
+    ),
+    "no_name": marked(
+        "Names on the roll have only small letters without accents, digits, points and hyphens, and at most 32 of them."
+    ),
+    "then": IN_A_LIST.then,
+    "equally": IN_A_LIST.equally,
+    "unranked": IN_A_LIST.unranked,
+    "and": marked("{entries} and {last}"),
+    "rank_missing": marked("Give at least one option a rank."),
+    "more": marked("Read on"),
+    "selected": marked("The line is selected. Copy it with Ctrl+C, or Cmd+C on a Mac."),
+    "copied": marked("The line is copied."),
+}
+
+
+@dataclasses.dataclass(frozen=True)
+class CallData:
+    """What a call says. The same value makes the same files."""
+
+    language: Language
+    # the poll that is public: in a secret vote the one under aliases
+    poll: SealedPoll
+    # how many electors have to prefer an option to the default option
+    quorum_votes: int
+    # the end as it is now
+    until: datetime.datetime | None = None
+    # the mail address for ballots, and the web address of this page, where the result will be
+    to: str | None = None
+    at: str | None = None
+    # the real names by the names on the roll; None if they will not be published
+    real_names: Mapping[str, str] | None = None
+    has_form: bool = False
+    is_signed: bool = False
+    # a letter goes in by itself only with the own mark of its elector
+    is_marked: bool = False
+    # what the secretary writes at the head of letters to electors; empty without it
+    letter_text: str = ""
+    # in a secret vote with names on the roll: ballots are published under aliases
+    has_aliases: bool = False
+    # the roll has codes in place of names, so the poll is published with the result alone
+    has_codes_on_roll: bool = False
+    # codes were given out with a call that was taken back
+    has_lapsed_codes: bool = False
+
+    @property
+    def is_open(self) -> bool:
+        return not (self.has_aliases or self.has_codes_on_roll)
+
+    @property
+    def is_extended(self) -> bool:
+        """Whether the end is not the one that the poll was sealed with, which the call said at
+        first.
+        """
+        return self.until is not None and self.until != self.poll.deadline_time
+
+    @property
+    def roll(self) -> tuple[str, ...]:
+        return self.poll.roll if self.is_open else ()
+
+    @functools.cached_property
+    def mark(self) -> str:
+        return self.mark_of("")
+
+    def mark_of(self, own: str) -> str:
+        """What ends the subject of a letter of an elector with this own mark."""
+        return in_brackets(self.poll.mark, own)
+
+    @property
+    def mail_to(self) -> str:
+        """The address of a letter with a ballot, as a link without its subject; empty if ballots
+        are sent otherwise.
+        """
+        return "" if self.to is None else f"mailto:{urllib.parse.quote(self.to, safe='@')}"
+
+    @property
+    def mail_to_with_subject(self) -> str:
+        subject = f"{self.language.say(SUBJECT, title=self.poll.name)} {self.mark}"
+        return f"{self.mail_to}?subject={urllib.parse.quote(subject)}"
+
+    @functools.cached_property
+    def option_names(self) -> list[str]:
+        """The options in plain text, each with its number."""
+        options = enumerate(self.poll.names, start=1)
+        return [self.language.say(OPTION, number=number, name=name) for number, name in options]
+
+    @property
+    def explanations(self) -> list[tuple[int, list[str]]]:
+        return explanations_of(self.poll)
+
+    @property
+    def name_gap(self) -> str:
+        """What the page of a secret vote has in place of the name, which an elector writes into the
+        letter alone.
+        """
+        return "CODE" if self.has_codes_on_roll else "NAME"
+
+    @property
+    def gaps(self) -> str:
+        """The text in place of the ranks, where an elector is to write them."""
+        return ",".join("_" * len(self.poll.names))
+
+
+def explanations_of(poll: SealedPoll) -> list[tuple[int, list[str]]]:
+    """The texts of the options, in paragraphs, each with the number of its option. They are not the
+    program's words.
+    """
+    texts = enumerate(poll.explanations, start=1)
+    return [(number, paragraphs_of(text)) for number, text in texts if text.strip()]
+
+
+def paragraphs_of(text: str) -> list[str]:
+    return [lines for lines in re.split(r"\n(?:[ \t]*\n)+", text.strip("\n")) if lines.strip()]
+
+
+def named_address(text: str) -> tuple[str, str]:
+    """Name and address of `Name <ADDRESS>`, or of an address alone, whose name is empty."""
+    found = NAMED.fullmatch(text.strip())
+    name, address = (found["name"], found["address"]) if found else ("", text)
+    demand_mail_address(address)
+    if len(name) > NAME_LIMIT or odd_sign(name, refused=f'{LINE_ENDS}<>"') is not None:
+        reason = (
+            f"the name has to be at most {NAME_LIMIT} characters, without quotation marks, < and >"
+        )
+        raise Fault("--to", reason, 'write it as "Name <ADDRESS>"', Status.BAD_WORDS)
+    return name, address
+
+
+def demand_mail_address(text: str, option: str = "--to") -> None:
+    if not is_mail_address(text):
+        reason = "it must be one mail address, as secretary@example.org"
+        raise Fault(option, reason, "write it again", Status.BAD_WORDS)
+
+
+def is_mail_address(text: str) -> bool:
+    """Whether a text is one plain mail address, in characters that every mail server takes."""
+    return len(text) <= MAIL_LIMIT and MAIL.fullmatch(text) is not None
+
+
+def demand_web_address(text: str) -> None:
+    """Stops at what is no address by http or https, or has a user, a password or a fragment."""
+    try:
+        parts = urllib.parse.urlsplit(
+            text if len(text) <= WEB_LIMIT and WEB.fullmatch(text) else ""
+        )
+        host = parts.netloc.rpartition(":")[0] or parts.netloc
+        if parts.scheme in ("http", "https") and parts.port != 0 and HOST.fullmatch(host):
+            return
+    except ValueError:
+        pass
+    reason = (
+        "it must be the address of a page, as https://example.org/vote/, without a part after #"
+    )
+    raise Fault("--at", reason, "write it as a browser shows it", Status.BAD_WORDS)
+
+
+# ---------------------------------------------------------------- the files
+def call_letter(call: CallData) -> str:
+    """The letter of the call to all, with a gap in place of a name."""
+    return letter_to_all(call, is_extension=False)
+
+
+def extension_letter(call: CallData) -> str:
+    """The letter about a later end: the old one, the new one, and that all else is as it was."""
+    return letter_to_all(call, is_extension=True)
+
+
+def letter_to_all(call: CallData, *, is_extension: bool) -> str:
+    text = render_letter(
+        PACKAGE, "call.txt", call.language, call=call, elector=None, is_extension=is_extension
+    )
+    return without_ballots(text, len(call.poll.names), lambda word: True)
+
+
+def call_page(call: CallData) -> bytes:
+    return render_page(
+        PACKAGE,
+        "page.html",
+        call.language,
+        style=resources(PACKAGE, "fields.css", "given.css", "ballot.css"),
+        script=resources(PACKAGE, "fold.js", "ballot.js"),
+        call=call,
+        script_words=call.language.words(SENTENCES),
+    )
+
+
+def call_files(call: CallData) -> dict[str, bytes]:
+    """The files of a call by name, the checksums last. The poll is the sealed one, byte for byte;
+    if it has codes, it stays out.
+    """
+    files = {"index.html": call_page(call), "call.txt": call_letter(call).encode()}
+    if not call.has_codes_on_roll:
+        files["poll.toml"] = call.poll.as_bytes()
+    checksums = "".join(f"{sha256_of(files[name])}  {name}\n" for name in sorted(files))
+    return files | {"SHA256SUMS": checksums.encode()}

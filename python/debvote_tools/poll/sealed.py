@@ -1,0 +1,137 @@
+"""The sealed poll, in plain form: TOML with a line `key = value` for each key, in the order of
+`KEYS`, each value as JSON writes it. One SHA-256 covers all that the call announces.
+"""
+
+import dataclasses
+import datetime
+import functools
+import json
+from collections.abc import Sequence
+from typing import Any, NamedTuple
+
+from debvote_tools.cli.faults import Fault, Status
+from debvote_tools.files import sha256_of
+
+# the keys in their order: those that debvote needs always, and the others only if they are set
+REQUIRED = ("title", "options", "ratios", "default", "quorum", "roll")
+KEYS = (
+    *("title", "options", "ratios", "default", "quorum", "wording", "roll", "last_envelope"),
+    *("deadline", "address", "secret", "shown_title", "shown_options", "explanations"),
+)
+
+
+class Wording(NamedTuple):
+    """An option as the poll has it. The default option has no ratio and no text."""
+
+    number: int
+    name: str
+    plain: str
+    ratio: int | None
+    text: str
+
+
+@dataclasses.dataclass(frozen=True)
+class SealedPoll:
+    """Options are numbered from 1; the default option is the last."""
+
+    title: str
+    # without the default option, with a ratio for each
+    options: tuple[str, ...]
+    ratios: tuple[int, ...]
+    default: str
+    quorum: int
+    roll: tuple[str, ...]
+    wording: str | None = None
+    # only in a file that debvote-publish is given
+    last_envelope: int | None = None
+    # the time until which one can vote, with its offset, as the first call said it
+    deadline: str | None = None
+    address: str | None = None
+    secret: bool = False
+    # title and options as people read them, if they differ from the plain names; the options with
+    # the default last
+    shown_title: str | None = None
+    shown_options: tuple[str, ...] = ()
+    # a text for each option but the default, empty if there is none
+    explanations: tuple[str, ...] = ()
+
+    @property
+    def plain_names(self) -> tuple[str, ...]:
+        """The plain names of all options, the default last."""
+        return (*self.options, self.default)
+
+    @property
+    def names(self) -> tuple[str, ...]:
+        """The names of all options that people read, the default last."""
+        return self.shown_options or self.plain_names
+
+    @functools.cached_property
+    def choices(self) -> list[Wording]:
+        """All options, the default last."""
+        texts = self.explanations or [""] * len(self.options)
+        facts = zip(self.names, self.plain_names, (*self.ratios, None), (*texts, ""))
+        return [Wording(number, *each) for number, each in enumerate(facts, start=1)]
+
+    @property
+    def name(self) -> str:
+        """The title that people read."""
+        return self.shown_title or self.title
+
+    @property
+    def deadline_time(self) -> datetime.datetime | None:
+        return None if self.deadline is None else datetime.datetime.fromisoformat(self.deadline)
+
+    @functools.lru_cache(4)
+    def as_bytes(self) -> bytes:
+        """The poll in plain form."""
+        return plain_form(
+            {key: value for key in KEYS if is_set(value := getattr(self, key)) or key in REQUIRED}
+        )
+
+    @functools.cached_property
+    def checksum(self) -> str:
+        return sha256_of(self.as_bytes())
+
+    @property
+    def mark(self) -> str:
+        """The digits in square brackets in the subjects of letters about this poll."""
+        return self.checksum[:16]
+
+
+def is_set(value: object) -> bool:
+    """Whether a key that may be absent is set: a last envelope of 0 is."""
+    return value is not None and value is not False and value != ()
+
+
+def plain_form(values: dict[str, Any]) -> bytes:
+    """Keys and values in plain form, in the order in which they are given."""
+    lines = (f"{key} = {json.dumps(value, ensure_ascii=False)}\n" for key, value in values.items())
+    return "".join(lines).replace("\x7f", "\\u007f").encode()
+
+
+@functools.lru_cache(4)
+def read_plain(data: bytes, file: object = "poll.toml") -> SealedPoll:
+    """Reads a poll in plain form. Raises `Fault` if it is not in this form, byte for byte."""
+    try:
+        pairs = [line.split(" = ", 1) for line in data.decode("utf-8").split("\n")[:-1]]
+        poll = poll_of({key: json.loads(value) for key, value in pairs})
+        if poll.as_bytes() == data:
+            return poll
+    except (ValueError, TypeError):
+        pass
+    cure = "give the poll.toml of a call or of a published folder"
+    raise Fault(file, "it is not a sealed poll in plain form", cure, Status.BAD_POLL, None)
+
+
+def poll_of(values: dict[str, Any]) -> SealedPoll:
+    """The poll of these keys, with lists as JSON and TOML have them. Raises TypeError if a key is
+    missing or too many.
+    """
+    return SealedPoll(
+        **{key: tuple(value) if isinstance(value, list) else value for key, value in values.items()}
+    )
+
+
+def with_roll(poll: SealedPoll, roll: Sequence[str]) -> SealedPoll:
+    """The same poll with another roll, as that of aliases."""
+    return dataclasses.replace(poll, roll=tuple(roll))

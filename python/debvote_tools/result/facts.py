@@ -1,0 +1,261 @@
+"""What a result is made from, beside the answers of debvote: one value for the page, the letters of
+the result and the data. What is told of it in words is in `told.jinja`.
+"""
+
+import dataclasses
+import datetime
+import functools
+from collections.abc import Iterable, Mapping
+from typing import Any
+
+from debvote_tools.debvote import Finding, casting_words
+from debvote_tools.poll.sealed import SealedPoll
+from debvote_tools.result.sheet import Sheet, sheet_in
+from debvote_tools.text.language import ENGLISH, Language
+from debvote_tools.text.rendering import InHtml, templates_of
+from debvote_tools.text.times import time_in_words
+
+# the files of a published folder; a plain web server shows a text that ends in .txt
+POLL, BALLOTS, LATE, SHEET = "poll.toml", "ballots.txt", "late.txt", "sheet.txt"
+STANDING, DATA, TABLE, PICTURE = "standing.txt", "result.json", "votes.csv", "picture.svg"
+CLOSED, SEAL, LETTER = "closed.txt", "seal.txt", "letter.txt"
+PAGE, CHECKSUMS = "index.html", "SHA256SUMS"
+RECOUNT, SCRIPT, GUIDE = "recount.py", "recount.js", "READING-A-SHEET.md"
+
+# what the letter of the result does not tell, besides a close of which there is no more to say
+QUIET = ("called", "called until", "taken back", "keyring")
+
+# of each doubt, by its kind, what the secretary reads of it and can do about it
+FOR_SECRETARY = {
+    "no ballot": "no elector has a ballot that counts; check that these are the ballots of this poll",
+    "mostly refused": "more than half of the lines are refused, {refused} of {lines}; debvote explain says why",
+    "not closed": "the vote is not closed; close it first",
+    "closed early": "the vote was closed at {closed}, before its announced end, {until}",
+    "late letter": (
+        "the ballot of letter {letter} is late, but the letter arrived at {arrival}, before the end and the close; to count it run "
+        "debvote-election reopen --in-time {envelopes} --because TEXT"
+    ),
+    "letters left": (
+        "these letters arrived in time, and wait: {letters}; set aside what is no ballot (debvote-election held NUMBER --set-aside); if "
+        "one is a ballot, run debvote-election reopen --because TEXT, and add the mailbox once more"
+    ),
+    "other casting vote": (
+        "an earlier publication has a casting vote for {option}; only one can be right, so find out which was given"
+    ),
+}
+
+
+@dataclasses.dataclass(frozen=True)
+class CastingVote:
+    """The plain name of the option that it chooses; whose it was and on which day, if that is said.
+    No count can show it.
+    """
+
+    option: str
+    by: str | None = None
+    on: datetime.date | None = None
+
+
+@dataclasses.dataclass(frozen=True)
+class Doubt:
+    """Something doubtful about a result. The page tells it, and most stop a publication until it is
+    forced with a reason.
+    """
+
+    kind: str
+    places: Mapping[str, Any] = dataclasses.field(default_factory=dict)
+    # not so where an earlier act was forced although there was this doubt
+    stops: bool = True
+
+    @classmethod
+    def from_data(cls, data: Mapping[str, Any]) -> "Doubt":
+        """The doubt that an act of the book keeps as `as_data`."""
+        return cls(data["kind"], data)
+
+    def as_data(self) -> dict[str, Any]:
+        return {"kind": self.kind, **self.places}
+
+    def for_secretary(self) -> str:
+        return FOR_SECRETARY[self.kind].format(**self.places)
+
+
+def doubts_about(sheet: Sheet) -> list[Doubt]:
+    """The doubts about what came, by the sheet of all lines that came."""
+    found = [] if sheet.voters else [Doubt("no ballot")]
+    if 2 * sheet.refused > sheet.lines:
+        found.append(Doubt("mostly refused", {"refused": sheet.refused, "lines": sheet.lines}))
+    return found
+
+
+@dataclasses.dataclass(frozen=True)
+class Act:
+    """Something that was done in an election, at a time by the clock of the secretary's computer.
+
+    `places` fill its sentence. `because` is None if no reason was given, or it is not published.
+    """
+
+    time: datetime.datetime
+    done: str
+    places: Mapping[str, Any] = dataclasses.field(default_factory=dict)
+    because: str | None = None
+
+    @property
+    def is_quiet(self) -> bool:
+        if self.done != "closed":
+            return self.done in QUIET
+        more = (self.places[key] for key in ("early", "waiting", "after_end"))
+        return not (any(more) or self.because or self.places["came"] is not None)
+
+
+@dataclasses.dataclass(frozen=True)
+class Chronicle:
+    """What the book of an election says of its course."""
+
+    acts: tuple[Act, ...] = ()
+    # the end as it is, with the offset in which it was announced
+    until: datetime.datetime | None = None
+    # lines that came after the end, and count since the vote was not closed
+    after_the_end: int = 0
+
+    @property
+    def zone(self) -> datetime.tzinfo | None:
+        """The zone in which the end was announced."""
+        return self.until.tzinfo if self.until else datetime.UTC
+
+    @property
+    def days(self) -> list[datetime.date]:
+        """The day of the call that holds, and that of the first close."""
+        calls = [act for act in self.acts if act.done in ("called", "called until")]
+        closes = [act for act in self.acts if act.done == "closed" and act.time >= calls[-1].time]
+        return [act.time.astimezone(self.zone).date() for act in (*calls[-1:], *closes[:1])]
+
+
+@dataclasses.dataclass(frozen=True)
+class SecretVote:
+    """What is known of a secret vote, and is not published as it is."""
+
+    # the codes of the electors; none gets into the folder
+    codes: frozenset[str]
+    # the random line of the last close, if it made one
+    seal: str | None
+    # the sheet of the private files, and how many lines were entered after the close
+    sheet_text: str
+    late: int
+    # the electors whose votes a comparison with the last publication would show
+    compared: tuple[str, ...] = ()
+
+    @functools.cached_property
+    def sheet(self) -> Sheet:
+        return sheet_in(self.sheet_text)
+
+
+@dataclasses.dataclass(frozen=True)
+class Facts:
+    poll: SealedPoll
+    # the lines in time
+    ballots: bytes
+    language: Language = ENGLISH
+    casting: CastingVote | None = None
+    desks: int = 1
+    # of two files: the checksum of the file that was given as the poll
+    given_checksum: str | None = None
+    # None of two files
+    chronicle: Chronicle | None = None
+    # in a vote that is not secret: the lines that were entered after the close
+    late: bytes | None = None
+    # the letter of the last close
+    closed: bytes | None = None
+    # by the names on the roll, if they are published
+    real_names: Mapping[str, str] = dataclasses.field(default_factory=dict)
+    # texts of those who publish
+    about: str | None = None
+    because: str | None = None
+    # whether doubts stop nothing, and those that are known before the count
+    is_forced: bool = False
+    doubts: tuple[Doubt, ...] = ()
+    secret: SecretVote | None = None
+    # whether the names on the roll are codes, and nobody has a list of them
+    has_codes: bool = False
+    # the web address of the result, if it is known
+    at: str | None = None
+
+    @property
+    def has_aliases(self) -> bool:
+        return self.poll.secret and not self.has_codes
+
+    @property
+    def seal(self) -> str:
+        """The random line of the last close; empty if there is none."""
+        return (self.secret and self.secret.seal) or ""
+
+    @property
+    def casting_words(self) -> list[str]:
+        return casting_words(self.casting.option if self.casting else None)
+
+
+@dataclasses.dataclass(frozen=True)
+class Answers:
+    """What debvote answers about poll and ballots, and the picture that Graphviz draws, if it does."""
+
+    sheet: Sheet
+    sheet_text: str
+    # the exit status of the count
+    status: int
+    standing_text: str
+    # the lines that are refused, those after a last envelope among them
+    refused: list[Finding]
+    picture: bytes | None
+    # what `verify` says of the sheet
+    verified: str
+    version: str
+
+
+# ---------------------------------------------------------------- in words
+def told(language: Language, template: str = "told.jinja") -> Any:
+    """What a template says by its macros, for a page or for a letter."""
+    templates = templates_of(__package__, language, is_page=isinstance(language, InHtml))
+    return templates.get_template(template).module
+
+
+def all_acts(facts: Facts, language: Language) -> list[str]:
+    chronicle = facts.chronicle or Chronicle()
+
+    def in_words(value: Any) -> Any:
+        """Of times the words, in the zone of the vote."""
+        is_time = isinstance(value, datetime.datetime)
+        return time_in_words(value.astimezone(chronicle.zone), language) if is_time else value
+
+    return [
+        told(language).dated(
+            act, in_words(act.time), {key: in_words(value) for key, value in act.places.items()}
+        )
+        for act in chronicle.acts
+    ]
+
+
+def told_acts(facts: Facts, language: Language) -> list[str]:
+    """What the letter tells: all but the call and a plain close."""
+    chronicle = facts.chronicle or Chronicle()
+    loud = tuple(act for act in chronicle.acts if not act.is_quiet)
+    acts = all_acts(
+        dataclasses.replace(facts, chronicle=dataclasses.replace(chronicle, acts=loud)), language
+    )
+    return [*acts, *after_the_end(facts, language)]
+
+
+def after_the_end(facts: Facts, language: Language) -> list[str]:
+    number = facts.chronicle.after_the_end if facts.chronicle else 0
+    return [told(language).after_the_end(number)] if number else []
+
+
+def sentences_of(doubts: Iterable[Doubt], language: Language, *, is_secret: bool) -> list[str]:
+    """The doubts for the readers."""
+    said = []
+    for doubt in doubts:
+        times = {
+            key: time_in_words(datetime.datetime.fromisoformat(doubt.places[key]), language)
+            for key in ("arrival", "closed", "until")
+            if key in doubt.places
+        }
+        said.append(told(language).doubt(doubt.kind, {**doubt.places, **times}, is_secret))
+    return said
