@@ -447,7 +447,7 @@ class Held(LettersTest):
             ("bne 1,2,4,3", "bad not on roll: bne is not on the roll"),
             ("ben 1,2,4,3\nada 1,2,4,3", "it is not one line"),
             ("", "it is not one line"),
-            (f"ada {RANKS}", "--as: neither its sender nor a line of letter 2 is of ada"),
+            (f"ada {RANKS}", "--as: neither its sender nor a line of letter 2 is of ada", "--force"),
         ):
             with self.subTest(line):
                 self.assert_fault(self.election("held", 2, "--as", line), 9, *parts)
@@ -455,7 +455,9 @@ class Held(LettersTest):
         # a letter of somebody whom no list names may be anybody's
         self.add(letter("eve", "I am for the lake", sender="e@elsewhere.example"))
         self.done("held", 3, "--as", f"eve {RANKS}")
-        self.assertEqual(self.exported()[0], f"eve {RANKS}\n")
+        # one may vote for another, as by a paper that came with the letter
+        self.done("held", 2, "--as", f"ada {RANKS}", "--force")
+        self.assertEqual(self.exported()[0], f"eve {RANKS}\nada {RANKS}\n")
 
     def test_typed_for_one_who_has_voted_since(self) -> None:
         self.add(letter("eve", "I am for the lake", sender="e@elsewhere.example"))

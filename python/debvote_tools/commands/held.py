@@ -38,7 +38,9 @@ class Arguments(acting.Arguments):
     )
     set_aside: bool = flag("Set the letters aside: they are dealt with, and wait no longer")
     wait: bool = flag("Have the letters wait again")
-    force: bool = flag("Enter the ballot although its elector has voted since")
+    force: bool = flag(
+        "Enter the ballot although its elector has voted since, or --as names somebody who did not send the letter"
+    )
     yes: bool = flag("Enter the ballots without asking")
 
 
@@ -152,7 +154,8 @@ def enter(vote: Vote, arguments: Arguments) -> None:
         for letter in sorted(wanted, key=lambda one: (one.time is None, one.time or one.number)):
             try:
                 demand_not_entered(vote, history, letter)
-                chosen += chosen_in(letter, arguments.enter, typed)
+                forced = arguments.force
+                chosen += chosen_in(letter, arguments.enter, typed, is_forced=forced)
                 if letter.outcome is Outcome.COPY:
                     cure = "to enter its ballot once more, have the letter wait first with --wait"
                     name = f"letter {letter.number}"
@@ -223,7 +226,9 @@ def demand_not_entered(vote: Vote, history: History, letter: JudgedLetter) -> No
         raise Fault(name, "it was entered, and is late", cure)
 
 
-def chosen_in(letter: JudgedLetter, lines: str | None, typed: str | None) -> list[Chosen]:
+def chosen_in(
+    letter: JudgedLetter, lines: str | None, typed: str | None, *, is_forced: bool
+) -> list[Chosen]:
     """The ballots of a letter to enter: what was typed, the lines that were named, or its only one."""
     name = f"letter {letter.number}"
     if typed is not None:
@@ -231,9 +236,10 @@ def chosen_in(letter: JudgedLetter, lines: str | None, typed: str | None) -> lis
         sharing = known.electors_by_address.get(letter.parsed.sender, ())
         possible = {*letter.electors, *sharing, *filter(None, [marked])}
         chosen = Chosen(letter, 0, typed)
-        if possible and chosen.elector not in possible:
+        if possible and chosen.elector not in possible and not is_forced:
             words = f"neither its sender nor a line of {name} is of {chosen.elector}"
-            raise Fault("--as", words, "check the name; if it is right, enter the ballot at a desk")
+            cure = "check the name; if this ballot is theirs, repeat the command with --force"
+            raise Fault("--as", words, cure)
         return [chosen]
     there = {line.number: line.ballot for line in (*letter.offered, *letter.ballots)}
     if lines == THE_ONE:
