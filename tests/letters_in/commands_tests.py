@@ -639,6 +639,20 @@ class BetweenCloses(LettersTest):
             self.assertEqual(self.exported()[0], f"ada {RANKS}\n")
             self.assertIn(f"{name} {RANKS}\n", self.exported()[1])
 
+    def test_letters_of_before_and_after_it_at_once(self) -> None:
+        """What was entered together would be late together."""
+        self.set_clock("2026-11-24T09:00:00+00:00")
+        self.done("close")
+        self.done("reopen", "--because", "a bag was forgotten")
+        self.set_clock("2026-11-25T09:00:00+00:00")
+        for name, day in (("ben", 23), ("cleo", 25)):
+            self.add(letter(name, f"My ballot: 1\n{name} {RANKS}", f"Mon, {day} Nov 2026 08:00:00 +0000"))
+        said = "--enter: some of these letters arrived before the first close, and some after it"
+        self.assert_fault(self.election("held", 1, 2, "--enter"), 9, said)
+        for number in (1, 2):
+            self.done("held", number, "--enter")
+        self.assertEqual(self.exported(), (f"ben {RANKS}\n", f"cleo {RANKS}\n"))
+
     def last_detail(self) -> dict[str, object]:
         book = open_book(self.folder / "election.db")
         self.addCleanup(book.connection.close)
