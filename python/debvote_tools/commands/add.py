@@ -7,18 +7,14 @@ import re
 from collections.abc import Iterable, Iterator, Mapping, Sequence
 from typing import NamedTuple
 
-from debvote_tools.book import acting, queries
-from debvote_tools.book.acts import Detail
-from debvote_tools.book.book import Book, NewAct
+from debvote_tools.cli.arguments import demand_reason, flag, given, has_reason, option, positional
+from debvote_tools.book import queries
+from debvote_tools.book.book import Book, Detail, NewAct
 from debvote_tools.book.election import Election, History
 from debvote_tools.book.queries import Envelope, NewEnvelope
-from debvote_tools.book.reporting import count_of
-from debvote_tools.cli.arguments import flag, given, option, positional
-from debvote_tools.cli.console import tell, tell_many
+from debvote_tools.cli.console import count_of, shown_line, tell, tell_many
 from debvote_tools.cli.faults import Fault, Status, stop_at
-from debvote_tools.cli.terminal_text import shown_line
-from debvote_tools.inbox import files as came
-from debvote_tools.inbox import plan as plans
+from debvote_tools.inbox import files as came, plan as plans
 from debvote_tools.inbox.files import HYPHEN, CameFile
 from debvote_tools.inbox.lines import MARK, NOTHING_ADDED, Line, lines_in
 from debvote_tools.inbox.tables import Columns, OptionNames, are_table, columns_of, lines_of_table
@@ -72,7 +68,7 @@ class Arguments(plans.Arguments):
 def run(election: Election, arguments: Arguments) -> None:
     demand_words(arguments)
     if not arguments.look:
-        acting.book_for_act(election, arguments)
+        election.book_for(arguments)
     vote = Vote(election, election.history())
     found = came.read_files(election, arguments.files, is_table=arguments.csv)
     if not came.are_all_letters(found):
@@ -293,7 +289,7 @@ def detail_of(vote: Vote, plan: Plan, arguments: Arguments, answer: bool | None)
         detail["came_before_close"] = answer
     if vote.is_signed:
         detail["unsigned"] = True
-        detail["because"] = acting.demand_reason(arguments.because, "--force")
+        detail["because"] = demand_reason(arguments.because, "--force")
     return detail
 
 
@@ -325,8 +321,8 @@ def doubts(vote: Vote, plan: Plan, arguments: Arguments) -> Iterator[Fault]:
             words = f"it has two different ballots of {pair[0].voter} ({rows}), and the one that is entered last counts"
             cure = "say how its rows are sorted: --oldest-first or --newest-first"
             yield doubt(file.came.name, words, cure)
-    has_reason = arguments.force and acting.has_reason(arguments.because)
-    if plan.new_lines and vote.is_signed and not has_reason:
+    is_reasoned = arguments.force and has_reason(arguments.because)
+    if plan.new_lines and vote.is_signed and not is_reasoned:
         words = "in this vote letters must be signed, and nothing shows who sent a line of a file"
         cure = "add the letters themselves; or, if you know by other means who sent each line, give --force --because TEXT"
         yield doubt(plan.files[0].came.name, words, cure)

@@ -3,11 +3,10 @@
 import shlex
 from collections.abc import Iterable
 
-from debvote_tools.cli.arguments import flag, option
+from debvote_tools.cli.arguments import Acting, flag, option
 from debvote_tools.book import queries
 from debvote_tools.cli.console import tell_as_it_is, tell_aside
 from debvote_tools.debvote import casting_words
-from debvote_tools.book import acting
 from debvote_tools.book.election import Election, History, Sealed
 from debvote_tools.inbox.waiting import how_to_go_on, stopping, waiting_letters, why_they_stop
 from debvote_tools.cli.faults import Fault, Status
@@ -23,13 +22,13 @@ CASTING = (
 )
 
 
-class Arguments(acting.Arguments, writes=False, checks=True):
+class Arguments(Acting, writes=False, checks=True):
     casting: str | None = option(*CASTING)
     force: bool = flag("Count although letters wait that arrived in time")
 
 
 def run(election: Election, arguments: Arguments) -> int:
-    book = acting.book_for_count(election, arguments)
+    book = election.book_for(arguments)
     sealed, history = election.sealed(), election.history()
     demand_countable(election, history, sealed)
     demand_option(sealed.counted, arguments.casting)

@@ -4,14 +4,12 @@ import collections
 from collections.abc import Iterator, Sequence
 from typing import NamedTuple
 
-from debvote_tools.book import acting, letters, queries
-from debvote_tools.book.acts import ActName, Detail
+from debvote_tools.cli.arguments import Acting, flag, given, option, positional
+from debvote_tools.book import queries
+from debvote_tools.book.book import ActName, Detail
 from debvote_tools.book.election import Election, History
-from debvote_tools.book.reporting import count_of
-from debvote_tools.cli.arguments import flag, given, option, positional
-from debvote_tools.cli.console import is_terminal, is_yes, tell
+from debvote_tools.cli.console import count_of, is_terminal, is_yes, shown_line, shown_text, tell
 from debvote_tools.cli.faults import Fault, Status, stop_at
-from debvote_tools.cli.terminal_text import shown_line, shown_text
 from debvote_tools.inbox import letter_words, letters_in
 from debvote_tools.inbox.known import Decision
 from debvote_tools.inbox.rules import JudgedLetter, Outcome
@@ -24,7 +22,7 @@ from debvote_tools.inbox.vote import Vote
 THE_ONE = "one"
 
 
-class Arguments(acting.Arguments):
+class Arguments(Acting):
     numbers: list[int] = positional("NUMBER", "The numbers of letters", type=int, nargs="*")
     enter: str | None = option(
         "LINE,..",
@@ -47,7 +45,7 @@ class Arguments(acting.Arguments):
 def run(election: Election, arguments: Arguments) -> None:
     is_act = demand_words(arguments)
     if is_act:
-        acting.book_for_act(election, arguments)
+        election.book_for(arguments)
     # stops before the call
     vote = Vote(election, election.history())
     if arguments.set_aside or arguments.wait:
@@ -91,7 +89,7 @@ def demand_words(arguments: Arguments) -> bool:
 
 
 def all_letters(vote: Vote) -> list[JudgedLetter]:
-    kept, history = letters.letters(vote.book), vote.election.history()
+    kept, history = queries.letters(vote.book), vote.election.history()
     return letters_in.judged(vote.election, history, kept, vote=vote)
 
 
@@ -105,7 +103,7 @@ def chosen_letters(found: Sequence[JudgedLetter], numbers: Sequence[int]) -> lis
 
 def decide(vote: Vote, arguments: Arguments) -> None:
     """The act that sets letters aside, or has them wait again."""
-    state: ActName = letters.SET_ASIDE if arguments.set_aside else letters.PUT_BACK
+    state: ActName = queries.SET_ASIDE if arguments.set_aside else queries.PUT_BACK
 
     def plan() -> list[int]:
         chosen = chosen_letters(all_letters(vote), arguments.numbers)
@@ -117,7 +115,7 @@ def decide(vote: Vote, arguments: Arguments) -> None:
     def act(numbers: list[int], seen: int) -> None:
         with vote.book.act(state, {"letters": numbers}, seen=seen) as act:
             for number in numbers:
-                letters.decide(act, number, state)
+                queries.decide(act, number, state)
 
     agreed_act(vote, plan, lambda _: True, act)
 

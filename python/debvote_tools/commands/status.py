@@ -8,13 +8,19 @@ from typing import Any, NamedTuple
 from debvote_tools.text import times
 from debvote_tools.cli.arguments import Options, flag
 from debvote_tools.book import queries
-from debvote_tools.cli.console import shows, tell
+from debvote_tools.cli.console import (
+    act_time,
+    count_of,
+    quorum_words,
+    shown_line,
+    shows,
+    tell,
+    wrapped,
+)
 from debvote_tools.debvote import Finding, Findings, Totals
 from debvote_tools.book.election import LETTERS, RESULT_LETTER, Election, History, Stage
-from debvote_tools.book.reporting import act_time, count_of, quorum_words, wrapped
 from debvote_tools.inbox.waiting import Arrived, stopping, waiting_letters
 from debvote_tools.inbox.lines import ballot_file
-from debvote_tools.cli.terminal_text import shown_line
 
 # how many characters the bar of those who have voted has
 BAR = 50

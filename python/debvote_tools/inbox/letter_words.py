@@ -5,8 +5,7 @@ line.
 import re
 from collections.abc import Iterator, Sequence
 
-from debvote_tools.book.reporting import act_time, count_of
-from debvote_tools.cli.terminal_text import shown_line, shown_text
+from debvote_tools.cli.console import act_time, count_of, shown_line, shown_text
 from debvote_tools.inbox.letter import Near, is_quoted
 from debvote_tools.inbox.rules import JudgedLetter, Outcome, above_end
 from debvote_tools.inbox.reasons import for_secretary

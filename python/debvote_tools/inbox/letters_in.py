@@ -6,16 +6,12 @@ import pathlib
 from collections.abc import Collection, Iterable, Iterator, Mapping, Sequence
 from typing import NamedTuple
 
-from debvote_tools.book import letters, queries
-from debvote_tools.book.acts import ActName, Detail
-from debvote_tools.book.book import NewAct
+from debvote_tools.book import queries
+from debvote_tools.book.book import ActName, Detail, NewAct
 from debvote_tools.book.election import KEYRING, Election, History
-from debvote_tools.book.letters import KeptLetter
-from debvote_tools.book.queries import NewEnvelope
-from debvote_tools.book.reporting import count_of
-from debvote_tools.cli.console import is_terminal, is_yes, tell
+from debvote_tools.book.queries import KeptLetter, NewEnvelope
+from debvote_tools.cli.console import count_of, is_terminal, is_yes, shown_text, tell
 from debvote_tools.cli.faults import Fault, Status
-from debvote_tools.cli.terminal_text import shown_text
 from debvote_tools.files import sha256_of
 from debvote_tools.inbox import letter_words, plan
 from debvote_tools.inbox.known import Ballot, Decision, Known, Names
@@ -53,7 +49,7 @@ def take_letters(
         tell(came_before)
         enter_letters(vote, is_agreed=is_agreed)
         return
-    history, kept = vote.election.history(), letters.letters(vote.book)
+    history, kept = vote.election.history(), queries.letters(vote.book)
     all_letters = judged(vote.election, history, kept, found, vote=vote)
     tell_letters(vote, history, all_letters)
     would = letter_words.counts(all_letters, len(going_in(all_letters)))
@@ -81,7 +77,7 @@ def read(files: Mapping[str, CameFile | None]) -> tuple[list[RawLetter], list[Pa
 
 
 def new_of(vote: Vote, raws: Sequence[RawLetter]) -> list[RawLetter]:
-    known = letters.known_digests(vote.book)
+    known = queries.known_digests(vote.book)
     # of letters with the same bytes the first that is not parted off, or else the first
     chosen: dict[str, RawLetter] = {}
     for raw in raws:
@@ -105,12 +101,12 @@ def keep(vote: Vote, raws: Sequence[RawLetter], found: Sequence[ParsedLetter]) -
         # their lines were read by the poll of this call
         cure = "run the command again"
         plan.demand_same_call(vote, vote.election.history(), cure, NOTHING_ADDED)
-        known = letters.known_digests(vote.book)
+        known = queries.known_digests(vote.book)
         for raw, letter in zip(raws, found):
             # another command may have kept it meanwhile
             if is_new(letter.digest, letter.is_parted_off, known):
                 where, known_of_it = safe(raw.where), as_json(letter)
-                letters.keep_letter(act, where, raw.data, letter.identity, known_of_it)
+                queries.keep_letter(act, where, raw.data, letter.identity, known_of_it)
 
 
 class Plan(NamedTuple):
@@ -136,7 +132,7 @@ def enter(
 ) -> None:
     def envelopes(act: NewAct) -> list[NewEnvelope]:
         for number in now.done:
-            letters.decide(act, number, letters.ENTERED)
+            queries.decide(act, number, queries.ENTERED)
         return now.envelopes
 
     def report(numbers: range, replies: Sequence[str]) -> Iterator[str]:
@@ -161,7 +157,7 @@ def enter_letters(vote: Vote, *, is_agreed: bool) -> None:
         nonlocal history, found
         history = election.history()
         plan.demand_same_call(vote, history, "run the command again", NOTHING_ADDED)
-        found = judged(election, history, letters.letters(vote.book), vote=vote)
+        found = judged(election, history, queries.letters(vote.book), vote=vote)
         new = [envelope_of(letter, letter.ballots[0].ballot) for letter in going_in(found)]
         return Plan(new, [letter.number for letter in going_in(found)], history.is_closed)
 
@@ -287,7 +283,7 @@ def check_again(
     """Reads some letters again, for their signatures."""
     raws = []
     for index in indices:
-        one, data = found[index], letters.source_of(vote.book, kept[index].source)
+        one, data = found[index], queries.source_of(vote.book, kept[index].source)
         raws.append(RawLetter(one.where, data, one.is_parted_off))
     known = answers_in(found, vote.roll) if indices else {}
     for index, letter in zip(indices, parsed(vote, raws, known)):
@@ -319,7 +315,7 @@ def ballots_in(
 def known_of(election: Election, history: History, by_key: Mapping[str, KeptLetter]) -> Known:
     call, sealed, electors = history.call, election.sealed(), queries.electors(election.book)
     assert call is not None
-    ids = letters.our_message_ids(election.book)
+    ids = queries.our_message_ids(election.book)
     states = ((key, kept.state) for key, kept in by_key.items())
     return Known(
         mark=sealed.public.mark,
@@ -332,7 +328,7 @@ def known_of(election: Election, history: History, by_key: Mapping[str, KeptLett
         first_close=history.closes[0].time if history.closes else None,
         now=times.now(),
         our_letters={elector.name: ids.get(elector.number, []) for elector in electors},
-        decisions={key: Decision(state) for key, state in states if state != letters.WAITS},
+        decisions={key: Decision(state) for key, state in states if state != queries.WAITS},
     )
 
 

@@ -7,14 +7,20 @@ import itertools
 from collections.abc import Callable, Collection, Iterable, Sequence
 from typing import TypeVar
 
-from debvote_tools.book import acting, queries
-from debvote_tools.book.acts import ActName, Detail
-from debvote_tools.book.book import Book, NewAct, Overtaken
+from debvote_tools.cli.arguments import Acting, option
+from debvote_tools.book import queries
+from debvote_tools.book.book import ActName, Book, Detail, NewAct, Overtaken
 from debvote_tools.book.election import Election, History
 from debvote_tools.book.queries import NewEnvelope
-from debvote_tools.book.reporting import act_time, count_of
-from debvote_tools.cli.arguments import option
-from debvote_tools.cli.console import OutputFailed, is_terminal, is_yes, tell, tell_many
+from debvote_tools.cli.console import (
+    OutputFailed,
+    act_time,
+    count_of,
+    is_terminal,
+    is_yes,
+    tell,
+    tell_many,
+)
 from debvote_tools.cli.faults import Fault, Status
 from debvote_tools.files import BALLOTS_LIMIT, LINES_LIMIT, uninterrupted
 from debvote_tools.inbox.lines import Line, name_in
@@ -30,7 +36,7 @@ LONGEST_LINE = 500
 Plan = TypeVar("Plan")
 
 
-class Arguments(acting.Arguments):
+class Arguments(Acting):
     """The options of a command that enters lines."""
 
     came_before_close: str | None = option(

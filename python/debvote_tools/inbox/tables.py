@@ -15,7 +15,7 @@ from collections.abc import Callable, Collection, Iterator, Mapping, Sequence
 from typing import NamedTuple
 
 from debvote_tools.cli.faults import Fault, Status
-from debvote_tools.cli.terminal_text import shown_text
+from debvote_tools.cli.console import shown_text
 from debvote_tools.inbox.lines import BLANKS, NOTHING_ADDED, Line
 from debvote_tools.poll.plain_names import without_accents
 from debvote_tools.poll.sealed import SealedPoll

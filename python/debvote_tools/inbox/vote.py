@@ -7,9 +7,8 @@ from collections.abc import Iterable, Iterator, Sequence
 from typing import NamedTuple
 
 from debvote_tools.book.election import Election, History
-from debvote_tools.book.reporting import count_of
+from debvote_tools.cli.console import count_of, shown_line
 from debvote_tools.cli.faults import other_format
-from debvote_tools.cli.terminal_text import shown_line
 from debvote_tools.debvote import Finding
 from debvote_tools.files import BALLOTS_LIMIT, LINES_LIMIT
 from debvote_tools.inbox.lines import Line, ballot_file, differences, has_code

@@ -8,7 +8,7 @@ after the close `count` and `publish`.
 import enum
 from collections.abc import Collection, Mapping
 
-from debvote_tools.book import letters
+from debvote_tools.book import queries
 from debvote_tools.book.election import Election, History
 
 
@@ -23,7 +23,7 @@ class Arrived(enum.Enum):
 
 def waiting_letters(election: Election, history: History) -> dict[int, Arrived]:
     """The letters that wait for the secretary, by their numbers: when each arrived."""
-    kept = letters.letters(election.book)
+    kept = queries.letters(election.book)
     if not kept:
         return {}
     from debvote_tools.inbox.letters_in import judged
@@ -31,7 +31,7 @@ def waiting_letters(election: Election, history: History) -> dict[int, Arrived]:
     # where letters have to be signed, what was signed says which are copies, which the book may not
     # have known when they came
     if not history.announced("signed"):
-        kept = letters.undecided(kept)
+        kept = queries.undecided(kept)
     found = {}
     for letter in judged(election, history, kept):
         if letter.waits:
