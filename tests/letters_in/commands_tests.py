@@ -127,7 +127,7 @@ class Adding(LettersTest):
             "On Mon, 23 Nov 2026 at 09:00, Vote <vote@club.example> wrote:\n> Vote now\n> ada 2,1,4,3"
         )
         worded = f"ben {RANKS}\n\nBut if it rains I am for the town hall, since the lake is no place to go then"
-        outlook = f"cleo {RANKS}\n\nVon: Vote <vote@club.example>\nGesendet: Montag\nAn: Cleo\nBetreff: Vote\n\nVote now"
+        outlook = f"cleo {RANKS}\n\nVon: Vote <vote@club.example>\nGesendet: Montag\nAn: Cleo\nBetreff: Vote [{support.ANY_MARK}]\n\nVote now"
         said = self.add(letter("ben", worded), letter("ada", usual), letter("cleo", outlook)).output
         self.assertIn(
             f"\nada (letter 2, written `Ada: 1; 2; 4; 3.`): {LAKE}\ncleo (letter 3): {LAKE}\n"

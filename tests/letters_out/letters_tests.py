@@ -453,6 +453,18 @@ class Receipts(OutTest):
         self.assertEqual(list(texts), ["dan"])
         self.assertIn(f"It counts unless you send a later one. It was read as: (dan {RANKS})", texts["dan"])
 
+    def test_a_ballot_that_the_secretary_typed_for_a_letter(self) -> None:
+        """It is told as the letter, with its time, and how it was read; one that was entered as it stood is told without that."""
+        self.add_letters(letter("ada", "I want the lake, then the town hall.\n"), letter("ben", f"Hello 1\nben {RANKS}\n"))
+        self.assertIn("No ballot from it is entered yet", self.texts("receipts")["ada"])
+        self.done("held", 1, "--as", f"ada {RANKS}")
+        self.done("held", 2, "--enter", 2)
+        texts = self.texts("receipts")
+        said = "10:00 (UTC) has arrived. It counts unless you send a later one."
+        self.assertIn(f"{said} The secretary typed it, by your letter. It was read as: (ada {RANKS}) In words: {LAKE}.", texts["ada"])
+        self.assertIn(f"{said} It was read as: (ben {RANKS})", texts["ben"])
+        self.assertNotIn("No ballot from it", texts["ada"])
+
     def test_a_copy_is_the_letter_that_it_copies(self) -> None:
         first = letter("ada", f"ada {RANKS}\n")
         self.add_letters(

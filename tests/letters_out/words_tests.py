@@ -2,10 +2,15 @@
 
 import dataclasses
 import datetime
+import pathlib
+import re
+import subprocess
+import tempfile
 import types
 import unittest
 
 from out_support import one_line, parsed
+from tests.support.at_browser import BROWSER
 
 from debvote_tools.book.queries import Elector, Envelope
 from debvote_tools.book.sent import SentLetter
@@ -14,11 +19,12 @@ from debvote_tools.text.language import LANGUAGES, language_of
 from debvote_tools.inbox.rules import Outcome
 from debvote_tools.inbox.of_electors import Became, Came
 from debvote_tools.inbox.letter import Near
-from debvote_tools.inbox.reasons import Reason
+from debvote_tools.inbox.reasons import Reason, for_elector
 from debvote_tools.outbox.files import message
-from debvote_tools.outbox.words import Composer, Kind
+from debvote_tools.outbox.words import PACKAGE, SUBJECTS, Composer
 from debvote_tools.text.ballots import without_ballots
 from debvote_tools.text.rendering import one_line as on_one_line
+from debvote_tools.text.rendering import render_page, resources
 from debvote_tools.poll.sealed import SealedPoll
 
 TIME = datetime.datetime(2026, 11, 23, 10, tzinfo=datetime.UTC)
@@ -69,8 +75,8 @@ def texts(now: Composer) -> list[str]:
         now.reminder(ADA, [WAITS]),
         now.reminder(ADA, []),
         now.receipt(ADA, all_that_came()),
-        now.text(Kind.CLOSED, ADA, letter="CLOSED\n"),
-        *(now.text(Kind.RESULT, ADA, letter="RESULT\n", has_ballot=has_ballot) for has_ballot in (True, False)),
+        now.text("closed", ADA, letter="CLOSED\n"),
+        *(now.text("result", ADA, letter="RESULT\n", has_ballot=has_ballot) for has_ballot in (True, False)),
     ]
 
 
@@ -92,7 +98,7 @@ class Texts(unittest.TestCase):
 
     def test_each_kind_has_its_own_subject(self) -> None:
         for code in LANGUAGES:
-            subjects = [vote(code).subject(kind) for kind in Kind] + [vote(code).subject(Kind.CALL, is_extension=True)]
+            subjects = [vote(code).subject(kind) for kind in SUBJECTS] + [vote(code).subject("call", is_extension=True)]
             self.assertEqual(len(set(subjects)), 6, subjects)
             for subject in subjects:
                 self.assertTrue(subject.endswith(": Spring"), subject)
@@ -103,17 +109,29 @@ class Texts(unittest.TestCase):
         self.assertNotIn("send the line alone", text)
         self.assertNotIn("OpenPGP", vote().reminder(ADA, []))
 
+    def test_after_the_end_nobody_is_asked_to_send_anything(self) -> None:
+        for code in LANGUAGES:
+            for reason in (Reason.TOO_LONG(), Reason.NOT_FIRST(), Reason.NO_BALLOT()):
+                came = WAITS._replace(letter=types.SimpleNamespace(reason=reason, near=()))  # type: ignore[arg-type]
+                open_text, over = (" ".join(vote(code, is_over=is_over).receipt(ADA, [came]).split()) for is_over in (False, True))
+                said = " ".join(language_of(code).say(for_elector(reason)).split())
+                self.assertIn(f" {said} ", open_text)
+                self.assertIn(f" {said.partition('. ')[0].rstrip('.')}. ", over)
+                if ". " in said:
+                    self.assertNotIn(said.partition(". ")[2], over)
+                self.assertNotIn("_,_", over)
+
     def test_of_a_result(self) -> None:
         """The letter for all, and before it the own ballot; where the result is, if the letter for all does not say it."""
         for letter in ("RESULT\n", "RESULT at\n  https://club.example/vote/\n"):
-            texts = [now.text(Kind.RESULT, ADA, letter=letter, has_ballot=True) for now in (vote(), vote(has_aliases=True))]
+            texts = [now.text("result", ADA, letter=letter, has_ballot=True) for now in (vote(), vote(has_aliases=True))]
             for text in texts:
                 self.assertTrue(text.endswith(f"\n\n{letter}"), text)
                 self.assertEqual(text.count("  https://club.example/vote/\n"), 1)
             self.assertIn("Your own ballot, in words:\n  https://club.example/vote/#ada\n", texts[0])
             self.assertNotIn("#", texts[1])
             self.assertIn("find it with your name, ada, and your code", " ".join(texts[1].split()))
-            self.assertIn("The result has no ballot of yours", vote().text(Kind.RESULT, ADA, letter=letter, has_ballot=False))
+            self.assertIn("The result has no ballot of yours", vote().text("result", ADA, letter=letter, has_ballot=False))
 
 
 class CallLetter(unittest.TestCase):
@@ -176,6 +194,28 @@ class CallLetter(unittest.TestCase):
             self.assertEqual(text.count("The program has not checked"), 1)
             self.assertNotIn("A lake", now.call_letter(ADA, is_extension=True))
         self.assertNotIn("A lake", vote(poll=poll).call_letter(ADA, is_extension=False))
+
+
+@unittest.skipUnless(BROWSER, "chromium is not installed")
+class Printed(unittest.TestCase):
+    def test_a_letter_has_at_most_two_sides(self) -> None:
+        """With twelve options, no page, a secret code, and 600 characters of the secretary's own."""
+        names = tuple(f"A rather long name of an option, as societies have them, number {number}" for number in range(1, 12))
+        poll = dataclasses.replace(POLL, options=names, ratios=(1,) * 11)
+        for code in LANGUAGES:
+            now = vote(code, poll=poll, at=None, has_aliases=True, letter_text="Paper ballots go into the box in the hall of our house.\n" * 11)
+            text = now.call_letter(ADA._replace(code="c0de" * 8), is_extension=False)
+            style = resources(PACKAGE, "letter.css")
+            page = render_page(PACKAGE, "print.html", now.call.language, style=style, title="Spring", letters=[("Ada", text)] * 3)
+            with tempfile.TemporaryDirectory() as folder:
+                place = pathlib.Path(folder)
+                (place / "page.html").write_bytes(page)
+                words = [BROWSER, "--headless", "--no-sandbox", "--disable-gpu", f"--user-data-dir={folder}/of-browser"]
+                words += [f"--print-to-pdf={folder}/page.pdf", f"{folder}/page.html"]
+                subprocess.run(words, check=True, capture_output=True)
+                sides = re.findall(rb"/Type\s*/Page\b", (place / "page.pdf").read_bytes())
+            self.assertGreater(len(text.splitlines()), 70)
+            self.assertEqual(len(sides), 6, code)
 
 
 class NoBallot(unittest.TestCase):
@@ -270,7 +310,7 @@ class Bytes(unittest.TestCase):
 
     def test_a_name_is_one_line(self) -> None:
         elector = ADA._replace(who="Ada\r\nBcc: x@y.example\n\nada 1,2,3\u2028" + "x" * 500)
-        text = vote().text(Kind.CLOSED, elector, letter="CLOSED\n")
+        text = vote().text("closed", elector, letter="CLOSED\n")
         self.assertEqual(len(text.split("\n\n")), 2)
         self.assertEqual(one_line(parsed(self.message(text)))[:9], "Dear Ada ")
 

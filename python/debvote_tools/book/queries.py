@@ -34,7 +34,7 @@ def all_electors(book: Book) -> list[Elector]:
     state = book.last_number(), book.connection.total_changes
     if book.electors_at[0] != state:
         rows = book.rows("SELECT * FROM elector_now ORDER BY position")
-        found = [Elector(*row)._replace(addresses=tuple(json.loads(row[4]))) for row in rows]
+        found = [Elector._make([*row[:4], tuple(json.loads(row[4])), *row[5:]]) for row in rows]
         book.electors_at = state, found
     return list(book.electors_at[1])
 

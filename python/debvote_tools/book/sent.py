@@ -87,7 +87,7 @@ def detail_of(letter: SentLetter) -> str:
 # the last state of the letters to each address of each elector. A letter that is only written went
 # out by a mail program, unless others of its run went out by a server
 LAST_STATES = """
-WITH state AS (
+WITH state AS MATERIALIZED (
   SELECT sent, elector, kind, state, act, json_extract(detail, '$.address') AS address,
     json_extract(detail, '$.for_act') AS for_act, json_extract(detail, '$.reply') AS reply
   FROM sent WHERE act > ?

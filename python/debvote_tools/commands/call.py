@@ -105,6 +105,7 @@ def call(election: Election, arguments: Arguments) -> None:
         faults.append(Fault("--marked", reason, "leave it out", Status.BAD_WORDS))
     with kept_in(faults):
         demand_read(election, history)
+    with kept_in(faults):
         found = checked(election, deadline=said.get("until"), address=said.get("to"))
         poll = found.poll
         if poll.secret and arguments.names:

@@ -27,7 +27,7 @@ ALL = "Is that all? It is if the mailbox was added just now, all paper is entere
 TRIES = 50
 
 
-class Arguments(acting.Arguments):
+class Arguments(acting.Arguments, checks=True):
     early: bool = flag("Close before the end of the vote; the result page says so")
     force: bool = flag(
         "With --because: close although letters wait that arrived in time; the result page says how many"

@@ -73,9 +73,7 @@ def run(election: Election, arguments: Arguments) -> None:
 
 
 def demand_words(arguments: Arguments) -> bool:
-    """Whether letters are to be entered, set aside or put back. Stops if the options do not go
-    together.
-    """
+    """Whether it is an act. Stops if the options do not go together."""
     chosen = given(arguments, "enter", "typed", "set_aside", "wait")
     if len(chosen) > 1:
         cure = "give only one of --enter, --as, --set-aside and --wait"
@@ -83,7 +81,8 @@ def demand_words(arguments: Arguments) -> bool:
     takes_one = arguments.typed is not None or arguments.enter not in (None, THE_ONE)
     if takes_one and len(arguments.numbers) != 1:
         name = "--enter" if arguments.typed is None else "--as"
-        raise Fault(name, "a line is of one letter", "name one number", Status.BAD_WORDS)
+        cure = f"name one number before {name}"
+        raise Fault(name, "a line is of one letter", cure, Status.BAD_WORDS)
     if chosen and not arguments.numbers and arguments.enter is None:
         raise Fault("held", "no letter is named", "name its number", Status.BAD_WORDS)
     return bool(chosen)
@@ -177,9 +176,8 @@ def enter(vote: Vote, arguments: Arguments) -> None:
         return Plan(new, done_with(vote, chosen), late.pop())
 
     def show(_: Plan) -> bool:
-        for one in chosen:
-            who = letter_words.who_and_when(one.letter)
-            tell(f"{who}: {vote.ballot_in_words(one.ballot)}")
+        who = letter_words.who_and_when
+        tell(*(f"{who(one.letter)}: {vote.ballot_in_words(one.ballot)}" for one in chosen))
         tell(*(f"Waits on: {fault.file}: {fault.reason}" for fault in faults.values()))
         question = f"Enter {count_of(len(chosen), 'ballot')}?"
         if is_terminal() and not arguments.yes and not is_yes(question):
@@ -212,6 +210,7 @@ def ballot_of(vote: Vote, text: str) -> str:
 
 
 def demand_not_entered(vote: Vote, history: History, letter: JudgedLetter) -> None:
+    """Stops at a letter that was entered."""
     name = f"letter {letter.number}"
     if letter.outcome is Outcome.ENTERED:
         late = queries.envelopes(vote.book, f"letter = ? AND {queries.LATE}", letter.number)
@@ -225,9 +224,7 @@ def demand_not_entered(vote: Vote, history: History, letter: JudgedLetter) -> No
 
 
 def chosen_in(letter: JudgedLetter, lines: str | None, typed: str | None) -> list[Chosen]:
-    """The ballots of a letter that are to be entered: the one that was typed, the lines that were
-    named, or the only one.
-    """
+    """The ballots of a letter to enter: what was typed, the lines that were named, or its only one."""
     name = f"letter {letter.number}"
     if typed is not None:
         known, marked = letter.known, letter.known.marked_elector(letter.parsed)

@@ -23,7 +23,7 @@ from debvote_tools.files import locked, uninterrupted
 from debvote_tools.outbox import files, smtp
 from debvote_tools.outbox.due import WAS_REFUSED, LettersDue, unreached
 from debvote_tools.outbox.smtp import Server
-from debvote_tools.outbox.words import Kind
+from debvote_tools.outbox.words import SUBJECTS
 from debvote_tools.poll.call import demand_mail_address, demand_web_address
 
 # how many electors without an address are named
@@ -34,7 +34,7 @@ BAR = 40
 
 class Arguments(acting.Arguments):
     kind: str = positional(
-        "KIND", "call, receipts, reminders, closed or result", choices=[*map(str, Kind)]
+        "KIND", "call, receipts, reminders, closed or result", choices=list(SUBJECTS)
     )
     send: bool = flag("Send the letters to a mail server; if a run was cut off, go on from there")
     server: str | None = option(
@@ -71,7 +71,7 @@ def run(election: Election, arguments: Arguments) -> int:
     files.make_own(election.path(LETTERS) / arguments.kind)
     # two runs at once would send each letter twice
     with locked(election.path(LETTERS) / ".lock"):
-        due = LettersDue(election, Kind(arguments.kind), sender, is_sending=arguments.send)
+        due = LettersDue(election, arguments.kind, sender, is_sending=arguments.send)
         if due.reminded and console.is_terminal() and not arguments.yes:
             question = f"Reminders were written at {act_time(due.reminded)}. Remind again?"
             if not console.is_yes(question):
@@ -158,7 +158,7 @@ def demand_words(arguments: Arguments) -> None:
     if not arguments.send and (options := given(arguments, "server", "user", "password_file")):
         cure = "give --send too, or leave this out"
         raise bad_words(", ".join(options), "only with --send", cure)
-    for option, kind in (("at", Kind.RESULT), ("yes", Kind.REMINDERS)):
+    for option, kind in (("at", "result"), ("yes", "reminders")):
         if arguments.kind != kind and given(arguments, option):
             raise bad_words(f"--{option}", f"only with {kind}", "leave it out")
 

@@ -123,9 +123,7 @@ def late_left(book: Book) -> list[Envelope]:
 
 
 def asked(book: Book, *, has_codes: bool) -> list[int]:
-    """The numbers that are typed at a terminal, where the late envelopes are listed; none if there
-    are none.
-    """
+    """The numbers that are typed at a terminal, where the late envelopes are listed."""
     if not (late := late_left(book)):
         return []
     tell(f"{count_of(len(late), 'line')} came late:")

@@ -60,10 +60,8 @@ def run(election: Election, arguments: Arguments) -> None:
         whose = "that code" if vote.has_codes else elector
         current = "none" if ranks is None else vote.ranks_in_words(ranks)
         tell(f"The current ballot of {whose}: {current}")
-    tell(
-        "A strike cannot be undone: if it was a mistake, enter the line again.",
-        f"Next: {election.command('status')}",
-    )
+    tell("A strike cannot be undone: if it was a mistake, enter the line again.")
+    tell(f"Next: {election.command('status')}")
 
 
 def in_words(envelope: Envelope, vote: Vote) -> str:

@@ -12,7 +12,6 @@ from debvote_tools.cli.console import is_terminal, is_yes, tell
 from debvote_tools.cli.faults import Fault
 from debvote_tools.inbox.plan import agreed_act, envelope_words
 from debvote_tools.inbox.vote import Vote, standing_words
-from debvote_tools.outbox.words import Kind
 
 
 class Arguments(acting.Arguments):
@@ -93,7 +92,7 @@ def what_is_taken_back(vote: Vote) -> Plan:
         lines_without = queries.lines_of_electors(book, electors, without=number)
     before, after = vote.standing(lines), vote.standing(lines_without)
     about = {("envelope", envelope.number, False) for envelope in envelopes}
-    written = sent.sent_letters(book, Kind.RECEIPTS)
+    written = sent.sent_letters(book, "receipts")
     having = {letter.elector for letter in written if about & set(letter.about)}
     names = [elector.name for elector in queries.electors(book) if elector.number in having]
     return Plan(history.act(number), envelopes, before, after, names)
@@ -106,9 +105,7 @@ def demand_open(election: Election, history: History) -> None:
 
 
 def consequences(vote: Vote, found: Plan, none: str | None) -> Iterator[str]:
-    """The ballots that change, where `none` says that none is left; the letters that wait again;
-    the receipts that no longer hold.
-    """
+    """What changes: ballots, where `none` says that none is left; letters; receipts."""
     if none is not None:
         yield from standing_words(vote, found.before, found.after, none)
     if found.letters:

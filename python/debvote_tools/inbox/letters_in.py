@@ -48,19 +48,16 @@ def take_letters(
         keep(vote, new, found)
     for one in passed_over:
         tell(f"{shown_text(one.where)}: {one.why.what}, and was passed over; {one.why.cure}")
+    came_before = f"{count_of(len(new), 'new letter')}; {len(raws) - len(new)} came before."
     if not is_look:
-        tell(f"{count_of(len(new), 'new letter')}; {len(raws) - len(new)} came before.")
+        tell(came_before)
         enter_letters(vote, is_agreed=is_agreed)
         return
-    history = vote.election.history()
-    kept = letters.letters(vote.book)
+    history, kept = vote.election.history(), letters.letters(vote.book)
     all_letters = judged(vote.election, history, kept, found, vote=vote)
     tell_letters(vote, history, all_letters)
-    keys = {letter.key for letter in found}
-    number = sum(letter.parsed.key in keys for letter in all_letters)
     would = letter_words.counts(all_letters, len(going_in(all_letters)))
-    tell(f"{count_of(number, 'new letter')}: {would.replace('went in', 'would go in')}")
-    tell("Nothing was changed.")
+    tell(came_before, would.replace("went in", "would go in"), "Nothing was changed.")
 
 
 def read(files: Mapping[str, CameFile | None]) -> tuple[list[RawLetter], list[PassedOver]]:
@@ -137,8 +134,6 @@ def enter(
     seen: int,
     end: Sequence[str] = (),
 ) -> None:
-    """The act that enters ballots of letters."""
-
     def envelopes(act: NewAct) -> list[NewEnvelope]:
         for number in now.done:
             letters.decide(act, number, letters.ENTERED)
@@ -196,7 +191,7 @@ def enter_letters(vote: Vote, *, is_agreed: bool) -> None:
 
 
 def agreed(ballots: str) -> bool:
-    """Whether the secretary agrees to what goes in. Stops if there is no terminal."""
+    """Asks the secretary. Stops if there is no terminal."""
     if not is_terminal():
         cure, done = "agree with --yes, or run it at a terminal", "and the letters are kept"
         raise Fault(None, f"{ballots} would go in", cure, done=f"{NOTHING_ADDED}, {done}")
@@ -267,11 +262,9 @@ def judged(
 
 
 def kept_letters(vote: Vote, kept: Sequence[KeptLetter]) -> list[ParsedLetter]:
-    """What is known of the letters.
-
-    A signature is checked anew if the letter came before the present keyring, or gpgv was too slow:
-    of a letter that waits; and, if a signed one waits, of those that were decided without a good
-    signature, since only then a copy is known as one.
+    """What is known of the letters. A signature is checked anew if the letter came before the
+    present keyring, or gpgv was too slow: of a letter that waits; and, if a signed one waits, of
+    those that were decided without a good signature, since only then a copy is known as one.
     """
     found = [from_json(letter.known) for letter in kept]
     sealed = queries.last_act_that_sealed(vote.book, KEYRING)
@@ -289,22 +282,13 @@ def kept_letters(vote: Vote, kept: Sequence[KeptLetter]) -> list[ParsedLetter]:
 
 
 def check_again(
-    vote: Vote,
-    kept: Sequence[KeptLetter],
-    found: list[ParsedLetter],
-    indices: Sequence[int],
+    vote: Vote, kept: Sequence[KeptLetter], found: list[ParsedLetter], indices: Sequence[int]
 ) -> None:
-    """Reads some letters again, for their signatures. What debvote has said of lines it is not
-    asked again.
-    """
-    raws = [
-        RawLetter(
-            found[index].where,
-            letters.source_of(vote.book, kept[index].source),
-            found[index].is_parted_off,
-        )
-        for index in indices
-    ]
+    """Reads some letters again, for their signatures."""
+    raws = []
+    for index in indices:
+        one, data = found[index], letters.source_of(vote.book, kept[index].source)
+        raws.append(RawLetter(one.where, data, one.is_parted_off))
     known = answers_in(found, vote.roll) if indices else {}
     for index, letter in zip(indices, parsed(vote, raws, known)):
         found[index] = letter
@@ -313,9 +297,8 @@ def check_again(
 def ballots_in(
     vote: Vote, names: Collection[str], found: Sequence[ParsedLetter]
 ) -> dict[str, list[Ballot]]:
-    """The ballots of some electors that are in and not struck. A line with an elector's name that
-    debvote refuses is no ballot of theirs. What it has said of the lines of letters it is not asked
-    again.
+    """The ballots of some electors that are in and not struck. What debvote has said of the lines
+    of letters it is not asked again.
     """
     numbers = queries.elector_numbers(vote.book, names)
     by_number = {number: name for name, number in numbers.items()}

@@ -20,7 +20,7 @@ from debvote_tools.inbox.lines import ballot_file
 from debvote_tools.inbox.mime import MAX_PARTS, Part, address_key
 from debvote_tools.inbox.of_electors import NOBODY, Became, Came, of_electors
 from debvote_tools.inbox.rules import Outcome
-from debvote_tools.outbox.words import Composer, Kind
+from debvote_tools.outbox.words import Composer
 from debvote_tools.poll.call import is_mail_address
 from debvote_tools.poll.marks import OWN_LENGTH, OWN_SIGNS
 from debvote_tools.result.publication import closing_letter, current_data, last_publication
@@ -39,7 +39,7 @@ class LettersDue:
     knows who has which code.
     """
 
-    def __init__(self, election: Election, kind: Kind, sender: str, *, is_sending: bool) -> None:
+    def __init__(self, election: Election, kind: str, sender: str, *, is_sending: bool) -> None:
         self.election, self.kind, self.sender, self.is_sending = election, kind, sender, is_sending
         self.history, self.time = election.history(), now()
         self.called = election.called(self.history).number
@@ -106,9 +106,12 @@ class LettersDue:
 
     def subject(self, letter: SentLetter) -> tuple[str, str]:
         """The subject of a letter, and the mark that ends it."""
-        is_extension = (letter.elector, letter.address) in self.had_call
-        subject = self.composer.subject(self.kind, is_extension=is_extension)
+        subject = self.composer.subject(self.kind, is_extension=self.is_extension(letter))
         return subject, self.composer.call.mark_of(self.elector(letter).mark)
+
+    def is_extension(self, letter: SentLetter) -> bool:
+        """Whether a letter says only that the vote ends later, since its elector has the call."""
+        return (letter.elector, letter.address) in self.had_call
 
     def elector(self, letter: SentLetter) -> Elector:
         """To whom a letter is written. An address that its elector no longer has does not learn the
@@ -132,12 +135,9 @@ class LettersDue:
             or (letter.state == WRITTEN and not (letter.address and letter.for_act in by_server))
         }
         self.to_each(last)
-
-        def text_of(elector: Elector, letter: SentLetter) -> str:
-            is_extension = (letter.elector, letter.address) in self.had_call
-            return self.composer.call_letter(elector, is_extension=is_extension)
-
-        return text_of
+        return lambda elector, letter: self.composer.call_letter(
+            elector, is_extension=self.is_extension(letter)
+        )
 
     def reminders(self) -> TextOf:
         """A letter to each elector whose ballot does not count yet. A run of this day that was cut
@@ -179,7 +179,7 @@ class LettersDue:
     @property
     def reminded(self) -> datetime.datetime | None:
         """When others were reminded, if this run would do so again within a day."""
-        if self.kind is not Kind.REMINDERS or not self.new:
+        if self.kind != "reminders" or not self.new:
             return None
         times = (one.time for one in self.letters if self.time - one.time < LASTING)
         return max(times, default=None)
@@ -222,11 +222,9 @@ class LettersDue:
                 if keys and not waiting.get((number, address), set()).issuperset(keys)
             ]
 
-        def text_of(elector: Elector, letter: SentLetter) -> str:
-            told_now = beside_what_counts(letter.about, told[elector.number])
-            return self.composer.receipt(elector, told_now)
-
-        return text_of
+        return lambda elector, letter: self.composer.receipt(
+            elector, beside_what_counts(letter.about, told[elector.number])
+        )
 
     def old_addresses(self) -> dict[int, list[str]]:
         """The addresses that electors had before the list was changed after the call, if no receipt
@@ -347,7 +345,7 @@ def printed(election: Election, history: History) -> list[str]:
 def has_letters(election: Election, history: History) -> bool:
     """Whether `letters call` was run since the call."""
     acts = history.since_call("letters out")
-    return not history.has_codes_on_roll and any(act.detail["kind"] == Kind.CALL for act in acts)
+    return not history.has_codes_on_roll and any(act.detail["kind"] == "call" for act in acts)
 
 
 def unreached(election: Election, history: History) -> Iterator[tuple[Elector, str, str]]:

@@ -7,7 +7,6 @@ have a bar before them. So whoever answers a letter and quotes it does not vote 
 
 import dataclasses
 import datetime
-import enum
 import functools
 import re
 from collections.abc import Collection, Iterator, Sequence
@@ -30,22 +29,13 @@ PACKAGE = "debvote_tools.outbox"
 RANK_COUNT = re.compile(r"bad rank count: (\d+) ranks?, the poll has (\d+) options?")
 
 
-class Kind(enum.StrEnum):
-    """The letters that go out, as the command and the book name them."""
-
-    CALL = "call"
-    RECEIPTS = "receipts"
-    REMINDERS = "reminders"
-    CLOSED = "closed"
-    RESULT = "result"
-
-
+# the letters that go out, as the command and the book name them, with their subjects
 SUBJECTS = {
-    Kind.CALL: marked("Vote: {title}"),
-    Kind.RECEIPTS: marked("Receipt: {title}"),
-    Kind.REMINDERS: marked("Not yet voted: {title}"),
-    Kind.CLOSED: marked("Vote closed: {title}"),
-    Kind.RESULT: marked("Result: {title}"),
+    "call": marked("Vote: {title}"),
+    "receipts": marked("Receipt: {title}"),
+    "reminders": marked("Not yet voted: {title}"),
+    "closed": marked("Vote closed: {title}"),
+    "result": marked("Result: {title}"),
 }
 # in place of that of the call
 EXTENSION = marked("Vote ends later: {title}")
@@ -99,7 +89,7 @@ class Composer:
     # the acts that entered what the secretary typed for a letter
     typed_acts: Collection[int] = ()
 
-    def subject(self, kind: Kind, *, is_extension: bool = False) -> str:
+    def subject(self, kind: str, *, is_extension: bool = False) -> str:
         """The subject of a kind of letters, before the mark that ends it."""
         said = EXTENSION if is_extension else SUBJECTS[kind]
         return self.call.language.say(said, title=one_line(self.call.poll.name))
@@ -114,7 +104,7 @@ class Composer:
         does not remind.
         """
         is_reminding = not any(one.is_own for one in waits)
-        return self.text(Kind.REMINDERS, elector, came=waits, is_reminding=is_reminding)
+        return self.text("reminders", elector, came=waits, is_reminding=is_reminding)
 
     def receipt(self, elector: Elector, came: Sequence[Came]) -> str:
         """What became of all that came of an elector. It has the right line if what came last was
@@ -125,9 +115,9 @@ class Composer:
         )
         last = next(reversed([one.became for one in decides]), Became.COUNTS)
         is_refusing = not self.is_over and last is not Became.COUNTS
-        return self.text(Kind.RECEIPTS, elector, came=came, is_refusing=is_refusing)
+        return self.text("receipts", elector, came=came, is_refusing=is_refusing)
 
-    def text(self, kind: Kind, elector: Elector, **values: object) -> str:
+    def text(self, kind: str, elector: Elector, **values: object) -> str:
         return self.rendered(PACKAGE, f"{kind}.txt", elector, said_of=self.said_of, **values)
 
     def rendered(self, package: str, template: str, elector: Elector, **values: object) -> str:
@@ -180,7 +170,12 @@ class Composer:
                 for line in came.letter.near
                 for fault in faults_of(line.answer, name, language, is_within=line.is_within)
             )
-            sentences += [language.say(for_elector(came.letter.reason)), *dict.fromkeys(near)]
+            why, _, advice = language.say(for_elector(came.letter.reason)).partition(". ")
+            # after the end nobody is asked to send it better
+            sentences.append(
+                f"{why}. {advice}" if advice and not self.is_over else f"{why.rstrip('.')}."
+            )
+            sentences += dict.fromkeys(near)
         elif came.became is Became.REFUSED:
             sentences += faults_of(came.answer, name, language)
         return " ".join(sentences)

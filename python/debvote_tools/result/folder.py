@@ -28,8 +28,7 @@ from debvote_tools.result.facts import (
     Facts,
     doubts_about,
 )
-from debvote_tools.result.page import page_of
-from debvote_tools.result.picture import picture_of
+from debvote_tools.result.page import page_of, picture_of
 from debvote_tools.result.result_letter import letter_of
 from debvote_tools.result.sheet import Sheet, result_json, sheet_in, votes_csv
 
