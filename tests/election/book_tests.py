@@ -352,6 +352,15 @@ class Rewritten(BookTest):
         self.assertEqual([found for found, _, _ in digests], [computed for _, computed, _ in digests])
         self.assertEqual([count for _, _, count in digests], [0, 9 + 9, 9 + 5, 1 + 2])
 
+    def test_the_view_of_the_ballots(self) -> None:
+        self.add("cleo 1,2,3,4")
+        self.done("strike", "1", "--because", "x")
+        self.done("close")
+        self.done("desk", given="dan 1,2,3,4\n")
+        with contextlib.closing(sqlite3.connect(self.book)) as connection:
+            ballots = [line for line, in connection.execute("SELECT line FROM ballot ORDER BY envelope")]
+        self.assertEqual(ballots, [b"ben 2,1,3,4", b"cleo 1,2,3,4"])
+
     def test_lines_of_any_bytes(self) -> None:
         """They stay as they are in what the digest is over, and none can be taken for the rows of two."""
         odd = [b"ada \"1\\", b"\xff\xfe\x00\x7f", b"\xed\xa0\x80 \xe2\x80\xa8\t", b'x\n[3,1,"ada 1,2,3,4"]', b"", b"\xc3\xa9"]
