@@ -55,11 +55,10 @@ def read_whole(file: pathlib.Path | str, limit: int, unread: str, then: str = ""
 def file_text(
     data: bytes, file: pathlib.Path | str, empty: str, then: str = "", refused: str = ""
 ) -> str:
-    """The text of a file in UTF-8, without its byte-order mark and with a line feed at the end of
-    each line.
+    """The text of a file in UTF-8, without its byte-order mark, and with line feeds alone.
 
-    `empty` is the cure of an empty one; `then` follows each cure. Refused are characters that no
-    plain text has, and these.
+    `empty` is the cure of an empty one; `then` follows each cure. Characters that no plain text has
+    are `refused` too.
     """
     try:
         text = data.decode().removeprefix("\ufeff").replace("\r\n", "\n")
@@ -111,9 +110,7 @@ def write_whole(file: pathlib.Path, data: bytes, mode: int) -> None:
 
 
 def temporary_folder(place: pathlib.Path) -> pathlib.Path:
-    """Makes a folder for files that are moved to this place once they are whole, or were moved away
-    from it. Raises OSError.
-    """
+    """Makes a folder for files that are moved to this place, or away from it. Raises OSError."""
     return pathlib.Path(tempfile.mkdtemp(prefix=TEMPORARY, dir=place))
 
 
@@ -155,11 +152,9 @@ def locked(place: pathlib.Path, *, is_directory: bool = False) -> Iterator[None]
 
     The lock of a process that is killed is free.
     """
-    flags, how = (
-        (os.O_DIRECTORY, fcntl.LOCK_EX | fcntl.LOCK_NB)
-        if is_directory
-        else (os.O_RDWR | os.O_CREAT, fcntl.LOCK_EX)
-    )
+    flags, how = os.O_RDWR | os.O_CREAT, fcntl.LOCK_EX
+    if is_directory:
+        flags, how = os.O_DIRECTORY, fcntl.LOCK_EX | fcntl.LOCK_NB
     handle = os.open(place, flags | os.O_CLOEXEC, 0o644)
     try:
         fcntl.flock(handle, how)
@@ -190,9 +185,8 @@ def in_memory(data: bytes) -> Iterator[str]:
 @contextlib.contextmanager
 def uninterrupted() -> Iterator[None]:
     """Interrupts wait until this is done, so that whatever is done is also reported."""
-    before = signal.pthread_sigmask(
-        signal.SIG_BLOCK, {signal.SIGINT, signal.SIGTERM, signal.SIGHUP}
-    )
+    signals = {signal.SIGINT, signal.SIGTERM, signal.SIGHUP}
+    before = signal.pthread_sigmask(signal.SIG_BLOCK, signals)
     try:
         yield
     finally:

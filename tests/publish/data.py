@@ -41,7 +41,7 @@ POLLS, ENOUGH = int(os.environ.get("DEBVOTE_PUBLISHED_POLLS", "200")), 200
 KINDS = {
     "needs nothing", "missed the quorum", "has what it needs", "missed its majority", "missed a majority of a ratio",
     "equal to the default option", "its own defeat removed", "loses directly", "loses by a chain", "left in a tie",
-    "left with a removed defeat", "left with many", "lost by the casting vote", "a tie of a few", "a tie of many", "the casting vote",
+    "left with a removed defeat", "left with many", "lost by the casting vote", "a tie of two", "a tie of many", "the casting vote",
     "the default option, a few failed", "the default option, many failed", "a circle", "circles", "beats by chains", "beats one",
     "beats each of two", "beats each of many",
 }  # fmt: skip
@@ -355,13 +355,12 @@ def try_deciding(page, count, shown):
         demand(head == "A tie", head)
         tied = pages.in_words([f"#{option}" for option in count.final])
         start = f"No option has won yet: {tied} are tied. The casting vote has to choose one of them."
-        pairs = [found for found in re.finditer(AGAINST, said.removeprefix(start))]
-        demand(said == " ".join([start, *(found[0] for found in pairs)]), said)
-        for found in pairs:
-            against(found, None, count)
-        wanted = [(a, b) for a in count.final for b in count.final if a < b] if len(count.final) < 4 else []
-        demand([(int(found["a"]), int(found["b"])) for found in pairs] == wanted, said)
-        return "a tie of a few" if pairs else "a tie of many"
+        rest = said.removeprefix(start).strip()
+        if len(count.final) > 2:
+            demand(rest == "No defeat among them is left.", said)
+            return "a tie of many"
+        against(re.fullmatch(AGAINST, rest), count.final[0], count)
+        return "a tie of two"
     name = pages.escaped(shown.get(count.winner, count.poll.names[count.winner]))
     name = f"<bdi>{name}</bdi>" if count.winner in shown else name
     demand(head == f'<b data-option="{count.winner}">{name}</b>', f"{head} in place of {name}")

@@ -134,6 +134,20 @@ class OfElections(support.PublishTest):
             (self.folder / f"{number}.eml").write_text(text)
             self.say("add", f"{number}.eml")
 
+    def in_child(self, patch, *words):
+        """Runs a command in a child with this patch, and returns the status of the child."""
+        child = os.fork()
+        if child == 0:
+            try:
+                os.chdir(self.folder)
+                for output in (1, 2):
+                    os.dup2(os.open(os.devnull, os.O_WRONLY), output)
+                with self.state_of_this(), patch:
+                    os._exit(command_line.main(support.PROGRAM.parent, list(words)))
+            finally:
+                os._exit(70)
+        return os.waitstatus_to_exitcode(os.waitpid(child, 0)[1])
+
     def acts(self):
         book = open_book(self.folder / "election.db")
         with contextlib.closing(book.connection):
@@ -649,20 +663,6 @@ class OfOpenVotes(OfElections):
         sums = {name: hashlib.sha256((self.folder / "result" / name).read_bytes()).hexdigest() for name in acts[-1].detail["checksums"]}
         self.expect("the same folder, and no act", (sums, len(self.acts())), (acts[-1].detail["checksums"], len(acts)))
 
-    def in_child(self, patch, *words):
-        """Runs a command in a child with this patch, and returns the status of the child."""
-        child = os.fork()
-        if child == 0:
-            try:
-                os.chdir(self.folder)
-                for output in (1, 2):
-                    os.dup2(os.open(os.devnull, os.O_WRONLY), output)
-                with self.state_of_this(), patch:
-                    os._exit(command_line.main(support.PROGRAM.parent, list(words)))
-            finally:
-                os._exit(70)
-        return os.waitstatus_to_exitcode(os.waitpid(child, 0)[1])
-
     def left(self):
         return [name for name in os.listdir(self.folder) if name.startswith(".")]
 
@@ -887,7 +887,7 @@ class OfSecretVotes(OfElections):
         self.expect("nothing is made", (len(self.acts()), (self.folder / "call").exists()), (acts, False))
         code = self.secrets()[0].code
         (self.folder / "texts" / "2.txt").write_text(f"x {code}\n")
-        self.expect("a code", "index.html would have the code of an elector in it" in self.run_words("call", "--yes")[1], True)
+        self.expect("a code", " would have the code of an elector in it" in self.run_words("call", "--yes")[1], True)
         (self.folder / "texts" / "2.txt").unlink()
         self.say("call", "--yes")
         self.expect("the act", self.acts()[-1].detail["agreed"], [hashlib.sha256("Zoë is for it.\n".encode()).hexdigest()])
@@ -908,6 +908,17 @@ class OfSecretVotes(OfElections):
         self.say("reopen", "--because", "Cleo's letter", "--in-time", "6")
         self.starts("close", "--force", "--because", "no ballots", most=3)
         self.starts("publish", "result-2", "--yes", most=8)
+
+    def test_a_text_of_an_option_that_nobody_was_asked_about(self):
+        """A call that did not ask leaves the question to the publication."""
+        (self.folder / "texts").mkdir()
+        (self.folder / "texts" / "1.txt").write_text("Zoë is for it.\n")
+        unasked = unittest.mock.patch("debvote_tools.commands.call.agreed_texts", return_value=[])
+        self.expect("called", self.in_child(unasked, "call"), 0)
+        self.add("ada-lovelace 3,2,9\n")
+        self.say("close")
+        self.stops("publish", said=["texts/1.txt:\n  Zoë is for it.\n", "these texts may tell who voted what"])
+        self.say("publish", "--yes")
 
     def test_two_results_that_can_be_compared(self):
         self.called()

@@ -20,15 +20,6 @@ desks_flag = record (flag (codes "desks")) {
   parser = Some (parser.Signed (pos 1) (pos MAX_DESKS));
 }
 
-abbrev pub poll_flag : Rule
-poll_flag = required_flag (codes "poll")
-
-abbrev pub ballots_flag : Rule
-ballots_flag = required_flag (codes "ballots")
-
-abbrev pub casting_flag : Rule
-casting_flag = flag (codes "casting")
-
 -- a command: its name, and its flags
 abbrev pub command : Text → List Rule → App
 command name flags = fold with_rule (new_app name) flags
@@ -36,13 +27,13 @@ command name flags = fold with_rule (new_app name) flags
 -- the commands, in the order in which help lists them
 abbrev pub commands : List App
 commands =
-    command (codes "count") (poll_flag ∷ ballots_flag ∷ desks_flag ∷ casting_flag ∷ [])
-    ∷ command (codes "steps") (poll_flag ∷ ballots_flag ∷ [])
-    ∷ command (codes "check") (poll_flag ∷ [])
-    ∷ command (codes "explain") (poll_flag ∷ flag (codes "ballots") ∷ [])
-    ∷ command (codes "standing") (poll_flag ∷ ballots_flag ∷ [])
-    ∷ command (codes "verify") (poll_flag ∷ ballots_flag ∷ required_flag (codes "sheet") ∷ desks_flag ∷ [])
-    ∷ command (codes "picture") (poll_flag ∷ ballots_flag ∷ desks_flag ∷ casting_flag ∷ [])
+    command (codes "count") (required_flag (codes "poll") ∷ required_flag (codes "ballots") ∷ desks_flag ∷ flag (codes "casting") ∷ [])
+    ∷ command (codes "steps") (required_flag (codes "poll") ∷ required_flag (codes "ballots") ∷ [])
+    ∷ command (codes "check") (required_flag (codes "poll") ∷ [])
+    ∷ command (codes "explain") (required_flag (codes "poll") ∷ flag (codes "ballots") ∷ [])
+    ∷ command (codes "standing") (required_flag (codes "poll") ∷ required_flag (codes "ballots") ∷ [])
+    ∷ command (codes "verify") (required_flag (codes "poll") ∷ required_flag (codes "ballots") ∷ required_flag (codes "sheet") ∷ desks_flag ∷ [])
+    ∷ command (codes "picture") (required_flag (codes "poll") ∷ required_flag (codes "ballots") ∷ desks_flag ∷ flag (codes "casting") ∷ [])
     ∷ []
 
 -- the words come without the program's name

@@ -2,19 +2,19 @@
 use Rattle.std.specs.Prelude.{List, [], ◌∷◌, codes}
 use Rattle.std.specs.List.{fold}
 use Rattle.clap.specs.Words.{App, Rule, Text, new_app, with_rule, with_subcommand}
-use Rattle.vote_command_line.specs.CommandLine.{ballots_flag, casting_flag, desks_flag, flag, poll_flag, required_flag}
+use Rattle.vote_command_line.specs.CommandLine.{desks_flag, flag, required_flag}
 use Rattle.vote_command_line.specs.declared.command_line.Flag.{Flag}
 use Rattle.vote_command_line.specs.declared.command_line.Flag.TheVariants.{Poll, Ballots, BallotsIfGiven, Sheet, Desks, Casting}
 use Rattle.vote_command_line.specs.declared.command_line.Subcommand.{Subcommand}
 use Rattle.vote_command_line.specs.declared.command_line.Subcommand.TheVariants.{Count, Steps, Check, Explain, Standing, Verify, Picture}
 
 abbrev pub flag_rule : Flag → Rule
-flag_rule Poll = poll_flag
-flag_rule Ballots = ballots_flag
+flag_rule Poll = required_flag (codes "poll")
+flag_rule Ballots = required_flag (codes "ballots")
 flag_rule BallotsIfGiven = flag (codes "ballots")
 flag_rule Sheet = required_flag (codes "sheet")
 flag_rule Desks = desks_flag
-flag_rule Casting = casting_flag
+flag_rule Casting = flag (codes "casting")
 
 -- the command with one more flag
 abbrev pub with_flag : App → Flag → App

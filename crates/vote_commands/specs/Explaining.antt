@@ -21,16 +21,16 @@ use Rattle.vote_commands.specs.declared.fault.RunFault.{RunFault}
 abbrev pub ended_by_findings : Text → ℕ → Ended
 ended_by_findings findings refused = if (length findings == 0) && (refused == 0) then ended.Done else ended.Found
 
--- the findings of a poll, and then all that is said about its lines
-abbrev pub IsSaidOfLines : PollContent → List Text → Text → TextAndEnd → Type 0
-IsSaidOfLines poll lines findings told =
-    (rest : Text) × IsExplained poll lines rest × (told.text ≡ findings ++ rest) × (told.end ≡ ended_by_findings findings (refused_count poll lines))
+-- the findings of a poll, and then all that is said about its ballots and their lines
+abbrev pub IsSaidOfLines : PollContent → Text → List Text → Text → TextAndEnd → Type 0
+IsSaidOfLines poll ballots lines findings told =
+    (rest : Text) × IsExplained poll ballots lines rest × (told.text ≡ findings ++ rest) × (told.end ≡ ended_by_findings findings (refused_count poll lines))
 
 -- the findings of a poll, and then nothing if it is refused; else all that is said about its ballots, or the line of `check` if no ballots are given
 abbrev pub IsSaid : Result PollContent PollFault → Option Text → Text → TextAndEnd → Type 0
 IsSaid (Err fault) ballots findings told = (told.text ≡ findings) × (told.end ≡ ended.PollRefused)
 IsSaid (Ok poll) None findings told = (told.text ≡ findings ++ check_text poll) × (told.end ≡ ended_by_findings findings 0)
-IsSaid (Ok poll) (Some ballots) findings told = IsSaidOfLines poll (lines_of ballots) findings told
+IsSaid (Ok poll) (Some ballots) findings told = IsSaidOfLines poll ballots (lines_of ballots) findings told
 
 -- all that is wrong with a poll file and, if the poll is valid and ballots are given, with its ballots
 abbrev pub IsExplanation : Text → Option Text → TextAndEnd → Type 0

@@ -58,7 +58,7 @@ fn with_lines(
     file: Option<&str>,
     findings: String,
 ) -> Result<RunText, AllocError>
-    ensures { IfOk result (IsSaidOfLines poll.now lines.now (string_bytes findings)) }
+    ensures { IfOk result (IsSaidOfLines poll.now ballots.now lines.now (string_bytes findings)) }
 {
     let Explained {
         text: rest,

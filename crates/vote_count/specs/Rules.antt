@@ -14,13 +14,13 @@ IsAtLeastTimesQ multiple electors n = multiple ^ 2 * electors ≤ (2 * n) ^ 2
 abbrev pub MeetsQuorum : PollContent → ℕ → Type 0
 MeetsQuorum poll n = IsAtLeastTimesQ poll.quorum_multiple (elector_count poll) n
 
--- `n` are the fewest votes that are at least this multiple of Q
-abbrev pub AreTimesQ : ℕ → ℕ → ℕ → Type 0
-AreTimesQ multiple electors n = IsAtLeastTimesQ multiple electors n × ((m : ℕ) → IsAtLeastTimesQ multiple electors m → n ≤ m)
-
 -- `n` are the fewest votes that meet the quorum
 abbrev pub IsQuorum : PollContent → ℕ → Type 0
-IsQuorum poll n = AreTimesQ poll.quorum_multiple (elector_count poll) n
+IsQuorum poll n = MeetsQuorum poll n × ((m : ℕ) → MeetsQuorum poll m → n ≤ m)
+
+-- the same for any multiple of Q
+abbrev pub AreTimesQ : ℕ → ℕ → ℕ → Type 0
+AreTimesQ multiple electors n = IsAtLeastTimesQ multiple electors n × ((m : ℕ) → IsAtLeastTimesQ multiple electors m → n ≤ m)
 
 -- These numbers of votes, for an option and for the default, are a majority of this ratio. In the Constitution's wording the first is at least the ratio times the second, and strictly greater than the second; in the other wording the first is greater than the ratio times the second.
 -- A.5.3: "An option A defeats the default option D by a majority ratio N, if V(A,D) is greater or equal to N * V(D,A) and V(A,D) is strictly greater than V(D,A)."

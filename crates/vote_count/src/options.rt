@@ -1,5 +1,5 @@
 //! Sets of options.
-ghost use Rattle.std.specs.Prelude.{◌≡◌, ℕ, ◌-◌, ◌≤◌, ◌⊎◌, ◌↔◌, ◌&&◌, ◌||◌, not, false, IsTrue, MatchOption};
+ghost use Rattle.std.specs.Prelude.{◌≡◌, ℕ, ◌-◌, ◌≤◌, ◌⊎◌, ◌↔◌, ◌&&◌, ◌||◌, not, false, MatchOption};
 ghost use Rattle.std.specs.Int.{bit_at};
 ghost use Rattle.vote_poll.specs.Options.{IsOption};
 ghost use Rattle.vote_count.specs.Sets.{has, size, In, IsAlone};
@@ -73,14 +73,6 @@ impl OptionSet {
         ensures at_most { result ≤ MAX_OPTIONS }
     {
         self.bits.count_ones() as usize
-    }
-
-    /// Whether the set has no options.
-    /// For callers of the library; the program does not call it.
-    pub fn is_empty(&self) -> bool
-        ensures { IsTrue result ↔ (size self.now ≡ 0) }
-    {
-        self.len() == 0
     }
 
     // The greatest option of the set, or 0 if it is empty. So a loop over the set needs no more turns

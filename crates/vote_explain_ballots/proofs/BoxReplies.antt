@@ -1,36 +1,26 @@
 -- What the box replies to the lines that one desk casts in their order.
-use Rattle.std.proofs.Common.{◌≡◌, ◌+◌, ◌≤◌, ◌++◌, ◌∙◌, ℕ, zero, suc, List, [], ◌∷◌, drop, length, take, refl, ap, sym, Option, Some, None, false, arith, slice_get, take-append-drop, nat_lt, inl, inr}
+use Rattle.std.proofs.Common.{◌≡◌, ◌+◌, ◌≤◌, ◌++◌, ◌∙◌, ℕ, zero, suc, List, [], ◌∷◌, drop, length, take, refl, ap, sym, Some, false, arith, slice_get, take-append-drop}
 use Rattle.std.specs.Prelude.{option_and_then}
-use Rattle.std.proofs.lemmas.Bool.{cases_Bool}
+use Rattle.std.proofs.lemmas.Bool.Decides.{nat_tests}
 use Rattle.std.proofs.lemmas.List.{drop_more, take-append-le}
 use Rattle.std.proofs.lemmas.Option.{get_or_from_slice_get, slice_get_within}
 use Rattle.vote_poll.specs.Readings.{reading}
 use Rattle.vote_poll.specs.declared.Reading.{Reading}
-use Rattle.vote_poll.specs.declared.Reading.TheVariants.{Ballot, Bad}
-use Rattle.vote_steps.specs.History.{before_close, is_close, is_closed, is_late, reply_beside, reply_to, standing}
-use Rattle.vote_steps.specs.declared.Received.{Received}
+use Rattle.vote_steps.specs.History.{before_close, is_closed, reply_to}
 use Rattle.vote_steps.specs.declared.Step.{Step}
 use Rattle.vote_steps.specs.declared.Step.TheVariants.{Cast, Close}
 use Rattle.vote_steps.proofs.CastLemmas.{read_at}
 use Rattle.vote_explain_ballots.specs.Refusals.{RefusedAsBySteps, if_refusing, refusing_reply, reply_to_cast}
 
 -- ---- the reply of an open box refuses the line that is late or no ballot
-beside_refuses_none : (other : Option Received) (stamp : ℕ) → if_refusing (reply_beside other stamp) ≡ None
-beside_refuses_none None stamp = refl
-beside_refuses_none (Some ballot) stamp = elim (cases_Bool (nat_lt stamp ballot.stamp)) [ inl before ↦ rw before | inr later ↦ rw later ]
-
 refuses_as_read : (last : ℕ) (before : List Step) (stamp : ℕ) (read : Reading) → is_closed before ≡ false → if_refusing (reply_to last before stamp read) ≡ refusing_reply last stamp read
-refuses_as_read last before stamp (Bad fault) is_open =
-    elim (cases_Bool (is_late last stamp)) [ inl late ↦ rw (is_open, late) refl | inr in_time ↦ rw (is_open, in_time) refl ]
-refuses_as_read last before stamp (Ballot voter ranks) is_open =
-    elim (cases_Bool (is_late last stamp)) [ inl late ↦ rw (is_open, late) refl | inr in_time ↦ rw (is_open, in_time) (beside_refuses_none (standing last before voter) stamp) ]
+refuses_as_read last before stamp read is_open = grind (arith, nat_tests)
 
 -- ---- the box is open before its close
 open_before : (steps : List Step) (place : ℕ) → is_closed (take place (before_close steps)) ≡ false
 open_before steps zero = refl
 open_before [] (suc place) = refl
-open_before (step ∷ steps) (suc place) =
-    elim (cases_Bool (is_close step)) [ inl close ↦ rw close refl | inr cast ↦ rw cast (rw (cast, open_before steps place)) ]
+open_before (step ∷ steps) (suc place) = grind (arith, open_before steps place)
 
 is_open : (steps : List Step) (place : ℕ) → steps ≡ before_close steps ++ Close ∷ [] → place ≤ length (before_close steps) → is_closed (take place steps) ≡ false
 is_open steps place closed_last within =

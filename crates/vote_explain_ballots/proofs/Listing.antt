@@ -1,5 +1,5 @@
 -- The findings of refused lines, one after another.
-use Rattle.std.proofs.Common.{◌≡◌, ◌+◌, ◌++◌, ◌∙◌, ℕ, List, [], ◌∷◌, take, refl, ap, sym, subst, Some, Bool, true, false, arith, append_assoc, append-nil, slice_get}
+use Rattle.std.proofs.Common.{◌≡◌, ◌+◌, ◌++◌, ◌∙◌, ℕ, List, [], take, refl, ap, sym, Some, Bool, true, false, arith, append_assoc, append-nil, slice_get}
 use Rattle.std.specs.List.{enumerate_from, flat_map}
 use Rattle.std.proofs.lemmas.List.{flat_map_more, take_more}
 use Rattle.std.proofs.lemmas.List.FromFn.{get_or-enumerate_from, length-enumerate_from}
@@ -10,36 +10,29 @@ use Rattle.vote_poll_text.specs.Lines.{line_feed}
 use Rattle.vote_steps.specs.History.{is_valid}
 use Rattle.vote_steps.specs.declared.Reply.{Reply}
 use Rattle.vote_sheet.specs.Texts.{Text}
-use Rattle.vote_explain_ballots.specs.Remarks.{Added, IsRemark}
-use Rattle.vote_explain_ballots.specs.Explained.{AreLineFindings, IsLineHint, IsRemarked, finding, finding_head}
+use Rattle.vote_explain_poll.specs.Findings.{AreLinesFor}
+use Rattle.vote_explain_poll.specs.Hints.{Adding}
+use Rattle.vote_explain_ballots.specs.Remarks.{IsRemark}
+use Rattle.vote_explain_ballots.specs.Explained.{IsLineHint, IsRemarked, SaysRefusal, finding, finding_head}
 use Rattle.vote_explain_ballots.specs.Refusals.{Refusal, if_refusing, refusal, refusal_by, refusal_of, refusing_reply}
 
 -- ---- the finding of a line
 -- words were added, and then a remark
-pub remarked : (words t0 t1 t2 : Text) → t1 ≡ t0 ++ words → Added IsRemark t1 t2 → Added (IsRemarked words) t0 t2
+pub remarked : (words t0 t1 t2 : Text) → t1 ≡ t0 ++ words → Adding IsRemark t1 t2 → Adding (IsRemarked words) t0 t2
 remarked words t0 t1 t2 e (remark, is, e2) = (words ++ remark, (remark, is, refl), e2 ∙ ap (λ t. t ++ remark) e ∙ append_assoc t0 words remark)
 
 -- a valid line has none
-pub no_finding : (is_text : Bool) (poll : PollContent) (number : ℕ) (bytes : Text) (reply : Reply) (text : Text) → is_valid reply ≡ true → Added (AreLineFindings is_text poll (refusal number bytes reply)) text text
+pub no_finding : (is_text : Bool) (poll : PollContent) (number : ℕ) (bytes : Text) (reply : Reply) (text : Text) → is_valid reply ≡ true → Adding (AreLinesFor (SaysRefusal is_text poll) (refusal number bytes reply)) text text
 no_finding is_text poll number bytes reply text valid = rw valid ([], refl, sym (append-nil text))
 
 -- its words were added, then its hint, and a line feed
 pub one_finding : (is_text : Bool) (poll : PollContent) (number : ℕ) (bytes : Text) (reply : Reply) (t0 t1 t2 t3 : Text) → is_valid reply ≡ false
-    → t1 ≡ t0 ++ finding_head number reply → Added (IsLineHint is_text poll bytes reply) t1 t2 → t3 ≡ t2 ++ line_feed → Added (AreLineFindings is_text poll (refusal number bytes reply)) t0 t3
+    → t1 ≡ t0 ++ finding_head number reply → Adding (IsLineHint is_text poll bytes reply) t1 t2 → t3 ≡ t2 ++ line_feed → Adding (AreLinesFor (SaysRefusal is_text poll) (refusal number bytes reply)) t0 t3
 one_finding is_text poll number bytes reply t0 t1 t2 t3 refused e1 (hint, is, e2) e3 =
     let one : Refusal = record { number = number; bytes = bytes; reply = reply } in
-    rw refused (finding one hint, (hint, [], is, refl, sym (append-nil (finding one hint))), rw (e3, e2, e1) (simp append_assoc))
+    rw refused (finding one hint, (finding one hint, [], (hint, is, refl), refl, sym (append-nil (finding one hint))), rw (e3, e2, e1) (simp append_assoc))
 
 -- ---- one after another
-findings_append : (is_text : Bool) (poll : PollContent) (some others : List Refusal) (text rest : Text) → AreLineFindings is_text poll some text → AreLineFindings is_text poll others rest → AreLineFindings is_text poll (some ++ others) (text ++ rest)
-findings_append is_text poll [] others text rest are more = subst (AreLineFindings is_text poll others) (sym (ap (λ t. t ++ rest) are)) more
-findings_append is_text poll (refusal ∷ some) others text rest (hint, later, is, are, same) more =
-    (hint, later ++ rest, is, findings_append is_text poll some others later rest are more, ap (λ t. t ++ rest) same ∙ append_assoc (finding refusal hint) later rest)
-
-pub findings_on : (is_text : Bool) (poll : PollContent) (some others : List Refusal) (t0 t1 t2 : Text) → Added (AreLineFindings is_text poll some) t0 t1 → Added (AreLineFindings is_text poll others) t1 t2 → Added (AreLineFindings is_text poll (some ++ others)) t0 t2
-findings_on is_text poll some others t0 t1 t2 (a, are, e1) (b, more, e2) =
-    (a ++ b, findings_append is_text poll some others a b are more, e2 ∙ ap (λ t. t ++ b) e1 ∙ append_assoc t0 a b)
-
 -- the refusals of the lines before a place
 abbrev pub refusals_before : PollContent → ℕ → List Text → List Refusal
 refusals_before poll place lines = flat_map (refusal_of poll) (take place (enumerate_from 1 lines))

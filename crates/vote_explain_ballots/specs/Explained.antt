@@ -15,13 +15,13 @@ use Rattle.vote_steps.specs.declared.Totals.{Totals}
 use Rattle.vote_sheet.specs.LastBallots.{refused_count, valid_count, voter_count}
 use Rattle.vote_sheet.specs.Steps.{reply_words}
 use Rattle.vote_sheet.specs.Texts.{Text, line}
+use Rattle.vote_explain_poll.specs.Findings.{AreLinesFor}
 use Rattle.vote_explain_ballots.specs.Places.{IsExit, place_words}
 use Rattle.vote_explain_ballots.specs.NearNames.{IsNearest}
-use Rattle.vote_explain_ballots.specs.Remarks.{IsFileText, IsRemark}
+use Rattle.vote_explain_ballots.specs.Remarks.{IsFileText, IsRemark, can_be_ballots}
 use Rattle.vote_explain_ballots.specs.declared.TheConstants.{MOST_SHOWN}
 use Rattle.vote_explain_ballots.specs.Refusals.{Refusal, refusals}
 use Rattle.vote_explain_ballots.specs.declared.places.Exit.{Exit}
-use Rattle.vote_explain_ballots.specs.declared.places.Place.{Place}
 
 -- ---- of each refused line
 -- these words, and then a remark
@@ -31,16 +31,16 @@ IsRemarked words text = (remark : Text) × IsRemark remark × (text ≡ words ++
 abbrev pub column_words : ℕ → Text
 column_words column = codes "column " ++ decimal column ++ codes ": "
 
--- what a ballot has at a place, said of a file that can be ballots
-unfoldable pub sentence : Bool → Place → Text
-sentence true place = codes "; a ballot has " ++ place_words place
-sentence false place = []
+-- what a ballot has where a line leaves the grammar, said of a file that can be ballots
+unfoldable pub sentence : Bool → Exit → Text
+sentence true exit = codes "; a ballot has " ++ place_words exit.part exit.before
+sentence false exit = []
 
 -- the column in which a line leaves the grammar, the character there, and what a ballot has there
 abbrev pub IsShapeHint : Bool → Text → Text → Type 0
 IsShapeHint is_text bytes hint =
     (exit : Exit) × (character : Text) × IsExit bytes exit × IsRemark character
-    × (hint ≡ column_words exit.column ++ character ++ sentence is_text exit.place)
+    × (hint ≡ column_words (exit.before + 1) ++ character ++ sentence is_text exit)
 
 -- how many ranks a ballot line has, one more than commas, and how many it is to have
 abbrev pub rank_count : Text → ℕ
@@ -81,12 +81,8 @@ finding_head number reply = codes "ballots:" ++ decimal number ++ codes ": " ++ 
 abbrev pub finding : Refusal → Text → Text
 finding refusal hint = finding_head refusal.number refusal.reply ++ hint ++ line_feed
 
--- a line for each of the refusals, in their order
-abbrev pub AreLineFindings : Bool → PollContent → List Refusal → Text → Type 0
-AreLineFindings is_text poll [] text = text ≡ []
-AreLineFindings is_text poll (refusal ∷ refusals) text =
-    (hint : Text) × (rest : Text) × IsLineHint is_text poll refusal.bytes refusal.reply hint × AreLineFindings is_text poll refusals rest
-    × (text ≡ finding refusal hint ++ rest)
+abbrev pub SaysRefusal : Bool → PollContent → Refusal → Text → Type 0
+SaysRefusal is_text poll refusal line = (hint : Text) × IsLineHint is_text poll refusal.bytes refusal.reply hint × (line ≡ finding refusal hint)
 
 -- ---- an example
 abbrev pub example_line : Text → Text
@@ -141,18 +137,17 @@ IsIfText false Says text = text ≡ []
 
 -- ---- the whole
 -- what is remarked on the file, a line for each line that is refused, an example, and the numbers
-pub record IsExplained (poll : PollContent) (lines : List Text) (text : Text) : Type 0 where
+pub record IsExplained (poll : PollContent) (file : Text) (lines : List Text) (text : Text) : Type 0 where
   pub of_file : Text
   pub is_of_file : IsFileText of_file
-  pub is_text : Bool
   pub warnings : Text
-  pub are_warnings : IsIfText is_text (AreWarnings poll lines) warnings
+  pub are_warnings : IsIfText (can_be_ballots file lines) (AreWarnings poll lines) warnings
   pub findings : Text
-  pub are_findings : AreLineFindings is_text poll (refusals poll lines) findings
+  pub are_findings : AreLinesFor (SaysRefusal (can_be_ballots file lines) poll) (refusals poll lines) findings
   pub example : Text
   pub is_example : IsExample poll example
   pub is_said : text ≡ of_file ++ warnings ++ findings ++ example ++ numbers_text poll lines
 
 -- the text says it
-abbrev pub SaysAll : {Z : Type 0} → PollContent → List Text → String Z → Type 0
-SaysAll poll lines text = IsExplained poll lines (string_bytes text)
+abbrev pub SaysAll : {Z : Type 0} → PollContent → Text → List Text → String Z → Type 0
+SaysAll poll file lines text = IsExplained poll file lines (string_bytes text)

@@ -1,4 +1,3 @@
-pub mod Column
 pub mod Places
 pub mod NearNames
 pub mod Remarks

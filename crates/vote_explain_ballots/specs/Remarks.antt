@@ -1,10 +1,18 @@
--- What has to hold of each remark, whatever it says.
-use Rattle.std.specs.Prelude.{◌≡◌, ℕ, ◌≤◌, ◌⊎◌, List, [], ◌++◌, Result, OnOk, IsTrue, codes, length, string_bytes}
-use Rattle.std.specs.List.{list_all}
-use Rattle.std.specs.declared.string.String.{String}
+-- Which files can be ballots, and what has to hold of each remark, whatever it says.
+use Rattle.std.specs.Prelude.{◌≡◌, ℕ, ◌≤◌, ◌⊎◌, Bool, ◌&&◌, not, is_none, nat_eq, List, [], ◌++◌, IsTrue, codes, length}
+use Rattle.std.specs.List.{list_all, list_any, starts_with}
 use Rattle.vote_poll_text.specs.Lines.{line_feed}
 use Rattle.vote_poll_text.specs.Names.{is_printable}
+use Rattle.vote_explain_poll.specs.FileKinds.{file_kind}
 use Rattle.vote_explain_ballots.specs.declared.TheConstants.{MOST_EDITS, MOST_REMARK, MOST_SHOWN}
+
+-- the line begins as that of the title of a poll
+abbrev pub is_title : List ℕ → Bool
+is_title line = starts_with nat_eq line (codes "title =")
+
+-- a file with these lines is plain text and no poll
+abbrev pub can_be_ballots : List ℕ → List (List ℕ) → Bool
+can_be_ballots file lines = is_none (file_kind file) && not (list_any is_title lines)
 
 -- printable text, of which no line feed is a part, and which is not too long
 pub record IsRemark (text : List ℕ) : Type 0 where
@@ -17,14 +25,6 @@ file_line remark = codes "the ballot file " ++ (remark ++ line_feed)
 
 abbrev pub IsFileText : List ℕ → Type 0
 IsFileText text = (text ≡ []) ⊎ ((remark : List ℕ) × IsRemark remark × (text ≡ file_line remark))
-
--- a text of this kind was added, and nothing else has changed
-abbrev pub Added : (List ℕ → Type 0) → List ℕ → List ℕ → Type 0
-Added kind before after = (text : List ℕ) × kind text × (after ≡ before ++ text)
-
--- a call that returned Ok did so
-abbrev pub AddsSome : {Z A F : Type 0} → (List ℕ → Type 0) → Result A F → String Z → String Z → Type 0
-AddsSome kind result before after = OnOk result (Added kind (string_bytes before) (string_bytes after))
 
 -- the limits, as docs/FORMATS.md writes them
 pub record LimitsAreAsWritten : Type 0 where

@@ -3,7 +3,7 @@
 ghost use Rattle.std.specs.Prelude.{◌≡◌, ◌≤◌, IfSome, length};
 ghost use Rattle.vote_poll_text.specs.Adding.{Adds};
 ghost use Rattle.vote_explain_ballots.specs.Explained.{order_text, table_text};
-ghost use Rattle.vote_explain_ballots.specs.Remarks.{AddsSome};
+ghost use Rattle.vote_explain_poll.specs.Hints.{Tells};
 ghost use Rattle.vote_explain_ballots.specs.Explained.{IsColumnsText};
 
 use crate::MARK;
@@ -13,14 +13,13 @@ use vote_steps::{Reply, Step};
 
 /// Whether a text begins with a name that has a letter, in any case, and with no longer word. Digits alone may be ranks.
 fn begins_with(text: &[u8], name: &[u8]) -> bool {
-    let mut pairs = text.iter().zip(name);
-    let ends_word = !text
-        .get(name.len())
-        .is_some_and(|byte| byte.is_ascii_alphanumeric());
-    ends_word
-        && text.len() >= name.len()
-        && name.iter().any(|byte| byte.is_ascii_alphabetic())
+    let (begin, after) = text.split_at(name.len().min(text.len()));
+    // names of options often differ in the last byte alone
+    let mut pairs = begin.iter().rev().zip(name.iter().rev());
+    begin.len() == name.len()
+        && !is_in_word(after, 1)
         && pairs.all(|(one, other)| one.eq_ignore_ascii_case(other))
+        && name.iter().any(|byte| byte.is_ascii_alphabetic())
 }
 
 /// The bytes with which names of options begin, in any case.
@@ -57,8 +56,8 @@ fn option_at(poll: &Poll, text: &[u8]) -> (u8, usize) {
 /// Whether a line names options in another order than the poll has them.
 fn has_other_order(poll: &Poll, begins: &[bool; 256], line: &[u8]) -> bool {
     let (mut last, mut end) = (0, 0);
-    for (place, byte) in line.iter().enumerate() {
-        if !begins[*byte as usize] || place < end || is_in_word(line, place) {
+    for place in 0..line.len() {
+        if !begins[line[place] as usize] || place < end || is_in_word(line, place) {
             continue;
         }
         let (option, length) = option_at(poll, &line[place..]);
@@ -159,7 +158,7 @@ pub(crate) fn push_columns(
     lines: &Lines<'_>,
     steps: &[Step],
 ) -> Result<(), AllocError>
-    ensures { AddsSome (IsColumnsText lines.now) result text.old text.new }
+    ensures { Tells result text.old (IsColumnsText lines.now) text.new }
 {
     if let Some(number) = line_of_names(poll, lines, steps) {
         return push_order(text, number);

@@ -6,7 +6,7 @@ ghost use Rattle.vote_poll.specs.Readings.{is_ballot, reading};
 ghost use Rattle.vote_poll_text.specs.Adding.{Adds};
 ghost use Rattle.vote_steps.specs.HeldLines.{HoldsLines};
 ghost use Rattle.vote_sheet.specs.LastBallots.{refused_count};
-ghost use Rattle.vote_explain_ballots.specs.Remarks.{AddsSome};
+ghost use Rattle.vote_explain_poll.specs.Hints.{Tells};
 ghost use Rattle.vote_explain_ballots.specs.Explained.{AreTotals, AreWarnings, IsExample, IsIfText, SaysAll, counted_text, example_line, numbers_text};
 ghost use Rattle.vote_explain_ballots.specs.Refusals.{AreReplies, EachRefusalIsListed, RefusedAsBySteps};
 
@@ -80,7 +80,7 @@ fn push_example(
     poll: &Poll,
     is_wanted: bool,
 ) -> Result<(), AllocError>
-    ensures { AddsSome (IsExample poll.now) result text.old text.new }
+    ensures { Tells result text.old (IsExample poll.now) text.new }
 {
     if !is_wanted {
         return Ok(());
@@ -144,7 +144,7 @@ fn push_warnings(
     totals: &Totals,
 ) -> Result<(), AllocError>
     requires { AreTotals poll.now lines.now totals.now }
-    ensures { AddsSome (IsIfText is_text (AreWarnings poll.now lines.now)) result text.old text.new }
+    ensures { Tells result text.old (IsIfText is_text (AreWarnings poll.now lines.now)) text.new }
 {
     if !is_text {
         return Ok(());
@@ -166,7 +166,7 @@ fn text_of(
 ) -> Result<String, AllocError>
     requires replies { AreReplies poll.now lines.now steps.now }
     requires totals { AreTotals poll.now lines.now totals.now }
-    ensures { IfOk result (SaysAll poll.now lines.now) }
+    ensures { IfOk result (SaysAll poll.now file_text.now lines.now) }
 {
     let mut findings = Findings::new(alloc);
     let is_text = push_file_text(alloc, &mut findings.text, lines, file_text, steps, file)?;
@@ -188,7 +188,7 @@ pub fn explain_ballots(
     text: &[u8],
     file: Option<&str>,
 ) -> Result<Explained, AllocError>
-    ensures text { IfOk result (λ said. SaysAll poll.now lines.now said.text) }
+    ensures text { IfOk result (λ said. SaysAll poll.now text.now lines.now said.text) }
     ensures refused { IfOk result (λ said. said.refused ≡ refused_count poll.now lines.now) }
 {
     let ballot_box = cast_all(alloc, poll, lines)?;

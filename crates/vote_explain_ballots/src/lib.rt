@@ -1,28 +1,22 @@
 //! What is wrong with the lines of a ballot file, and where: what is at a place, and what the format wants there. What may have been
 //! meant is not said, but for a name on the roll, as a question.
 //!
-//! - [`explain_ballots`] gives a text: what is remarked on the whole file, a line for each line of the file that is refused, in their
-//!   order, with the words that `steps` has for it and a hint, a ballot of the poll as an example, and how many lines are valid, refused
-//!   and late.
-//! - [`exit_of`] gives the column in which a line leaves the grammar of ballot lines, and the [`Place`] there: what a ballot has in it.
+//! - [`explain_ballots`] gives a text: what is remarked on the whole file, a line for each line of the file that is refused, a ballot of
+//!   the poll as an example, and how many lines are valid, refused and late.
+//! - [`exit_of`] gives the place at which a line leaves the grammar of ballot lines, and the [`Part`] of a ballot line there.
 //!
-//! **What is promised** (`specs/Explained.antt` and the files that it names), memory aside:
+//! **What is promised** (`specs/Explained.antt`), memory aside:
 //!
-//! - Which lines are listed is said by the poll, the lines and the last envelope alone: those that are late, and of the others those that
-//!   are no ballot. As many are listed as the sheet has refused lines ([`each_refusal_is_listed`]), and they are those that the box of
-//!   `steps` refuses, each with its reply ([`refused_as_by_steps`]).
+//! - As many lines are listed as the sheet has refused lines ([`each_refusal_is_listed`]): those that the box of `steps` refuses, each
+//!   with its reply ([`refused_as_by_steps`]).
 //! - The column is that of the grammar (`IsColumn`), which knows no reading from the left, and a line has one ([`columns_are_unique`]).
-//!   What is said to be wanted there is wanted: the bytes of a [`Place`] are those with which some ballot line goes on, and the end is
-//!   among them if the line is a ballot up to there (`IsPlaceAfter`).
+//!   What is said to be wanted there is wanted: the bytes with which some ballot line goes on, and the end if the line is a ballot up to
+//!   there (`IsPartAfter`).
 //! - A name that is suggested is on the roll, few edits lead to it, and no name on the roll is nearer (`IsNearest`).
 //! - The example is a ballot of the poll. All numbers are those of the result sheet, and so is whether it is said that lines are counted.
 //! - What else is said is a remark: one line of printable text of at most [`MOST_REMARK`] characters, whatever is in the file.
 //!
 //! **What is open**: which remarks there are on the file, and when its columns may stand in another order.
-//!
-//! The lines are cast at one desk, as `steps` casts them. For each of the first hundred names that are not on the roll it is read once,
-//! for near ones. The modules: `explain` has the text, `findings` the refused lines, `places` the grammar from the left, `near_names` the
-//! names, `columns` the order of columns, and `whole_file` the remarks.
 #![tactic(auto)]
 
 ghost use Rattle.vote_explain_ballots.specs.Remarks.{LimitsAreAsWritten};
@@ -35,7 +29,7 @@ mod places;
 mod whole_file;
 
 pub use explain::{Explained, each_refusal_is_listed, explain_ballots, refused_as_by_steps};
-pub use places::{Exit, Place, columns_are_unique, exit_of};
+pub use places::{Exit, Part, columns_are_unique, exit_of};
 
 /// The most edits between a name and one that is near. An edit adds, drops or changes a byte.
 pub const MOST_EDITS: usize = 2;

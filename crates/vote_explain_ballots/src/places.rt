@@ -1,36 +1,13 @@
 //! What a ballot line has at each place, and where another line leaves the grammar.
 
 ghost use Rattle.std.specs.Prelude.{◌≡◌, List, ℕ};
-ghost use Rattle.vote_poll_text.specs.Adding.{Adds};
-ghost use Rattle.vote_explain_ballots.specs.Column.{IsColumn};
-ghost use Rattle.vote_explain_ballots.specs.Places.{IsExit, has_byte, next_part, place_in, place_words};
+ghost use Rattle.vote_explain_ballots.specs.Places.{IsColumn, IsExit, has_byte, next_part, place_words};
 
-use vote_poll::{MAX_LINE, MAX_VOTER_NAME, is_voter_byte};
-
-/// What a ballot line has at a place, by what is before it.
-#[derive(Clone, Copy)]
-pub enum Place {
-    /// The first byte of the name.
-    Start,
-    /// Another byte of the name, or the space after it.
-    Name,
-    /// The space: the name has [`MAX_VOTER_NAME`] bytes.
-    NameEnd,
-    /// A rank.
-    Rank,
-    /// A second digit, a comma or the end.
-    Digit,
-    /// A second digit or the end: no other rank has room in a line.
-    LastDigit,
-    /// A comma or the end.
-    RankEnd,
-    /// The end: nothing more has room in a line.
-    LineEnd,
-}
+use vote_poll::{MAX_LINE, MAX_VOTER_NAME, each_line_is_read, is_voter_byte};
 
 /// The part of a ballot line that comes next.
 #[derive(Clone, Copy)]
-enum Part {
+pub enum Part {
     /// A byte of the name, or the space after it.
     Name,
     /// The first byte of a rank.
@@ -41,42 +18,23 @@ enum Part {
     RankEnd,
 }
 
-/// Where a line leaves the grammar of ballot lines: the column, and what a ballot line has there.
+/// Where a line leaves the grammar of ballot lines: how many bytes are before the place, and what a ballot line has there.
 #[derive(Clone, Copy)]
 pub struct Exit {
-    pub column: usize,
-    pub place: Place,
+    pub before: usize,
+    pub part: Part,
 }
 
-/// What a ballot line has at the place after this number of bytes, in this part.
-fn place_in(part: Part, count: usize) -> Place
-    ensures { result ≡ place_in part count }
+/// Whether a ballot line may have this byte in this part, after this number of bytes.
+fn has_byte(part: Part, count: usize, byte: u8) -> bool
+    ensures { result ≡ has_byte part count byte }
 {
     match part {
-        Part::Name if count == 0 => Place::Start,
-        Part::Name if count < MAX_VOTER_NAME => Place::Name,
-        Part::Name => Place::NameEnd,
-        Part::Rank => Place::Rank,
-        Part::Digit if count < MAX_LINE - 1 => Place::Digit,
-        Part::Digit if count < MAX_LINE => Place::LastDigit,
-        Part::RankEnd if count < MAX_LINE - 1 => Place::RankEnd,
-        Part::Digit | Part::RankEnd => Place::LineEnd,
-    }
-}
-
-/// Whether a ballot line may have this byte at a place.
-fn has_byte(place: Place, byte: u8) -> bool
-    ensures { result ≡ has_byte place byte }
-{
-    match place {
-        Place::Start => is_voter_byte(byte),
-        Place::Name => is_voter_byte(byte) || byte == b' ',
-        Place::NameEnd => byte == b' ',
-        Place::Rank => matches!(byte, b'1'..=b'9' | b'-'),
-        Place::Digit => matches!(byte, b'0'..=b'9' | b','),
-        Place::LastDigit => matches!(byte, b'0'..=b'9'),
-        Place::RankEnd => byte == b',',
-        Place::LineEnd => false,
+        Part::Name if byte == b' ' => 0 < count,
+        Part::Name => count < MAX_VOTER_NAME && is_voter_byte(byte),
+        Part::Rank => matches!(byte, b'1'..=b'9' | b'-'),
+        Part::Digit if byte != b',' => count < MAX_LINE && byte.is_ascii_digit(),
+        Part::Digit | Part::RankEnd => count < MAX_LINE - 1 && byte == b',',
     }
 }
 
@@ -84,53 +42,49 @@ fn has_byte(place: Place, byte: u8) -> bool
 fn next_part(part: Part, byte: u8) -> Part
     ensures { result ≡ next_part part byte }
 {
-    match (part, byte) {
-        (Part::Name, b' ') => Part::Rank,
-        (Part::Name, _) => Part::Name,
-        (Part::Rank, b'-') => Part::RankEnd,
-        (Part::Rank, _) => Part::Digit,
-        (Part::Digit | Part::RankEnd, b',') => Part::Rank,
-        (Part::Digit | Part::RankEnd, _) => Part::RankEnd,
+    match part {
+        Part::Name if byte != b' ' => Part::Name,
+        Part::Rank if byte != b'-' => Part::Digit,
+        Part::Digit if byte != b',' => Part::RankEnd,
+        Part::Rank => Part::RankEnd,
+        Part::Name | Part::Digit | Part::RankEnd => Part::Rank,
     }
 }
 
-/// Where a line leaves the grammar of ballot lines: the column, from 1, of the first byte with which no ballot line goes on, or
-/// of the line's end, and what a ballot line has there.
+/// Where a line leaves the grammar of ballot lines: before the first byte with which no ballot line goes on, or at the line's end.
 pub fn exit_of(line: &[u8]) -> Exit
     ensures { IsExit line.now result }
 {
-    let (mut part, mut count) = (Part::Name, 0);
-    for byte in line {
-        let place = place_in(part, count);
-        if !has_byte(place, *byte) {
-            return Exit {
-                column: count + 1,
-                place,
-            };
+    each_line_is_read();
+    let mut part = Part::Name;
+    for before in 0..line.len() {
+        if !has_byte(part, before, line[before]) {
+            return Exit { before, part };
         }
-        part = next_part(part, *byte);
-        count += 1;
+        part = next_part(part, line[before]);
     }
     Exit {
-        column: count + 1,
-        place: place_in(part, count),
+        before: line.len(),
+        part,
     }
 }
 
-/// What a ballot line has at a place, in words.
-pub(crate) fn place_words(place: Place) -> &'static str
-    ensures { result.now ≡ place_words place }
+/// What a ballot line has in this part, after this number of bytes, in words.
+pub(crate) fn place_words(part: Part, count: usize) -> &'static str
+    ensures { result.now ≡ place_words part count }
 {
-    match place {
-        Place::Start => "the name there: a to z, 0 to 9, . or -",
-        Place::Name => "a space there, or more of the name: a to z, 0 to 9, . or -",
-        Place::NameEnd => "a space there: a name has at most 32 bytes",
-        Place::Rank => "a rank there: a number from 1 to 99, or a hyphen",
-        Place::Digit => "a comma or its end there, or a second digit of the rank",
-        Place::LastDigit =>
+    match part {
+        Part::Name if count == 0 => "the name there: a to z, 0 to 9, . or -",
+        Part::Name if count < MAX_VOTER_NAME =>
+            "a space there, or more of the name: a to z, 0 to 9, . or -",
+        Part::Name => "a space there: a name has at most 32 bytes",
+        Part::Rank => "a rank there: a number from 1 to 99, or a hyphen",
+        Part::Digit if count < MAX_LINE - 1 =>
+            "a comma or its end there, or a second digit of the rank",
+        Part::Digit if count < MAX_LINE =>
             "its end there, or a second digit of the rank: a line has at most 200 bytes",
-        Place::RankEnd => "a comma or its end there",
-        Place::LineEnd => "its end there: a line has at most 200 bytes",
+        Part::RankEnd if count < MAX_LINE - 1 => "a comma or its end there",
+        Part::Digit | Part::RankEnd => "its end there: a line has at most 200 bytes",
     }
 }
 

@@ -1,11 +1,12 @@
 //! What lets only remarks through, one line of printable text each; and what is remarked on a whole ballot file: what it is if it is
 //! no ballots, and how the ends of its lines are mended.
 
-ghost use Rattle.std.specs.Prelude.{◌≡◌, IsTrue};
-ghost use Rattle.std.specs.List.{list_all};
+ghost use Rattle.std.specs.Prelude.{◌≡◌, IfOk, IsTrue};
+ghost use Rattle.std.specs.List.{list_all, list_any};
 ghost use Rattle.vote_poll_text.specs.Adding.{Adds};
 ghost use Rattle.vote_poll_text.specs.Names.{is_printable};
-ghost use Rattle.vote_explain_ballots.specs.Remarks.{AddsSome, IsFileText, IsRemark, file_line};
+ghost use Rattle.vote_explain_poll.specs.Hints.{Tells};
+ghost use Rattle.vote_explain_ballots.specs.Remarks.{IsFileText, IsRemark, can_be_ballots, file_line, is_title};
 
 use crate::columns::is_of_bad_shape;
 use crate::{MARK, MOST_REMARK};
@@ -47,7 +48,7 @@ fn is_remark(text: &str) -> bool
 
 /// Adds a remark. What is none is left out.
 pub(crate) fn push_remark(text: &mut String, remark: &str) -> Result<(), AllocError>
-    ensures { AddsSome IsRemark result text.old text.new }
+    ensures { Tells result text.old IsRemark text.new }
 {
     if !is_remark(remark) {
         return Ok(());
@@ -64,7 +65,7 @@ fn push_line(text: &mut String, remark: &str) -> Result<(), AllocError>
 
 /// Adds a line with a remark on the file, if it is one.
 fn push_file_line(text: &mut String, remark: &str) -> Result<(), AllocError>
-    ensures { AddsSome IsFileText result text.old text.new }
+    ensures { Tells result text.old IsFileText text.new }
 {
     if remark.is_empty() || !is_remark(remark) {
         return Ok(());
@@ -72,21 +73,26 @@ fn push_file_line(text: &mut String, remark: &str) -> Result<(), AllocError>
     push_line(text, remark)
 }
 
-/// Adds what a file is that is no ballots: another kind of file, by its first bytes, or a poll, by one of its lines.
-pub(crate) fn push_kind(
-    words: &mut String,
-    lines: &Lines<'_>,
-    text: &[u8],
-) -> Result<(), AllocError> {
-    if let Some(kind) = file_kind(text) {
-        words.push_str("is ")?;
-        words.push_str(kind)?;
-        return words.push_str("; ballots are plain text in UTF-8");
+/// Whether a line begins as that of the title of a poll.
+fn has_title(lines: &Lines<'_>) -> bool
+    ensures { result ≡ list_any is_title lines.now }
+{
+    for place in 0..lines.len() {
+        if lines.line(place).starts_with(b"title =") {
+            return true;
+        }
     }
-    if (0..lines.len()).any(|place| lines.line(place).starts_with(b"title =")) {
+    false
+}
+
+/// Adds what a file is that is no ballots: another kind of file, by its first bytes, or else a poll.
+fn push_kind(words: &mut String, text: &[u8]) -> Result<(), AllocError> {
+    let Some(kind) = file_kind(text) else {
         return words.push_str("looks like a poll: are the files exchanged?");
-    }
-    Ok(())
+    };
+    words.push_str("is ")?;
+    words.push_str(kind)?;
+    words.push_str("; ballots are plain text in UTF-8")
 }
 
 /// Whether no line feed is in the file, and a space is after a carriage return: so old Macs end lines.
@@ -119,7 +125,7 @@ fn is_of_windows(lines: &Lines<'_>, steps: &[Step], ended: bool) -> bool {
 }
 
 /// Adds how the ends of the lines are mended, and a byte-order mark with them; nothing if there is nothing to mend.
-pub(crate) fn push_ends(
+fn push_ends(
     words: &mut String,
     lines: &Lines<'_>,
     text: &[u8],
@@ -154,13 +160,15 @@ pub(crate) fn push_file_text(
     steps: &[Step],
     file: Option<&str>,
 ) -> Result<bool, AllocError>
-    ensures { AddsSome IsFileText result text.old text.new }
+    ensures text { Tells result text.old IsFileText text.new }
+    ensures is_text { IfOk result (λ is_text. is_text ≡ can_be_ballots file_text.now lines.now) }
 {
+    let is_text = file_kind(file_text).is_none() && !has_title(lines);
     let mut words = String::new(alloc);
-    push_kind(&mut words, lines, file_text)?;
-    let is_text = words.is_empty();
     if is_text {
         push_ends(&mut words, lines, file_text, steps, file)?;
+    } else {
+        push_kind(&mut words, file_text)?;
     }
     push_file_line(text, words.as_str())?;
     Ok(is_text)

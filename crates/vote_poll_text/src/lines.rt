@@ -1,5 +1,5 @@
 //! The lines of the ballot file.
-ghost use Rattle.std.specs.Prelude.{◌≡◌, List, ℕ, ◌<◌, ◌≤◌, ◌↔◌, ◌==◌, Some, length, map, slice_get, [], ◌∷◌, IfSome, IfNone, IfOk, IsErrOf};
+ghost use Rattle.std.specs.Prelude.{◌≡◌, List, ℕ, ◌<◌, ◌≤◌, ◌↔◌, Some, length, map, slice_get, [], ◌∷◌, IfSome, IfNone, IfOk, IsErrOf};
 ghost use Rattle.vote_poll_text.specs.FaultWords.{fault_line};
 ghost use Rattle.vote_poll_text.specs.Lines.{AreLines, HasTooManyLines, feed_count, lines_of, parts_of, without_last_feed};
 ghost use Rattle.vote_poll_text.specs.declared.lines.LinesFault.TheVariants.{Memory};
@@ -159,14 +159,6 @@ impl<'t> Lines<'t> {
         ensures at_most { result ≤ MAX_LINES }
     {
         self.lines.len()
-    }
-
-    /// Whether there is no line.
-    /// For callers of the library; the program does not call it.
-    pub fn is_empty(&self) -> bool
-        ensures { result ≡ (length self.now == 0) }
-    {
-        self.lines.is_empty()
     }
 
     /// The line at an index, from 0.

@@ -42,13 +42,7 @@ VERSION_AT, ID_AT = slice(60, 64), slice(68, 72)
 # how many seconds an act waits for those of others
 PATIENCE = 120
 
-SETTINGS = (
-    "foreign_keys = ON",
-    "recursive_triggers = ON",
-    "journal_mode = DELETE",
-    "synchronous = EXTRA",
-    "trusted_schema = OFF",
-)
+SETTINGS = "foreign_keys=ON recursive_triggers=ON journal_mode=DELETE synchronous=EXTRA".split()
 
 # how many rows one statement adds: one for each row takes twice the time
 ROWS_AT_ONCE = 100
@@ -56,8 +50,7 @@ ROWS_AT_ONCE = 100
 # the byte of the file that SQLite locks for an act
 RESERVED_BYTE = 0x40000001
 
-# clocks are set by some seconds: an act that is earlier than the one before by more shows that the
-# clock was put back
+# the clock was put back if an act is earlier than the one before by more: clocks are set by some
 SECONDS_BACK = 60
 
 
@@ -120,8 +113,9 @@ class Book:
         self, path: pathlib.Path, connection: sqlite3.Connection, *, is_read_only: bool = False
     ) -> None:
         self.path, self.connection, self.is_read_only = path, connection, is_read_only
-        self.file = file_at(path)
-        self.read_acts: list[DoneAct] = []
+        self.file, self.read_acts = file_at(path), list[DoneAct]()
+        # what `queries.all_electors` has read, and when
+        self.electors_at: tuple[object, list[Any]] = (None, [])
         # the acts of this process, each as `act 7 (add)`
         self.own_acts: list[str] = []
 
@@ -186,9 +180,8 @@ class Book:
     ) -> Iterator[NewAct]:
         """One act: its rows are committed at the end, and an exception leaves the book as it was.
 
-        `seen` is the last act that was known when this act was decided. If others came since,
-        `Overtaken` is raised. Within the act nobody is asked and no program runs. The act `moved`
-        makes this book the one that the machine knows.
+        `seen` is the last act that was known when this act was decided; if others came since, it is
+        `Overtaken`. Within the act nobody is asked and no program runs.
         """
         note = self.note()
         note.make_ready()
@@ -257,9 +250,7 @@ class Book:
         return MachineNote(self.machine, self.path.resolve())
 
     def note_seen(self) -> None:
-        """Notes the last act, if this is the book that this machine knows. Then nobody can remove
-        this act unnoticed.
-        """
+        """Notes the last act of the book that this machine knows: nobody can remove it unnoticed."""
         with contextlib.suppress(Fault, OSError):
             if self.strangeness() is None:
                 last = self.last_act()
@@ -289,8 +280,8 @@ class Book:
             raise Fault(self.path, why, f"find out how that came about; {right}, {repeat}")
 
     def accept(self, because: str) -> None:
-        """The act `moved`: from now on this machine takes this book for the right one. If a whole
-        disk was put back, with what this machine noted, only who did it knows.
+        """The act `moved`: from now on this machine takes this book for the right one. If the whole
+        disk was put back, with the note, only who did it knows.
         """
         noted, last, why = self.note().read(), self.last_act(), self.strangeness() or RESTORED
         self.demand_locks()
@@ -306,7 +297,7 @@ class Book:
     # ------------------------------------------------------------ the file
     def doubts(self, *, is_accepted: bool = False) -> list[Fault]:
         """Why this may not be the book to work on: a copy lies beside it, or this machine knows
-        another one, unless this one is accepted now.
+        another one and this one is not accepted now.
         """
         words = f"it is another book of this election, with acts that {NAME} lacks; a sync tool may have left it"
         cure = "find out which book is right, and move the other out of the folder"
@@ -326,9 +317,7 @@ class Book:
                 raise Fault(self.path, words, "move the folder to a disk of this computer")
 
     def other_books(self) -> Iterator[pathlib.Path]:
-        """The books in the folder with acts that this book lacks, such as a copy that a sync tool
-        leaves.
-        """
+        """The books in the folder with acts that this book lacks."""
         for file in sorted(self.path.parent.iterdir()):
             # a file that is gone by now was the journal of another command
             with contextlib.suppress(OSError):
@@ -373,9 +362,7 @@ def is_locked_for_others(path: pathlib.Path) -> bool:
 
 # ---------------------------------------------------------------- making and opening
 def create(path: pathlib.Path, detail: Detail, final_path: pathlib.Path) -> None:
-    """Makes a new book with the act `new`. The folder is moved afterwards: `final_path` is where
-    the book will lie.
-    """
+    """Makes a new book with the act `new`, which lies at `final_path` once its folder is moved."""
     os.close(os.open(path, os.O_RDWR | os.O_CREAT | os.O_EXCL, 0o600))
     connection = connected(path, "rw")
     book = Book(path, connection)
@@ -391,9 +378,7 @@ def create(path: pathlib.Path, detail: Detail, final_path: pathlib.Path) -> None
 
 
 def open_book(path: pathlib.Path) -> Book:
-    """Opens the book of an election. Stops if the file is no book of this version, or its schema is
-    another one.
-    """
+    """Opens a book. Stops if the file is none of this version, or its schema is another one."""
     demand_version(path)
     is_read_only = not (os.access(path, os.W_OK) and os.access(path.parent, os.W_OK))
     with sqlite_faults(path):
@@ -407,7 +392,7 @@ def open_book(path: pathlib.Path) -> Book:
             if is_read_only and "unable to open" in str(error) or "readonly" in str(error):
                 words = "a command was cut off in its act, and the act can be taken back only in a folder that is writable"
                 cure = f"copy {NAME} and {NAME}-journal together into a folder of your own, and work there"
-                raise Fault(path, words, cure, Status.DOUBT, None) from None
+                raise Fault(path, words, cure, done=None) from None
             raise
         if differing is not None:
             raise damaged(path, f"{differing} is not as new makes it")
@@ -418,9 +403,7 @@ def open_book(path: pathlib.Path) -> Book:
 
 
 def demand_version(path: pathlib.Path) -> None:
-    """Stops at a file that is no book of this version. It is not opened as a database, so nothing
-    in it changes.
-    """
+    """Stops at a file that is no book of this version; it is not opened, so it does not change."""
     head = head_of(path)
     if not head.startswith(SQLITE):
         raise damaged(path, "it is no database of SQLite")
@@ -438,25 +421,21 @@ def demand_version(path: pathlib.Path) -> None:
 def connected(path: pathlib.Path, mode: str) -> sqlite3.Connection:
     address = f"{path.absolute().as_uri()}?mode={mode}"
     connection = sqlite3.connect(address, uri=True, isolation_level=None, timeout=PATIENCE)
-    for setting in SETTINGS if mode == "rw" else SETTINGS[-1:]:
+    for setting in ("trusted_schema=OFF", *(SETTINGS if mode == "rw" else ())):
         connection.execute(f"PRAGMA {setting}")
     chain.prepare(connection)
     return connection
 
 
 # what SQLite says if not the book is at fault, but its place: the words, and the cure
+READ, WRITE, DISK = "it can't be read", "it can't be written", "check that the disk is in order"
+BUSY = "other commands have worked on it for two minutes"
 PLACES = {
-    ("BUSY", "LOCKED"): (
-        "other commands have worked on it for two minutes",
-        "wait until they are done",
-    ),
-    ("IOERR_READ", "IOERR_SHORT_READ"): ("it can't be read", "check that the disk is in order"),
-    ("FULL", "IOERR"): (
-        "it can't be written",
-        "make room on the disk, or check that the disk is in order",
-    ),
+    ("BUSY", "LOCKED"): (BUSY, "wait until they are done"),
+    ("IOERR_READ", "IOERR_SHORT_READ"): (READ, DISK),
+    ("FULL", "IOERR"): (WRITE, f"make room on the disk, or {DISK}"),
     ("READONLY", "CANTOPEN", "PERM", "AUTH"): (
-        "it can't be written",
+        WRITE,
         "make the file and its folder writable for you",
     ),
     ("NOMEM", "INTERRUPT"): ("SQLite gave up", "make room in memory"),

@@ -1,5 +1,4 @@
-"""An election in its folder: the book, what its acts say of the election as a whole, and debvote.
-"""
+"""An election in its folder: the book, what its acts say of the election as a whole, and debvote."""
 
 import contextlib
 import datetime
@@ -23,17 +22,15 @@ from debvote_tools.poll.sealed import SealedPoll, read_plain
 
 POLL_FILE, MEMBERS_FILE, TEXTS = "poll.toml", "members.csv", "texts"
 CALL, LETTERS, RESULT, PRIVATE = "call", "letters", "result", "private"
+MADE = (CALL, LETTERS, RESULT, PRIVATE, TEXTS)
 
 # the letter of the result for all, in the folder of letters
 RESULT_LETTER = "result.txt"
 
-# the names under which the book has the sealed polls, that of the call, and in a secret vote the
-# one that has names; and the keys of those whose letters have to be signed
-POLL, POLL_WITH_NAMES, KEYRING = "poll", "poll with names", "keyring"
-
-# what the secretary writes at the head of letters to electors: a file of the folder, and the name under
-# which each call seals it
-LETTER_TEXT = "letter.txt"
+# the names of what is sealed: the poll of the call; in a secret vote the poll that has names; the
+# keys of those whose letters have to be signed; what the secretary writes at the head of letters,
+# in the file of the same name
+POLL, POLL_WITH_NAMES, KEYRING, LETTER_TEXT = "poll", "poll with names", "keyring", "letter.txt"
 
 # what an election of version 1 has in its folder
 OF_VERSION_1 = ("journal", "ballots", "received")
@@ -57,13 +54,9 @@ class History(NamedTuple):
         return [act for act in self.acts if act.name in names]
 
     def since_call(self, *names: ActName) -> list[DoneAct]:
-        """The acts of these names from the call that holds on, with this call itself; empty before
-        a call.
-        """
+        """The acts of these names from the call that holds on, with the call; empty before it."""
         call = self.call
-        return (
-            [] if call is None else [act for act in self.named(*names) if act.number >= call.number]
-        )
+        return [act for act in self.named(*names) if call is not None and act.number >= call.number]
 
     def act(self, number: int) -> DoneAct:
         return self.acts[number - 1]
@@ -79,12 +72,9 @@ class History(NamedTuple):
         return next((act for act in self.named("call") if act.number > taken_back), None)
 
     def announced(self, key: str) -> Any:
-        """What the call, or a later act that adds to it, says last of something, as `address`; None
-        if it does not say it.
-        """
-        said = (
-            act.detail.get(key) for act in reversed(self.since_call("call", "extend", "announce"))
-        )
+        """What the call, or a later act that adds to it, says last of something, as `address`."""
+        acts = reversed(self.since_call("call", "extend", "announce"))
+        said = (act.detail.get(key) for act in acts)
         return next((value for value in said if value is not None), None)
 
     @property
@@ -99,7 +89,7 @@ class History(NamedTuple):
 
     @property
     def until(self) -> datetime.datetime | None:
-        """Until when one can vote, with the offset in which it was announced; None if no time was."""
+        """Until when one can vote, with the offset in which it was announced, if it was."""
         until = self.announced("until")
         return None if until is None else from_text(until)
 
@@ -115,9 +105,7 @@ class History(NamedTuple):
 
     @property
     def is_reopened(self) -> bool:
-        """Whether the vote was closed once and is open again: then only what came before the first
-        close is in time.
-        """
+        """Whether the vote is open again: then only what came before the first close is in time."""
         return bool(self.closes) and not self.is_closed
 
     def is_late(self, came_before_close: bool | None) -> bool:
@@ -134,17 +122,12 @@ class History(NamedTuple):
             return Stage.NEW
         if not self.is_closed:
             return Stage.CALLED
-        return (
-            Stage.PUBLISHED
-            if any(act.number > self.closes[-1].number for act in self.since_call("publish"))
-            else Stage.CLOSED
-        )
+        published = any(act.number > self.closes[-1].number for act in self.since_call("publish"))
+        return Stage.PUBLISHED if published else Stage.CLOSED
 
 
 class Sealed(NamedTuple):
-    """The poll as it was called: what everybody sees, and what ballots are counted by. They differ
-    if the public sees aliases.
-    """
+    """The poll as everybody sees it, and as ballots are counted; they differ if there are aliases."""
 
     public: SealedPoll
     counted: SealedPoll
@@ -155,17 +138,13 @@ class Sealed(NamedTuple):
 
 
 class Election:
-    """An election in a folder. What it says of the book is read anew each time, since others may
-    work on it.
+    """An election in a folder, by default the current one. What it says of the book is read anew
+    each time, since others may work on it.
     """
 
     def __init__(self, folder: pathlib.Path | None, program_folder: pathlib.Path | None) -> None:
-        """Without a folder, the one in which the command is run."""
-        self.is_named, self.folder, self.program_folder = (
-            folder is not None,
-            folder or pathlib.Path(),
-            program_folder,
-        )
+        self.folder, self.program_folder = folder or pathlib.Path(), program_folder
+        self.is_named = folder is not None
 
     def path(self, name: str) -> pathlib.Path:
         return self.folder / name
@@ -224,9 +203,7 @@ class Election:
         return self.opened.own_acts if "opened" in vars(self) else []
 
     def demand_undamaged(self) -> None:
-        """Stops if the book is damaged. It is opened anew: whoever asks can't work with what was
-        read from it.
-        """
+        """Stops if the book, which is opened anew, is damaged."""
         if self.path(NAME).is_file():
             book = open_book(self.path(NAME))
             with contextlib.closing(book.connection):
@@ -249,20 +226,6 @@ class Election:
         except Fault:
             raise damaged(self.path(NAME), "its sealed poll is not in plain form") from None
 
-    def demand_private(self, target: pathlib.Path) -> None:
-        """Stops if what is written there would be in a folder for electors or the web site."""
-        place = target.absolute().resolve()
-        for name in (CALL, LETTERS, RESULT, PRIVATE):
-            if place.is_relative_to(self.path(name).absolute().resolve()):
-                words = f"it would be in the folder {name}, whose files go to others"
-                raise Fault(
-                    target,
-                    words,
-                    "name a place outside that folder",
-                    Status.BAD_WORDS,
-                    "nothing was written",
-                )
-
     def called(self, history: History) -> DoneAct:
         """The act of the call. Stops before it."""
         if history.call is None:
@@ -276,23 +239,15 @@ class Election:
 
 def no_book(folder: pathlib.Path) -> Fault:
     """The fault of a folder without a book: what it is instead, as far as that can be seen."""
+    words = f"there is no {NAME} in it, so it is not an election"
+    cure = "go to the folder of the election, or name it with --folder; new makes one"
+    place = folder.absolute()
     if not folder.is_dir():
         words, cure = "there is no such folder", "name the folder of the election with --folder"
-    elif (folder.absolute().parent / NAME).is_file() and folder.absolute().name in (
-        CALL,
-        LETTERS,
-        RESULT,
-        PRIVATE,
-        TEXTS,
-    ):
-        words, cure = (
-            "the election is one folder up",
-            "go there with cd .., then run the command again",
-        )
+    elif (place.parent / NAME).is_file() and place.name in MADE:
+        words = "the election is one folder up"
+        cure = "go there with cd .., then run the command again"
     elif any(os.path.lexists(folder / name) for name in OF_VERSION_1):
         words = "it is an election of debvote-election 1.x, which only 1.x can finish"
         cure = "install the version that began it, or begin anew in another folder"
-    else:
-        words = f"there is no {NAME} in it, so it is not an election"
-        cure = "go to the folder of the election, or name it with --folder; new makes one"
     return Fault(folder, words, cure, Status.BAD_WORDS, None)

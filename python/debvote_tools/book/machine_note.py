@@ -1,9 +1,9 @@
 """What this machine noted of a book: the number and the digest of the last act that it made or saw.
 
-The note lies outside of the election's folder. So a copy of yesterday that is put back, a book that
-another machine went on with, and a book that somebody wrote anew are noticed. The note gets its
-room on the disk before an act and its content after the commit, and goes only forward: a kill
-leaves it at an earlier act of the same book, never at one that the book lacks.
+It lies outside of the election's folder. So a copy of yesterday that is put back, a book that another
+machine went on with, and a book that somebody wrote anew are noticed. It gets its room on the disk
+before an act and its content after the commit, and goes only forward: a kill leaves it at an
+earlier act of the same book, never at one that the book lacks.
 """
 
 import contextlib
@@ -25,8 +25,8 @@ NUMBER_DIGITS, DIGEST_DIGITS = 20, 64
 
 
 def machine_of(salt: bytes) -> str:
-    """This machine as the acts of a book name it, by the random bytes of its first act: two books
-    do not show that they are of one.
+    """This machine as the acts of a book name it, by the random bytes of the first act: two books do
+    not show that they are of one machine.
     """
     try:
         machine_id = MACHINE_ID.read_bytes()
@@ -41,16 +41,12 @@ class Note(NamedTuple):
 
 
 class MachineNote:
-    """The note of a machine, as the acts of a book name it, about the book at a path. It lies where
-    programs keep what has to outlast them.
-    """
+    """The note of a machine about the book at a path, where programs keep what outlasts them."""
 
     def __init__(self, machine: str, path: pathlib.Path) -> None:
         base = os.environ.get("XDG_STATE_HOME", "")
-        self.folder = (
-            pathlib.Path(base) if os.path.isabs(base) else pathlib.Path.home() / ".local" / "state"
-        ) / "debvote"
-        self.path = str(path)
+        state = pathlib.Path(base) if os.path.isabs(base) else pathlib.Path.home() / ".local/state"
+        self.folder, self.path = state / "debvote", str(path)
         self.file = self.folder / hashlib.sha256(f"{machine}\n{path}".encode()).hexdigest()[:40]
         # takes the place of the note
         self.next = self.file.with_suffix(".next")
@@ -82,9 +78,7 @@ class MachineNote:
                 sync_folder(self.folder)
 
     def write_next(self, content: bytes) -> None:
-        """Writes over what is to take the place of the note, in the room that the longest note
-        takes.
-        """
+        """Writes over what is to take the place of the note, with the room of the longest note."""
         room = len(self.as_bytes(Note(0, ""))) + NUMBER_DIGITS + DIGEST_DIGITS
         handle = os.open(self.next, os.O_WRONLY | os.O_CREAT | os.O_CLOEXEC, 0o600)
         with open(handle, "wb") as target:

@@ -28,9 +28,15 @@ class Elector(NamedTuple):
 
 
 def all_electors(book: Book) -> list[Elector]:
-    """All electors that the book knows, those who are no longer on the list first."""
-    rows = book.rows("SELECT * FROM elector_now ORDER BY position")
-    return [Elector._make([*row[:4], tuple(json.loads(row[4])), *row[5:]]) for row in rows]
+    """All electors that the book knows, those who are no longer on the list first. They are read
+    again only if somebody has changed the book.
+    """
+    state = book.last_number(), book.connection.total_changes
+    if book.electors_at[0] != state:
+        rows = book.rows("SELECT * FROM elector_now ORDER BY position")
+        found = [Elector(*row)._replace(addresses=tuple(json.loads(row[4]))) for row in rows]
+        book.electors_at = state, found
+    return list(book.electors_at[1])
 
 
 def electors(book: Book) -> list[Elector]:

@@ -25,14 +25,13 @@ def act_time(time: datetime.datetime) -> str:
 
 def wrapped(names: Iterable[str]) -> str:
     """Names with spaces between, in lines that a terminal shows whole."""
-    return textwrap.fill(
-        " ".join(names), WIDTH, initial_indent="  ", subsequent_indent="  ", break_on_hyphens=False
-    )
+    wrapper = textwrap.TextWrapper(WIDTH, "  ", "  ", break_on_hyphens=False)
+    return wrapper.fill(" ".join(names))
 
 
 def quorum_words(multiple: int, votes: int) -> str:
     """What a quorum of a number of times Q, which is a number of votes, asks for."""
     if multiple == 0:
         return "Quorum: none"
-    least = count_of(votes, "elector")
-    return f"Quorum: {count_of(votes, 'vote')} ({multiple}Q): at least {least} must prefer an option to the default option"
+    least = f"at least {count_of(votes, 'elector')} must prefer an option to the default option"
+    return f"Quorum: {count_of(votes, 'vote')} ({multiple}Q): {least}"

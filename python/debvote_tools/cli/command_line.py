@@ -15,12 +15,14 @@ from debvote_tools.cli.faults import Fault, Status, acts_in_words
 
 PROGRAM = "debvote-election"
 
-# the modules of the commands, in the order in which an election needs them; each has its help as
-# docstring, `Arguments` and `run`
+# in the order in which an election needs them. Each has a module with its help as docstring,
+# `Arguments` and `run`, but for some that share one: its help is that of the function of its name
 COMMANDS = (
     "new roll check codes call add held undo strike desk letters show status "
     "close reopen count publish log export backup"
 ).split()
+
+SHARING = {"log": "look", "export": "look", "backup": "look"}
 
 # the commands that change nothing
 QUIET = ("check", "show", "status", "count", "log")
@@ -40,11 +42,15 @@ def parser(words: Sequence[str] = ()) -> argparse.ArgumentParser:
     arguments.add_version(top)
     commands = top.add_subparsers(dest="command", metavar="COMMAND", required=True)
     for name in words[:1] if words and words[0] in COMMANDS else COMMANDS:
-        module = importlib.import_module(f"debvote_tools.commands.{name}")
-        text = " ".join(str(module.__doc__).split())
+        module = importlib.import_module(f"debvote_tools.commands.{SHARING.get(name, name)}")
+        run, kind, said = getattr(module, "run", None), "Arguments", module.__doc__
+        if name in SHARING:
+            run, kind = getattr(module, name), f"{name.capitalize()}Arguments"
+            said = run.__doc__
+        text = " ".join(str(said).split())
         command = commands.add_parser(name, help=text.removesuffix("."), description=text, **how)
-        arguments.add_arguments(command, module.Arguments)
-        command.set_defaults(run=module.run, arguments=module.Arguments)
+        arguments.add_arguments(command, getattr(module, kind))
+        command.set_defaults(run=run, arguments=getattr(module, kind))
     return top
 
 

@@ -20,14 +20,13 @@ LINES_AT_ONCE = 1_000
 
 
 class OutputFailed(Fault):
-    """Standard output takes nothing more. What was printed before is done."""
+    """Standard output takes nothing more. What was printed before is done. Somebody who reads the
+    first lines alone, as `head` does, closes the pipe, and has what was asked for.
+    """
 
     def __init__(self, *, is_closed_pipe: bool = False) -> None:
-        done = "what the command has reported is done"
-        super().__init__(
-            None, "the output failed", "see debvote-election status", Status.BAD_OUTPUT, done
-        )
-        # somebody who reads the first lines alone, as `head` does, has what was asked for
+        cure, done = "see debvote-election status", "what the command has reported is done"
+        super().__init__(None, "the output failed", cure, Status.BAD_OUTPUT, done)
         self.is_closed_pipe = is_closed_pipe
 
 

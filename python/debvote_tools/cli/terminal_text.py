@@ -1,13 +1,12 @@
 """How a text is shown that may have characters which steer a terminal, or turn the direction in
 which a text is read.
-
-- `written` is for all that is printed: lines stay lines, and such a character is shown by its number, as U+202E.
-- `shown_line` is for a line that came, within a sentence: each character that is not seen is shown by its number, as \\u202E.
-- `shown_text` is for a short text, as a name, within a sentence: the same, in one line.
 """
 
 import re
 import unicodedata
+
+# how many characters are shown of a line that came, and of a short text
+SHOWN_OF_LINE, SHOWN_OF_TEXT = 100, 60
 
 # control characters but for line feed and carriage return, and what turns the direction of a text
 # or ends a line unseen
@@ -16,26 +15,17 @@ STEERING = re.compile(
 )
 
 # what no plain text has: control characters, surrogates, private use, and what turns the text
-# around it
-ODD = ("Cc", "Cs", "Co")
-TURNING = "\u202a\u202b\u202c\u202d\u202e\u2066\u2067\u2068\u2069"
-
-# what ends a line or a paragraph beside the line feed
+# around it; and what ends a line or a paragraph beside the line feed
+ODD, TURNING = ("Cc", "Cs", "Co"), "\u202a\u202b\u202c\u202d\u202e\u2066\u2067\u2068\u2069"
 LINE_ENDS = "\u2028\u2029"
-
-# how many characters are shown of a line that came, and of a short text
-SHOWN_OF_LINE, SHOWN_OF_TEXT = 100, 60
 
 # characters that people know by a name
 KNOWN = {"\r": "\\r", "\n": "\\n", "\t": "\\t"}
 
 
 def written(text: str) -> str:
-    return (
-        text
-        if text.isprintable()
-        else STEERING.sub(lambda character: number_of(character[0]), text)
-    )
+    """The text with each character that steers a terminal as its number, such as U+202E."""
+    return text if text.isprintable() else STEERING.sub(lambda found: number_of(found[0]), text)
 
 
 def steering(text: str) -> str | None:
@@ -58,13 +48,13 @@ def number_of(character: str) -> str:
 
 
 def shown_line(line: bytes) -> str:
-    text = line.decode("utf-8", "backslashreplace")
-    return "".join(
-        KNOWN.get(character) or seen(character) for character in cut(text, SHOWN_OF_LINE)
-    )
+    """A line within a sentence; a character that is not seen is shown as \\u202E."""
+    text = cut(line.decode("utf-8", "backslashreplace"), SHOWN_OF_LINE)
+    return "".join(KNOWN.get(character) or seen(character) for character in text)
 
 
 def shown_text(text: str) -> str:
+    """A short text, as a name, within a sentence."""
     return "".join(map(seen, cut(" ".join(text.split()), SHOWN_OF_TEXT)))
 
 

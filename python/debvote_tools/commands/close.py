@@ -2,13 +2,12 @@
 
 import collections
 import contextlib
-from collections.abc import Sequence
 
 from debvote_tools.text import times
 from debvote_tools.cli.arguments import flag
 from debvote_tools.book import queries
 from debvote_tools.book.acts import Detail
-from debvote_tools.book.book import DoneAct, Overtaken
+from debvote_tools.book.book import Overtaken
 from debvote_tools.cli.console import is_terminal, is_yes, tell
 from debvote_tools.book import acting
 from debvote_tools.book.election import LETTERS, Election, History, Sealed
@@ -28,7 +27,7 @@ ALL = "Is that all? It is if the mailbox was added just now, all paper is entere
 TRIES = 50
 
 
-class Arguments(acting.Arguments, checks=True):
+class Arguments(acting.Arguments):
     early: bool = flag("Close before the end of the vote; the result page says so")
     force: bool = flag(
         "With --because: close although letters wait that arrived in time; the result page says how many"
@@ -39,47 +38,44 @@ class Arguments(acting.Arguments, checks=True):
 def run(election: Election, arguments: Arguments) -> None:
     acting.demand_writable(election)
     acting.book_for_count(election, arguments)
-    sealed = election.sealed()
-    is_new = not election.history().is_closed
+    sealed, is_new = election.sealed(), not election.history().is_closed
     if is_new:
         close(election, sealed, arguments)
     history = election.history()
-    folder, letter = election.path(LETTERS), closing_letter(
-        history, sealed.public, election.language
-    )
-    written = write_made(folder, {CLOSED: letter}, OWN)
-    act, path = history.closes[-1], folder / CLOSED
-    detail = act.detail
-    lines = count_of(detail["lines"], "line")
+    act, path = history.closes[-1], election.path(LETTERS) / CLOSED
+    letter = closing_letter(history, sealed.public, election.language)
+    written = write_made(path.parent, {CLOSED: letter}, OWN)
     if is_new:
-        if detail["early"]:
-            tell("Note: the announced end of the vote has not come yet; the result page says so.")
-        tell(
-            f"Closed: {lines} came in time. Lines that are entered from now on are late, and do not count."
-        )
-        if detail["waiting"]:
-            tell(
-                f"{count_of(detail['waiting'], 'letter')} that arrived in time did not go in; the result page says so."
-            )
-        if detail.get("before_call"):
-            tell(
-                f"{count_of(detail['before_call'], 'letter')} that arrived before the call did not go in."
-            )
+        tell_closed(act.detail)
     else:
-        tell(
-            f"The vote was closed at {act_time(act.time)}, with {lines} in time. Nothing was changed."
-        )
+        lines = count_of(act.detail["lines"], "line")
+        when = f"The vote was closed at {act_time(act.time)}, with {lines} in time."
+        tell(f"{when} Nothing was changed.")
     if written:
         tell(f"Made {path}.")
-    tell(
-        f"Checksum of the ballots{' with the random line' if 'seal' in detail else ''}: {detail['checksum']}"
-    )
+    covered = " with the random line" if "seal" in act.detail else ""
     # where nobody knows whose each code is, no letter can be written to an elector
     sending = "" if history.has_codes_on_roll else f"{election.command('letters', 'closed')}, then "
     tell(
+        f"Checksum of the ballots{covered}: {act.detail['checksum']}",
         f"Send {path} to all electors before you count anything.",
         f"Next: {sending}{election.command('count')}",
     )
+
+
+def tell_closed(detail: Detail) -> None:
+    if detail["early"]:
+        tell("Note: the announced end of the vote has not come yet; the result page says so.")
+    lines = count_of(detail["lines"], "line")
+    tell(
+        f"Closed: {lines} came in time. Lines that are entered from now on are late, and do not count."
+    )
+    for number, when in (
+        (detail["waiting"], "arrived in time did not go in; the result page says so."),
+        (detail["before_call"], "arrived before the call did not go in."),
+    ):
+        if number:
+            tell(f"{count_of(number, 'letter')} that {when}")
 
 
 def close(election: Election, sealed: Sealed, arguments: Arguments) -> None:
@@ -92,11 +88,8 @@ def close(election: Election, sealed: Sealed, arguments: Arguments) -> None:
         if tried == 0:
             tell(came_last(history, detail["lines"]))
             if is_asked and not is_yes(ALL):
-                raise Fault(
-                    None,
-                    "you did not say that this is all",
-                    "enter what is missing, then run the command again",
-                )
+                cure = "enter what is missing, then run the command again"
+                raise Fault(None, "you did not say that this is all", cure)
         with contextlib.suppress(Overtaken):
             with election.book.act("close", detail, seen=history.last.number):
                 pass
@@ -108,14 +101,11 @@ def came_last(history: History, lines: int) -> str:
     """How many lines there are, and when the last ones came: who has put back a disk sees here what
     is missing.
     """
-    added, at_desks = last_time(history.named("letters", "add", "enter")), last_time(
-        history.named("desk")
+    added, at_desks = (
+        act_time(acts[-1].time) if acts else "never"
+        for acts in (history.named("letters", "add", "enter"), history.named("desk"))
     )
     return f"Until now {count_of(lines, 'line')} came in time. Added last: {added}. Entered last at a desk: {at_desks}."
-
-
-def last_time(acts: Sequence[DoneAct]) -> str:
-    return act_time(acts[-1].time) if acts else "never"
 
 
 def what_is_closed(
@@ -126,11 +116,7 @@ def what_is_closed(
     """
     history, now = election.history(), times.now()
     letters = waiting_letters(election, history)
-    left, stops, counts = (
-        in_time(letters),
-        stopping(letters, history),
-        collections.Counter(letters.values()),
-    )
+    left, stops = in_time(letters), stopping(letters, history)
     faults, until = [], history.until
     is_early = until is not None and now < until
     if until is not None and is_early and not arguments.early:
@@ -141,23 +127,16 @@ def what_is_closed(
     if stops and not (arguments.force and acting.has_reason(arguments.because)):
         look = f"look at them with {election.command('held')}"
         force = "or close anyway with --force --because TEXT (the result page says so)"
-        faults.append(
-            Fault(None, why_they_stop(stops), f"add the mailbox once more, then {look}; {force}")
-        )
+        cure = f"add the mailbox once more, then {look}; {force}"
+        faults.append(Fault(None, why_they_stop(stops), cure))
     stop_at(faults)
-    detail = fixed(election, sealed)
-    detail.update(
-        {
-            "waiting": len(left),
-            "after_end": counts[Arrived.LATE],
-            "before_call": counts[Arrived.BEFORE_THE_CALL],
-        }
-    )
+    detail, counts = fixed(election, sealed), collections.Counter(letters.values())
+    detail["waiting"], detail["after_end"] = len(left), counts[Arrived.LATE]
+    detail["before_call"], detail["early"] = counts[Arrived.BEFORE_THE_CALL], is_early
     if left:
         detail["left"] = left
     if stops:
         detail["because"] = acting.demand_reason(arguments.because, "--force")
-    detail["early"] = is_early
     return detail, history
 
 
@@ -170,8 +149,6 @@ def fixed(election: Election, sealed: Sealed) -> Detail:
     if not sealed.counted.secret:
         return {"lines": len(lines), "checksum": sha256_of(ballots)}
     standing = election.debvote.standing(sealed.counted.as_bytes(), ballots)
-    public, seal = (
-        aliased_ballots(standing, queries.public_names(queries.electors(election.book))),
-        seal_line(),
-    )
-    return {"lines": len(lines), "checksum": sealed_checksum(seal, public), "seal": seal}
+    names, seal = queries.public_names(queries.electors(election.book)), seal_line()
+    checksum = sealed_checksum(seal, aliased_ballots(standing, names))
+    return {"lines": len(lines), "checksum": checksum, "seal": seal}

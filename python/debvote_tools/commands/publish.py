@@ -6,7 +6,7 @@ import datetime
 import itertools
 import os
 import pathlib
-from collections.abc import Iterator, Sequence
+from collections.abc import Iterator
 
 from debvote_tools.text import times
 from debvote_tools.cli.arguments import flag, option, positional
@@ -19,12 +19,12 @@ from debvote_tools.commands import count
 from debvote_tools.book.election import LETTERS, RESULT, RESULT_LETTER, Election, History
 from debvote_tools.made_files import OWN, write_made
 from debvote_tools.book.reporting import act_time
-from debvote_tools.inbox.waiting import in_time, left, waiting_letters
+from debvote_tools.inbox.waiting import in_time, waiting_letters
 from debvote_tools.cli.faults import Fault, Status
 from debvote_tools.files import file_text, locked, read_whole, uninterrupted
 from debvote_tools.text.language import LANGUAGES
 from debvote_tools.result import folder, publication
-from debvote_tools.result.facts import CHECKSUMS, Doubt, Facts
+from debvote_tools.result.facts import CHECKSUMS, Facts
 from debvote_tools.result.folder import NOTHING_DONE
 from debvote_tools.result.publication import Words
 
@@ -77,7 +77,7 @@ def run(election: Election, arguments: Arguments) -> int:
     words = given if again is None else Words(**again.detail["words"])
     count.demand_option(sealed.public, words.casting)
     waiting = in_time(waiting_letters(election, history)) if history.is_closed else []
-    facts = with_letters_left(publication.facts_of(election, words), waiting, history)
+    facts = publication.facts_of(election, words, waiting)
     if again is not None and any(
         doubt.stops and doubt.as_data() not in again.detail["doubts"] for doubt in facts.doubts
     ):
@@ -154,18 +154,6 @@ def would_differ(last: DoneAct) -> Fault:
     why = "another version of a program makes it, or more was done since that the page tells"
     cure = "leave it as it is; or publish it once more, with a letter of its own: --force"
     return Fault(None, f"{words}: {why}", cure, Status.DOUBT, NOTHING_DONE)
-
-
-def with_letters_left(facts: Facts, numbers: Sequence[int], history: History) -> Facts:
-    """The facts with a doubt about the letters that arrived in time and wait, but for those that
-    the close tells. It stops unless an earlier publication had it.
-    """
-    told = set(history.closes[-1].detail.get("left", [])) if history.closes else set[int]()
-    if not (found := [number for number in numbers if number not in told]):
-        return facts
-    places = {"number": len(found), "letters": ", ".join(map(str, found))}
-    doubt = Doubt("letters left", places, stops=not left(history).issuperset(found))
-    return dataclasses.replace(facts, doubts=(*facts.doubts, doubt))
 
 
 @contextlib.contextmanager

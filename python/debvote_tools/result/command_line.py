@@ -58,12 +58,12 @@ def parser() -> argparse.ArgumentParser:
     return options
 
 
-def main(program_folder: pathlib.Path, words: Sequence[str] | None = None) -> int:
+def main(program_folder: pathlib.Path, given: Sequence[str] | None = None) -> int:
     """Publishes, and returns the exit status. `program_folder` is that of the program."""
     # if it is asked to end, it takes away what it has made
     for number in (signal.SIGHUP, signal.SIGINT, signal.SIGTERM):
         signal.signal(number, lambda number, _: sys.exit(128 + number))
-    arguments = arguments_of(Arguments, parser().parse_args(words))
+    arguments = arguments_of(Arguments, parser().parse_args(given))
     target_folder = pathlib.Path(arguments.target)
     console.prepare()
     try:
@@ -75,11 +75,8 @@ def main(program_folder: pathlib.Path, words: Sequence[str] | None = None) -> in
     except Fault as fault:
         return console.failed(PROGRAM, fault.words, fault.status)
     except OSError as error:
-        return console.failed(
-            PROGRAM,
-            f"the folder can't be made ({error}): name a place where you can write",
-            Status.BAD_OUTPUT,
-        )
+        words = f"the folder can't be made ({error}): name a place where you can write"
+        return console.failed(PROGRAM, words, Status.BAD_OUTPUT)
     try:
         console.tell_as_it_is(f"{made.answers.sheet.last_line}\n{made.answers.verified}\n")
     except console.OutputFailed as fault:
@@ -114,9 +111,7 @@ def input_in(file: str, limit: int, kind: str, status: int) -> bytes:
         return read_at_most(file, limit)
     except OSError as error:
         cure = f"give a file with --{kind} that you may read"
-        raise Fault(
-            file, f"it can't be read ({error.strerror})", cure, status, "nothing was published"
-        ) from None
+        raise refused(file, f"it can't be read ({error.strerror})", cure, status) from None
 
 
 def demand_in_order(poll_bytes: bytes, arguments: Arguments, debvote: Debvote) -> None:
@@ -130,7 +125,7 @@ def demand_in_order(poll_bytes: bytes, arguments: Arguments, debvote: Debvote) -
         raise other_format("the sheet of this debvote")
     said = answer.faults.strip().removeprefix("debvote: ")
     cure = f"debvote explain --poll {arguments.poll} says what to correct"
-    raise Fault(arguments.poll, said, cure, answer.status, "nothing was published")
+    raise refused(arguments.poll, said, cure, answer.status)
 
 
 def sealed_of(poll_bytes: bytes, file: str) -> SealedPoll:
@@ -141,26 +136,19 @@ def sealed_of(poll_bytes: bytes, file: str) -> SealedPoll:
     try:
         document = tomllib.loads(poll_bytes.decode("utf-8-sig"))
     except (ValueError, RecursionError) as error:
-        cure = "write the poll as TOML 1.0"
-        raise Fault(
-            file, f"it can't be read ({error})", cure, Status.BAD_POLL, "nothing was published"
-        ) from None
+        raise refused(file, f"it can't be read ({error})", "write the poll as TOML 1.0") from None
     values = {key: document[key] for key in KEYS if key in document}
     strange = [key for key in values if not is_right(key, values[key], len(document["options"]))]
     cure = "give the poll.toml of a call, or take the key out"
     if strange:
         words = f"a sealed poll cannot have such a value of {', '.join(strange)}"
-        raise Fault(file, words, cure, Status.BAD_POLL, "nothing was published")
+        raise refused(file, words, cure)
     poll = poll_of(values)
     bad = bad_title(poll.name) if poll.name != poll.title else []
-    bad += [
-        name
-        for name in bad_options(poll.names, poll.plain_names)
-        if name.name != poll.plain_names[name.number - 1]
-    ]
+    found = bad_options(poll.names, poll.plain_names)
+    bad += [name for name in found if name.name != poll.plain_names[name.number - 1]]
     if bad:
-        words = f"a shown name can't be published: {bad[0].reason}"
-        raise Fault(file, words, cure, Status.BAD_POLL, "nothing was published")
+        raise refused(file, f"a shown name can't be published: {bad[0].reason}", cure)
     return poll
 
 
@@ -174,7 +162,9 @@ def is_right(key: str, value: Any, options: int) -> bool:
         return value is True
     if key in ("shown_options", "explanations"):
         is_list_of_texts = isinstance(value, list) and all(isinstance(text, str) for text in value)
-        return is_list_of_texts and len(value) == (
-            options + 1 if key == "shown_options" else options
-        )
+        return is_list_of_texts and len(value) == options + (key == "shown_options")
     return isinstance(value, str) and value != ""
+
+
+def refused(file: str, words: str, cure: str, status: int = Status.BAD_POLL) -> Fault:
+    return Fault(file, words, cure, status, folder.NOTHING_DONE)

@@ -5,7 +5,7 @@ of a result.
 import dataclasses
 import datetime
 import json
-from collections.abc import Iterator, Mapping
+from collections.abc import Iterator, Mapping, Sequence
 from typing import Any
 
 from debvote_tools.book import letters, queries
@@ -17,6 +17,7 @@ from debvote_tools.cli.faults import Fault
 from debvote_tools.debvote import casting_words
 from debvote_tools.files import sha256_of
 from debvote_tools.inbox.lines import ballot_file
+from debvote_tools.inbox.waiting import left
 from debvote_tools.poll.secret import aliased_ballots, sealed_checksum
 from debvote_tools.poll.call import CallData
 from debvote_tools.poll.sealed import SealedPoll
@@ -123,7 +124,8 @@ def detail_of(words: Words, checksums: Mapping[str, str], facts: Facts, *, decid
 
 
 # ---------------------------------------------------------------- the facts
-def facts_of(election: Election, words: Words) -> Facts:
+def facts_of(election: Election, words: Words, waiting: Sequence[int]) -> Facts:
+    """`waiting` are the letters that arrived in time and wait."""
     with election.book.snapshot():
         history, sealed, book = election.history(), election.sealed(), election.book
         ballots, late = (
@@ -132,7 +134,7 @@ def facts_of(election: Election, words: Words) -> Facts:
         is_secret, has_names = sealed.counted.secret, history.announced("names")
         electors = queries.electors(book) if has_names or is_secret else []
         chronicle = chronicle_of(book, history, is_secret=is_secret)
-        doubts = doubts_of(book, history, sealed.public, words.casting)
+        doubts = doubts_of(book, history, sealed.public, words.casting, waiting)
     secret = None
     if is_secret:
         poll_bytes, casting = sealed.counted.as_bytes(), casting_words(words.casting)
@@ -219,7 +221,9 @@ def shown_by_comparison(
     return [name for name in sealed.counted.roll if then.get(name) != now.get(name)]
 
 
-def doubts_of(book: Book, history: History, poll: SealedPoll, casting: str | None) -> list[Doubt]:
+def doubts_of(
+    book: Book, history: History, poll: SealedPoll, casting: str | None, waiting: Sequence[int]
+) -> list[Doubt]:
     found = [] if history.is_closed else [Doubt("not closed")]
     if (until := early_end(history)) is not None:
         closed = history.closes[0].time.astimezone(until.tzinfo)
@@ -230,7 +234,14 @@ def doubts_of(book: Book, history: History, poll: SealedPoll, casting: str | Non
     names = dict(zip(poll.plain_names, poll.names))
     earlier = dict.fromkeys(act.detail["casting"] for act in history.named("publish"))
     others = [option for option in earlier if option is not None and casting not in (None, option)]
-    return found + [Doubt("other casting vote", {"option": names[option]}) for option in others]
+    found += [Doubt("other casting vote", {"option": names[option]}) for option in others]
+    told = history.closes[-1].detail.get("left", []) if history.closes else []
+    if numbers := [number for number in waiting if number not in told]:
+        waits: dict[str, Any] = {"number": len(numbers), "letters": ", ".join(map(str, numbers))}
+        # an earlier publication may have had it
+        stops = not left(history).issuperset(numbers)
+        found.append(Doubt("letters left", waits, stops))
+    return found
 
 
 def late_letters_in_time(book: Book, history: History) -> list[Doubt]:

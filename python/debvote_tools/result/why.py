@@ -2,7 +2,6 @@
 their sentences, each of which is filled by a row of places.
 """
 
-import itertools
 from collections.abc import Iterable, Mapping
 from typing import Any
 
@@ -31,11 +30,11 @@ class Why:
     def rows(self, pairs: Iterable[Pair]) -> list[Row]:
         return [self.row(pair) for pair in pairs]
 
-    def row(self, pair: Pair) -> Row:
+    def row(self, pair: Iterable[int]) -> Row:
         """Two options, and how many prefer the first and the second."""
         a, b = pair
         over, under = self.sheet.votes[a, b], self.sheet.votes[b, a]
-        removed = self.removed.get(pair) or self.removed.get((b, a))
+        removed = self.removed.get((a, b)) or self.removed.get((b, a))
         names = {"option": self.said[a], "other": self.said[b]}
         return names | {"over": over, "under": under, "round": removed}
 
@@ -104,10 +103,6 @@ class Why:
     def left_with(self, option: int) -> list[Row]:
         """An option of the last set, and each other one."""
         return self.rows((option, other) for other in self.sheet.left if other != option)
-
-    @property
-    def left_pairs(self) -> list[Row]:
-        return self.rows(itertools.combinations(self.sheet.left, 2))
 
     def chain(self, option: int) -> list[Row]:
         """The shortest chain of defeats through which an option is not left: the first defeats it,

@@ -1,3 +1,4 @@
+-- The options before this one are no reason to call the option beaten. One that beats it and is not beaten back ends the search.
 use Rattle.std.proofs.Common.{ℕ, inl, inr, refl, sym, ◌∙◌, subst, arith}
 use Rattle.std.specs.Prelude.{◌⊎◌}
 use Rattle.std.proofs.lemmas.Bool.{both_ways, cases_Bool, cases_eq}

@@ -1,3 +1,4 @@
+-- The options before this one are in the set exactly if they are unbeaten in the given set; the others are not there yet.
 use Rattle.std.proofs.Common.{ℕ, sym, ◌∙◌, arith}
 use Rattle.std.proofs.lemmas.Bool.{both_ways}
 use Rattle.vote_count.specs.Sets.{In, Pairs}

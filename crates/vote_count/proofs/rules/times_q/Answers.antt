@@ -1,3 +1,4 @@
+-- The search goes up from 0: no number below the present one meets the bound. When it ends, the present one is the least that does.
 use Rattle.std.proofs.Common.{◌*◌, ◌≤◌, inl, inr, arith, rules}
 use Rattle.std.proofs.Math.Nat.{mul-le-mul}
 use Rattle.std.proofs.lemmas.Bool.{cases_lt}

@@ -1,3 +1,4 @@
+-- In the turn of a square the row that it moves is settled by the two votes of each lane, one gone and one come; all other rows stay as they were, by their place.
 use Rattle.std.proofs.Common.{◌≡◌, ℕ, ◌+◌, ◌*◌, ◌/◌, ◌<◌, [], get_or, set, subst, sym, ap₂, ◌∙◌, inl, inr, arith}
 use Rattle.std.proofs.lemmas.Bool.{cases_eq}
 use Rattle.std.proofs.lemmas.List.{get_or-set_other}

@@ -1,3 +1,4 @@
+-- The audit compares the parts of the sealed box, and these are the box: its own ballot box and its sheets.
 use Rattle.std.proofs.Common.{◌≡◌, ◌↔◌, Bool, true, false, List, Result, Ok, Err, map, ap, ◌∙◌, subst, vec_items}
 use Rattle.vote_steps.specs.Boxes.{BoxState}
 use Rattle.vote_desks_box.specs.declared.Slip.{Slip}

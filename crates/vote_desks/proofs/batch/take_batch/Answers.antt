@@ -1,3 +1,4 @@
+-- The places that were taken before this batch and the stamps so far are what the pass has taken. Each next place is greater than all before, so the stamps rise.
 use Rattle.std.proofs.Common.{◌≡◌, ◌+◌, ◌-◌, ◌<◌, [], ◌∷◌, ◌++◌, length, take, sym, ap, ◌∙◌, subst, arith, length-set, append_assoc}
 use Rattle.std.specs.List.{All}
 use Rattle.std.proofs.lemmas.Grind.{get_or-set_at}

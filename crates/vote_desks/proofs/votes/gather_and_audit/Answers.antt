@@ -1,3 +1,4 @@
+-- The slips of the desks are as many as the casts of the sealed box, so the audit finds as many casts as lines.
 use Rattle.std.proofs.Common.{◌≡◌, length, refl, sym, subst, arith}
 use Rattle.std.specs.List.{All}
 use Rattle.std.proofs.lemmas.Result.{IfOk-weaker, IfErr-weaker}

@@ -1,3 +1,4 @@
+-- The passes of the tray go to the workers, one each, and come back joined with all parts. So the places that were handed out are all lines, each once.
 use Rattle.std.proofs.Common.{◌≡◌, map, sym, ap, ◌∙◌, vec_len, arith}
 use Rattle.std.specs.List.{range_with_len}
 use Rattle.vote_tray.specs.Passes.{HasAllParts, new_pass}

@@ -1,3 +1,4 @@
+-- The workers are back with the numbers 1 to k, each with its pass. If none stopped early, each has cast all that its pass took, which is what `hand_in` requires.
 use Rattle.std.proofs.Common.{◌≡◌, ℕ, Option, None, length, map, get_or, refl, sym, ap, ◌∙◌, subst, inr, arith}
 use Rattle.std.specs.List.{All, range_with_len}
 use Rattle.std.proofs.lemmas.List.Elements.{All-map, recursion_from_All}

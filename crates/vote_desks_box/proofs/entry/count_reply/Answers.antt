@@ -1,3 +1,4 @@
+-- By the kind of the reply: the book and the share of valid lines rise by one, or those of refused lines, and the others stay.
 use Rattle.std.proofs.Common.{rules}
 use Rattle.vote_desks_box.proofs.entry.count_reply.Goals as goal
 

@@ -1,3 +1,4 @@
+-- By the order of the tests: a fault comes only if no earlier test fails, and of two different faults one call returns one.
 use Rattle.std.proofs.Common.{◌≡◌, ◌<◌, ◌≤◌, Result, Err, length, refl, ◌∙◌, subst, arith}
 use Rattle.vote_desks_box.specs.declared.fault.EnterFault.{EnterFault}
 use Rattle.vote_desks_box.specs.declared.fault.EnterFault.TheVariants.{SheetFull, StampRange, StampUsed}

@@ -1,3 +1,4 @@
+-- The shares of all desks were merged into the first, so they add up to the books, and the books are the numbers of the box.
 use Rattle.std.proofs.Common.{◌≡◌, ℕ, ◌+◌, List, ◌∷◌, sum_by, sym, ap, ◌∙◌, arith}
 use Rattle.std.proofs.lemmas.List.Sums.{sum_by-cons}
 use Rattle.vote_steps.specs.History.{valid, refused}

@@ -1,3 +1,4 @@
+-- The box has no steps yet, so the books are 0, and so is the share of each desk.
 use Rattle.std.proofs.Common.{ℕ, refl, sym, ap, ◌∙◌, subst, rules}
 use Rattle.vote_steps.specs.Boxes.{BoxState}
 use Rattle.vote_desks_box.specs.Desks.{IsLater, SharedState}

@@ -1,6 +1,6 @@
 use Rattle.std.proofs.Common.{◌++◌, append_assoc, refl, string_bytes, subst, sym}
 use Rattle.vote_explain_ballots.specs.Explained.{AreWarnings, IsIfText, counted_text}
-use Rattle.vote_explain_ballots.specs.Remarks.{Added}
+use Rattle.vote_explain_poll.specs.Hints.{Adding}
 use Rattle.vote_explain_ballots.proofs.explain.push_warnings.Goals as goal
 
 pub returns : goal.returns
@@ -8,5 +8,5 @@ returns c =
     let poll = c.args.poll.now in
     let lines = c.args.lines.now in
     let (columns, is, told) = c.in_ok-push_columns.ensures in
-    subst (λ b. Added (IsIfText b (AreWarnings poll lines)) (string_bytes c.args.text.now) (string_bytes c.push_counted.new.text)) (sym c.if-not-is_text.false)
+    subst (λ b. Adding (IsIfText b (AreWarnings poll lines)) (string_bytes c.args.text.now) (string_bytes c.push_counted.new.text)) (sym c.if-not-is_text.false)
     (columns ++ counted_text poll lines, (columns, is, refl), rw (c.in_ok-push_counted.ensures, told) (append_assoc (string_bytes c.args.text.now) columns (counted_text poll lines)))

@@ -1,20 +1,25 @@
-use Rattle.std.proofs.Common.{refl}
+use Rattle.std.proofs.Common.{refl, subst}
+use Rattle.vote_explain_poll.specs.Findings.{AreLinesFor}
+use Rattle.vote_explain_ballots.specs.Explained.{AreWarnings, IsIfText, SaysRefusal}
+use Rattle.vote_explain_ballots.specs.Refusals.{refusals}
 use Rattle.vote_explain_ballots.proofs.explain.text_of.Goals as goal
 
 pub returns : goal.returns
 returns c =
-    let (of_file, is_of_file, e1) = c.in_ok-is_text.ensures in
+    let poll = c.args.poll.now in
+    let lines = c.args.lines.now in
+    let is_text = c.in_ok-is_text.ensures.is_text in
+    let (of_file, is_of_file, e1) = c.in_ok-is_text.ensures.text in
     let (warnings, are_warnings, e2) = c.in_ok-push_warnings.ensures in
     let (findings, are_findings, e3) = c.in_ok-add_all.ensures in
     let (example, is_example, e4) = c.in_ok-push_example.ensures in
     record {
       of_file = of_file;
       is_of_file = is_of_file;
-      is_text = c.in_ok-is_text.is_text;
       warnings = warnings;
-      are_warnings = are_warnings;
+      are_warnings = subst (λ b. IsIfText b (AreWarnings poll lines) warnings) is_text are_warnings;
       findings = findings;
-      are_findings = are_findings;
+      are_findings = subst (λ b. AreLinesFor (SaysRefusal b poll) (refusals poll lines) findings) is_text are_findings;
       example = example;
       is_example = is_example;
       is_said = rw (c.in_ok-push_totals.ensures, e4, e3, e2, e1, c.new-findings.ensures) refl;

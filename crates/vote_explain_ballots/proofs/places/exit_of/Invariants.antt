@@ -1,6 +1,6 @@
-use Rattle.std.proofs.Common.{◌≡◌, take}
+use Rattle.std.proofs.Common.{take}
 use Rattle.vote_explain_ballots.proofs.Scanning.{IsAfter}
 use Rattle.vote_explain_ballots.proofs.places.exit_of.Given as goal
 
-abbrev pub invariant-loop-byte : goal.invariant-loop-byte
-invariant-loop-byte l = IsAfter (take l.byte-index l.line) l.part l.count × (l.count ≡ l.byte-index)
+abbrev pub invariant-loop-before : goal.invariant-loop-before
+invariant-loop-before l = IsAfter (take l.before l.line) l.before l.part

@@ -1,4 +1,4 @@
-use Rattle.std.proofs.Common.{append-nil, inl, inr, refl, string_bytes, sym}
+use Rattle.std.proofs.Common.{inr, refl}
 use Rattle.std.proofs.lemmas.Result.{on_ok_weaker}
 use Rattle.vote_explain_ballots.specs.Remarks.{file_line}
 use Rattle.vote_explain_ballots.proofs.whole_file.push_file_line.Goals as goal

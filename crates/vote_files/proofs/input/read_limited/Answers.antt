@@ -1,3 +1,4 @@
+-- Each read leaves the rest of the source and takes the next answer of its list. So after an end, a fault or a byte above the limit nothing more was asked for.
 use Rattle.std.proofs.Common.{rules, ◌≡◌, ◌-◌, ◌≤◌, vec_len}
 use Rattle.std.proofs.KnownBytes.{Consumes-trans}
 use Rattle.vote_files.proofs.Asking.{asks_no_more, leaves_rest}

@@ -1,4 +1,6 @@
+-- By the clauses `sheet` and `no_input` of `answer`: the words ask for the sheet of the two files, which tell their bytes and their readings.
 use Rattle.std.proofs.Common.{arith, ap, sym, ◌∙◌, ◌≡◌, ◌<◌, ◌∷◌, [], codes, drop, length, List, map, ℕ, Some, string_bytes, Vec}
+use Rattle.std.specs.Prelude.{Bool}
 use Rattle.std.specs.Global.{Global}
 use Rattle.std.specs.declared.string.String.{String}
 use Rattle.vote_program.specs.Outputs.{Written}
@@ -6,10 +8,10 @@ use Rattle.vote_memory_count.specs.CountWords.{count_words}
 use Rattle.vote_memory_count.proofs.Asked.{sheet_of_memory}
 use Rattle.vote_memory_count.proofs.count.count_metered.Goals as goal
 
-many_words : {Z : Type 0} (words : List (String Z)) → map string_bytes words ≡ codes "debvote" ∷ count_words → 1 < length words
-many_words [] is = omega (arith, ap length is)
-many_words (word ∷ []) is = omega (arith, ap length is)
-many_words (word ∷ next ∷ rest) is = omega arith
+many_words : {Z : Type 0} (casting : Bool) (words : List (String Z)) → map string_bytes words ≡ codes "debvote" ∷ count_words casting → 1 < length words
+many_words casting [] is = omega (arith, ap length is)
+many_words casting (word ∷ []) is = omega (arith, ap length is)
+many_words casting (word ∷ next ∷ rest) is = omega arith
 
 pub returns : goal.returns
 returns g c few =
@@ -19,12 +21,14 @@ returns g c few =
       old = record { bytes = Some before.writer.items; faults = before.meter.faults; flushed = before.flushed.value };
       new = record { bytes = Some after.writer.items; faults = after.meter.faults; flushed = after.flushed.value };
     } in
-    sheet_of_memory c.args.files c.answer-status.new.files _ written _ c.args.output.items c.into_writer.result.items c.into_writer-2.result.items c.answer-status.result
+    let many = many_words c.args._casting c.args.words.now c.requires.words in
+    let told = sheet_of_memory c.args._casting c.args.files c.answer-status.new.files _ written _ c.args.output.items c.into_writer.result.items c.into_writer-2.result.items c.answer-status.result
     (ap (drop 1) c.requires.words)
     c.requires.unread
     (ap (λ (v : Vec ℕ Global). Some v.items) c.new-sink.ensures.writer)
     (ap (λ (v : Vec ℕ Global). Some v.items) (sym c.into_writer.ensures))
     (ap (λ (v : Vec ℕ Global). Some v.items) c.new-errors.ensures.writer ∙ ap Some c.new-2.ensures.items)
     (ap (λ (v : Vec ℕ Global). Some v.items) (sym c.into_writer-2.ensures))
-    (c.answer-status.ensures.sheet (many_words c.args.words.now c.requires.words))
-    few
+    (c.answer-status.ensures.sheet many)
+    few in
+    (told.0, told.1, told.2, told.3, told.4, c.answer-status.ensures.no_input many ∙ c.new-input.ensures)

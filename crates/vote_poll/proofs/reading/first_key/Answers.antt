@@ -1,3 +1,4 @@
+-- A rank has one or two characters, so its comma is at index 1 or 2. The rest of the text begins after it.
 use Rattle.std.proofs.lemmas.Grind.{common_steps, elements, moves, pieces}
 use Rattle.std.proofs.Common.{arith, ◌≡◌, ◌==◌, ◌+◌, Bool, true, false, not, cond, refl, sym, get_or, ◌≤◌}
 use mir.Val.{bool_byte}

@@ -1,3 +1,4 @@
+-- The ranks before this one, and what the rest of the text lists, are what the text lists. The last rank is compared without a comma.
 use Rattle.std.proofs.Common.{◌≡◌, ◌≤◌, ◌++◌, ◌∷◌, [], ℕ, List, Some, map, take, length, rules, ap, sym, ◌∙◌, get_or}
 use Rattle.std.proofs.lemmas.List.{map-append, take_all, take_more}
 use Rattle.std.specs.Option.{option_map}

@@ -1,3 +1,4 @@
+-- The rows of options before this one, and in this row the columns before this one, have exactly the pairwise defeats; the others are not there yet.
 use Rattle.std.proofs.Common.{ℕ, ◌+◌, ap, arith}
 use Rattle.std.proofs.lemmas.Bool.{both_ways}
 use Rattle.vote_count.specs.Sets.{In, Pairs}

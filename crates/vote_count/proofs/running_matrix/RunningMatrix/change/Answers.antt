@@ -1,3 +1,4 @@
+-- A vote of the matrix is the sum of its settled part and its pending changes. One change moves each cell by one ballot out and one in, and no sum passes the end of its number.
 use Rattle.std.proofs.Common.{◌≡◌, ℕ, ◌+◌, ◌<◌, ◌≤◌, ap, sym, subst, ◌∙◌, arith}
 use Rattle.vote_count.specs.Votes.{Votes, votes}
 use Rattle.vote_count.specs.Changes.{kept_at, key_vote, sum_at}

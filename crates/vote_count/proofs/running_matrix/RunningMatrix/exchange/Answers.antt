@@ -1,3 +1,4 @@
+-- By the sort keys of two ballots: the votes of the old one go, and those of the new one come. What is taken out was counted, and there is room for what is added.
 use Rattle.std.proofs.Common.{◌≡◌, ℕ, ◌+◌, ◌≤◌, if◌then◌else◌, inl, inr, arith}
 use Rattle.std.proofs.lemmas.Bool.{cases_lt}
 use Rattle.vote_poll.specs.Ranks.{prefers}

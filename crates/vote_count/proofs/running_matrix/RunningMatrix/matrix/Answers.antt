@@ -1,3 +1,4 @@
+-- The rows before this one have the votes of the running matrix, the sums of its settled parts and its changes. The others are still 0.
 use Rattle.std.proofs.Common.{◌≡◌, ℕ, ◌-◌, ◌<◌, [], get_or, length, replicate, ap, sym, ◌∙◌, arith}
 use Rattle.std.proofs.lemmas.List.{get_or-replicate, length-replicate, length-set}
 use Rattle.vote_poll.specs.declared.TheConstants.{MAX_OPTIONS}

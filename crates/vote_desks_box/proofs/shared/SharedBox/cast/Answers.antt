@@ -1,3 +1,4 @@
+-- The box behind the lock is a later state of the box that was opened. So each clause of `enter` about the box holds of the opened box with the steps that were found.
 use Rattle.std.proofs.Common.{◌≡◌, ◌<◌, ◌↔◌, ◌⊎◌, ℕ, Result, Ok, Err, IfOk, ap, ◌∙◌, subst}
 use Rattle.std.specs.Prelude.{OnOk}
 use Rattle.std.proofs.lemmas.Result.{IfOk-weaker}

@@ -1,3 +1,4 @@
+-- No fault was found, so each key has a value of its kind, and the limits hold. Field by field the poll is then the one that the keys mean.
 use Rattle.std.proofs.Common.{◌∙◌, [], List, ℕ, Bor, ap, map, nat_abs, subst, sym, unwrap_or}
 use Rattle.vote_poll_keys.specs.FoundView.{found_view}
 use Rattle.vote_poll.specs.PollContent.{IsPoll}

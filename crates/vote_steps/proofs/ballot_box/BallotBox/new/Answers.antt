@@ -1,3 +1,4 @@
+-- A box with no steps: its list of ballots is `None` copied, so no voter has a ballot and all counts are 0.
 use Rattle.std.proofs.Common.{◌≡◌, ℕ, ◌*◌, Bool, false, cond, List, Option, Some, None, get_or, refl, ap, ◌∙◌, sym, subst, replicate, arith}
 use Rattle.std.specs.Prelude.{is_some}
 use Rattle.std.specs.List.{count_by}
