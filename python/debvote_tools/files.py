@@ -8,11 +8,11 @@ import pathlib
 import shutil
 import signal
 import tempfile
-from collections.abc import Iterator
+from collections.abc import Collection, Iterator, Mapping
 from typing import BinaryIO
 
 from debvote_tools.cli.faults import Fault, Status
-from debvote_tools.cli.terminal_text import number_of, odd_sign
+from debvote_tools.cli.console import number_of, odd_sign
 
 # in bytes and in lines; of a longer file a byte more is read, so that debvote says that it is too
 # long
@@ -191,3 +191,35 @@ def uninterrupted() -> Iterator[None]:
         yield
     finally:
         signal.pthread_sigmask(signal.SIG_SETMASK, before)
+
+
+# ---------------------------------------------------------------- folders that are made from the book
+# the modes of a folder and its files: for everybody, and for the secretary alone
+PUBLIC, OWN = (0o755, 0o644), (0o700, 0o600)
+
+
+def write_made(
+    folder: pathlib.Path,
+    files: Mapping[str, bytes],
+    modes: tuple[int, int],
+    outdated: Collection[str] = (),
+) -> list[pathlib.Path]:
+    """Writes the files that are missing or differ, and returns them. Removes outdated files, and
+    leaves all others alone.
+    """
+    folder_mode, file_mode = modes
+    folder.mkdir(exist_ok=True)
+    folder.chmod(folder_mode)
+    written = []
+    for name, data in files.items():
+        file = folder / name
+        if (
+            not file.is_file()
+            or file.read_bytes() != data
+            or file.stat().st_mode & 0o777 != file_mode
+        ):
+            write_whole(file, data, file_mode)
+            written.append(file)
+    for name in set(outdated) - files.keys():
+        (folder / name).unlink(missing_ok=True)
+    return written

@@ -103,10 +103,11 @@ class Open(CallTest):
     def test_all_faults_at_once(self) -> None:
         self.write("poll.toml", support.POLL.replace("quorum = 1", "quorum = 99"))
         self.write("letter.txt", b"\xff")
+        self.write("members.csv", support.members_of(support.NAMES[1:]))
         ended = self.election("call", "--until", "2026-11-01 18:00", "--to", "nobody", "--at", "file:///etc")
         self.assertEqual(ended.status, 2)
-        parts = ["is past", "--to: it must be one mail address", "--at: it must be", "letter.txt:1: ", "quorum: "]
-        self.assertEqual([part in line for part, line in zip(parts, ended.faults.splitlines(), strict=True)], [True] * 5, ended.faults)
+        parts = ["is past", "--to: it must be one mail address", "--at: it must be", "since roll read it", "letter.txt:1: ", "quorum: "]
+        self.assertEqual([part in line for part, line in zip(parts, ended.faults.splitlines(), strict=True)], [True] * 6, ended.faults)
 
     def test_an_end_that_the_call_did_not_say(self) -> None:
         """Electors who could send a ballot until the close have no more time by it."""

@@ -11,7 +11,7 @@ import unittest
 
 import support
 
-from debvote_tools.book import letters, queries
+from debvote_tools.book import queries
 from debvote_tools.book.book import open_book
 from debvote_tools.cli.faults import Fault
 
@@ -69,7 +69,7 @@ def content(file: pathlib.Path) -> tuple[object, ...]:
     book = open_book(file)
     with contextlib.closing(book.connection):
         book.demand_whole()
-        kept = [(letter.number, letter.state, letter.identity) for letter in letters.letters(book)]
+        kept = [(letter.number, letter.state, letter.identity) for letter in queries.letters(book)]
         return queries.envelopes(book), queries.lines_in_time(book), queries.all_electors(book), kept, queries.sealed(book, "poll")
 
 

@@ -3,7 +3,7 @@
 import unittest
 
 from debvote_tools.inbox.lines import changed, differences, lines_in, name_in
-from debvote_tools.cli.terminal_text import shown_line
+from debvote_tools.cli.console import shown_line
 
 
 class Changes(unittest.TestCase):

@@ -3,7 +3,7 @@
 from called import LAKE, OTHER_RANKS, RANKS, CalledTest
 from terminal import Terminal
 
-from debvote_tools.book import letters, queries
+from debvote_tools.book import queries
 
 WHY = ("--because", "it was pencil")
 
@@ -71,7 +71,7 @@ class Strike(CalledTest):
             letter = act.insert("letter", source=source, identity="1", known="{}")
             new = [queries.NewEnvelope(b"cleo 1,2,3,4", "", source, letter)]
             queries.add_envelopes(act, new, [self.elector("cleo")], is_late=False)
-            letters.decide(act, letter, letters.ENTERED)
+            queries.decide(act, letter, queries.ENTERED)
         self.told("strike", 5, *WHY)
         self.assertEqual(self.book.rows("SELECT letter, state FROM letter_state WHERE act = ?", self.last_act()), [(1, "struck")])
 

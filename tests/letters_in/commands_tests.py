@@ -127,7 +127,7 @@ class Adding(LettersTest):
             "On Mon, 23 Nov 2026 at 09:00, Vote <vote@club.example> wrote:\n> Vote now\n> ada 2,1,4,3"
         )
         worded = f"ben {RANKS}\n\nBut if it rains I am for the town hall, since the lake is no place to go then"
-        outlook = f"cleo {RANKS}\n\nVon: Vote <vote@club.example>\nGesendet: Montag\nAn: Cleo\nBetreff: Vote\n\nVote now"
+        outlook = f"cleo {RANKS}\n\nVon: Vote <vote@club.example>\nGesendet: Montag\nAn: Cleo\nBetreff: Vote [{support.ANY_MARK}]\n\nVote now"
         said = self.add(letter("ben", worded), letter("ada", usual), letter("cleo", outlook)).output
         self.assertIn(
             f"\nada (letter 2, written `Ada: 1; 2; 4; 3.`): {LAKE}\ncleo (letter 3): {LAKE}\n"
@@ -447,7 +447,7 @@ class Held(LettersTest):
             ("bne 1,2,4,3", "bad not on roll: bne is not on the roll"),
             ("ben 1,2,4,3\nada 1,2,4,3", "it is not one line"),
             ("", "it is not one line"),
-            (f"ada {RANKS}", "--as: neither its sender nor a line of letter 2 is of ada"),
+            (f"ada {RANKS}", "--as: neither its sender nor a line of letter 2 is of ada", "--force"),
         ):
             with self.subTest(line):
                 self.assert_fault(self.election("held", 2, "--as", line), 9, *parts)
@@ -455,7 +455,9 @@ class Held(LettersTest):
         # a letter of somebody whom no list names may be anybody's
         self.add(letter("eve", "I am for the lake", sender="e@elsewhere.example"))
         self.done("held", 3, "--as", f"eve {RANKS}")
-        self.assertEqual(self.exported()[0], f"eve {RANKS}\n")
+        # one may vote for another, as by a paper that came with the letter
+        self.done("held", 2, "--as", f"ada {RANKS}", "--force")
+        self.assertEqual(self.exported()[0], f"eve {RANKS}\nada {RANKS}\n")
 
     def test_typed_for_one_who_has_voted_since(self) -> None:
         self.add(letter("eve", "I am for the lake", sender="e@elsewhere.example"))
@@ -636,6 +638,20 @@ class BetweenCloses(LettersTest):
             self.done("held", number, "--enter", 1)
             self.assertEqual(self.exported()[0], f"ada {RANKS}\n")
             self.assertIn(f"{name} {RANKS}\n", self.exported()[1])
+
+    def test_letters_of_before_and_after_it_at_once(self) -> None:
+        """What was entered together would be late together."""
+        self.set_clock("2026-11-24T09:00:00+00:00")
+        self.done("close")
+        self.done("reopen", "--because", "a bag was forgotten")
+        self.set_clock("2026-11-25T09:00:00+00:00")
+        for name, day in (("ben", 23), ("cleo", 25)):
+            self.add(letter(name, f"My ballot: 1\n{name} {RANKS}", f"Mon, {day} Nov 2026 08:00:00 +0000"))
+        said = "--enter: some of these letters arrived before the first close, and some after it"
+        self.assert_fault(self.election("held", 1, 2, "--enter"), 9, said)
+        for number in (1, 2):
+            self.done("held", number, "--enter")
+        self.assertEqual(self.exported(), (f"ben {RANKS}\n", f"cleo {RANKS}\n"))
 
     def last_detail(self) -> dict[str, object]:
         book = open_book(self.folder / "election.db")

@@ -20,7 +20,7 @@ import terminal
 from letters_support import letter
 from out_support import OTHER_RANKS, RANKS, MailServer, PlainServer, SendTest, one_line, parsed
 
-from debvote_tools.book.reporting import count_of
+from debvote_tools.cli.console import count_of
 from debvote_tools.book.sent import REFUSED, TAKEN, SentLetter
 from debvote_tools.cli.faults import Fault
 from debvote_tools.outbox import smtp

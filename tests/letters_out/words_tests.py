@@ -23,8 +23,7 @@ from debvote_tools.inbox.reasons import Reason, for_elector
 from debvote_tools.outbox.files import message
 from debvote_tools.outbox.words import PACKAGE, SUBJECTS, Composer
 from debvote_tools.text.ballots import without_ballots
-from debvote_tools.text.rendering import one_line as on_one_line
-from debvote_tools.text.rendering import render_page, resources
+from debvote_tools.text.rendering import one_line as on_one_line, render_page, resources
 from debvote_tools.poll.sealed import SealedPoll
 
 TIME = datetime.datetime(2026, 11, 23, 10, tzinfo=datetime.UTC)

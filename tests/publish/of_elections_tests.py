@@ -22,7 +22,7 @@ import support
 
 sys.path.append(str(support.ROOT / "python"))
 
-from debvote_tools.book import letters, queries  # noqa: E402
+from debvote_tools.book import queries  # noqa: E402
 from debvote_tools.book.book import open_book  # noqa: E402
 from debvote_tools import files  # noqa: E402
 from debvote_tools.cli import command_line  # noqa: E402
@@ -377,8 +377,8 @@ class OfOpenVotes(OfElections):
             time = book.acts()[-1].time.replace(second=0)
             for line in (b"zoe-mueller 1,2,3", b"cleo 1,2,3"):
                 data = b"Received: by mx; %s\nFrom: x@x.example\n\n%s\n" % (email.utils.format_datetime(time).encode(), line)
-                letter = letters.keep_letter(act, "letter.eml", data, "", as_json(parse(RawLetter("letter.eml", data))))
-                letters.decide(act, letter, "entered")
+                letter = queries.keep_letter(act, "letter.eml", data, "", as_json(parse(RawLetter("letter.eml", data))))
+                queries.decide(act, letter, "entered")
                 queries.add_envelopes(act, [queries.NewEnvelope(line, letter=letter, time=time)], [None], is_late=True)
         self.say("publish", "--force", "--because", "so be it")
         self.expect("doubts", len(self.doubts()), 2)
@@ -528,8 +528,8 @@ class OfOpenVotes(OfElections):
                 time = close + datetime.timedelta(seconds=seconds)
                 data = b"Received: by mx; %s\nFrom: x@x.example\n\n%s\n" % (email.utils.format_datetime(time).encode(), line)
                 known = as_json(parse(RawLetter("letter.eml", data)))
-                letter = letters.keep_letter(act, "letter.eml", data, "", known)
-                letters.decide(act, letter, "entered")
+                letter = queries.keep_letter(act, "letter.eml", data, "", known)
+                queries.decide(act, letter, "entered")
                 queries.add_envelopes(act, [queries.NewEnvelope(line, letter=letter, time=time)], [None], is_late=True)
         self.stops("publish", said=["the ballot of letter 1 is late", "the ballot of letter 3 is late"])
         self.say("publish", "--force", "--because", "so be it", "--language", "en")

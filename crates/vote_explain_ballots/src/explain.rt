@@ -154,30 +154,6 @@ fn push_warnings(
     Ok(())
 }
 
-/// All that is said of the lines, which one desk cast in their order, and which this counts.
-fn text_of(
-    alloc: Global,
-    poll: &Poll,
-    lines: &Lines<'_>,
-    file_text: &[u8],
-    file: Option<&str>,
-    steps: &[Step],
-    totals: &Totals,
-) -> Result<String, AllocError>
-    requires replies { AreReplies poll.now lines.now steps.now }
-    requires totals { AreTotals poll.now lines.now totals.now }
-    ensures { IfOk result (SaysAll poll.now file_text.now lines.now) }
-{
-    let mut findings = Findings::new(alloc);
-    let is_text = push_file_text(alloc, &mut findings.text, lines, file_text, steps, file)?;
-    push_warnings(&mut findings.text, is_text, poll, lines, steps, totals)?;
-    findings.add_all(poll, lines, steps, is_text)?;
-    let is_wanted = is_text && steps.iter().any(is_of_bad_shape);
-    push_example(alloc, &mut findings.text, poll, is_wanted)?;
-    push_totals(&mut findings.text, poll, lines, totals)?;
-    Ok(findings.text)
-}
-
 /// What is wrong with the lines of a ballot file: what is remarked on the whole file; a line for each line that is refused, in their
 /// order, with the words that `steps` has for it and a hint; a ballot line as an example, if a line is of bad shape; and how many
 /// lines are valid and refused. `text` is the file of the lines, and `file` its name for a command that mends it, where it has one.
@@ -192,10 +168,16 @@ pub fn explain_ballots(
     ensures refused { IfOk result (λ said. said.refused ≡ refused_count poll.now lines.now) }
 {
     let ballot_box = cast_all(alloc, poll, lines)?;
-    let totals = totals_of(poll, lines, &ballot_box);
-    let text = text_of(alloc, poll, lines, text, file, ballot_box.steps(), &totals)?;
+    let (totals, steps) = (totals_of(poll, lines, &ballot_box), ballot_box.steps());
+    let mut findings = Findings::new(alloc);
+    let is_text = push_file_text(alloc, &mut findings.text, lines, text, steps, file)?;
+    push_warnings(&mut findings.text, is_text, poll, lines, steps, &totals)?;
+    findings.add_all(poll, lines, steps, is_text)?;
+    let is_wanted = is_text && steps.iter().any(is_of_bad_shape);
+    push_example(alloc, &mut findings.text, poll, is_wanted)?;
+    push_totals(&mut findings.text, poll, lines, &totals)?;
     Ok(Explained {
-        text,
+        text: findings.text,
         refused: totals.refused,
     })
 }

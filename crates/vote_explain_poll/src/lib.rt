@@ -54,7 +54,8 @@ pub fn limits_are_as_written()
 pub(crate) fn push_hint(text: &mut String, words: &[u8]) -> Result<(), AllocError>
     ensures { Tells result text.old IsHint text.new }
 {
-    push_shown(text, words, MAX_HINT / 4)
+    push_shown(text, words, MAX_HINT / 4)?;
+    Ok(())
 }
 
 /// Adds these words as a hint, and a line feed.

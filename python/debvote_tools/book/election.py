@@ -11,8 +11,7 @@ from collections.abc import Sequence
 from typing import Any, NamedTuple
 
 from debvote_tools.book import queries
-from debvote_tools.book.acts import ActName
-from debvote_tools.book.book import NAME, Book, DoneAct, damaged, from_text, open_book
+from debvote_tools.book.book import NAME, ActName, Book, DoneAct, damaged, from_text, open_book
 from debvote_tools.cli.arguments import Acting, demand_reason
 from debvote_tools.cli.console import tell_aside
 from debvote_tools.debvote import Debvote

@@ -19,7 +19,7 @@ from typing import Any, NoReturn, TypeVar
 
 from debvote_tools import VERSION
 from debvote_tools.cli.faults import Fault, Status
-from debvote_tools.cli.terminal_text import LINE_ENDS, number_of, odd_sign
+from debvote_tools.cli.console import LINE_ENDS, number_of, odd_sign
 
 # in characters; a reason is a sentence or some
 LONGEST_REASON = 2_000

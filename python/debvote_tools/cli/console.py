@@ -1,20 +1,23 @@
 """What both programs say and ask: only this module writes to standard output and standard error,
-and reads an answer.
+and reads an answer. And the words that several commands say.
 
-Characters that steer a terminal are replaced (`terminal_text.written`); what debvote wrote has
-none, and is written as it is.
+Characters that steer a terminal are replaced by `written` in all that is printed; what debvote
+wrote has none, and is written as it is. `shown_line` and `shown_text` are for what others wrote.
 """
 
 import contextlib
+import datetime
 import io
 import itertools
 import os
+import re
 import sys
-from collections.abc import Iterable
+import textwrap
+import unicodedata
+from collections.abc import Iterable, Sequence
 from typing import TextIO
 
 from debvote_tools.cli.faults import Fault, Status
-from debvote_tools.cli.terminal_text import written
 
 LINES_AT_ONCE = 1_000
 
@@ -101,12 +104,9 @@ def write(output: TextIO, text: str) -> None:
         raise
 
 
-def failed(program: str, words: str | None, status: int) -> int:
-    """Says why a program did not come to its end, unless that was said already, and returns its
-    exit status.
-    """
-    if words is not None:
-        tell_aside(f"{program}: {words}")
+def failed(program: str, words: str, status: int) -> int:
+    """Says why a program did not come to its end, and returns its exit status."""
+    tell_aside(f"{program}: {words}")
     return status
 
 
@@ -131,3 +131,99 @@ def is_yes(question: str, how: str = "Type y for yes, or n for no.") -> bool | N
             return word.startswith(b"y")
         tell(how)
     return None
+
+
+# ---------------------------------------------------------------- characters
+# how many characters are shown of a line that came, and of a short text
+SHOWN_OF_LINE, SHOWN_OF_TEXT = 100, 60
+
+# control characters but for line feed and carriage return, and what turns the direction of a text
+# or ends a line unseen
+STEERING = re.compile(
+    "[\x00-\x09\x0b\x0c\x0e-\x1f\x7f-\x9f\u2028\u2029\u202a-\u202e\u2066-\u2069\ufff9-\ufffb]"
+)
+
+# what no plain text has: control characters, surrogates, private use, and what turns the text
+# around it; and what ends a line or a paragraph beside the line feed
+ODD, TURNING = ("Cc", "Cs", "Co"), "\u202a\u202b\u202c\u202d\u202e\u2066\u2067\u2068\u2069"
+LINE_ENDS = "\u2028\u2029"
+
+# characters that people know by a name
+KNOWN = {"\r": "\\r", "\n": "\\n", "\t": "\\t"}
+
+
+def written(text: str) -> str:
+    """The text with each character that steers a terminal as its number, such as U+202E."""
+    return text if text.isprintable() else STEERING.sub(lambda found: number_of(found[0]), text)
+
+
+def steering(text: str) -> str | None:
+    """The number of the first character that steers a terminal."""
+    character = STEERING.search(text)
+    return None if character is None else number_of(character[0])
+
+
+def odd_sign(text: str, *, allowed: str = "", refused: str = "") -> str | None:
+    """The first character that no plain text has, or that is refused here."""
+    for character in text:
+        is_odd = unicodedata.category(character) in ODD or character in TURNING
+        if character in refused or (is_odd and character not in allowed):
+            return character
+    return None
+
+
+def number_of(character: str) -> str:
+    return f"U+{ord(character):04X}"
+
+
+def shown_line(line: bytes) -> str:
+    """A line within a sentence; a character that is not seen is shown as \\u202E."""
+    text = cut(line.decode("utf-8", "backslashreplace"), SHOWN_OF_LINE)
+    return "".join(KNOWN.get(character) or seen(character) for character in text)
+
+
+def shown_text(text: str) -> str:
+    """A short text, as a name, within a sentence."""
+    return "".join(map(seen, cut(" ".join(text.split()), SHOWN_OF_TEXT)))
+
+
+def seen(character: str) -> str:
+    return character if character.isprintable() else f"\\u{ord(character):04X}"
+
+
+def cut(text: str, limit: int) -> str:
+    return text if len(text) <= limit else text[:limit] + ".."
+
+
+# ---------------------------------------------------------------- words of several commands
+# how wide a terminal is taken to be
+WIDTH = 100
+
+
+def count_of(number: int, noun: str, plural: str | None = None) -> str:
+    """A number with its noun, as `1 line` or `2 lines`."""
+    return f"{number} {noun if number == 1 else plural or noun + 's'}"
+
+
+def listed(names: Sequence[str], most: int) -> str:
+    """Names in a sentence; of many the first."""
+    return ", ".join(names[:most]) + (f" and {len(names) - most} more" if len(names) > most else "")
+
+
+def act_time(time: datetime.datetime) -> str:
+    """When an act was done, as `2026-12-04 17:00:00 UTC`."""
+    return f"{time.astimezone(datetime.UTC):%Y-%m-%d %H:%M:%S} UTC"
+
+
+def wrapped(names: Iterable[str]) -> str:
+    """Names with spaces between, in lines that a terminal shows whole."""
+    wrapper = textwrap.TextWrapper(WIDTH, "  ", "  ", break_on_hyphens=False)
+    return wrapper.fill(" ".join(names))
+
+
+def quorum_words(multiple: int, votes: int) -> str:
+    """What a quorum of a number of times Q, which is a number of votes, asks for."""
+    if multiple == 0:
+        return "Quorum: none"
+    least = f"at least {count_of(votes, 'elector')} must prefer an option to the default option"
+    return f"Quorum: {count_of(votes, 'vote')} ({multiple}Q): {least}"

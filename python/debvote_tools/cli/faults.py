@@ -46,14 +46,14 @@ class Fault(Exception):
         self.file, self.reason, self.cure, self.status, self.done = file, reason, cure, status, done
 
     @property
-    def words(self) -> str | None:
-        """The fault in one line; None if it was told already."""
+    def words(self) -> str:
+        """The fault in one line."""
         where = "" if self.file is None else f"{self.file}: "
         done = "; " if self.done is None else f"; {self.done}: " if self.done else ": "
         return f"{where}{self.reason}{done}{self.cure}"
 
     def __str__(self) -> str:
-        return self.words or ""
+        return self.words
 
     def after(self, acts: Sequence[str]) -> "Fault":
         """The same fault, of a run that did these acts before."""
@@ -89,15 +89,6 @@ def kept_in(faults: list[Fault]) -> Iterator[None]:
         yield
     except Fault as fault:
         faults.append(fault)
-
-
-class Told(Fault):
-    """What ends the run after debvote has said why."""
-
-    words = None
-
-    def __init__(self, status: int) -> None:
-        super().__init__(None, "", "", status)
 
 
 def other_format(what: str) -> Fault:

@@ -4,24 +4,19 @@ import collections
 import itertools
 import os
 import re
-from collections.abc import Iterator, Sequence
+from collections.abc import Iterable, Iterator, Mapping, Sequence
 from typing import NamedTuple
 
-from debvote_tools.book import acting, queries
-from debvote_tools.book.acts import Detail
-from debvote_tools.book.book import NewAct
+from debvote_tools.cli.arguments import demand_reason, flag, given, has_reason, option, positional
+from debvote_tools.book import queries
+from debvote_tools.book.book import Book, Detail, NewAct
 from debvote_tools.book.election import Election, History
-from debvote_tools.book.queries import NewEnvelope
-from debvote_tools.book.reporting import count_of
-from debvote_tools.cli.arguments import flag, given, option, positional
-from debvote_tools.cli.console import tell, tell_many
+from debvote_tools.book.queries import Envelope, NewEnvelope
+from debvote_tools.cli.console import count_of, shown_line, tell, tell_many
 from debvote_tools.cli.faults import Fault, Status, stop_at
-from debvote_tools.cli.terminal_text import shown_line
-from debvote_tools.inbox import files as came
-from debvote_tools.inbox import plan as plans
+from debvote_tools.inbox import files as came, plan as plans
 from debvote_tools.inbox.files import HYPHEN, CameFile
-from debvote_tools.inbox.lines import MARK, NOTHING_ADDED, lines_in
-from debvote_tools.inbox.plan import FileLines
+from debvote_tools.inbox.lines import MARK, NOTHING_ADDED, Line, lines_in
 from debvote_tools.inbox.tables import Columns, OptionNames, are_table, columns_of, lines_of_table
 from debvote_tools.inbox.vote import LATE_REPLY, JudgedLine, Vote, summary
 from debvote_tools.poll.sealed import read_plain
@@ -73,7 +68,7 @@ class Arguments(plans.Arguments):
 def run(election: Election, arguments: Arguments) -> None:
     demand_words(arguments)
     if not arguments.look:
-        acting.book_for_act(election, arguments)
+        election.book_for(arguments)
     vote = Vote(election, election.history())
     found = came.read_files(election, arguments.files, is_table=arguments.csv)
     if not came.are_all_letters(found):
@@ -108,6 +103,19 @@ def demand_words(arguments: Arguments) -> None:
 
 
 # ---------------------------------------------------------------- lines
+class FileLines(NamedTuple):
+    """A file and its lines in the order of entering, the new ones, and those that came before."""
+
+    came: CameFile
+    lines: tuple[JudgedLine, ...]
+    empty: tuple[Line, ...]
+    new: tuple[JudgedLine, ...] = ()
+    # each with what has happened since, if it no longer counts: then `--again` takes it
+    repeated: tuple[tuple[JudgedLine, str | None], ...] = ()
+    # the envelopes of lines that go in again: from then on such a line is known by its new envelope
+    again: tuple[int, ...] = ()
+
+
 class Plan(NamedTuple):
     """Which lines would be entered, by the book as it is now."""
 
@@ -119,7 +127,7 @@ class Plan(NamedTuple):
         return [line for file in self.files for line in file.new]
 
     def envelopes(self, act: NewAct) -> Iterator[NewEnvelope]:
-        """The envelopes to enter. Each file is stored whole before its lines."""
+        """Each file is stored whole before its lines."""
         for file in self.files:
             source = queries.keep_source(act, file.came.kept_name, file.came.data)
             yield from (NewEnvelope(line.as_entered, line.line.place, source) for line in file.new)
@@ -135,7 +143,7 @@ def take_lines(vote: Vote, came_files: Sequence[CameFile], arguments: Arguments)
         history = History(book.acts())
         plans.demand_same_call(vote, history, "run the command again", NOTHING_ADDED)
         takes_again, is_reopened = arguments.again, history.is_reopened
-        found = plans.sorted_out(book, files, takes_again=takes_again, is_reopened=is_reopened)
+        found = sorted_out(book, files, takes_again=takes_again, is_reopened=is_reopened)
         return Plan(history.openness(), found)
 
     def show(found: Plan) -> bool:
@@ -180,14 +188,9 @@ def take_lines(vote: Vote, came_files: Sequence[CameFile], arguments: Arguments)
 def read_lines(vote: Vote, files: Sequence[CameFile], arguments: Arguments) -> list[FileLines]:
     columns: Columns | None = None
     if arguments.name is not None and arguments.ranks is not None:
-        poll, is_blank_unranked = read_plain(vote.poll_bytes), arguments.blank_is_unranked
-        columns = columns_of(
-            arguments.name,
-            arguments.ranks,
-            poll,
-            vote.names_on_roll,
-            is_blank_unranked=is_blank_unranked,
-        )
+        poll, names = read_plain(vote.poll_bytes), vote.names_on_roll
+        is_blank = arguments.blank_is_unranked
+        columns = columns_of(arguments.name, arguments.ranks, poll, names, is_blank)
     is_sorted = arguments.newest_first or arguments.oldest_first
     is_newest_first = arguments.newest_first if is_sorted else None
     lists = [
@@ -210,6 +213,70 @@ def read_lines(vote: Vote, files: Sequence[CameFile], arguments: Arguments) -> l
     return found
 
 
+def sorted_out(
+    book: Book, files: Sequence[FileLines], *, takes_again: bool, is_reopened: bool
+) -> tuple[FileLines, ...]:
+    """The files, with the new lines of each. If n copies of a line came in earlier files, its first
+    n copies in this file are duplicates, whether those were counted, refused, struck or late. Files
+    that an `undo` took back do not count. A file that goes in now is an earlier one for the next.
+    """
+    counts = queries.lines_that_came(book)
+    is_known = any(line.as_entered in counts for file in files for line in file.lines)
+    if not is_known and len(files) == 1:
+        return (files[0]._replace(new=files[0].lines),)
+    by_line = queries.came_in_files(book) if is_known else {}
+    with_envelopes = [list(envelopes_of(file.lines, by_line)) for file in files]
+    # a later row of the same file did not come since
+    own = {envelope.number for lines in with_envelopes for _, envelope, _ in lines if envelope}
+    numbers = queries.last_numbers(book).items() if is_known else ()
+    last = {elector: (number, line) for elector, (number, line) in numbers if number not in own}
+    going_in: set[bytes] = set()
+    found = []
+    for file, lines in zip(files, with_envelopes):
+        new, repeated, again, came_first = [], [], [], []
+        for nth, envelope, line in lines:
+            change = None
+            if envelope is not None and line.as_entered not in going_in:
+                change = change_since(envelope, line, last, is_reopened)
+            if nth > counts[line.as_entered]:
+                new.append(line)
+                came_first.append(line.as_entered)
+            elif takes_again and envelope is not None and change is not None:
+                new.append(line)
+                again.append(envelope.number)
+            else:
+                repeated.append((line, change))
+        counts.update(came_first)
+        going_in.update(line.as_entered for line in new)
+        found.append(file._replace(new=tuple(new), repeated=tuple(repeated), again=tuple(again)))
+    return tuple(found)
+
+
+def envelopes_of(
+    lines: Iterable[JudgedLine], by_line: Mapping[bytes, Sequence[Envelope]]
+) -> Iterator[tuple[int, Envelope | None, JudgedLine]]:
+    """Each line with its number among its copies, and with its envelope if it came before."""
+    counts: collections.Counter[bytes] = collections.Counter()
+    for line in lines:
+        counts[line.as_entered] += 1
+        nth, envelopes = counts[line.as_entered], by_line.get(line.as_entered, ())
+        yield nth, envelopes[nth - 1] if nth <= len(envelopes) else None, line
+
+
+def change_since(
+    envelope: Envelope, line: JudgedLine, last: Mapping[int, tuple[int, bytes]], is_reopened: bool
+) -> str | None:
+    """Why a line that came no longer counts."""
+    if envelope.is_struck:
+        return f"was struck (envelope {envelope.number})"
+    if envelope.is_late:
+        return f"was late (envelope {envelope.number})" if is_reopened else None
+    number, text = last.get(envelope.elector or 0, (0, b""))
+    if number <= envelope.number or text == line.as_entered or not line.is_ballot:
+        return None
+    return f"{line.voter} has voted since (envelope {number})"
+
+
 def detail_of(vote: Vote, plan: Plan, arguments: Arguments, answer: bool | None) -> Detail:
     detail: Detail = {
         "files": [file.came.kept_name for file in plan.files],
@@ -222,26 +289,19 @@ def detail_of(vote: Vote, plan: Plan, arguments: Arguments, answer: bool | None)
         detail["came_before_close"] = answer
     if vote.is_signed:
         detail["unsigned"] = True
-        detail["because"] = acting.demand_reason(arguments.because, "--force")
+        detail["because"] = demand_reason(arguments.because, "--force")
     return detail
 
 
-def look(
-    vote: Vote,
-    plan: Plan,
-    lines: Sequence[bytes],
-    first: int,
-    arguments: Arguments,
-) -> None:
-    """Prints what would become of the lines, and stops if `add` would stop."""
+def look(vote: Vote, plan: Plan, lines: Sequence[bytes], first: int, arguments: Arguments) -> None:
+    """Says what would become of the lines, and stops if `add` would."""
     numbers = range(first, first + len(plan.new_lines))
     replies = [LATE_REPLY] * len(numbers)
     if numbers and not plan.openness.is_late(arguments.came_before_close != "no"):
         replies = vote.replies(lines, [line.as_entered for line in plan.new_lines])
     if plan.openness.is_reopened and arguments.came_before_close is None:
-        tell(
-            "Note: add will ask whether these lines came before the close; this preview assumes that they did."
-        )
+        came = "whether these lines came before the close"
+        tell(f"Note: add will ask {came}; this preview assumes that they did.")
     tell_many(report(vote, plan, numbers, replies))
     stop_at(list(doubts(vote, plan, arguments)))
     tell(f"These would be {summary(replies)}. Nothing was changed.")
@@ -261,8 +321,8 @@ def doubts(vote: Vote, plan: Plan, arguments: Arguments) -> Iterator[Fault]:
             words = f"it has two different ballots of {pair[0].voter} ({rows}), and the one that is entered last counts"
             cure = "say how its rows are sorted: --oldest-first or --newest-first"
             yield doubt(file.came.name, words, cure)
-    has_reason = arguments.force and acting.has_reason(arguments.because)
-    if plan.new_lines and vote.is_signed and not has_reason:
+    is_reasoned = arguments.force and has_reason(arguments.because)
+    if plan.new_lines and vote.is_signed and not is_reasoned:
         words = "in this vote letters must be signed, and nothing shows who sent a line of a file"
         cure = "add the letters themselves; or, if you know by other means who sent each line, give --force --because TEXT"
         yield doubt(plan.files[0].came.name, words, cure)
@@ -295,15 +355,12 @@ def doubts(vote: Vote, plan: Plan, arguments: Arguments) -> Iterator[Fault]:
 
 
 def is_table(file: FileLines) -> bool:
-    return not any(line.is_ballot for line in file.lines) and are_table(
-        [line.line.unframed for line in file.lines]
-    )
+    has_ballots = any(line.is_ballot for line in file.lines)
+    return not has_ballots and are_table([line.line.unframed for line in file.lines])
 
 
 def under_other_names(vote: Vote, files: Sequence[FileLines]) -> Iterator[Fault]:
-    """A fault for each file with a line that names options in another order, so that the ranks may
-    stand in it, too.
-    """
+    """A fault for each file with a line that names options in another order."""
     options = OptionNames(read_plain(vote.poll_bytes))
     for file in files:
         for line in file.lines:

@@ -3,10 +3,10 @@
 import dataclasses
 import pathlib
 
+from debvote_tools.cli.arguments import Acting, flag, option
 from debvote_tools.text import times
-from debvote_tools.cli.arguments import flag, option
 from debvote_tools.book import queries
-from debvote_tools.book.acts import Detail
+from debvote_tools.book.book import Detail
 from debvote_tools.poll.call import (
     call_files,
     CallData,
@@ -14,8 +14,7 @@ from debvote_tools.poll.call import (
     extension_letter,
     named_address,
 )
-from debvote_tools.cli.console import tell
-from debvote_tools.book import acting
+from debvote_tools.cli.console import act_time, tell
 from debvote_tools.result.publication import agreed_texts, current_data, texts_of_poll, until_of
 from debvote_tools.commands.codes import CODES, SLIPS, write_slips
 from debvote_tools.commands.roll import demand_read
@@ -31,12 +30,10 @@ from debvote_tools.book.election import (
     History,
     Sealed,
 )
-from debvote_tools.made_files import OWN, PUBLIC, write_made
+from debvote_tools.files import OWN, PUBLIC, read_at_most, write_made
 from debvote_tools.poll.draft import checked, lacks_codes, letter_text_in, tell_checked
-from debvote_tools.book.reporting import act_time
 from debvote_tools.poll.until import demand_future, parse_until
 from debvote_tools.cli.faults import Fault, Status, kept_in, stop_at
-from debvote_tools.files import read_at_most
 from debvote_tools.inbox.signature import read_keyring
 from debvote_tools.poll.secret import aliased_poll, demand_no_code
 from debvote_tools.poll.marks import new_own_mark
@@ -50,7 +47,7 @@ FILES = ("index.html", "call.txt", "poll.toml", "SHA256SUMS")
 KEYRING_LIMIT = 134_217_728
 
 
-class Arguments(acting.Arguments):
+class Arguments(Acting):
     until: str | None = option(
         "TIME",
         'The end of the vote, as "2026-12-04 18:00"; a second call with a later time extends the vote',
@@ -84,7 +81,7 @@ class Arguments(acting.Arguments):
 
 
 def run(election: Election, arguments: Arguments) -> None:
-    acting.book_for_act(election, arguments)
+    election.book_for(arguments)
     if arguments.take_back:
         take_back(election)
         return
@@ -105,6 +102,7 @@ def call(election: Election, arguments: Arguments) -> None:
         faults.append(Fault("--marked", reason, "leave it out", Status.BAD_WORDS))
     with kept_in(faults):
         demand_read(election, history)
+    with kept_in(faults):
         found = checked(election, deadline=said.get("until"), address=said.get("to"))
         poll = found.poll
         if poll.secret and arguments.names:

@@ -1,10 +1,9 @@
 """Check the poll: list everything that is wrong with it, or show what is voted on."""
 
 from debvote_tools.cli.arguments import Options, flag
-from debvote_tools.cli.console import tell
+from debvote_tools.cli.console import quorum_words, tell, wrapped
 from debvote_tools.book.election import Election, History
 from debvote_tools.poll.draft import checked, lacks_codes, tell_checked
-from debvote_tools.book.reporting import quorum_words, wrapped
 from debvote_tools.poll.sealed import SealedPoll
 
 # how many names are printed; with --all all of them

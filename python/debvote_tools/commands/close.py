@@ -3,20 +3,16 @@
 import collections
 import contextlib
 
+from debvote_tools.cli.arguments import Acting, demand_reason, flag, has_reason
 from debvote_tools.text import times
-from debvote_tools.cli.arguments import flag
 from debvote_tools.book import queries
-from debvote_tools.book.acts import Detail
-from debvote_tools.book.book import Overtaken
-from debvote_tools.cli.console import is_terminal, is_yes, tell
-from debvote_tools.book import acting
+from debvote_tools.book.book import Detail, Overtaken
+from debvote_tools.cli.console import act_time, count_of, is_terminal, is_yes, tell
 from debvote_tools.book.election import LETTERS, Election, History, Sealed
-from debvote_tools.made_files import OWN, write_made
-from debvote_tools.book.reporting import act_time, count_of
+from debvote_tools.files import OWN, sha256_of, write_made
 from debvote_tools.inbox.waiting import Arrived, in_time, stopping, waiting_letters, why_they_stop
 from debvote_tools.result.publication import closing_letter
 from debvote_tools.cli.faults import Fault, stop_at
-from debvote_tools.files import sha256_of
 from debvote_tools.inbox.lines import ballot_file
 from debvote_tools.result.facts import CLOSED
 from debvote_tools.poll.secret import aliased_ballots, seal_line, sealed_checksum
@@ -27,7 +23,7 @@ ALL = "Is that all? It is if the mailbox was added just now, all paper is entere
 TRIES = 50
 
 
-class Arguments(acting.Arguments):
+class Arguments(Acting, checks=True):
     early: bool = flag("Close before the end of the vote; the result page says so")
     force: bool = flag(
         "With --because: close although letters wait that arrived in time; the result page says how many"
@@ -36,8 +32,7 @@ class Arguments(acting.Arguments):
 
 
 def run(election: Election, arguments: Arguments) -> None:
-    acting.demand_writable(election)
-    acting.book_for_count(election, arguments)
+    election.book_for(arguments)
     sealed, is_new = election.sealed(), not election.history().is_closed
     if is_new:
         close(election, sealed, arguments)
@@ -124,7 +119,7 @@ def what_is_closed(
         words = f"the vote ends {times.time_in_words(until)}, and by the clock of this computer it is {here}"
         how = f"{election.command('close', '--early')} (the result page says so)"
         faults.append(Fault(None, words, f"close after that time, or now with {how}"))
-    if stops and not (arguments.force and acting.has_reason(arguments.because)):
+    if stops and not (arguments.force and has_reason(arguments.because)):
         look = f"look at them with {election.command('held')}"
         force = "or close anyway with --force --because TEXT (the result page says so)"
         cure = f"add the mailbox once more, then {look}; {force}"
@@ -136,7 +131,7 @@ def what_is_closed(
     if left:
         detail["left"] = left
     if stops:
-        detail["because"] = acting.demand_reason(arguments.because, "--force")
+        detail["because"] = demand_reason(arguments.because, "--force")
     return detail, history
 
 

@@ -1,18 +1,16 @@
 """Make a secret code for each elector of a secret vote, before the call."""
 
-from debvote_tools.cli.arguments import flag
+from debvote_tools.cli.arguments import Acting, flag
 from debvote_tools.book import queries
-from debvote_tools.book.acts import Detail
+from debvote_tools.book.book import Detail
 from debvote_tools.poll.call import CallData
-from debvote_tools.cli.console import tell
-from debvote_tools.book import acting
+from debvote_tools.cli.console import count_of, tell
 from debvote_tools.result.publication import current_data
 from debvote_tools.commands.check import what_next
 from debvote_tools.commands.roll import demand_read
 from debvote_tools.book.election import POLL_FILE, PRIVATE, Election, History
-from debvote_tools.made_files import OWN, write_made
+from debvote_tools.files import OWN, write_made
 from debvote_tools.poll.draft import checked
-from debvote_tools.book.reporting import count_of
 from debvote_tools.cli.faults import Fault
 from debvote_tools.poll.sealed import SealedPoll
 from debvote_tools.poll.secret import alias_of, codes_csv, new_code, slips
@@ -21,14 +19,14 @@ SLIPS, CODES = "slips.html", "codes.csv"
 NOT_SECRET = "the vote is not secret, so it needs no codes"
 
 
-class Arguments(acting.Arguments):
+class Arguments(Acting):
     on_roll: bool = flag(
         "Put codes on the roll in place of names, so that nobody knows who has which code"
     )
 
 
 def run(election: Election, arguments: Arguments) -> None:
-    acting.book_for_act(election, arguments)
+    election.book_for(arguments)
     if election.history().call is None:
         poll, number = make_codes(election, arguments)
         tell(f"Made {count_of(number, 'code')}.")

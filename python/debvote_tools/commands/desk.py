@@ -8,12 +8,11 @@ import re
 import sys
 from collections.abc import Callable, Iterator, Sequence
 
-from debvote_tools.book import acting, queries
-from debvote_tools.book.acts import Detail
+from debvote_tools.book import queries
+from debvote_tools.book.book import Detail
 from debvote_tools.book.election import Election, History
-from debvote_tools.cli.console import is_yes, tell, typed
+from debvote_tools.cli.console import is_yes, shown_line, shown_text, tell, typed
 from debvote_tools.cli.faults import Fault, Status
-from debvote_tools.cli.terminal_text import shown_line, shown_text
 from debvote_tools.files import BALLOTS_LIMIT
 from debvote_tools.inbox import plan as plans
 from debvote_tools.inbox.lines import Line, lines_in
@@ -111,7 +110,7 @@ def run(election: Election, arguments: Arguments) -> None:
     if sys.stdin is None:
         cure = "run it at a terminal"
         raise Fault("standard input", "it is closed", cure, Status.BAD_BALLOTS, NOTHING_CAST)
-    acting.book_for_act(election, arguments)
+    election.book_for(arguments)
     desk = Desk(election, arguments.came_before_close)
     history = election.history()
     tell(*plans.notes(election, history, "what is entered"))

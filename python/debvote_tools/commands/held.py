@@ -4,14 +4,12 @@ import collections
 from collections.abc import Iterator, Sequence
 from typing import NamedTuple
 
-from debvote_tools.book import acting, letters, queries
-from debvote_tools.book.acts import ActName, Detail
+from debvote_tools.cli.arguments import Acting, flag, given, option, positional
+from debvote_tools.book import queries
+from debvote_tools.book.book import ActName, Detail
 from debvote_tools.book.election import Election, History
-from debvote_tools.book.reporting import count_of
-from debvote_tools.cli.arguments import flag, given, option, positional
-from debvote_tools.cli.console import is_terminal, is_yes, tell
+from debvote_tools.cli.console import count_of, is_terminal, is_yes, shown_line, shown_text, tell
 from debvote_tools.cli.faults import Fault, Status, stop_at
-from debvote_tools.cli.terminal_text import shown_line, shown_text
 from debvote_tools.inbox import letter_words, letters_in
 from debvote_tools.inbox.known import Decision
 from debvote_tools.inbox.rules import JudgedLetter, Outcome
@@ -24,7 +22,7 @@ from debvote_tools.inbox.vote import Vote
 THE_ONE = "one"
 
 
-class Arguments(acting.Arguments):
+class Arguments(Acting):
     numbers: list[int] = positional("NUMBER", "The numbers of letters", type=int, nargs="*")
     enter: str | None = option(
         "LINE,..",
@@ -38,14 +36,16 @@ class Arguments(acting.Arguments):
     )
     set_aside: bool = flag("Set the letters aside: they are dealt with, and wait no longer")
     wait: bool = flag("Have the letters wait again")
-    force: bool = flag("Enter the ballot although its elector has voted since")
+    force: bool = flag(
+        "Enter the ballot although its elector has voted since, or --as names somebody who did not send the letter"
+    )
     yes: bool = flag("Enter the ballots without asking")
 
 
 def run(election: Election, arguments: Arguments) -> None:
     is_act = demand_words(arguments)
     if is_act:
-        acting.book_for_act(election, arguments)
+        election.book_for(arguments)
     # stops before the call
     vote = Vote(election, election.history())
     if arguments.set_aside or arguments.wait:
@@ -73,9 +73,7 @@ def run(election: Election, arguments: Arguments) -> None:
 
 
 def demand_words(arguments: Arguments) -> bool:
-    """Whether letters are to be entered, set aside or put back. Stops if the options do not go
-    together.
-    """
+    """Whether it is an act. Stops if the options do not go together."""
     chosen = given(arguments, "enter", "typed", "set_aside", "wait")
     if len(chosen) > 1:
         cure = "give only one of --enter, --as, --set-aside and --wait"
@@ -83,14 +81,15 @@ def demand_words(arguments: Arguments) -> bool:
     takes_one = arguments.typed is not None or arguments.enter not in (None, THE_ONE)
     if takes_one and len(arguments.numbers) != 1:
         name = "--enter" if arguments.typed is None else "--as"
-        raise Fault(name, "a line is of one letter", "name one number", Status.BAD_WORDS)
+        cure = f"name one number before {name}"
+        raise Fault(name, "a line is of one letter", cure, Status.BAD_WORDS)
     if chosen and not arguments.numbers and arguments.enter is None:
         raise Fault("held", "no letter is named", "name its number", Status.BAD_WORDS)
     return bool(chosen)
 
 
 def all_letters(vote: Vote) -> list[JudgedLetter]:
-    kept, history = letters.letters(vote.book), vote.election.history()
+    kept, history = queries.letters(vote.book), vote.election.history()
     return letters_in.judged(vote.election, history, kept, vote=vote)
 
 
@@ -104,7 +103,7 @@ def chosen_letters(found: Sequence[JudgedLetter], numbers: Sequence[int]) -> lis
 
 def decide(vote: Vote, arguments: Arguments) -> None:
     """The act that sets letters aside, or has them wait again."""
-    state: ActName = letters.SET_ASIDE if arguments.set_aside else letters.PUT_BACK
+    state: ActName = queries.SET_ASIDE if arguments.set_aside else queries.PUT_BACK
 
     def plan() -> list[int]:
         chosen = chosen_letters(all_letters(vote), arguments.numbers)
@@ -116,7 +115,7 @@ def decide(vote: Vote, arguments: Arguments) -> None:
     def act(numbers: list[int], seen: int) -> None:
         with vote.book.act(state, {"letters": numbers}, seen=seen) as act:
             for number in numbers:
-                letters.decide(act, number, state)
+                queries.decide(act, number, state)
 
     agreed_act(vote, plan, lambda _: True, act)
 
@@ -153,7 +152,8 @@ def enter(vote: Vote, arguments: Arguments) -> None:
         for letter in sorted(wanted, key=lambda one: (one.time is None, one.time or one.number)):
             try:
                 demand_not_entered(vote, history, letter)
-                chosen += chosen_in(letter, arguments.enter, typed)
+                forced = arguments.force
+                chosen += chosen_in(letter, arguments.enter, typed, is_forced=forced)
                 if letter.outcome is Outcome.COPY:
                     cure = "to enter its ballot once more, have the letter wait first with --wait"
                     name = f"letter {letter.number}"
@@ -177,9 +177,8 @@ def enter(vote: Vote, arguments: Arguments) -> None:
         return Plan(new, done_with(vote, chosen), late.pop())
 
     def show(_: Plan) -> bool:
-        for one in chosen:
-            who = letter_words.who_and_when(one.letter)
-            tell(f"{who}: {vote.ballot_in_words(one.ballot)}")
+        who = letter_words.who_and_when
+        tell(*(f"{who(one.letter)}: {vote.ballot_in_words(one.ballot)}" for one in chosen))
         tell(*(f"Waits on: {fault.file}: {fault.reason}" for fault in faults.values()))
         question = f"Enter {count_of(len(chosen), 'ballot')}?"
         if is_terminal() and not arguments.yes and not is_yes(question):
@@ -212,6 +211,7 @@ def ballot_of(vote: Vote, text: str) -> str:
 
 
 def demand_not_entered(vote: Vote, history: History, letter: JudgedLetter) -> None:
+    """Stops at a letter that was entered."""
     name = f"letter {letter.number}"
     if letter.outcome is Outcome.ENTERED:
         late = queries.envelopes(vote.book, f"letter = ? AND {queries.LATE}", letter.number)
@@ -224,19 +224,20 @@ def demand_not_entered(vote: Vote, history: History, letter: JudgedLetter) -> No
         raise Fault(name, "it was entered, and is late", cure)
 
 
-def chosen_in(letter: JudgedLetter, lines: str | None, typed: str | None) -> list[Chosen]:
-    """The ballots of a letter that are to be entered: the one that was typed, the lines that were
-    named, or the only one.
-    """
+def chosen_in(
+    letter: JudgedLetter, lines: str | None, typed: str | None, *, is_forced: bool
+) -> list[Chosen]:
+    """The ballots of a letter to enter: what was typed, the lines that were named, or its only one."""
     name = f"letter {letter.number}"
     if typed is not None:
         known, marked = letter.known, letter.known.marked_elector(letter.parsed)
         sharing = known.electors_by_address.get(letter.parsed.sender, ())
         possible = {*letter.electors, *sharing, *filter(None, [marked])}
         chosen = Chosen(letter, 0, typed)
-        if possible and chosen.elector not in possible:
+        if possible and chosen.elector not in possible and not is_forced:
             words = f"neither its sender nor a line of {name} is of {chosen.elector}"
-            raise Fault("--as", words, "check the name; if it is right, enter the ballot at a desk")
+            cure = "check the name; if this ballot is theirs, repeat the command with --force"
+            raise Fault("--as", words, cure)
         return [chosen]
     there = {line.number: line.ballot for line in (*letter.offered, *letter.ballots)}
     if lines == THE_ONE:

@@ -8,17 +8,14 @@ import itertools
 import pathlib
 from collections.abc import Mapping, Sequence
 
-from debvote_tools.book import acting, sent
-from debvote_tools.book.acts import Detail
-from debvote_tools.book.book import Book
+from debvote_tools.cli.arguments import Acting, flag, given, option, positional
+from debvote_tools.book import sent
+from debvote_tools.book.book import Book, Detail
 from debvote_tools.book.election import LETTERS, Election, History
-from debvote_tools.book.reporting import act_time, count_of, listed
+from debvote_tools.cli.console import act_time, count_of, listed, shown_text, tell
 from debvote_tools.book.sent import TAKEN, SentLetter
 from debvote_tools.cli import console
-from debvote_tools.cli.arguments import flag, given, option, positional
-from debvote_tools.cli.console import tell
 from debvote_tools.cli.faults import Fault, Status
-from debvote_tools.cli.terminal_text import shown_text
 from debvote_tools.files import locked, uninterrupted
 from debvote_tools.outbox import files, smtp
 from debvote_tools.outbox.due import WAS_REFUSED, LettersDue, unreached
@@ -32,7 +29,7 @@ MOST = 20
 BAR = 40
 
 
-class Arguments(acting.Arguments):
+class Arguments(Acting):
     kind: str = positional(
         "KIND", "call, receipts, reminders, closed or result", choices=list(SUBJECTS)
     )
@@ -60,7 +57,7 @@ class Arguments(acting.Arguments):
 def run(election: Election, arguments: Arguments) -> int:
     demand_words(arguments)
     named = None if arguments.server is None else smtp.server_of(arguments.server)
-    book = acting.book_for_act(election, arguments)
+    book = election.book_for(arguments)
     server = server_of(election.history(), named, arguments) if arguments.send else None
     if arguments.at is not None:
         announce(election, book, arguments.at)

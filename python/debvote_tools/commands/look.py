@@ -10,9 +10,8 @@ from collections.abc import Iterator, Sequence
 from debvote_tools.book import queries
 from debvote_tools.book.book import Book, DoneAct
 from debvote_tools.book.election import CALL, LETTERS, PRIVATE, RESULT, Election
-from debvote_tools.book.reporting import act_time, count_of
+from debvote_tools.cli.console import act_time, count_of, tell
 from debvote_tools.cli.arguments import Options, flag, positional
-from debvote_tools.cli.console import tell
 from debvote_tools.cli.faults import Fault, Status
 from debvote_tools.files import whole_folder, write_whole
 from debvote_tools.inbox.lines import ballot_file

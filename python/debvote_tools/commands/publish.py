@@ -8,20 +8,16 @@ import os
 import pathlib
 from collections.abc import Iterator
 
+from debvote_tools.cli.arguments import Acting, demand_reason, flag, option, positional
 from debvote_tools.text import times
-from debvote_tools.cli.arguments import flag, option, positional
 from debvote_tools.book.book import DoneAct, Overtaken
-from debvote_tools.cli.console import tell
-from debvote_tools.cli.terminal_text import odd_sign
+from debvote_tools.cli.console import act_time, odd_sign, tell
 from debvote_tools.debvote import casting_words
-from debvote_tools.book import acting
 from debvote_tools.commands import count
 from debvote_tools.book.election import LETTERS, RESULT, RESULT_LETTER, Election, History
-from debvote_tools.made_files import OWN, write_made
-from debvote_tools.book.reporting import act_time
+from debvote_tools.files import OWN, file_text, locked, read_whole, uninterrupted, write_made
 from debvote_tools.inbox.waiting import in_time, waiting_letters
 from debvote_tools.cli.faults import Fault, Status
-from debvote_tools.files import file_text, locked, read_whole, uninterrupted
 from debvote_tools.text.language import LANGUAGES
 from debvote_tools.result import folder, publication
 from debvote_tools.result.facts import CHECKSUMS, Facts
@@ -35,7 +31,7 @@ TEXT_LIMIT, NAME_LIMIT = 65_536, 200
 REFUSED_IN_NAME = '"\u201c\u201d\u201e\u201f\u2033\uff02\u00ab\u00bb'
 
 
-class Arguments(acting.Arguments, checks=True):
+class Arguments(Acting, checks=True):
     casting: str | None = option(*count.CASTING)
     cast_by: str | None = option("NAME", "Who had the casting vote; the page says so in your name")
     cast_on: str | None = option("DATE", "The day of the casting vote, as 2026-12-05")
@@ -66,8 +62,7 @@ def run(election: Election, arguments: Arguments) -> int:
     leaves no folder that the book does not know, and `publish` without options makes the folder of
     the last act again.
     """
-    acting.demand_writable(election)
-    book = acting.book_for_count(election, arguments)
+    book = election.book_for(arguments)
     history, sealed = election.history(), election.sealed()
     count.demand_countable(election, history, sealed)
     target = pathlib.Path(arguments.target) if arguments.target else election.path(RESULT)
@@ -180,7 +175,7 @@ def words_of(arguments: Arguments) -> Words:
         words = "they describe the casting vote of --casting"
         raise bad_words("--cast-by, --cast-on", words, "give --casting too")
     if reason is not None:
-        reason = acting.demand_reason(reason, "--force", has_paragraphs=True)
+        reason = demand_reason(reason, "--force", has_paragraphs=True)
     if arguments.about is not None:
         data = read_whole(arguments.about, TEXT_LIMIT, "give a file that you may read with --about")
         about = file_text(data, arguments.about, "write it, or leave --about out")

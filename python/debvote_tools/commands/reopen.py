@@ -3,16 +3,13 @@
 import operator
 from collections.abc import Iterator, Sequence
 
-from debvote_tools.book import acting, queries
-from debvote_tools.book.acts import Detail
-from debvote_tools.book.book import Book
+from debvote_tools.cli.arguments import Acting, demand_reason, flag, option
+from debvote_tools.book import queries
+from debvote_tools.book.book import Book, Detail
 from debvote_tools.book.election import Election, History
 from debvote_tools.book.queries import Envelope, NewEnvelope
-from debvote_tools.book.reporting import act_time, count_of
-from debvote_tools.cli.arguments import flag, option
-from debvote_tools.cli.console import is_terminal, tell, typed
+from debvote_tools.cli.console import act_time, count_of, is_terminal, shown_line, tell, typed
 from debvote_tools.cli.faults import Fault, Status, stop_at
-from debvote_tools.cli.terminal_text import shown_line
 from debvote_tools.commands.strike import without_code
 from debvote_tools.inbox import plan as plans
 from debvote_tools.inbox.vote import Vote
@@ -24,7 +21,7 @@ MAX_DIGITS = 9
 ORDER = operator.attrgetter("time", "number")
 
 
-class Arguments(acting.Arguments):
+class Arguments(Acting):
     in_time: list[int] | None = option(
         "NUMBER",
         "Late envelopes whose ballots came before the first close: they are entered anew, and count",
@@ -39,8 +36,8 @@ Plan = tuple[list[Envelope], bool]
 
 
 def run(election: Election, arguments: Arguments) -> None:
-    because = acting.demand_reason(arguments.because, "reopen")
-    book = acting.book_for_act(election, arguments)
+    because = demand_reason(arguments.because, "reopen")
+    book = election.book_for(arguments)
     history, numbers = election.history(), arguments.in_time
     vote = Vote(election, history)
 
@@ -123,9 +120,7 @@ def late_left(book: Book) -> list[Envelope]:
 
 
 def asked(book: Book, *, has_codes: bool) -> list[int]:
-    """The numbers that are typed at a terminal, where the late envelopes are listed; none if there
-    are none.
-    """
+    """The numbers that are typed at a terminal, where the late envelopes are listed."""
     if not (late := late_left(book)):
         return []
     tell(f"{count_of(len(late), 'line')} came late:")

@@ -4,20 +4,17 @@ import operator
 import re
 from collections.abc import Sequence
 
+from debvote_tools.cli.arguments import Acting, flag
 from debvote_tools.inbox.mime import address_key
-from debvote_tools.cli.arguments import flag
 from debvote_tools.book import queries
 from debvote_tools.book.book import Book
 from debvote_tools.poll.call import is_mail_address
-from debvote_tools.cli.console import is_terminal, is_yes, tell
-from debvote_tools.book import acting
+from debvote_tools.cli.console import count_of, is_terminal, is_yes, listed, shown_text, tell
 from debvote_tools.book.election import MEMBERS_FILE, Election, History
 from debvote_tools.poll.marks import new_own_mark
 from debvote_tools.poll.members import Member, Roll, members_in, roll_of, several
-from debvote_tools.book.reporting import count_of, listed
 from debvote_tools.cli.faults import Fault, stop_at
 from debvote_tools.poll.plain_names import ELECTOR_LIMIT, alike, similar_names
-from debvote_tools.cli.terminal_text import shown_text
 
 # `Eve & Dan`, `Eve und Dan`, `Eve/Dan`
 SEVERAL_PEOPLE = re.compile(r"\w ?[&+/] ?\w|\w (?:and|und|et) \w", re.IGNORECASE)
@@ -31,13 +28,13 @@ WITHOUT_PLAIN = "Without an address that every mail server takes (letters to the
 MAX_SHOWN = 200
 
 
-class Arguments(acting.Arguments):
+class Arguments(Acting):
     all: bool = flag("Print all electors, however many there are")
     yes: bool = flag("After the call: take the new addresses and keys without a question")
 
 
 def run(election: Election, arguments: Arguments) -> None:
-    book = acting.book_for_act(election, arguments)
+    book = election.book_for(arguments)
     history = election.history()
     if history.has_codes_on_roll:
         words = "codes are on the roll, and nobody knows whose they are"

@@ -4,16 +4,14 @@ from collections.abc import Iterator
 
 from debvote_tools.cli.arguments import Options, positional
 from debvote_tools.book import queries, sent
-from debvote_tools.cli.console import tell
+from debvote_tools.cli.console import act_time, shown_line, shown_text, tell
 from debvote_tools.inbox import letter_words
 from debvote_tools.inbox.of_electors import Became, Came, of_electors
 from debvote_tools.inbox.vote import IS_CODE, Vote
 from debvote_tools.book.election import Election, History
-from debvote_tools.book.reporting import act_time
 from debvote_tools.cli.faults import Fault
 from debvote_tools.inbox.reasons import for_secretary
 from debvote_tools.inbox.lines import has_code
-from debvote_tools.cli.terminal_text import shown_line, shown_text
 
 
 class Arguments(Options):

@@ -3,18 +3,24 @@
 import json
 import re
 from collections.abc import Iterator
-from typing import NamedTuple
+from typing import Any, NamedTuple
 
 from debvote_tools.text import times
 from debvote_tools.cli.arguments import Options, flag
 from debvote_tools.book import queries
-from debvote_tools.cli.console import shows, tell
+from debvote_tools.cli.console import (
+    act_time,
+    count_of,
+    quorum_words,
+    shown_line,
+    shows,
+    tell,
+    wrapped,
+)
 from debvote_tools.debvote import Finding, Findings, Totals
 from debvote_tools.book.election import LETTERS, RESULT_LETTER, Election, History, Stage
-from debvote_tools.book.reporting import act_time, count_of, quorum_words, wrapped
 from debvote_tools.inbox.waiting import Arrived, stopping, waiting_letters
 from debvote_tools.inbox.lines import ballot_file
-from debvote_tools.cli.terminal_text import shown_line
 
 # how many characters the bar of those who have voted has
 BAR = 50
@@ -30,27 +36,8 @@ class Arguments(Options):
     json: bool = flag("Print the numbers as JSON, for programs")
 
 
-class State(NamedTuple):
-    """How an election is, in numbers. In a vote whose roll has codes nobody is named."""
-
-    stage: Stage
-    electors: int
-    # the lines in time that are not struck, and of them the valid and the refused ones; late ones
-    lines: int
-    valid: int
-    refused: int
-    late: int
-    voters: int
-    # letters that wait, and the numbers of those that stop `close`, `count` and `publish`
-    waiting: int
-    stopping: list[int]
-    without_ballot: list[str] | None
-    # once `letters call` was run: whom it has not reached, each with why, and who gets it printed
-    not_reached: dict[str, str]
-    printed: list[str]
-    # the last one of the book
-    act: int
-    digest: str
+# how an election is, in numbers, as FORMATS has them; in a vote whose roll has codes nobody is named
+State = dict[str, Any]
 
 
 class Refused(NamedTuple):
@@ -70,7 +57,7 @@ def run(election: Election, arguments: Arguments) -> None:
         history = election.history()
         state, refused = state_of(election, history)
     if arguments.json:
-        tell(json.dumps(state._asdict(), ensure_ascii=False))
+        tell(json.dumps(state, ensure_ascii=False))
     else:
         tell(*stage_words(election, history), *words_of(election, history, state, refused))
 
@@ -95,34 +82,26 @@ def state_of(election: Election, history: History) -> tuple[State, list[Refused]
     names = {line.partition(b" ")[0] for number, line in lines if number not in refused_numbers}
     voters = {name.decode("ascii") for name in names}
     totals = findings.totals
-    not_reached, printed = letters_of_call(election, history)
-    state = State(
-        stage=history.stage,
-        electors=len(roll),
-        lines=totals.lines,
-        valid=totals.valid,
-        refused=totals.refused,
-        late=len(queries.late_lines(book)),
-        voters=totals.voters,
-        waiting=len(waiting),
-        stopping=stopping(waiting, history),
-        without_ballot=None if has_codes else [name for name in roll if name not in voters],
-        not_reached=not_reached,
-        printed=printed,
-        act=history.last.number,
-        digest=history.last.digest,
-    )
+    state: State = {"stage": history.stage, "electors": len(roll), "lines": totals.lines}
+    state |= {"valid": totals.valid, "refused": totals.refused, "voters": totals.voters}
+    state |= {"late": len(queries.late_lines(book)), "waiting": len(waiting)}
+    state["stopping"] = stopping(waiting, history)
+    without_ballot = [name for name in roll if name not in voters]
+    state["without_ballot"] = None if has_codes else without_ballot
+    state |= letters_of_call(election, history)
+    state |= {"act": history.last.number, "digest": history.last.digest}
     return state, refused if has_codes else [line for line in refused if line.name not in voters]
 
 
-def letters_of_call(election: Election, history: History) -> tuple[dict[str, str], list[str]]:
-    """Whom the letters of the call have not reached, and who gets them printed."""
+def letters_of_call(election: Election, history: History) -> State:
+    """Once `letters call` was run: whom it has not reached, each with why, and who gets it printed."""
     if not any(act.detail["kind"] == "call" for act in history.since_call("letters out")):
-        return {}, []
+        return {"not_reached": {}, "printed": []}
     # it takes a while to be imported
     from debvote_tools.outbox import due
 
-    return dict(due.not_reached(election, history)), due.printed(election, history)
+    not_reached = dict(due.not_reached(election, history))
+    return {"not_reached": not_reached, "printed": due.printed(election, history)}
 
 
 def stage_words(election: Election, history: History) -> Iterator[str]:
@@ -148,26 +127,26 @@ def stage_words(election: Election, history: History) -> Iterator[str]:
 def words_of(
     election: Election, history: History, state: State, refused: list[Refused]
 ) -> Iterator[str]:
-    yield f"Lines: {state.lines} ({state.valid} valid, {state.refused} refused)"
-    if state.late:
-        yield f"Late, and not counted: {state.late}"
-    yield f"Electors with a valid ballot: {state.voters} of {state.electors}"
-    if shows() and state.electors:
-        yield f"  {bar_of(state.voters, state.electors)}"
-    yield from named("Electors without a ballot", state.without_ballot)
-    yield from refused_words(refused, state.without_ballot)
-    if state.waiting:
-        wait = count_of(state.waiting, "letter waits", "letters wait")
+    yield f"Lines: {state['lines']} ({state['valid']} valid, {state['refused']} refused)"
+    if state["late"]:
+        yield f"Late, and not counted: {state['late']}"
+    yield f"Electors with a valid ballot: {state['voters']} of {state['electors']}"
+    if shows() and state["electors"]:
+        yield f"  {bar_of(state['voters'], state['electors'])}"
+    yield from named("Electors without a ballot", state["without_ballot"])
+    yield from refused_words(refused, state["without_ballot"])
+    if state["waiting"]:
+        wait = count_of(state["waiting"], "letter waits", "letters wait")
         yield f"{wait} until you have looked at them: {election.command('held')}"
-    if state.stopping:
+    if state["stopping"]:
         stops = "count and publish stop" if history.is_closed else "close stops"
-        numbers = ", ".join(map(str, state.stopping))
+        numbers = ", ".join(map(str, state["stopping"]))
         yield f"These arrived in time, and {stops} while they wait: {numbers}"
-    for reason in dict.fromkeys(state.not_reached.values()):
-        names = [name for name, why in state.not_reached.items() if why == reason]
+    for reason in dict.fromkeys(state["not_reached"].values()):
+        names = [name for name, why in state["not_reached"].items() if why == reason]
         yield from named(f"Not reached by the call: {reason}", names)
-    yield from named("Get the call printed", state.printed)
-    yield f"Last act: {state.act}, digest {state.digest}"
+    yield from named("Get the call printed", state["printed"])
+    yield f"Last act: {state['act']}, digest {state['digest']}"
     yield f"Next: {what_next(election, state)}"
 
 
@@ -198,15 +177,15 @@ def refused_words(refused: list[Refused], without_ballot: list[str] | None) -> I
 
 
 def what_next(election: Election, state: State) -> str:
-    if state.stage is Stage.NEW:
+    if state["stage"] is Stage.NEW:
         return f"{election.command('roll')}, then {election.command('check')}, then {election.command('call')}"
-    if state.stage is Stage.CALLED:
+    if state["stage"] is Stage.CALLED:
         add = f"{election.command('add', 'FILE')}, or {election.command('desk')}"
         return f"add the ballots as they come: {add}; when the vote is over: {election.command('close')}"
-    if state.stage is Stage.PUBLISHED and not state.stopping:
+    if state["stage"] is Stage.PUBLISHED and not state["stopping"]:
         # where nobody knows whose each code is, no letter can be written to an elector
         send = election.command("letters", "result")
-        if state.without_ballot is None:
+        if state["without_ballot"] is None:
             send = f"send {election.path(LETTERS) / RESULT_LETTER} to all electors"
         return f"put the published folder on the web site as it is, then {send}"
     return f"{election.command('count')}, then {election.command('publish')}"

@@ -4,16 +4,13 @@ many, and why.
 
 import re
 
-from debvote_tools.book import acting, letters, queries
-from debvote_tools.book.acts import Detail
-from debvote_tools.book.book import Book
+from debvote_tools.cli.arguments import Acting, demand_reason, flag, positional
+from debvote_tools.book import queries
+from debvote_tools.book.book import Book, Detail
 from debvote_tools.book.election import Election
 from debvote_tools.book.queries import Envelope
-from debvote_tools.book.reporting import act_time
-from debvote_tools.cli.arguments import flag, positional
-from debvote_tools.cli.console import is_terminal, tell
+from debvote_tools.cli.console import act_time, is_terminal, shown_line, tell
 from debvote_tools.cli.faults import Fault
-from debvote_tools.cli.terminal_text import shown_line
 from debvote_tools.commands.undo import demand_open, demand_yes
 from debvote_tools.inbox.lines import name_in
 from debvote_tools.inbox.plan import agreed_act
@@ -23,7 +20,7 @@ from debvote_tools.inbox.vote import Vote
 LIKE_A_CODE = re.compile(rb"[0-9a-fA-F]{16,}")
 
 
-class Arguments(acting.Arguments):
+class Arguments(Acting):
     number: int = positional(
         "NUMBER", "The number of the envelope, as add, desk and show print it", type=int
     )
@@ -31,8 +28,8 @@ class Arguments(acting.Arguments):
 
 
 def run(election: Election, arguments: Arguments) -> None:
-    because = acting.demand_reason(arguments.because, "strike")
-    book = acting.book_for_act(election, arguments)
+    because = demand_reason(arguments.because, "strike")
+    book = election.book_for(arguments)
     vote = Vote(election, election.history())
 
     def show(envelope: Envelope) -> bool:
@@ -46,10 +43,10 @@ def run(election: Election, arguments: Arguments) -> None:
         with book.act("strike", detail, seen=seen) as act:
             queries.strike_envelopes(act, [envelope.number])
             # a letter waits on if it has ballots of others that were not entered
-            states = {kept.number: kept.state for kept in letters.letters(book)}
+            states = {kept.number: kept.state for kept in queries.letters(book)}
             letter = envelope.letter or 0
-            if states.get(letter) in (letters.ENTERED, letters.STRUCK):
-                letters.decide(act, letter, letters.STRUCK)
+            if states.get(letter) in (queries.ENTERED, queries.STRUCK):
+                queries.decide(act, letter, queries.STRUCK)
 
     number = arguments.number
     envelope = agreed_act(vote, lambda: demand_envelope(election, book, number), show, act)
@@ -60,10 +57,8 @@ def run(election: Election, arguments: Arguments) -> None:
         whose = "that code" if vote.has_codes else elector
         current = "none" if ranks is None else vote.ranks_in_words(ranks)
         tell(f"The current ballot of {whose}: {current}")
-    tell(
-        "A strike cannot be undone: if it was a mistake, enter the line again.",
-        f"Next: {election.command('status')}",
-    )
+    tell("A strike cannot be undone: if it was a mistake, enter the line again.")
+    tell(f"Next: {election.command('status')}")
 
 
 def in_words(envelope: Envelope, vote: Vote) -> str:

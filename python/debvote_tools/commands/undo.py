@@ -3,18 +3,17 @@
 from collections.abc import Iterator
 from typing import NamedTuple
 
-from debvote_tools.book import acting, letters, queries, sent
+from debvote_tools.cli.arguments import Acting, flag
+from debvote_tools.book import queries, sent
 from debvote_tools.book.book import DoneAct
 from debvote_tools.book.election import Election, History
-from debvote_tools.book.reporting import act_time, count_of
-from debvote_tools.cli.arguments import flag
-from debvote_tools.cli.console import is_terminal, is_yes, tell
+from debvote_tools.cli.console import act_time, count_of, is_terminal, is_yes, tell
 from debvote_tools.cli.faults import Fault
 from debvote_tools.inbox.plan import agreed_act, envelope_words
 from debvote_tools.inbox.vote import Vote, standing_words
 
 
-class Arguments(acting.Arguments):
+class Arguments(Acting):
     yes: bool = flag("Take it back without asking")
 
 
@@ -43,7 +42,7 @@ class Plan(NamedTuple):
 
 
 def run(election: Election, arguments: Arguments) -> None:
-    book = acting.book_for_act(election, arguments)
+    book = election.book_for(arguments)
     vote = Vote(election, election.history())
     is_asked = is_terminal() and not arguments.yes
 
@@ -57,7 +56,7 @@ def run(election: Election, arguments: Arguments) -> None:
         with book.act("undo", {"act": found.act.number}, seen=seen) as act:
             queries.strike_envelopes(act, (envelope.number for envelope in found.envelopes))
             for letter in found.letters:
-                letters.decide(act, letter, letters.TAKEN_BACK)
+                queries.decide(act, letter, queries.TAKEN_BACK)
 
     undone = agreed_act(vote, lambda: what_is_taken_back(vote), show, act)
     none = None if is_asked else "no ballot is left"
@@ -105,9 +104,7 @@ def demand_open(election: Election, history: History) -> None:
 
 
 def consequences(vote: Vote, found: Plan, none: str | None) -> Iterator[str]:
-    """The ballots that change, where `none` says that none is left; the letters that wait again;
-    the receipts that no longer hold.
-    """
+    """What changes: ballots, where `none` says that none is left; letters; receipts."""
     if none is not None:
         yield from standing_words(vote, found.before, found.after, none)
     if found.letters:

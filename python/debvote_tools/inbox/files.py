@@ -47,7 +47,6 @@ def safe(text: str) -> str:
 
 
 def is_letters(file: CameFile | None) -> bool:
-    """Whether what came is a mailbox, a letter, or a folder of letters."""
     of_outlook = (NotRead.OUTLOOK_LETTER, NotRead.OUTLOOK_MAILBOX)
     return file is None or are_letters(file.data) or kind_not_read(file.data) in of_outlook
 
@@ -66,8 +65,8 @@ def are_all_letters(files: Mapping[str, CameFile | None]) -> bool:
 def read_files(
     election: Election, paths: Sequence[str], *, is_table: bool
 ) -> dict[str, CameFile | None]:
-    """What these paths name, or standard input, each read whole; a folder is None. Stops at what
-    has neither ballots nor letters.
+    """What these paths name, each read whole; a folder is None. Stops at what has neither ballots
+    nor letters.
     """
     files: dict[str, CameFile | None] = {}
     faults = []
@@ -109,9 +108,7 @@ def read_file(election: Election, path: str) -> CameFile:
 
 
 def bytes_in(file: BinaryIO) -> bytes:
-    """All bytes of a file with letters. Of another file that is too long, one byte more than the
-    limit.
-    """
+    """All bytes of a file with letters; of another file one byte more than the limit at most."""
     data = file.read(BALLOTS_LIMIT + 1)
     return data + file.read() if are_letters(data) else data
 

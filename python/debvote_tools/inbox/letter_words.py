@@ -5,9 +5,8 @@ line.
 import re
 from collections.abc import Iterator, Sequence
 
-from debvote_tools.book.reporting import act_time, count_of
-from debvote_tools.cli.terminal_text import shown_line, shown_text
-from debvote_tools.inbox.letter import is_quoted
+from debvote_tools.cli.console import act_time, count_of, shown_line, shown_text
+from debvote_tools.inbox.letter import Near, is_quoted
 from debvote_tools.inbox.rules import JudgedLetter, Outcome, above_end
 from debvote_tools.inbox.reasons import for_secretary
 from debvote_tools.inbox.vote import IS_CODE, Vote
@@ -65,13 +64,10 @@ def going_in(letters: Sequence[JudgedLetter], vote: Vote) -> Iterator[str]:
     """One line a letter: whose ballot it is, and how it is read. Those with more to look at come
     last.
     """
-    more_of = [(letter, more_words(letter)) for letter in letters]
-    yield from (ballot_words(letter, vote) for letter, more in more_of if not more)
-    if any(more for _, more in more_of):
-        yield READ_THESE
-    for letter, more in more_of:
-        if more:
-            yield f"{ballot_words(letter, vote)}; {'; '.join(more)}"
+    said = [(ballot_words(letter, vote), more_words(letter)) for letter in letters]
+    yield from (words for words, more in said if not more)
+    if worded := [f"{words}; {'; '.join(more)}" for words, more in said if more]:
+        yield from (READ_THESE, *worded)
 
 
 def ballot_words(letter: JudgedLetter, vote: Vote) -> str:
@@ -83,9 +79,7 @@ def ballot_words(letter: JudgedLetter, vote: Vote) -> str:
 
 
 def more_words(letter: JudgedLetter) -> list[str]:
-    """What else there is to look at in a letter: other words, others with the same address, and
-    what may be a code.
-    """
+    """What else there is to look at in a letter."""
     found = [f"other words: {words}"] if (words := other_words(letter)) else []
     if letter.shared_with:
         found.append(f"same address: {', '.join(letter.shared_with)}")
@@ -94,17 +88,14 @@ def more_words(letter: JudgedLetter) -> list[str]:
 
 # ---------------------------------------------------------------- what waits
 def table(letters: Sequence[JudgedLetter]) -> Iterator[str]:
-    """Letters that wait: a line for each, and below it the reason, lines that may be ballots, and
-    other words.
-    """
-    width = max((len(sender_of(letter)) for letter in letters), default=0)
-    arrivals = max((len(arrival_of(letter)) for letter in letters), default=0)
+    """Letters that wait: a line for each, and below it why."""
+    rows = [(arrival_of(letter), sender_of(letter)) for letter in letters]
+    times, senders = (max(map(len, column)) for column in zip(*rows or [("", "")]))
     if letters:
-        yield f"letter  {'arrived':{arrivals}}  {'from':{width}}  subject"
-    for letter in letters:
+        yield f"letter  {'arrived':{times}}  {'from':{senders}}  subject"
+    for letter, (time, sender) in zip(letters, rows):
         subject = shown_text(letter.parsed.subject) or "(no subject)"
-        when, sender = arrival_of(letter), sender_of(letter)
-        yield f"{letter.number or 'new':>6}  {when:{arrivals}}  {sender:{width}}  {subject}"
+        yield f"{letter.number or 'new':>6}  {time:{times}}  {sender:{senders}}  {subject}"
         yield from (f"        {line}" for line in why_words(letter))
 
 
@@ -139,7 +130,6 @@ def counts(letters: Sequence[JudgedLetter], entered: int) -> str:
 
 
 def wait_words(number: int) -> str:
-    """How many letters wait in all."""
     return count_of(number, "letter waits", "letters wait")
 
 
@@ -172,20 +162,22 @@ def quotations(lines: Sequence[str]) -> Iterator[range]:
     """The quotations in a letter, by the indices of their lines: those that begin with >, with the
     head above them, as `On Monday Anna wrote:`; and all below the head that Outlook puts there.
     """
-    first = last = None
-    for index, line in enumerate(lines):
-        head = lines[index + 1 : index + HEAD]
-        is_head = ORIGINAL.match(line) or (FROM.match(line) and any(map(SUBJECT.match, head)))
+    quoted: list[int] = []
+    # the line after the last ends a quotation, too
+    for index, line in enumerate((*lines, "end")):
+        head = (
+            ORIGINAL.match(line)
+            or FROM.match(line)
+            and any(map(SUBJECT.match, lines[index + 1 : index + HEAD]))
+        )
         if is_quoted(line):
-            first, last = (index if first is None else first), index
-        elif first is not None and last is not None and (is_head or line.strip()):
-            yield range(above(lines, first), last + 1)
-            first = None
-        if is_head:
+            quoted.append(index)
+        elif quoted and line.strip():
+            yield range(above(lines, quoted[0]), quoted[-1] + 1)
+            quoted = []
+        if head:
             yield range(index, len(lines))
             return
-    if first is not None and last is not None:
-        yield range(above(lines, first), last + 1)
 
 
 def above(lines: Sequence[str], first: int) -> int:
@@ -199,32 +191,35 @@ def above(lines: Sequence[str], first: int) -> int:
 
 
 def quoted_of_ours(letter: JudgedLetter) -> set[int]:
-    """The indices of the lines of our letters that a letter quotes: it answers one of ours, or the
-    quotation has the mark of the poll.
+    """The indices of the lines of our letters that a letter quotes, but for those that may be
+    ballots: it answers one of ours, or the quotation has the mark of the poll.
     """
-    lines, mark = letter.parsed.shown_lines, letter.known.mark
-    answered, ours = letter.parsed.in_reply_to, letter.known.our_letters.values()
-    is_answer = bool(answered) and any(answered in ids for ids in ours)
-    found = set[int]()
-    for quotation in quotations(letter.parsed.body.lines):
-        if is_answer or any(mark in lines[index] for index in quotation):
-            found.update(quotation)
-    return found - candidates(letter) - {near.number - 1 for near in letter.near}
+    lines, known, answered = letter.parsed.body.lines, letter.known, letter.parsed.in_reply_to
+    is_answer = answered and any(answered in ids for ids in known.our_letters.values())
+    shown = candidates(letter, letter.near)
+    return {
+        index
+        for quotation in quotations(lines)
+        if is_answer or any(known.mark in lines[index] for index in quotation)
+        for index in quotation
+        if index not in shown
+    }
 
 
-def candidates(letter: JudgedLetter) -> set[int]:
-    """The indices of the lines that can be entered."""
-    return {line.number - 1 for line in (*letter.ballots, *letter.offered)}
+def candidates(letter: JudgedLetter, near: Sequence[Near]) -> set[int]:
+    """The indices of the lines that can be entered, and of those near to a ballot."""
+    lines = {line.number - 1 for line in (*letter.ballots, *letter.offered)}
+    return lines | {one.number - 1 for one in near}
 
 
 def other_words(letter: JudgedLetter) -> str:
     """The beginning of the sender's own words beside their ballots, without greetings, quotations,
     and what a telephone adds.
     """
-    lines = letter.parsed.body.lines
-    left_out = {index for quotation in quotations(lines) for index in quotation}
-    left_out |= candidates(letter)
-    left_out |= {near.number - 1 for near in letter.near if not near.is_within}
+    lines, left_out = letter.parsed.body.lines, quoted_of_ours(letter)
+    for quotation in quotations(lines):
+        left_out.update(quotation if is_quoted(lines[quotation[-1]]) else ())
+    left_out |= candidates(letter, [near for near in letter.near if not near.is_within])
     names = set(WORD.findall(letter.parsed.shown_sender.partition("<")[0].casefold()))
 
     def says_something(line: str) -> bool:

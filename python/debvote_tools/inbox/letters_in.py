@@ -6,16 +6,12 @@ import pathlib
 from collections.abc import Collection, Iterable, Iterator, Mapping, Sequence
 from typing import NamedTuple
 
-from debvote_tools.book import letters, queries
-from debvote_tools.book.acts import ActName, Detail
-from debvote_tools.book.book import NewAct
+from debvote_tools.book import queries
+from debvote_tools.book.book import ActName, Detail, NewAct
 from debvote_tools.book.election import KEYRING, Election, History
-from debvote_tools.book.letters import KeptLetter
-from debvote_tools.book.queries import NewEnvelope
-from debvote_tools.book.reporting import count_of
-from debvote_tools.cli.console import is_terminal, is_yes, tell
+from debvote_tools.book.queries import KeptLetter, NewEnvelope
+from debvote_tools.cli.console import count_of, is_terminal, is_yes, shown_text, tell
 from debvote_tools.cli.faults import Fault, Status
-from debvote_tools.cli.terminal_text import shown_text
 from debvote_tools.files import sha256_of
 from debvote_tools.inbox import letter_words, plan
 from debvote_tools.inbox.known import Ballot, Decision, Known, Names
@@ -48,19 +44,16 @@ def take_letters(
         keep(vote, new, found)
     for one in passed_over:
         tell(f"{shown_text(one.where)}: {one.why.what}, and was passed over; {one.why.cure}")
+    came_before = f"{count_of(len(new), 'new letter')}; {len(raws) - len(new)} came before."
     if not is_look:
-        tell(f"{count_of(len(new), 'new letter')}; {len(raws) - len(new)} came before.")
+        tell(came_before)
         enter_letters(vote, is_agreed=is_agreed)
         return
-    history = vote.election.history()
-    kept = letters.letters(vote.book)
+    history, kept = vote.election.history(), queries.letters(vote.book)
     all_letters = judged(vote.election, history, kept, found, vote=vote)
     tell_letters(vote, history, all_letters)
-    keys = {letter.key for letter in found}
-    number = sum(letter.parsed.key in keys for letter in all_letters)
     would = letter_words.counts(all_letters, len(going_in(all_letters)))
-    tell(f"{count_of(number, 'new letter')}: {would.replace('went in', 'would go in')}")
-    tell("Nothing was changed.")
+    tell(came_before, would.replace("went in", "would go in"), "Nothing was changed.")
 
 
 def read(files: Mapping[str, CameFile | None]) -> tuple[list[RawLetter], list[PassedOver]]:
@@ -84,7 +77,7 @@ def read(files: Mapping[str, CameFile | None]) -> tuple[list[RawLetter], list[Pa
 
 
 def new_of(vote: Vote, raws: Sequence[RawLetter]) -> list[RawLetter]:
-    known = letters.known_digests(vote.book)
+    known = queries.known_digests(vote.book)
     # of letters with the same bytes the first that is not parted off, or else the first
     chosen: dict[str, RawLetter] = {}
     for raw in raws:
@@ -108,12 +101,12 @@ def keep(vote: Vote, raws: Sequence[RawLetter], found: Sequence[ParsedLetter]) -
         # their lines were read by the poll of this call
         cure = "run the command again"
         plan.demand_same_call(vote, vote.election.history(), cure, NOTHING_ADDED)
-        known = letters.known_digests(vote.book)
+        known = queries.known_digests(vote.book)
         for raw, letter in zip(raws, found):
             # another command may have kept it meanwhile
             if is_new(letter.digest, letter.is_parted_off, known):
                 where, known_of_it = safe(raw.where), as_json(letter)
-                letters.keep_letter(act, where, raw.data, letter.identity, known_of_it)
+                queries.keep_letter(act, where, raw.data, letter.identity, known_of_it)
 
 
 class Plan(NamedTuple):
@@ -137,11 +130,9 @@ def enter(
     seen: int,
     end: Sequence[str] = (),
 ) -> None:
-    """The act that enters ballots of letters."""
-
     def envelopes(act: NewAct) -> list[NewEnvelope]:
         for number in now.done:
-            letters.decide(act, number, letters.ENTERED)
+            queries.decide(act, number, queries.ENTERED)
         return now.envelopes
 
     def report(numbers: range, replies: Sequence[str]) -> Iterator[str]:
@@ -166,7 +157,7 @@ def enter_letters(vote: Vote, *, is_agreed: bool) -> None:
         nonlocal history, found
         history = election.history()
         plan.demand_same_call(vote, history, "run the command again", NOTHING_ADDED)
-        found = judged(election, history, letters.letters(vote.book), vote=vote)
+        found = judged(election, history, queries.letters(vote.book), vote=vote)
         new = [envelope_of(letter, letter.ballots[0].ballot) for letter in going_in(found)]
         return Plan(new, [letter.number for letter in going_in(found)], history.is_closed)
 
@@ -196,7 +187,7 @@ def enter_letters(vote: Vote, *, is_agreed: bool) -> None:
 
 
 def agreed(ballots: str) -> bool:
-    """Whether the secretary agrees to what goes in. Stops if there is no terminal."""
+    """Asks the secretary. Stops if there is no terminal."""
     if not is_terminal():
         cure, done = "agree with --yes, or run it at a terminal", "and the letters are kept"
         raise Fault(None, f"{ballots} would go in", cure, done=f"{NOTHING_ADDED}, {done}")
@@ -267,11 +258,9 @@ def judged(
 
 
 def kept_letters(vote: Vote, kept: Sequence[KeptLetter]) -> list[ParsedLetter]:
-    """What is known of the letters.
-
-    A signature is checked anew if the letter came before the present keyring, or gpgv was too slow:
-    of a letter that waits; and, if a signed one waits, of those that were decided without a good
-    signature, since only then a copy is known as one.
+    """What is known of the letters. A signature is checked anew if the letter came before the
+    present keyring, or gpgv was too slow: of a letter that waits; and, if a signed one waits, of
+    those that were decided without a good signature, since only then a copy is known as one.
     """
     found = [from_json(letter.known) for letter in kept]
     sealed = queries.last_act_that_sealed(vote.book, KEYRING)
@@ -289,22 +278,13 @@ def kept_letters(vote: Vote, kept: Sequence[KeptLetter]) -> list[ParsedLetter]:
 
 
 def check_again(
-    vote: Vote,
-    kept: Sequence[KeptLetter],
-    found: list[ParsedLetter],
-    indices: Sequence[int],
+    vote: Vote, kept: Sequence[KeptLetter], found: list[ParsedLetter], indices: Sequence[int]
 ) -> None:
-    """Reads some letters again, for their signatures. What debvote has said of lines it is not
-    asked again.
-    """
-    raws = [
-        RawLetter(
-            found[index].where,
-            letters.source_of(vote.book, kept[index].source),
-            found[index].is_parted_off,
-        )
-        for index in indices
-    ]
+    """Reads some letters again, for their signatures."""
+    raws = []
+    for index in indices:
+        one, data = found[index], queries.source_of(vote.book, kept[index].source)
+        raws.append(RawLetter(one.where, data, one.is_parted_off))
     known = answers_in(found, vote.roll) if indices else {}
     for index, letter in zip(indices, parsed(vote, raws, known)):
         found[index] = letter
@@ -313,9 +293,8 @@ def check_again(
 def ballots_in(
     vote: Vote, names: Collection[str], found: Sequence[ParsedLetter]
 ) -> dict[str, list[Ballot]]:
-    """The ballots of some electors that are in and not struck. A line with an elector's name that
-    debvote refuses is no ballot of theirs. What it has said of the lines of letters it is not asked
-    again.
+    """The ballots of some electors that are in and not struck. What debvote has said of the lines
+    of letters it is not asked again.
     """
     numbers = queries.elector_numbers(vote.book, names)
     by_number = {number: name for name, number in numbers.items()}
@@ -336,7 +315,7 @@ def ballots_in(
 def known_of(election: Election, history: History, by_key: Mapping[str, KeptLetter]) -> Known:
     call, sealed, electors = history.call, election.sealed(), queries.electors(election.book)
     assert call is not None
-    ids = letters.our_message_ids(election.book)
+    ids = queries.our_message_ids(election.book)
     states = ((key, kept.state) for key, kept in by_key.items())
     return Known(
         mark=sealed.public.mark,
@@ -349,7 +328,7 @@ def known_of(election: Election, history: History, by_key: Mapping[str, KeptLett
         first_close=history.closes[0].time if history.closes else None,
         now=times.now(),
         our_letters={elector.name: ids.get(elector.number, []) for elector in electors},
-        decisions={key: Decision(state) for key, state in states if state != letters.WAITS},
+        decisions={key: Decision(state) for key, state in states if state != queries.WAITS},
     )
 
 

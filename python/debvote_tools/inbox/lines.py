@@ -82,13 +82,13 @@ class Line(NamedTuple):
 
     @property
     def had_mark(self) -> bool:
-        """Whether the line lost only a byte-order mark, and perhaps a carriage return."""
+        """Whether it lost only a byte-order mark, and perhaps a carriage return."""
         is_first = not self.unframed.startswith(MARK)
         return is_first and self.came.removesuffix(b"\r") == MARK + self.unframed
 
     @property
     def had_return(self) -> bool:
-        """Whether the line lost only a carriage return, and perhaps a byte-order mark."""
+        """Whether it lost only a carriage return, and perhaps a byte-order mark."""
         return self.came == self.unframed + b"\r" or (self.had_mark and self.came.endswith(b"\r"))
 
     @property
@@ -125,7 +125,7 @@ def name_in(line: bytes) -> bytes:
 
 
 def has_code(text: str) -> bool:
-    """Whether a text has what looks like a code or an alias within it."""
+    """Whether a text has what looks like a code or an alias."""
     return TYPED_CODE.search(text) is not None
 
 
@@ -142,9 +142,7 @@ def changed(line: bytes) -> bytes:
 
 
 def spaced(line: bytes) -> bytes:
-    """The line with one space between name and ranks and none elsewhere, and without capital
-    letters in the name.
-    """
+    """The line with one space alone, after the name, and without capital letters in the name."""
     joined = b",".join(part.strip(BLANKS) for part in line.split(b","))
     name, *ranks = re.split(rb"[ \t]+", joined, maxsplit=1)
     return name.lower() + b" " + ranks[0] if ranks else joined

@@ -5,7 +5,7 @@ import enum
 from collections.abc import Collection
 from typing import NamedTuple
 
-from debvote_tools.book import letters, queries
+from debvote_tools.book import queries
 from debvote_tools.book.election import Election, History
 from debvote_tools.book.queries import Elector, Envelope
 from debvote_tools.inbox import letters_in
@@ -95,7 +95,7 @@ def of_electors(
             came = Came(envelope.time, became(envelope), envelope, answers[envelope.line])
             found[name].append(came)
     addresses = {one.name: {*filter(None, map(address_key, one.addresses))} for one in electors}
-    kept = letters.letters(election.book)
+    kept = queries.letters(election.book)
     kept_at = {letter.number: history.act(letter.act).time for letter in kept}
     for letter in letters_in.judged(election, history, kept):
         sender = letter.known.elector_of(letter.parsed)

@@ -1,26 +1,30 @@
 """What goes in: the loop that shows a plan, asks and does it; the act that enters lines, with the
-replies to them; whether they come in time, and which of them came before.
+replies to them; and whether they come in time.
 """
 
-import collections
 import contextlib
 import itertools
-from collections.abc import Callable, Collection, Iterable, Iterator, Mapping, Sequence
-from typing import NamedTuple, TypeVar
+from collections.abc import Callable, Collection, Iterable, Sequence
+from typing import TypeVar
 
-from debvote_tools.book import acting, queries
-from debvote_tools.book.acts import ActName, Detail
-from debvote_tools.book.book import Book, NewAct, Overtaken
+from debvote_tools.cli.arguments import Acting, option
+from debvote_tools.book import queries
+from debvote_tools.book.book import ActName, Book, Detail, NewAct, Overtaken
 from debvote_tools.book.election import Election, History
-from debvote_tools.book.queries import Envelope, NewEnvelope
-from debvote_tools.book.reporting import act_time, count_of
-from debvote_tools.cli.arguments import option
-from debvote_tools.cli.console import OutputFailed, is_terminal, is_yes, tell, tell_many
+from debvote_tools.book.queries import NewEnvelope
+from debvote_tools.cli.console import (
+    OutputFailed,
+    act_time,
+    count_of,
+    is_terminal,
+    is_yes,
+    tell,
+    tell_many,
+)
 from debvote_tools.cli.faults import Fault, Status
 from debvote_tools.files import BALLOTS_LIMIT, LINES_LIMIT, uninterrupted
-from debvote_tools.inbox.files import CameFile
 from debvote_tools.inbox.lines import Line, name_in
-from debvote_tools.inbox.vote import LATE_REPLY, JudgedLine, Vote
+from debvote_tools.inbox.vote import LATE_REPLY, Vote
 from debvote_tools.text.times import now, time_in_words
 
 CAME_BEFORE_CLOSE = "--came-before-close"
@@ -32,7 +36,7 @@ LONGEST_LINE = 500
 Plan = TypeVar("Plan")
 
 
-class Arguments(acting.Arguments):
+class Arguments(Acting):
     """The options of a command that enters lines."""
 
     came_before_close: str | None = option(
@@ -116,7 +120,7 @@ def enter(
 
 
 def electors_of(vote: Vote, lines: Sequence[bytes]) -> list[int | None]:
-    """For each line, the elector whose name it begins with."""
+    """Of each line the elector whose name it begins with."""
     names = list(map(name_in, lines))
     on_roll = vote.names_on_roll & {name.decode("ascii") for name in set(names)}
     numbers = queries.elector_numbers(vote.book, on_roll)
@@ -124,7 +128,7 @@ def electors_of(vote: Vote, lines: Sequence[bytes]) -> list[int | None]:
 
 
 def demand_room(book: Book, new: Sequence[NewEnvelope]) -> None:
-    """Stops if debvote would no longer take the ballots."""
+    """Stops at more lines than debvote takes."""
     count, added = len(new), sum(len(envelope.line) + 1 for envelope in new)
     # the file of the book is longer than its lines, so they are counted only if it may be too long
     if queries.last_envelope(book) + count > LINES_LIMIT or book.size() + added > BALLOTS_LIMIT:
@@ -145,7 +149,6 @@ def envelope_words(numbers: Collection[int]) -> str:
 
 
 def too_long(line: Line) -> str | None:
-    """Why a line is much longer than any ballot; None if it is not."""
     words = f"the line has {len(line.came)} bytes, and a ballot has a few dozen"
     return words if len(line.came) > LONGEST_LINE else None
 
@@ -158,10 +161,9 @@ def notes(election: Election, history: History, what: str) -> list[str]:
         return [f"Note: the vote was closed at {closed}; {what} now is late."]
     if history.until is not None and now() >= history.until:
         over = f"the announced end of the vote, {time_in_words(history.until)}, has passed"
-        counts = (
-            f"{what} still counts until you close the vote, and the result page says how many lines"
-        )
-        return [f"Note: {over}; {counts}: {election.command('close')}"]
+        counts = f"{what} still counts until you close the vote"
+        close = election.command("close")
+        return [f"Note: {over}; {counts}, and the result page says how many lines: {close}"]
     return []
 
 
@@ -193,89 +195,3 @@ def demand_same_call(vote: Vote, history: History, cure: str, not_done: str) -> 
     if history.call != vote.call:
         words = "the call for votes was made anew meanwhile"
         raise Fault(None, words, cure, done=not_done)
-
-
-# ---------------------------------------------------------------- which lines of files came before
-class FileLines(NamedTuple):
-    """A file and its lines in the order of entering: which of them go in now, and which came
-    before.
-    """
-
-    came: CameFile
-    lines: tuple[JudgedLine, ...]
-    empty: tuple[Line, ...]
-    new: tuple[JudgedLine, ...] = ()
-    # each with what has happened since, if it no longer counts: then `--again` takes it
-    repeated: tuple[tuple[JudgedLine, str | None], ...] = ()
-    # the envelopes of lines that go in again: from then on such a line is known by its new envelope
-    again: tuple[int, ...] = ()
-
-
-def sorted_out(
-    book: Book, files: Sequence[FileLines], *, takes_again: bool, is_reopened: bool
-) -> tuple[FileLines, ...]:
-    """The files, with the new lines of each. If n copies of a line came in earlier files, its first
-    n copies in this file are duplicates, whether those were counted, refused, struck or late. Files
-    that an `undo` took back do not count. A file that goes in now is an earlier one for the next.
-    """
-    counts = queries.lines_that_came(book)
-    is_known = any(line.as_entered in counts for file in files for line in file.lines)
-    if not is_known and len(files) == 1:
-        return (files[0]._replace(new=files[0].lines),)
-    by_line = queries.came_in_files(book) if is_known else {}
-    with_envelopes = [list(envelopes_of(file.lines, by_line)) for file in files]
-    # a later row of the same file did not come since
-    own = {envelope.number for lines in with_envelopes for _, envelope, _ in lines if envelope}
-    numbers = queries.last_numbers(book).items() if is_known else ()
-    last = {elector: (number, line) for elector, (number, line) in numbers if number not in own}
-    going_in: set[bytes] = set()
-    found = []
-    for file, lines in zip(files, with_envelopes):
-        new, repeated, again, came_first = [], [], [], []
-        for nth, envelope, line in lines:
-            change = None
-            if envelope is not None and line.as_entered not in going_in:
-                change = change_since(envelope, line, last, is_reopened=is_reopened)
-            if nth > counts[line.as_entered]:
-                new.append(line)
-                came_first.append(line.as_entered)
-            elif takes_again and envelope is not None and change is not None:
-                new.append(line)
-                again.append(envelope.number)
-            else:
-                repeated.append((line, change))
-        counts.update(came_first)
-        going_in.update(line.as_entered for line in new)
-        found.append(file._replace(new=tuple(new), repeated=tuple(repeated), again=tuple(again)))
-    return tuple(found)
-
-
-def envelopes_of(
-    lines: Iterable[JudgedLine], by_line: Mapping[bytes, Sequence[Envelope]]
-) -> Iterator[tuple[int, Envelope | None, JudgedLine]]:
-    """Each line with its number among its copies, and with its envelope if it came before."""
-    counts: collections.Counter[bytes] = collections.Counter()
-    for line in lines:
-        counts[line.as_entered] += 1
-        nth, envelopes = counts[line.as_entered], by_line.get(line.as_entered, ())
-        yield nth, envelopes[nth - 1] if nth <= len(envelopes) else None, line
-
-
-def change_since(
-    envelope: Envelope,
-    line: JudgedLine,
-    last: Mapping[int, tuple[int, bytes]],
-    *,
-    is_reopened: bool,
-) -> str | None:
-    """Why a line that came no longer counts: it was struck, its elector has sent another ballot, or
-    it was late before a reopen.
-    """
-    if envelope.is_struck:
-        return f"was struck (envelope {envelope.number})"
-    if envelope.is_late:
-        return f"was late (envelope {envelope.number})" if is_reopened else None
-    number, text = last.get(envelope.elector or 0, (0, b""))
-    if number <= envelope.number or text == line.as_entered or not line.is_ballot:
-        return None
-    return f"{line.voter} has voted since (envelope {number})"

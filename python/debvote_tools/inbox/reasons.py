@@ -10,7 +10,7 @@ import dataclasses
 import datetime
 import enum
 
-from debvote_tools.cli.terminal_text import shown_text
+from debvote_tools.cli.console import shown_text
 from debvote_tools.text.language import marked
 
 Value = str | int | datetime.datetime

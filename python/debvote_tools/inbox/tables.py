@@ -15,7 +15,7 @@ from collections.abc import Callable, Collection, Iterator, Mapping, Sequence
 from typing import NamedTuple
 
 from debvote_tools.cli.faults import Fault, Status
-from debvote_tools.cli.terminal_text import shown_text
+from debvote_tools.cli.console import shown_text
 from debvote_tools.inbox.lines import BLANKS, NOTHING_ADDED, Line
 from debvote_tools.poll.plain_names import without_accents
 from debvote_tools.poll.sealed import SealedPoll
@@ -45,7 +45,7 @@ BadTable = Callable[[object, str, str], Fault]
 
 
 class Row(NamedTuple):
-    """A row with the line of the file where it begins, both counted from 1. It has at least as many
+    """A row, and the line of the file where it begins, both counted from 1. It has at least as many
     cells as the head line.
     """
 
@@ -71,7 +71,6 @@ class Table(NamedTuple):
 
     @property
     def heads(self) -> list[str]:
-        """The heads in a form to be compared."""
         return [head_form(cell) for cell in self.head.cells]
 
     @property
@@ -81,7 +80,6 @@ class Table(NamedTuple):
 
 
 def kind_of(data: bytes) -> str | None:
-    """What a file is that is no plain text, by its first bytes."""
     return next((kind for start, kind in BEGINNINGS.items() if data.startswith(start)), None)
 
 
@@ -181,10 +179,9 @@ def columns_of(
     ranks: str,
     poll: SealedPoll,
     roll: Collection[str],
-    *,
     is_blank_unranked: bool = False,
 ) -> Columns:
-    """The columns that the command line names. A head that has a comma is in quotation marks."""
+    """The columns that the command line names. A head with a comma is in quotation marks."""
     try:
         named: list[str] = next(csv.reader([ranks], strict=True, skipinitialspace=True), [])
     except csv.Error as error:
@@ -323,7 +320,6 @@ class OptionNames:
         return self.numbers.get(form) or self.numbers.get(NUMBERED.sub("", form, count=1))
 
     def number_before(self, text: str) -> int | None:
-        """The number of an option with which a text begins."""
         found = NUMBERED.match(folded(text))
         return int(found[1]) if found else None
 
@@ -383,9 +379,7 @@ ORDERS = ("ymd", "dmy", "mdy")
 
 
 def against_order(table: Table, is_newest_first: bool) -> str | None:
-    """Two rows whose times contradict the order, in words. None if there are no times, or a column
-    of times has that order.
-    """
+    """Two rows whose times contradict the order, in words. None if a column of times has it."""
     rows = [row for row in table.rows if not row.is_blank]
     contradiction = None
     for index, head in enumerate(table.head.cells):
@@ -402,9 +396,7 @@ def against_order(table: Table, is_newest_first: bool) -> str | None:
 
 
 def times_in(cells: Sequence[str]) -> Iterator[list[datetime.datetime]]:
-    """What the cells say if all of them are times; in each order of day and month in which they can
-    be read.
-    """
+    """The times, if all cells are times, in each order of day and month that is possible."""
     found = itertools.takewhile(bool, map(TIME.fullmatch, cells))
     parts = [match.groupdict() for match in found if match]
     for order in ORDERS if cells and len(parts) == len(cells) else ():

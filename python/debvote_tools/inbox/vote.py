@@ -7,9 +7,8 @@ from collections.abc import Iterable, Iterator, Sequence
 from typing import NamedTuple
 
 from debvote_tools.book.election import Election, History
-from debvote_tools.book.reporting import count_of
+from debvote_tools.cli.console import count_of, shown_line
 from debvote_tools.cli.faults import other_format
-from debvote_tools.cli.terminal_text import shown_line
 from debvote_tools.debvote import Finding
 from debvote_tools.files import BALLOTS_LIMIT, LINES_LIMIT
 from debvote_tools.inbox.lines import Line, ballot_file, differences, has_code
@@ -52,7 +51,7 @@ class JudgedLine(NamedTuple):
 
 
 class Vote:
-    """The vote that lines are entered for, as it was called. Stops before the call."""
+    """An election as it was called, and what debvote says of its lines. Stops before the call."""
 
     def __init__(self, election: Election, history: History) -> None:
         self.election, self.book, self.debvote = election, election.book, election.debvote
@@ -82,9 +81,8 @@ class Vote:
     def read(self, lines: Sequence[Line]) -> list[JudgedLine]:
         """What debvote says of lines, none of them empty. It is started twice at most.
 
-        The lines are the only input, so what is said of one depends on no other. If the repaired
-        line is refused, the line goes in as it came, and is refused too, since repairs leave a
-        right line as it is; the reason may be another one.
+        If the repaired line is refused, the line goes in as it came, and is refused too, since
+        repairs leave a right line as it is; the reason may be another one.
         """
         refused = self.findings([line.repaired for line in lines])
         changed = (line for line in lines if line.repaired in refused)
@@ -113,9 +111,7 @@ class Vote:
         return {line: self.answered[line] for line in lines}
 
     def findings(self, lines: Sequence[bytes]) -> dict[bytes, Finding]:
-        """Why debvote refuses some of these lines. If the roll has codes, none is offered. Without
-        lines debvote is not asked.
-        """
+        """Why debvote refuses some of these lines. If the roll has codes, none is offered."""
         if not lines:
             return {}
         refused = self.debvote.findings(self.poll_bytes, ballot_file(lines)).refused
@@ -133,16 +129,13 @@ class Vote:
 
     @functools.cached_property
     def names_by_bare_name(self) -> dict[str, list[str]]:
-        """The names of the roll by what they are without their number."""
         by_bare_name: dict[str, list[str]] = collections.defaultdict(list)
         for name in self.roll:
             by_bare_name[NUMBER.sub("", name)].append(name)
         return by_bare_name
 
     def replies(self, before: Sequence[bytes], new: Sequence[bytes]) -> list[str]:
-        """The reply to each new line, after the lines before. Without new ones debvote is not
-        asked.
-        """
+        """The reply to each new line, after the lines before."""
         if not new:
             return []
         replies = self.debvote.replies(self.poll_bytes, ballot_file([*before, *new]))
@@ -151,9 +144,7 @@ class Vote:
         return replies[len(before) :]
 
     def standing(self, lines: Sequence[bytes]) -> dict[str, str]:
-        """The ranks of the ballots that stand if these lines are all, by elector. Without lines
-        debvote is not asked.
-        """
+        """The ranks of the ballots that stand if these lines are all, by elector."""
         return self.debvote.standing(self.poll_bytes, ballot_file(lines)) if lines else {}
 
     # ------------------------------------------------------------ words
@@ -211,7 +202,7 @@ def parts_of(lines: Sequence[bytes]) -> Iterator[list[bytes]]:
 
 
 def frame_words(lines: Iterable[Line]) -> Iterator[str]:
-    """The byte-order marks and the line ends of Windows that were removed, once a file."""
+    """The marks and line ends of Windows that were removed, once a file."""
     by_source: dict[str, list[Line]] = {}
     for line in lines:
         if line.came != line.repaired:
@@ -249,7 +240,8 @@ def standing_words(
         gone = list(changed.values()).count(None)
         said = f"  {count_of(gone, 'elector')}: {none}; {count_of(len(changed) - gone, 'elector')}: an earlier ballot"
         return [said] if changed else []
-    return [
-        f"  {name}: {none if ranks is None else vote.ranks_in_words(ranks) + ', as before'}"
+    words = {
+        name: ranks and f"{vote.ranks_in_words(ranks)}, as before"
         for name, ranks in changed.items()
-    ]
+    }
+    return [f"  {name}: {said or none}" for name, said in words.items()]

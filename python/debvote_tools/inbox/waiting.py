@@ -6,10 +6,9 @@ after the close `count` and `publish`.
 """
 
 import enum
-
 from collections.abc import Collection, Mapping
 
-from debvote_tools.book import letters
+from debvote_tools.book import queries
 from debvote_tools.book.election import Election, History
 
 
@@ -24,7 +23,7 @@ class Arrived(enum.Enum):
 
 def waiting_letters(election: Election, history: History) -> dict[int, Arrived]:
     """The letters that wait for the secretary, by their numbers: when each arrived."""
-    kept = letters.letters(election.book)
+    kept = queries.letters(election.book)
     if not kept:
         return {}
     from debvote_tools.inbox.letters_in import judged
@@ -32,17 +31,14 @@ def waiting_letters(election: Election, history: History) -> dict[int, Arrived]:
     # where letters have to be signed, what was signed says which are copies, which the book may not
     # have known when they came
     if not history.announced("signed"):
-        kept = letters.undecided(kept)
-    waiting = {letter.number: letter for letter in judged(election, history, kept) if letter.waits}
-    arrived = {
-        number: Arrived.LATE if letter.arrived_late else Arrived.IN_TIME
-        for number, letter in waiting.items()
-    }
-    return arrived | {
-        number: Arrived.BEFORE_THE_CALL
-        for number, letter in waiting.items()
-        if letter.arrived_before_call
-    }
+        kept = queries.undecided(kept)
+    found = {}
+    for letter in judged(election, history, kept):
+        if letter.waits:
+            arrived = Arrived.LATE if letter.arrived_late else Arrived.IN_TIME
+            is_before = letter.arrived_before_call
+            found[letter.number] = Arrived.BEFORE_THE_CALL if is_before else arrived
+    return found
 
 
 def in_time(waiting: Mapping[int, Arrived]) -> list[int]:
@@ -53,16 +49,14 @@ def left(history: History) -> set[int]:
     """The letters that a close or a publication left waiting, with a reason: they stop nothing
     again.
     """
-    return {
-        number
-        for act in history.since_call("close", "publish")
-        for number in act.detail.get("left", [])
-    }
+    acts = history.since_call("close", "publish")
+    return {number for act in acts for number in act.detail.get("left", [])}
 
 
 def stopping(waiting: Mapping[int, Arrived], history: History) -> list[int]:
     """The letters that arrived in time and wait, but for those that were left so before."""
-    return [number for number in in_time(waiting) if number not in left(history)]
+    before = left(history)
+    return [number for number in in_time(waiting) if number not in before]
 
 
 def why_they_stop(numbers: Collection[int]) -> str:

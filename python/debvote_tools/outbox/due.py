@@ -10,7 +10,7 @@ import re
 import secrets
 from collections.abc import Callable, Iterator, Mapping, Sequence
 
-from debvote_tools.book import letters, queries, sent
+from debvote_tools.book import queries, sent
 from debvote_tools.book.election import LETTERS, RESULT_LETTER, Election, History
 from debvote_tools.book.queries import Elector
 from debvote_tools.book.sent import REFUSED, TAKEN, WRITTEN, About, SentLetter
@@ -381,7 +381,7 @@ def came_back(election: Election, electors: Sequence[Elector]) -> dict[int, int]
     """
     found: dict[int, int] = {}
     by_mark = {elector.mark: elector for elector in electors if elector.mark}
-    for act, sender, data in letters.of_programs(election.book):
+    for act, sender, data in queries.of_programs(election.book):
         for mark in itertools.chain(*map(OWN.findall, texts_of(data))):
             elector = by_mark.get("".join(mark))
             if elector is not None and sender not in map(address_key, elector.addresses):

@@ -9,7 +9,7 @@ from collections.abc import Mapping
 
 from debvote_tools.text.ballots import IN_A_LIST, without_ballots
 from debvote_tools.cli.faults import Fault, Status
-from debvote_tools.cli.terminal_text import LINE_ENDS, odd_sign
+from debvote_tools.cli.console import LINE_ENDS, odd_sign
 from debvote_tools.files import sha256_of
 from debvote_tools.text.language import Language, marked
 from debvote_tools.text.rendering import render_letter, render_page, resources

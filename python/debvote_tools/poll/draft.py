@@ -10,15 +10,13 @@ from collections.abc import Mapping, Sequence
 from typing import Any, NamedTuple
 
 from debvote_tools.book import queries
-from debvote_tools.cli.console import tell, tell_as_it_is
+from debvote_tools.cli.console import LINE_ENDS, count_of, shown_text, tell, tell_as_it_is
 from debvote_tools.book.election import LETTER_TEXT, POLL_FILE, TEXTS, Election, History
-from debvote_tools.book.reporting import count_of
 from debvote_tools.cli.faults import Fault, Status, kept_in, stop_at
 from debvote_tools.files import POLL_LIMIT, file_text, read_whole
 from debvote_tools.poll.plain_names import bad_options, bad_title, plain_options, plain_title
 from debvote_tools.poll.sealed import KEYS, SealedPoll, is_set, plain_form, read_plain
 from debvote_tools.result.sheet import Sheet, sheet_in
-from debvote_tools.cli.terminal_text import LINE_ENDS, shown_text
 
 # the file that `new` writes, with its explanations
 NEW_POLL = pathlib.Path(__file__).with_name("new_poll.toml")

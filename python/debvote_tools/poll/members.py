@@ -11,7 +11,7 @@ from typing import NamedTuple, TypeVar
 from debvote_tools.inbox.mime import ADDRESS, address_key
 from debvote_tools.book.queries import Elector
 from debvote_tools.inbox.tables import Row, read_table
-from debvote_tools.book.reporting import listed
+from debvote_tools.cli.console import listed, shown_text, steering
 from debvote_tools.cli.faults import Fault, stop_at
 from debvote_tools.files import TABLE_LIMIT, read_whole
 from debvote_tools.poll.plain_names import (
@@ -21,7 +21,6 @@ from debvote_tools.poll.plain_names import (
     is_elector_name,
     made_different,
 )
-from debvote_tools.cli.terminal_text import shown_text, steering
 
 # the heads of each column, small letters alone, the preferred ones first
 HEADS = {

@@ -7,7 +7,7 @@ import unicodedata
 from collections.abc import Collection, Iterable, Mapping, Sequence
 from typing import NamedTuple
 
-from debvote_tools.cli.terminal_text import LINE_ENDS, number_of, odd_sign, shown_text
+from debvote_tools.cli.console import LINE_ENDS, number_of, odd_sign, shown_text
 
 # how long a plain name may be, in bytes, and a name as people read it, in characters
 TITLE_LIMIT, OPTION_LIMIT, ELECTOR_LIMIT = 80, 40, 32

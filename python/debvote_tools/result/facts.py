@@ -217,7 +217,7 @@ def told(language: Language, template: str = "told.jinja") -> Any:
     return templates.get_template(template).module
 
 
-def all_acts(facts: Facts, language: Language) -> list[str]:
+def all_acts(facts: Facts, language: Language, *, but_quiet: bool = False) -> list[str]:
     chronicle = facts.chronicle or Chronicle()
 
     def in_words(value: Any) -> Any:
@@ -230,17 +230,13 @@ def all_acts(facts: Facts, language: Language) -> list[str]:
             act, in_words(act.time), {key: in_words(value) for key, value in act.places.items()}
         )
         for act in chronicle.acts
+        if not (but_quiet and act.is_quiet)
     ]
 
 
 def told_acts(facts: Facts, language: Language) -> list[str]:
     """What the letter tells: all but the call and a plain close."""
-    chronicle = facts.chronicle or Chronicle()
-    loud = tuple(act for act in chronicle.acts if not act.is_quiet)
-    acts = all_acts(
-        dataclasses.replace(facts, chronicle=dataclasses.replace(chronicle, acts=loud)), language
-    )
-    return [*acts, *after_the_end(facts, language)]
+    return [*all_acts(facts, language, but_quiet=True), *after_the_end(facts, language)]
 
 
 def after_the_end(facts: Facts, language: Language) -> list[str]:

@@ -9,11 +9,12 @@ import os
 import pathlib
 import runpy
 import shutil
+import sys
 import tempfile
 from collections.abc import Iterator
 
 from debvote_tools.cli.console import tell_aside, tell_aside_as_it_is
-from debvote_tools.cli.faults import Fault, Status, Told
+from debvote_tools.cli.faults import Fault, Status
 from debvote_tools.debvote import Answer, Debvote, findings_in
 from debvote_tools.files import TEMPORARY, locked, sha256_of, sync_folder, write_public
 from debvote_tools.poll.secret import demand_no_code
@@ -28,8 +29,7 @@ from debvote_tools.result.facts import (
     Facts,
     doubts_about,
 )
-from debvote_tools.result.page import page_of
-from debvote_tools.result.picture import picture_of
+from debvote_tools.result.page import page_of, picture_of
 from debvote_tools.result.result_letter import letter_of
 from debvote_tools.result.sheet import Sheet, result_json, sheet_in, votes_csv
 
@@ -165,7 +165,7 @@ def fill(folder: pathlib.Path, given: Facts, program_folder: pathlib.Path | None
         answer = debvote.run(task, "--poll", POLL, "--ballots", BALLOTS, *words)
         tell_aside_as_it_is(answer.faults)
         if answer.status != Status.DONE and not (answer.text and answer.status in also):
-            raise Told(answer.status)
+            sys.exit(answer.status)
         return answer
 
     write({POLL: given.poll.as_bytes(), BALLOTS: given.ballots})

@@ -4,20 +4,21 @@ import base64
 import html
 import re
 import shlex
+import shutil
+import subprocess
+import xml.etree.ElementTree as xml
 from collections.abc import Iterable, Mapping
 from typing import Any
 
 from markupsafe import Markup
 
-from debvote_tools.cli.terminal_text import seen
+from debvote_tools.cli.console import seen, tell_aside
 from debvote_tools.debvote import standing_in
 from debvote_tools.inbox.lines import ballot_lines
 from debvote_tools.poll.secret import ALIAS, BY_OPENSSL, BY_PYTHON, REMAINS, sealed_checksum
 from debvote_tools.poll.call import OPTION, explanations_of, paragraphs_of
-from debvote_tools.result import facts as files
-from debvote_tools.result import scripts
+from debvote_tools.result import facts as files, scripts
 from debvote_tools.result.facts import Answers, Facts, after_the_end, all_acts, sentences_of
-from debvote_tools.result.picture import MOST_IN_PAGE, drawing_words, picture_in_page
 from debvote_tools.result.result_letter import told_if_it_decides
 from debvote_tools.result.why import Why
 from debvote_tools.text.ballots import IN_A_LIST, BallotWords
@@ -37,6 +38,21 @@ NAMES_LIMIT = 2_000_000
 # how many characters of a refused line are shown, and how many bytes of such lines in all, or a few
 # more
 SHOWN, TEXTS_LIMIT = 100, 1_000_000
+
+# if Graphviz takes longer, there is no picture
+PICTURE_SECONDS = 60
+
+# a graph of more options than these is too large to be read within the page, and takes Graphviz
+# minutes to draw with care
+MOST_IN_PAGE = 12
+IN_HASTE = ["-Gsplines=line", "-Gnslimit=1", "-Gmclimit=0.1"]
+
+# a picture becomes no smaller within the page than this share of its size, so that its words can be
+# read
+LEAST_SHARE = 0.75
+
+SPACE = "{http://www.w3.org/2000/svg}"
+SHAPES = {SPACE + name for name in ("svg", "g", "polygon", "polyline", "ellipse", "path", "text")}
 
 
 def page_of(given: Facts, answers: Answers, checksums: Mapping[str, str]) -> bytes:
@@ -76,8 +92,7 @@ def page_of(given: Facts, answers: Answers, checksums: Mapping[str, str]) -> byt
         facts=given,
         poll=poll,
         sheet=sheet,
-        version=answers.version,
-        verified=answers.verified,
+        answers=answers,
         names=names,
         named=named,
         framed=framed_options(names, in_html),
@@ -91,7 +106,6 @@ def page_of(given: Facts, answers: Answers, checksums: Mapping[str, str]) -> byt
         if given.given_checksum == checksums[files.POLL]
         else given.given_checksum,
         explanations=explanations_of(poll),
-        has_picture=answers.picture is not None,
         picture=picture,
         picture_command=shlex.join(drawing_words(len(names))),
         ballot_words={ranks: Markup(words.of(ranks)) for ranks in set(standing.values())},
@@ -207,3 +221,47 @@ def carried_files(poll: bytes, ballots: bytes, sheet: bytes) -> dict[str, tuple[
         )
         carried[place] = Markup(text), not is_plain
     return carried
+
+
+# ---------------------------------------------------------------- the picture
+def drawing_words(options: int) -> list[str]:
+    return ["dot", "-Tsvg", *([] if options <= MOST_IN_PAGE else IN_HASTE)]
+
+
+def picture_of(graph: str, options: int) -> bytes | None:
+    """Draws a graph as a picture. If it can't, it says why, and returns None."""
+    dot = shutil.which("dot")
+    if dot is None:
+        tell_aside("Note: no picture: Graphviz (its program dot) is not installed")
+        return None
+    words = [dot, *drawing_words(options)[1:]]
+    try:
+        return subprocess.run(
+            words, input=graph.encode(), capture_output=True, timeout=PICTURE_SECONDS, check=True
+        ).stdout
+    except subprocess.SubprocessError as error:
+        tell_aside(f"Note: no picture: {error}")
+        return None
+
+
+def picture_in_page(picture: bytes, words: str) -> tuple[Markup, int]:
+    """The picture within the page, and its least width there. The words are for those who do not
+    see it.
+
+    It has shapes and texts alone, without the names by which Graphviz calls them: as node1, they
+    may be those of electors.
+    """
+    svg = xml.fromstring(picture)
+    for part in list(svg.iter()):
+        part.attrib.pop("id", None)
+        for child in [child for child in part if child.tag not in SHAPES]:
+            part.remove(child)
+    # a page measures in points of the screen, and not of paper
+    for side in ("width", "height"):
+        svg.set(side, svg.get(side, "0").removesuffix("pt"))
+    svg.set("role", "img")
+    svg.set("aria-label", words)
+    xml.register_namespace("", SPACE[1:-1])
+    return Markup(xml.tostring(svg, encoding="unicode")), round(
+        LEAST_SHARE * float(svg.get("width", "0"))
+    )

@@ -8,9 +8,8 @@ import json
 from collections.abc import Iterator, Mapping, Sequence
 from typing import Any
 
-from debvote_tools.book import letters, queries
-from debvote_tools.book.acts import Detail
-from debvote_tools.book.book import Book, DoneAct, as_text, from_text
+from debvote_tools.book import queries
+from debvote_tools.book.book import Book, Detail, DoneAct, as_text, from_text
 from debvote_tools.book.election import LETTER_TEXT, Election, History, Sealed
 from debvote_tools.cli.console import is_terminal, is_yes, tell_aside
 from debvote_tools.cli.faults import Fault
@@ -261,7 +260,7 @@ def late_letters_in_time(book: Book, history: History) -> list[Doubt]:
     for envelope in late:
         numbers.setdefault(envelope.letter, []).append(str(envelope.number))
     found = []
-    for kept in letters.letters(book):
+    for kept in queries.letters(book):
         arrived = json.loads(kept.known)["arrived"] if kept.number in numbers else None
         if arrived is not None and from_text(arrived) <= last:
             places = {

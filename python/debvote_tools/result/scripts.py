@@ -112,6 +112,9 @@ COUNT_AGAIN = {
     # those with which the page says options and ballots
     "option": OPTION,
     "plain_name": PLAIN_NAME,
+    "equally": IN_A_LIST.equally,
+    "unranked": IN_A_LIST.unranked,
+    "nothing": IN_A_LIST.nothing,
 }
 
 
@@ -131,11 +134,6 @@ def find_letters(language: Language) -> str:
 
 def again_words(language: Language) -> str:
     """For the script that counts again, as JSON; it says a ballot as the page does."""
-    ballots = {
-        "equally": IN_A_LIST.equally,
-        "unranked": IN_A_LIST.unranked,
-        "nothing": IN_A_LIST.nothing,
-    }
     between = {
         "then": IN_A_LIST.then,
         "and": "{entries} and {last}",
@@ -143,5 +141,5 @@ def again_words(language: Language) -> str:
         "semicolon": marked("{before}; {after}"),
     }
     return language.words(
-        COUNT_AGAIN | ballots, **{name: language.between(text) for name, text in between.items()}
+        COUNT_AGAIN, **{name: language.between(text) for name, text in between.items()}
     )

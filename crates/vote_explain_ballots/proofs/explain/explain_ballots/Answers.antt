@@ -1,9 +1,32 @@
-use Rattle.std.proofs.Common.{sym, subst}
-use Rattle.vote_explain_ballots.specs.Refusals.{AreReplies}
+use Rattle.std.proofs.Common.{refl, subst, sym}
+use Rattle.vote_explain_poll.specs.Findings.{AreLinesFor}
+use Rattle.vote_explain_ballots.specs.Explained.{AreWarnings, IsIfText, SaysRefusal}
+use Rattle.vote_explain_ballots.specs.Refusals.{AreReplies, refusals}
 use Rattle.vote_explain_ballots.proofs.BoxReplies.{replies_of_box}
 use Rattle.vote_explain_ballots.proofs.explain.explain_ballots.Goals as goal
 
-pub text_of-requires-clause-replies : goal.text_of-requires-clause-replies
-text_of-requires-clause-replies c =
-    subst (AreReplies c.args.poll.now c.args.lines.now) (sym c.steps.ensures.steps)
+pub add_all-requires : goal.add_all-requires
+add_all-requires c =
+    subst (AreReplies c.args.poll.now c.args.lines.now) (sym c.steps-steps.ensures.steps)
     (replies_of_box c.args.poll.now c.args.lines.now c.in_ok-ballot_box.ballot_box c.in_ok-ballot_box.ensures.held c.in_ok-ballot_box.ensures.in_order)
+
+pub returns-clause-text : goal.returns-clause-text
+returns-clause-text c =
+    let poll = c.args.poll.now in
+    let lines = c.args.lines.now in
+    let is_text = c.in_ok-is_text.ensures.is_text in
+    let (of_file, is_of_file, e1) = c.in_ok-is_text.ensures.text in
+    let (warnings, are_warnings, e2) = c.in_ok-push_warnings.ensures in
+    let (findings, are_findings, e3) = c.in_ok-add_all.ensures in
+    let (example, is_example, e4) = c.in_ok-push_example.ensures in
+    record {
+      of_file = of_file;
+      is_of_file = is_of_file;
+      warnings = warnings;
+      are_warnings = subst (λ b. IsIfText b (AreWarnings poll lines) warnings) is_text are_warnings;
+      findings = findings;
+      are_findings = subst (λ b. AreLinesFor (SaysRefusal b poll) (refusals poll lines) findings) is_text are_findings;
+      example = example;
+      is_example = is_example;
+      is_said = rw (c.in_ok-push_totals.ensures, e4, e3, e2, e1, c.new-findings.ensures) refl;
+    }
