@@ -246,7 +246,9 @@ class LettersDue:
 
     def closed(self) -> TextOf:
         if not self.history.is_closed:
-            raise self.too_early("the vote is not closed", "close")
+            raise self.stops(
+                "the vote is not closed", f"run {self.election.command('close')} first"
+            )
         poll, language = self.composer.call.poll, self.election.language
         text = closing_letter(self.history, poll, language).decode()
         self.to_each(self.history.closes[-1].number)
@@ -255,7 +257,8 @@ class LettersDue:
     def result(self) -> TextOf:
         act = last_publication(self.history)
         if act is None or not self.history.is_closed:
-            raise self.too_early("nothing is published", "publish")
+            cure = f"run {self.election.command('publish')} first"
+            raise self.stops("nothing is published", cure)
         if self.composer.call.at is None:
             why, cure = "the letter must say where the result is published", "give it: --at URL"
             raise Fault("--at", why, cure, Status.BAD_WORDS, "nothing was written")
@@ -272,15 +275,13 @@ class LettersDue:
             self.kind, elector, has_ballot=elector.name in standing, letter=letter
         )
 
-    def too_early(self, words: str, command: str) -> Fault:
-        cure = f"run {self.election.command(command)} first"
+    def stops(self, words: str, cure: str) -> Fault:
         return Fault(self.kind, words, cure, Status.DOUBT, "nothing was written")
 
     def demand_not_over(self) -> None:
         if self.composer.is_over:
-            words = "the vote is over, so nobody is asked to vote"
             cure = f"see {self.election.command('status')}"
-            raise Fault(self.kind, words, cure, Status.DOUBT, "nothing was written")
+            raise self.stops("the vote is over, so nobody is asked to vote", cure)
 
     def to_each(self, for_act: int) -> None:
         """One letter to each elector; those that were written before, to the same address and for
