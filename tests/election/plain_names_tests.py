@@ -9,7 +9,16 @@ import support
 sys.path.insert(0, str(support.ROOT / "python"))
 
 from debvote_tools.poll import plain_names  # noqa: E402
-from debvote_tools.poll.plain_names import # noqa: E402     alike, bad_options, bad_title, elector_name, made_different, plain_options, plain_title, similar_names
+from debvote_tools.poll.plain_names import (  # noqa: E402
+    alike,
+    bad_options,
+    bad_title,
+    elector_name,
+    made_different,
+    plain_options,
+    plain_title,
+    similar_names,
+)
 
 OPTION = re.compile(r"[!-~]([ -~]{0,38}[!-~])?")
 
