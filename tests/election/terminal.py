@@ -10,7 +10,7 @@ import time
 
 import support
 
-# words that have not come by then do not come
+# words that have not come by then do not come, and a program that has not ended hangs
 SECONDS = 20
 
 
@@ -52,7 +52,10 @@ class Terminal:
 
     def end(self) -> tuple[str, int]:
         """The rest of the text, and the exit status."""
+        end = time.monotonic() + SECONDS
         while True:
+            ready, _, _ = select.select([self.keys], [], [], max(0, end - time.monotonic()))
+            self.test.assertTrue(ready, f"does not end, has {self.text!r}")
             try:
                 data = os.read(self.keys, 65_536)
             except OSError:
