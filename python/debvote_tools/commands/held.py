@@ -36,9 +36,7 @@ class Arguments(Acting):
     )
     set_aside: bool = flag("Set the letters aside: they are dealt with, and wait no longer")
     wait: bool = flag("Have the letters wait again")
-    force: bool = flag(
-        "Enter the ballot although its elector has voted since, or --as names somebody who did not send the letter"
-    )
+    force: bool = flag("Enter the ballot although its elector has voted since, or did not send it")
     yes: bool = flag("Enter the ballots without asking")
 
 
