@@ -161,6 +161,19 @@ class Sending(SendTest):
         kind = 'multipart/report; report-type=delivery-status; boundary="b"'
         self.add_letters(letter(name, f"{text}--b--\n", sender=sender, kind=kind, number=f"{what}{len(self.server.taken)}"))
 
+    def test_what_is_no_letter_that_came_back(self) -> None:
+        """A program answers for somebody who is away; a delivery is late, or done."""
+        self.assertEqual(self.send("call").status, 0)
+        [subject] = [parsed(taken.data)["Subject"] for taken in self.server.taken if taken.to == "ada@club.example"]
+        away = {"head": f"Auto-Submitted: auto-replied\nReturn-Path: <>\nSubject: Re: {subject}\n", "sender": "ada.private@mail.example"}
+        self.add_letters(letter("ada", "I am away.", number="away", **away))
+        for action, wanted in (("delayed", {}), ("delivered", {}), ("failed", {"ada": "came back"})):
+            report = f"--b\nContent-Type: message/delivery-status\n\nReporting-MTA: dns; x\n\nAction: {action}\n"
+            text = f"{report}--b\nContent-Type: text/rfc822-headers\n\nSubject: {subject}\n--b--\n"
+            kind = 'multipart/report; report-type=delivery-status; boundary="b"'
+            self.add_letters(letter("ada", text, sender="mailer-daemon@mail.example", kind=kind, number=action))
+            self.assertEqual(self.not_reached(), wanted, action)
+
     def test_whose_letter_came_back_is_named_and_gets_it_again(self) -> None:
         for what in ("whole", "head", "text", "link", "encoded"):
             with self.subTest(what):

@@ -325,15 +325,15 @@ def source_of(book: Book, source: int) -> bytes:
     return bytes(book.rows("SELECT data FROM source WHERE source = ?", source)[0][0])
 
 
-def of_programs(book: Book) -> list[tuple[int, str, bytes]]:
-    """The letters that programs wrote, such as one that came back: the act that kept it, who sent
-    it, and its bytes.
+def returned_letters(book: Book) -> list[tuple[int, str, list[str]]]:
+    """The letters with which mail servers sent letters of ours back: the act that kept each, its
+    sender, and the own marks in it.
     """
     words = (
-        "SELECT letter.act, json_extract(known, '$.sender'), data FROM letter JOIN source USING (source) "
-        "WHERE json_extract(known, '$.is_automatic') ORDER BY letter"
+        "SELECT act, json_extract(known, '$.sender'), json_extract(known, '$.returned') FROM letter "
+        "WHERE json_array_length(known, '$.returned') > 0 ORDER BY letter"
     )
-    return book.rows(words)
+    return [(act, sender, json.loads(marks)) for act, sender, marks in book.rows(words)]
 
 
 def undecided(kept: list[KeptLetter]) -> list[KeptLetter]:

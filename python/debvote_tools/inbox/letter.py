@@ -19,7 +19,7 @@ from debvote_tools.inbox.html import read_html
 from debvote_tools.inbox.mailbox import RawLetter
 from debvote_tools.inbox.mime import MAX_PARTS, Part, address_key
 from debvote_tools.inbox.reasons import Because, Reason
-from debvote_tools.poll.marks import marks_in
+from debvote_tools.poll.marks import OWN_LENGTH, OWN_SIGNS, marks_in
 
 # in bytes: a text, and all texts of a letter
 MAX_TEXT, MAX_TEXTS = 262_144, 1_048_576
@@ -68,6 +68,16 @@ AUTOMATIC = re.compile(
     r"|x-auto(?:reply|respond|responder):|from:.*(?:mailer-daemon|postmaster)@",
     re.IGNORECASE,
 )
+
+# a letter of ours that did not reach its elector comes back in such parts, or from such a sender;
+# and an own mark in it, in a subject and in a personal link
+REPORT, FAILED = "message/delivery-status", re.compile(rb"(?im)^action:[ \t]*failed")
+SERVERS = ("mailer-daemon", "postmaster")
+OWN = re.compile(
+    rf"[0-9a-f]{{16}}-([{OWN_SIGNS}]{{{OWN_LENGTH}}})\]|/([{OWN_SIGNS}]{{{OWN_LENGTH}}})"
+)
+# in bytes, how much of it is looked through; its parts; and the most own marks that are kept
+MAX_RETURNED, RETURNED_PARTS, MAX_OWN = 131_072, 20, 20
 
 
 @dataclasses.dataclass(frozen=True)
@@ -147,6 +157,8 @@ class ParsedLetter:
     # by the mail server that received it last
     arrived: datetime.datetime | None
     is_automatic: bool
+    # the own marks in it, if a mail server sends it back
+    returned: tuple[str, ...]
     body: Body
     # if letters have to be signed: the good signature, or why there is none
     signature: Signature | None = None
@@ -189,6 +201,7 @@ def parse(raw: RawLetter) -> ParsedLetter:
     answered = letter.values("in-reply-to")
     has_id = len(answered) == 1 and MESSAGE_ID.fullmatch(answered[0])
     fields = (f"{name}:{value[:MAX_FIELD]}" for name, value in letter.fields)
+    is_automatic = any(map(AUTOMATIC.match, fields))
     return ParsedLetter(
         where=raw.where,
         digest=hashlib.sha256(raw.data).hexdigest(),
@@ -201,9 +214,29 @@ def parse(raw: RawLetter) -> ParsedLetter:
         marks=tuple(dict.fromkeys(itertools.chain.from_iterable(map(marks_in, texts)))),
         is_new=not (answered or letter.values("references")),
         arrived=arrival_of(letter.value("received")),
-        is_automatic=any(map(AUTOMATIC.match, fields)),
+        is_automatic=is_automatic,
+        returned=returned_in(raw.data[:MAX_RETURNED], sender) if is_automatic else (),
         body=body,
     )
+
+
+def returned_in(data: bytes, sender: str) -> tuple[str, ...]:
+    """The own marks in a letter with which a mail server sends a letter of ours back: it has a
+    report that the delivery failed, or no report, and is from the server itself. An answer of
+    somebody who is away, and a delivery that is only late, are none.
+    """
+    parts = [part for part, _ in itertools.islice(Part(data).walk(), RETURNED_PARTS)]
+    if reports := [part.below for part in parts if part.kind == REPORT]:
+        if not any(map(FAILED.search, reports)):
+            return ()
+    elif sender.partition("@")[0] not in SERVERS:
+        return ()
+    texts = [data.decode("latin-1")]
+    for part in parts:
+        texts += [*map(decoded, part.values("subject")), part.payload.decode("latin-1")]
+    bare = ("".join(text.lower().split()) for text in texts)
+    found = ("".join(mark) for text in bare for mark in OWN.findall(text))
+    return tuple(itertools.islice(dict.fromkeys(found), MAX_OWN))
 
 
 # ---------------------------------------------------------------- the head

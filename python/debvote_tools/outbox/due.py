@@ -5,8 +5,6 @@ ones. And whom the call has not reached.
 import collections
 import dataclasses
 import datetime
-import itertools
-import re
 import secrets
 from collections.abc import Callable, Iterator, Mapping, Sequence
 
@@ -15,14 +13,12 @@ from debvote_tools.book.election import LETTERS, RESULT_LETTER, Election, Histor
 from debvote_tools.book.queries import Elector
 from debvote_tools.book.sent import REFUSED, TAKEN, WRITTEN, About, SentLetter
 from debvote_tools.cli.faults import Fault, Status
-from debvote_tools.inbox.letter import decoded
 from debvote_tools.inbox.lines import ballot_file
-from debvote_tools.inbox.mime import MAX_PARTS, Part, address_key
+from debvote_tools.inbox.mime import address_key
 from debvote_tools.inbox.of_electors import NOBODY, Became, Came, of_electors
 from debvote_tools.inbox.rules import Outcome
 from debvote_tools.outbox.words import Composer
 from debvote_tools.poll.call import is_mail_address
-from debvote_tools.poll.marks import OWN_LENGTH, OWN_SIGNS
 from debvote_tools.result.publication import closing_letter, current_data, last_publication
 from debvote_tools.text.language import language_of
 from debvote_tools.text.times import now
@@ -369,35 +365,17 @@ def unreached(election: Election, history: History) -> Iterator[tuple[Elector, s
                 yield elector, CAME_BACK, ""
 
 
-# an own mark, in a subject and in a personal link
-OWN = re.compile(
-    rf"[0-9a-f]{{16}}-([{OWN_SIGNS}]{{{OWN_LENGTH}}})\]|/([{OWN_SIGNS}]{{{OWN_LENGTH}}})"
-)
-
-
 def came_back(election: Election, electors: Sequence[Elector]) -> dict[int, int]:
-    """The last act with which a letter came back, by elector: one that a program wrote, not at an
-    address of theirs, with their own mark in what it says.
+    """The last act with which a letter came back, by elector: one with their own mark, from no
+    address of theirs.
     """
     found: dict[int, int] = {}
     by_mark = {elector.mark: elector for elector in electors if elector.mark}
-    for act, sender, data in queries.of_programs(election.book):
-        for mark in itertools.chain(*map(OWN.findall, texts_of(data))):
-            elector = by_mark.get("".join(mark))
-            if elector is not None and sender not in map(address_key, elector.addresses):
+    for act, sender, marks in queries.returned_letters(election.book):
+        for elector in filter(None, map(by_mark.get, marks)):
+            if sender not in map(address_key, elector.addresses):
                 found[elector.number] = act
-                break
     return found
-
-
-def texts_of(data: bytes) -> Iterator[str]:
-    """What a letter says: its bytes as they are, then the subjects and the texts of its parts. Line
-    breaks and blanks are left out.
-    """
-    yield "".join(data.decode("latin-1").lower().split())
-    for part, _ in itertools.islice(Part(data).walk(), MAX_PARTS):
-        texts = [*map(decoded, part.values("subject")), part.payload.decode("latin-1")]
-        yield from ("".join(text.lower().split()) for text in texts)
 
 
 # ---------------------------------------------------------------- what electors are told
