@@ -422,6 +422,9 @@ class Held(LettersTest):
         self.add(letter("cleo", RANKS), letter("cleo", OTHER, number=2))
         self.assert_fault(self.election("held", 3, 4, "--enter"), 9, "letters 3 and 4: they have different ballots of cleo, and the same time")
         self.done("held", 4, "--enter")
+        same = "letter 3: another ballot of its elector with the same time was entered"
+        self.assert_fault(self.election("held", 3, "--enter"), 9, same, "--force")
+        self.assert_fault(self.election("held", 3, "--as", "cleo 1,1,1,1"), 9, same)
         self.assertEqual(self.exported()[0], f"cleo {OTHER}\n")
 
     def test_what_the_secretary_types(self) -> None:

@@ -262,15 +262,19 @@ def chosen_in(
 def voted_since(
     vote: Vote, found: Sequence[JudgedLetter], chosen: Sequence[Chosen]
 ) -> Iterator[tuple[int, Fault]]:
-    """A fault for each letter with a ballot of an elector who has a later one."""
+    """A fault for each letter with a ballot of an elector who has a later one, or another one of
+    the same time, as from the same letter.
+    """
     parsed = [letter.parsed for letter in found]
     ballots = letters_in.ballots_in(vote, {one.elector for one in chosen}, parsed)
     for letter, _, ballot in chosen:
         time, later = letter.time, ballots.get(ballot.partition(" ")[0], [])
+        name, cure = f"letter {letter.number}", "if this ballot must count, repeat it with --force"
         if any(time is None or one.time > time for one in later):
-            cure = "if this ballot must count, repeat the command with --force"
-            words = "its elector has voted since"
-            yield letter.number, Fault(f"letter {letter.number}", words, cure)
+            yield letter.number, Fault(name, "its elector has voted since", cure)
+        elif any(one.time == time and one.line != ballot for one in later):
+            words = "another ballot of its elector with the same time was entered"
+            yield letter.number, Fault(name, words, cure)
 
 
 def demand_one_order(chosen: Sequence[Chosen]) -> None:
