@@ -155,8 +155,10 @@ class Again(CallTest):
 
     def test_taken_back(self) -> None:
         self.done("call", "--until", "2026-12-05 18:00", "--zone", "Europe/Berlin")
+        # letters that nobody has sent have the void mark
+        self.done("letters", "call")
         self.done("call", "--take-back")
-        self.assertEqual([*(self.folder / "call").iterdir(), *(self.folder / "letters").iterdir()], [])
+        self.assertEqual([file.name for name in ("call", "letters") for file in (self.folder / name).iterdir()], [".lock"])
         self.assertEqual(json.loads(self.done("status", "--json").output)["stage"], "new")
         self.write("poll.toml", support.POLL.replace("spring", "autumn"))
         self.done("call", "--to", "other@club.example")

@@ -175,3 +175,5 @@ class Refused(unittest.TestCase):
         self.assert_bad(["\u200b\u3164", "\u200c", "x"], (1, "no visible character"), (2, "no visible character"))
         self.assertEqual([bad.number for bad in bad_title("c" * 201)], [0])
         self.assertEqual(bad_title("c" * 200), [])
+        # a subject of the last vote that was copied: each answer would wait as one about that vote
+        self.assertEqual([len(bad_title(f"Budget [{mark}]")) for mark in ("0123456789abcdef", "01234567", "2026")], [1, 0, 0])

@@ -2,6 +2,7 @@
 
 import dataclasses
 import pathlib
+import shutil
 
 from debvote_tools.cli.arguments import Acting, flag, option
 from debvote_tools.text import times
@@ -192,6 +193,9 @@ def take_back(election: Election) -> None:
         queries.put_electors(act, lapsed)
     write_made(election.path(CALL), {}, PUBLIC, FILES)
     (election.path(LETTERS) / EXTENSION).unlink(missing_ok=True)
+    # letters that nobody has sent yet have the mark and the codes that are void
+    for kind in ("call", "reminders"):
+        shutil.rmtree(election.path(LETTERS) / kind, ignore_errors=True)
     tell("Took the call back. If anybody has seen it, tell them that it is void.")
     first = "call"
     if coded:

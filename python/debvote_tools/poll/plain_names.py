@@ -8,6 +8,7 @@ from collections.abc import Collection, Iterable, Mapping, Sequence
 from typing import NamedTuple
 
 from debvote_tools.cli.console import LINE_ENDS, number_of, odd_sign, shown_text
+from debvote_tools.poll.marks import marks_in
 
 # how long a plain name may be, in bytes, and a name as people read it, in characters
 TITLE_LIMIT, OPTION_LIMIT, ELECTOR_LIMIT = 80, 40, 32
@@ -190,7 +191,11 @@ def alike(text: str) -> str:
 
 
 def bad_title(title: str) -> list[BadName]:
-    return [BadName(0, title, reason) for reason in bad_characters(title)]
+    reasons = bad_characters(title)
+    if marks_in(title):
+        # each answer would wait as one about that vote
+        reasons.append("it has the mark of a vote in brackets, as only subjects of letters do")
+    return [BadName(0, title, reason) for reason in reasons]
 
 
 def bad_options(names: Sequence[str], plain_names: Sequence[str]) -> list[BadName]:
