@@ -160,6 +160,7 @@ class Again(CallTest):
         self.done("call", "--take-back")
         self.assertEqual([file.name for name in ("call", "letters") for file in (self.folder / name).iterdir()], [".lock"])
         self.assertEqual(json.loads(self.done("status", "--json").output)["stage"], "new")
+        self.assert_fault(self.election("letters", "call"), 9, "there is no call for votes yet")
         self.write("poll.toml", support.POLL.replace("spring", "autumn"))
         self.done("call", "--to", "other@club.example")
         self.assertIn(b"autumn", self.read("call/poll.toml"))

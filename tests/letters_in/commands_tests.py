@@ -442,6 +442,7 @@ class Held(LettersTest):
         [receipt] = (self.folder / "letters" / "receipts").rglob("ben*")
         self.assertIn("In the town hall, then At the lake", receipt.read_text())
         self.assertNotIn("waits", receipt.read_text())
+        self.assertNotIn("held --enter", self.done("undo", "--yes").output)
 
     def test_what_can_not_be_the_ballot_of_a_letter(self) -> None:
         before = self.contents()

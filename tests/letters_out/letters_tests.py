@@ -461,7 +461,7 @@ class Receipts(OutTest):
         self.done("held", 2, "--enter", 2)
         texts = self.texts("receipts")
         said = "10:00 (UTC) has arrived. It counts unless you send a later one."
-        self.assertIn(f"{said} The secretary typed it, by your letter. It was read as: (ada {RANKS}) In words: {LAKE}.", texts["ada"])
+        self.assertIn(f"{said} The secretary typed it, by a letter that came. It was read as: (ada {RANKS}) In words: {LAKE}.", texts["ada"])
         self.assertIn(f"{said} It was read as: (ben {RANKS})", texts["ben"])
         self.assertNotIn("No ballot from it", texts["ada"])
 

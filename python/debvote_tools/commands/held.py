@@ -213,9 +213,10 @@ def demand_not_entered(vote: Vote, history: History, letter: JudgedLetter) -> No
     name = f"letter {letter.number}"
     if letter.outcome is Outcome.ENTERED:
         late = queries.envelopes(vote.book, f"letter = ? AND {queries.LATE}", letter.number)
-        if not late:
+        anew = queries.entered_anew(vote.book)
+        numbers = [str(envelope.number) for envelope in late if envelope.number not in anew]
+        if not numbers:
             raise Fault(name, "it was entered", "there is nothing to do")
-        numbers = [str(envelope.number) for envelope in late]
         reopen = vote.election.command("reopen", "--in-time", *numbers, "--because", "TEXT")
         close = "" if history.is_closed else "close again and "
         cure = f"if it came in time, {close}run {reopen}"

@@ -61,10 +61,12 @@ def run(election: Election, arguments: Arguments) -> None:
     undone = agreed_act(vote, lambda: what_is_taken_back(vote), show, act)
     none = None if is_asked else "no ballot is left"
     tell(f"Took back {undone.what}.", *consequences(vote, undone, none))
-    again = f"; {election.command('held', '--enter')} enters these letters again"
-    tell(
-        f"Next: {election.command('status')}; another {election.command('undo')} takes back the act before{again if undone.letters else ''}"
-    )
+    following = f"{election.command('status')}; another {election.command('undo')} takes back the act before"
+    # what was typed for a letter has to be typed again
+    is_typed = undone.act.name == "enter" and not undone.act.detail.get("lines")
+    if undone.letters and not is_typed:
+        following += f"; {election.command('held', '--enter')} enters these letters again"
+    tell(f"Next: {following}")
 
 
 def demand_yes(command: str, question: str, when: str) -> None:

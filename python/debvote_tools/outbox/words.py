@@ -158,7 +158,7 @@ class Composer:
             said = AT_THE_END if is_final else OF_BALLOT[came.became]
         sentences = [language.say(said, time=time_in_words(came.time.astimezone(zone), language))]
         if came.envelope is not None and came.envelope.act in self.typed_acts:
-            sentences.append(language.say("The secretary typed it, by your letter."))
+            sentences.append(language.say("The secretary typed it, by a letter that came."))
         if came.letter is not None and came.is_own and came.letter.reason is not None:
             # not the line itself: it may be another's ballot, or have a code
             near = (
