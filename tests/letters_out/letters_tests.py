@@ -857,7 +857,7 @@ class Secret(OutTest):
         self.done("close", "--early")
         self.done("publish", "--yes", "--force", "--because", "they were asked")
         for text in self.texts("result").values():
-            self.assertIn("- More than half of the lines that came are refused. - The vote was closed at ", text)
+            self.assertIn("- More than half of the lines that came are refused. - The vote was closed on ", text)
             self.assertNotIn("2 of 3", text)
 
     def test_nothing_else_has_codes_or_ranks(self) -> None:

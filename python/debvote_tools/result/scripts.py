@@ -68,7 +68,7 @@ COUNT_AGAIN = {
     "tell_if_published": marked(
         "If the files are as they were published, tell the other electors."
     ),
-    "last": marked("This count ends with: {line}"),
+    "last": marked("By this count the last line of the sheet is: {line}"),
     "casting": marked("The sheet has a casting vote for {option}. No count shows whose it was."),
     "page_same": marked(
         "This page shows what its files come to: the result, the names of the options, the table of votes, and each of the {ballots} "
