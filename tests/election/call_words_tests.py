@@ -234,7 +234,7 @@ class Files(unittest.TestCase):
                     self.assertEqual(real in text, kind == "open" and real_names is not None)
 
     def test_each_kind_says_its_own(self) -> None:
-        gaps = ["Write your name on the roll in the place of NAME.", "as it is on the slip with your code.", "write your code in the place of CODE."]
+        gaps = ["Write your name on the roll in the place of NAME.", "as it is in your letter or on your slip.", "write your code in the place of CODE."]
         polls = ["It lies beside this page.", "It has all codes, so it is published with the result."]
         for kind, own in {"open": (0, 0), "secret": (1, 0), "codes": (2, 1), "signed": (0, 0)}.items():
             for text in texts_of(KINDS[kind]).values():

@@ -149,7 +149,8 @@ class CallLetter(unittest.TestCase):
                 self.assertIn("https://club.example/vote/#ada/abcdefghjk", text)
                 [line] = [number for number, one in enumerate(lines) if one == "  ada _,_,_"]
                 self.assertRegex(" ".join(lines[line - 2 : line]), r"\b1 .*; .* - ")
-                names = [one for one in lines[line:] if one.startswith("  ") and one.endswith(("Lake", "Hall", "None"))]
+                default = language_of(code).say("the default option")
+                names = [one for one in lines[line:] if one.startswith("  ") and one.endswith(("Lake", "Hall", f"None ({default})"))]
                 self.assertEqual(len(names), 3)
                 self.assertIn(f"[{POLL.mark}-abcdefghjk]", text)
                 self.assertEqual(lines.count(f"  {POLL.checksum}"), 1)

@@ -26,7 +26,7 @@ FIND = {
     "line": marked("The line: {line}"),
     "type_name": marked("Type your name."),
 }
-CODE_DIGITS = marked("A code has 32 digits, 0 to 9 and a to f. Type yours as it is on your slip.")
+CODE_DIGITS = marked("A code has 32 digits, 0 to 9 and a to f. Type yours as it was given to you.")
 FIND_BY_CODE = {
     "no_elector": marked("No elector has this code. Type it as it is on your slip."),
     "no_ballot": marked("The code is on the roll, and no ballot counts under it."),
@@ -39,10 +39,10 @@ FIND_IN_OPEN = {
 }
 FIND_IN_SECRET = {
     "no_elector": marked(
-        "No elector of this vote has the alias {alias}. Type name and code as they are on your slip."
+        "No elector of this vote has the alias {alias}. Type name and code as they are in your letter or on your slip."
     ),
     "no_ballot": marked("Your alias is {alias}. It is on the roll, and no ballot counts under it."),
-    "type_name": marked("Type your name as it is on your slip."),
+    "type_name": marked("Type your name as it is in your letter or on your slip."),
     "type_code": CODE_DIGITS,
     "no_alias": marked(
         "This browser makes no alias on a page that did not come by https. Use one of the commands below."
