@@ -535,6 +535,10 @@ class InBrowser(unittest.TestCase):
             self.assertIn(part, seen)
         for part in ("Send by e-mail", "Your name", "Read on", "Give at least", "1\n2\n3"):
             self.assertNotIn(part, seen)
+        # each option has a box, in which a rank is written by hand, and its name is not below it
+        boxes = "[...document.querySelectorAll('.option')].map((option) => [parseFloat(getComputedStyle(option, '::after').width) > 30, "
+        boxes += "option.getBoundingClientRect().right - option.querySelector('.name').getBoundingClientRect().right > 40])"
+        self.assertEqual(window.ask(boxes), [[True, True]] * len(poll.names))
 
 
 if __name__ == "__main__":

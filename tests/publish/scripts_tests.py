@@ -241,6 +241,9 @@ class ScriptsTest(support.PublishTest):
             self.page_of(window)
             seen = window.ask("[...document.querySelectorAll('.folded')].map((part) => part.children[1].getBoundingClientRect().height > 0)")
             self.expect("on paper", (seen, window.ask(unfolded)), ([True] * 9, []))
+            # browsers print no grounds: paper has the ink on the paper
+            won = window.ask("(({ backgroundColor, color }) => [backgroundColor, color === getComputedStyle(document.body).color])(getComputedStyle(document.querySelector('.chip.won')))")
+            self.expect("the chip of the winner on paper", won, ["rgba(0, 0, 0, 0)", True])
 
     @NEEDS_BROWSER
     def test_counting_again(self):
