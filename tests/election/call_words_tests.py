@@ -234,7 +234,7 @@ class Files(unittest.TestCase):
                     self.assertEqual(real in text, kind == "open" and real_names is not None)
 
     def test_each_kind_says_its_own(self) -> None:
-        gaps = ["Write your name on the roll in the place of NAME.", "as it is on the slip with your code.", "write your code in the place of CODE."]
+        gaps = ["Write your name on the roll in the place of NAME.", "as it is in your letter or on your slip.", "write your code in the place of CODE."]
         polls = ["It lies beside this page.", "It has all codes, so it is published with the result."]
         for kind, own in {"open": (0, 0), "secret": (1, 0), "codes": (2, 1), "signed": (0, 0)}.items():
             for text in texts_of(KINDS[kind]).values():
@@ -535,6 +535,10 @@ class InBrowser(unittest.TestCase):
             self.assertIn(part, seen)
         for part in ("Send by e-mail", "Your name", "Read on", "Give at least", "1\n2\n3"):
             self.assertNotIn(part, seen)
+        # each option has a box, in which a rank is written by hand, and its name is not below it
+        boxes = "[...document.querySelectorAll('.option')].map((option) => [parseFloat(getComputedStyle(option, '::after').width) > 30, "
+        boxes += "option.getBoundingClientRect().right - option.querySelector('.name').getBoundingClientRect().right > 40])"
+        self.assertEqual(window.ask(boxes), [[True, True]] * len(poll.names))
 
 
 if __name__ == "__main__":

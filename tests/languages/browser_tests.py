@@ -34,6 +34,23 @@ CHOOSE = """((name, ranks) => {
     letter: document.getElementById("Letter").getAttribute("href") };
 })"""
 
+# the words of names of options that are on two lines, if each option has the chip of a winner that is the default option
+BROKEN_WORDS = """((byDefault) => {
+  const chips = [...document.querySelectorAll(".option .chip")], won = chips[0].textContent;
+  for (const chip of chips) chip.textContent = `${won} \u00b7 ${byDefault}`;
+  const broken = [];
+  for (const chip of chips) {
+    const names = document.createTreeWalker(chip.previousElementSibling, NodeFilter.SHOW_TEXT);
+    while (names.nextNode()) for (const word of names.currentNode.data.matchAll(/\\S+/g)) {
+      const range = document.createRange();
+      range.setStart(names.currentNode, word.index);
+      range.setEnd(names.currentNode, word.index + word[0].length);
+      if (range.getClientRects().length > 1) broken.push(word[0]);
+    }
+  }
+  return broken;
+})"""
+
 
 def said(language: str, sentences: dict[str, str], key: str, /, **places: object) -> str:
     """A sentence of a script in a language, with what stands at its places."""
@@ -60,6 +77,9 @@ class InBrowser(support.LanguageTest):
                 window.resize(*SMALL)
                 first = window.ask("document.querySelector('.options li .bar').getBoundingClientRect().bottom")
                 self.assertLessEqual(first, SMALL[1], f"{place.name}: the first screen of a small telephone")
+                # no name is so narrow beside the longest chip, that of a default option that has won, that a word breaks
+                words = window.ask(f"{BROKEN_WORDS}({json.dumps(language_of(language).say('default option'))})")
+                self.assertEqual(words, [], f"{place.name}: words on two lines")
                 window.resize(*TELEPHONE)
             self.check_call(window, language, places["open"])
             for place in places.values():
@@ -117,6 +137,7 @@ class InBrowser(support.LanguageTest):
         published = said(language, COUNT_AGAIN, "sheet_published")
         self.assertEqual(rows[0], said(language, COUNT_AGAIN, "same", sheet=published, lines=len(sheet)))
         self.assertEqual(rows[1], said(language, COUNT_AGAIN, "last", line=sheet[-1]))
+        self.assertEqual(window.ask("document.querySelector('#Again-answer p code').textContent"), sheet[-1])
         ballots = len((folder / "standing.txt").read_text().splitlines())
         self.assertEqual(rows[2], said(language, COUNT_AGAIN, "page_same", ballots=ballots))
         self.assertEqual(rows[-1], said(language, COUNT_AGAIN, "second"))

@@ -21,7 +21,7 @@ FORM = f"The page of the vote, which writes the line of your ballot for you, and
 LINE = "Your line, with a rank in the place of each _. 1 is the best; equal ranks and - for no rank are allowed: "
 MARKS = r"\[([0-9a-f]{16})-([2-9a-hjkmnp-z]{10})\]"
 WHEN = f"{TITLE} Until when: Friday, 4 December 2026, 18:00 (UTC)"
-OPTIONS = "Option 1: At the lake Option 2: In the town hall Option 3: Sell the house and meet there Option 4: Further discussion"
+OPTIONS = "Option 1: At the lake Option 2: In the town hall Option 3: Sell the house and meet there Option 4: Further discussion (the default option)"
 ELSEWHERE = "A letter in your name came from another address, and waits until the secretary has looked at it."
 
 
@@ -857,7 +857,7 @@ class Secret(OutTest):
         self.done("close", "--early")
         self.done("publish", "--yes", "--force", "--because", "they were asked")
         for text in self.texts("result").values():
-            self.assertIn("- More than half of the lines that came are refused. - The vote was closed at ", text)
+            self.assertIn("- More than half of the lines that came are refused. - The vote was closed on ", text)
             self.assertNotIn("2 of 3", text)
 
     def test_nothing_else_has_codes_or_ranks(self) -> None:

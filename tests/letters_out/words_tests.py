@@ -20,7 +20,7 @@ from debvote_tools.inbox.rules import Outcome
 from debvote_tools.inbox.of_electors import Became, Came
 from debvote_tools.inbox.letter import Near
 from debvote_tools.inbox.reasons import Reason, for_elector
-from debvote_tools.outbox.files import message
+from debvote_tools.outbox.files import message, rows_to_print
 from debvote_tools.outbox.words import PACKAGE, SUBJECTS, Composer
 from debvote_tools.text.ballots import without_ballots
 from debvote_tools.text.rendering import one_line as on_one_line, render_page, resources
@@ -149,7 +149,8 @@ class CallLetter(unittest.TestCase):
                 self.assertIn("https://club.example/vote/#ada/abcdefghjk", text)
                 [line] = [number for number, one in enumerate(lines) if one == "  ada _,_,_"]
                 self.assertRegex(" ".join(lines[line - 2 : line]), r"\b1 .*; .* - ")
-                names = [one for one in lines[line:] if one.startswith("  ") and one.endswith(("Lake", "Hall", "None"))]
+                default = language_of(code).say("the default option")
+                names = [one for one in lines[line:] if one.startswith("  ") and one.endswith(("Lake", "Hall", f"None ({default})"))]
                 self.assertEqual(len(names), 3)
                 self.assertIn(f"[{POLL.mark}-abcdefghjk]", text)
                 self.assertEqual(lines.count(f"  {POLL.checksum}"), 1)
@@ -205,7 +206,8 @@ class Printed(unittest.TestCase):
             now = vote(code, poll=poll, at=None, has_aliases=True, letter_text="Paper ballots go into the box in the hall of our house.\n" * 11)
             text = now.call_letter(ADA._replace(code="c0de" * 8), is_extension=False)
             style = resources(PACKAGE, "letter.css")
-            page = render_page(PACKAGE, "print.html", now.call.language, style=style, title="Spring", letters=[("Ada", text)] * 3)
+            page = render_page(PACKAGE, "print.html", now.call.language, style=style, title="Spring", letters=[("Ada", rows_to_print(text, now.call))] * 3)
+            self.assertEqual(page.count(b'<span class="rank"></span>  Op'), 3 * 12)
             with tempfile.TemporaryDirectory() as folder:
                 place = pathlib.Path(folder)
                 (place / "page.html").write_bytes(page)

@@ -356,7 +356,7 @@ class OfOpenVotes(OfElections):
         self.say("publish", "--language", "en")
         end = "one should have been able to vote until Friday, 4 December 2099, 18:00 (UTC+01:00)."
         [doubt] = self.doubts()
-        self.expect(f"the doubt: {doubt}", doubt.startswith("The vote was closed at ") and doubt.endswith(f"before its announced end: {end}"), True)
+        self.expect(f"the doubt: {doubt}", doubt.startswith("The vote was closed on ") and doubt.endswith(f"before its announced end: {end}"), True)
         self.expect("the letter of the result", doubt in " ".join(self.letter().split()), True)
         self.say("publish", "--language", "de")
         self.say("letters", "result", "--from", "vote@x.example")
@@ -533,7 +533,7 @@ class OfOpenVotes(OfElections):
                 queries.add_envelopes(act, [queries.NewEnvelope(line, letter=letter, time=time)], [None], is_late=True)
         self.stops("publish", said=["the ballot of letter 1 is late", "the ballot of letter 3 is late"])
         self.say("publish", "--force", "--because", "so be it", "--language", "en")
-        self.expect("doubts", [text.partition("before")[0].partition("at ")[0] for text in self.doubts()], ["A letter arrived "] * 2)
+        self.expect("doubts", [text.partition("before")[0].partition("on ")[0] for text in self.doubts()], ["A letter arrived "] * 2)
         self.say("reopen", "--because", "they were in time", "--in-time", "2", "4")
         sleep(max(0, (close + datetime.timedelta(seconds=1) - datetime.datetime.now(datetime.UTC)).total_seconds()))
         self.say("close")

@@ -134,14 +134,15 @@ class Parts:
         reached = any(count.votes[option, poll.default] >= least_of(count) for option in poll.ratios)
         quorum = [f"quorum {least_of(count)}, {'reached' if reached else 'not reached'}"] if poll.quorum else []
         refused = sum(reply not in ("counted", "replaced") for reply in count.replies)
-        lines = f"{refused} of {len(count.lines)} lines refused"
+        lines = f"{refused} {'line' if refused == 1 else 'lines'} of {len(count.lines)} refused"
         demand_equal("the facts", found, [f"{count.voters} of {len(poll.roll)} voted", *quorum, lines])
 
     def lines(self):
         """How many lines there are, and where voters and valid lines differ."""
         count, poll = self.count, self.count.poll
         valid = sum(reply in ("counted", "replaced") for reply in count.replies)
-        wanted = f"{len(count.lines)} lines are in the ballot file: {valid} valid, {len(count.lines) - valid} refused."
+        are = "line is" if len(count.lines) == 1 else "lines are"
+        wanted = f"{len(count.lines)} {are} in the ballot file: {valid} valid, {len(count.lines) - valid} refused."
         if valid != count.voters:
             of = "1 voter has" if count.voters == 1 else f"{count.voters} voters have"
             wanted += f" {of} {valid} valid lines: electors who voted again account for the difference, "
@@ -279,7 +280,8 @@ class Parts:
         lists = [[(entry.text(), entry.attributes.get("id")) for entry in names.all("li")] for names in section.all("ul", "roll")]
         wanted = [names for names in ([(name, None) for name in voted], [(name, name) for name in absent]) if names]
         demand_equal("who voted", lists, wanted)
-        said = f"{len(voted)} of {len(count.poll.roll)} electors have a ballot that counts, which is {share(len(voted), len(count.poll.roll))}."
+        number = f"{len(voted)} {'elector' if len(voted) == 1 else 'electors'} of {len(count.poll.roll)} {'has' if len(voted) == 1 else 'have'}"
+        said = f"{number} a ballot that counts, which is {share(len(voted), len(count.poll.roll))}."
         demand_equal("who voted, number", next(section.all("p")).text(), said)
 
 

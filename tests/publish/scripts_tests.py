@@ -163,9 +163,9 @@ class ScriptsTest(support.PublishTest):
             self.expect(name, window.find(name, f" {self.code[:16].upper()} {self.code[16:]}")[1:], wanted)
         none = window.find("cleo", self.code)
         self.expect("no ballot", none, [f"Your alias is {alias_of(self.code, 'cleo')}. It is on the roll, and no ballot counts under it."])
-        other = f"No elector of this vote has the alias {alias_of('f' * 32, 'ada')}. Type name and code as they are on your slip."
+        other = f"No elector of this vote has the alias {alias_of('f' * 32, 'ada')}. Type name and code as they are in your letter or on your slip."
         self.expect("another code", window.find("ada", "f" * 32), [other])
-        short = "A code has 32 digits, 0 to 9 and a to f. Type yours as it is on your slip."
+        short = "A code has 32 digits, 0 to 9 and a to f. Type yours as it was given to you."
         self.expect("a short code", window.find("ada", "f" * 31), [short])
         line = f"{alias} 2,1,-\n"
         for what, before, after, said in [
@@ -186,7 +186,7 @@ class ScriptsTest(support.PublishTest):
         window = self.window
         self.page_of(window, room=by_code)
         self.expect("in groups", window.find(f"{code[:16].upper()} {code[16:]}")[1:], ["Option 2: B", "Option 1: A", "Not ranked: Option 3: N", f"The line: {code} 2,1,-"])
-        short = "A code has 32 digits, 0 to 9 and a to f. Type yours as it is on your slip."
+        short = "A code has 32 digits, 0 to 9 and a to f. Type yours as it was given to you."
         self.expect("half of it", window.find(code[:16]), [short])
         self.expect("no ballot", window.find(alias_of(self.code, "cleo")), ["The code is on the roll, and no ballot counts under it."])
         self.expect("nobody's", window.find("f" * 32), ["No elector has this code. Type it as it is on your slip."])
@@ -241,6 +241,9 @@ class ScriptsTest(support.PublishTest):
             self.page_of(window)
             seen = window.ask("[...document.querySelectorAll('.folded')].map((part) => part.children[1].getBoundingClientRect().height > 0)")
             self.expect("on paper", (seen, window.ask(unfolded)), ([True] * 9, []))
+            # browsers print no grounds: paper has the ink on the paper
+            won = window.ask("(({ backgroundColor, color }) => [backgroundColor, color === getComputedStyle(document.body).color])(getComputedStyle(document.querySelector('.chip.won')))")
+            self.expect("the chip of the winner on paper", won, ["rgba(0, 0, 0, 0)", True])
 
     @NEEDS_BROWSER
     def test_counting_again(self):

@@ -20,6 +20,7 @@ from debvote_tools.book.sent import SentLetter
 from debvote_tools.files import TEMPORARY, sync_folder, temporary_folder
 from debvote_tools.outbox.due import LettersDue
 from debvote_tools.outbox.words import PACKAGE
+from debvote_tools.poll.call import OPTION, CallData
 from debvote_tools.text.rendering import one_line, render_page, resources
 
 TO_PRINT = "to-print.html"
@@ -93,7 +94,8 @@ def letter_files(due: LettersDue, letters: Sequence[SentLetter]) -> dict[str, by
     for letter in letters:
         elector = due.electors[letter.elector]
         if not letter.address:
-            printed.append((one_line(elector.who) or elector.name, due.text(letter)))
+            rows = rows_to_print(due.text(letter), due.composer.call)
+            printed.append((one_line(elector.who) or elector.name, rows))
         elif not due.is_sending and due.can_be_sent(letter):
             # no name on a roll has the sign _
             name = (
@@ -106,6 +108,17 @@ def letter_files(due: LettersDue, letters: Sequence[SentLetter]) -> dict[str, by
             PACKAGE, "print.html", call.language, style=style, title=call.poll.name, letters=printed
         )
     return files
+
+
+def rows_to_print(text: str, call: CallData) -> list[tuple[str, bool]]:
+    """The rows of a letter, each with whether it begins an option of which it asks for the rank."""
+    said = (
+        call.language.say(OPTION, number=n, name="") for n in range(1, len(call.poll.names) + 1)
+    )
+    starts = tuple(f"  {option.rstrip()}" for option in said)
+    head, gaps, asked = text.partition(f" {call.gaps}\n")
+    rows = [(row, False) for row in (head + gaps).splitlines()]
+    return rows + [(row, row.startswith(starts)) for row in asked.splitlines()]
 
 
 @contextlib.contextmanager

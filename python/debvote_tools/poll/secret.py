@@ -40,8 +40,9 @@ REMAINS = (
         "beforehand of an unusual order of many options, that ballot can be found."
     ),
     marked(
-        "If two slips have the same name, two electors take the same ballot for theirs, since an alias is made of the name. So check "
-        "whether the name on your slip is yours alone. Two names of which each gives the same alias take some 2^64 tries to find."
+        "If two letters or slips have the same name, two electors take the same ballot for theirs, since an alias is made of the name. "
+        "So check whether the name in your letter or on your slip is yours alone. Two names of which each gives the same alias take "
+        "some 2^64 tries to find."
     ),
     marked(
         "Ballots come without the codes, so a code does not show who sent a ballot. Whoever votes in the name of another is found "

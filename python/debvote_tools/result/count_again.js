@@ -114,11 +114,19 @@ const joined = (texts, and) => (texts.length > 1 ? texts.slice(0, -1).join(", ")
     const sheet = sentence(files.whoseSheet);
     if (!found.isSame) {
       const [given, counted] = shownApart(found);
-      return [wrong(files, "differs", { sheet, line: found.at + 1, given, counted }), paragraph("last", { line })];
+      return [wrong(files, "differs", { sheet, line: found.at + 1, given, counted }), lastLine(line)];
     }
-    const nodes = [element("p", sentence("same", { sheet, lines }), "found"), paragraph("last", { line })];
+    const nodes = [element("p", sentence("same", { sheet, lines }), "found"), lastLine(line)];
     if (found.casting !== null) nodes.push(paragraph("casting", { option: poll.names[found.casting] }));
     return nodes;
+  }
+
+  // The line is the program's, in English, and its number and name of an option have one blank between them.
+  function lastLine(line) {
+    const node = element("p", "");
+    const [before, after] = words.last.split("{line}");
+    node.append(before, element("code", line), after);
+    return node;
   }
 
   // Two lines that differ, as they are shown. Where the line feed alone differs, this is said of each.

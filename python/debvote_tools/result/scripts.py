@@ -26,7 +26,7 @@ FIND = {
     "line": marked("The line: {line}"),
     "type_name": marked("Type your name."),
 }
-CODE_DIGITS = marked("A code has 32 digits, 0 to 9 and a to f. Type yours as it is on your slip.")
+CODE_DIGITS = marked("A code has 32 digits, 0 to 9 and a to f. Type yours as it was given to you.")
 FIND_BY_CODE = {
     "no_elector": marked("No elector has this code. Type it as it is on your slip."),
     "no_ballot": marked("The code is on the roll, and no ballot counts under it."),
@@ -39,10 +39,10 @@ FIND_IN_OPEN = {
 }
 FIND_IN_SECRET = {
     "no_elector": marked(
-        "No elector of this vote has the alias {alias}. Type name and code as they are on your slip."
+        "No elector of this vote has the alias {alias}. Type name and code as they are in your letter or on your slip."
     ),
     "no_ballot": marked("Your alias is {alias}. It is on the roll, and no ballot counts under it."),
-    "type_name": marked("Type your name as it is on your slip."),
+    "type_name": marked("Type your name as it is in your letter or on your slip."),
     "type_code": CODE_DIGITS,
     "no_alias": marked(
         "This browser makes no alias on a page that did not come by https. Use one of the commands below."
@@ -68,7 +68,7 @@ COUNT_AGAIN = {
     "tell_if_published": marked(
         "If the files are as they were published, tell the other electors."
     ),
-    "last": marked("This count ends with: {line}"),
+    "last": marked("By this count the last line of the sheet is: {line}"),
     "casting": marked("The sheet has a casting vote for {option}. No count shows whose it was."),
     "page_same": marked(
         "This page shows what its files come to: the result, the names of the options, the table of votes, and each of the {ballots} "
