@@ -377,7 +377,7 @@ class Secret(CallTest):
         self.write("letter.txt", f"Your code is {code}\n")
         self.assert_fault(self.election("call", *UNTIL), 9, "letter.txt would have the code of an elector in it")
         self.write("letter.txt", "Hello\n")
-        self.done("call", *UNTIL)
+        self.done("call", *UNTIL, "--yes")
         self.write("letter.txt", f"Your code is {code}\n")
         self.assert_fault(self.election("call"), 9, "letter.txt would have the code of an elector in it")
 

@@ -891,6 +891,11 @@ class OfSecretVotes(OfElections):
         (self.folder / "texts" / "2.txt").unlink()
         self.say("call", "--yes")
         self.expect("the act", self.acts()[-1].detail["agreed"], [hashlib.sha256("Zoë is for it.\n".encode()).hexdigest()])
+        (self.folder / "letter.txt").write_text("Zoë counts.\n")
+        faults = self.run_words("call")[1]
+        self.expect(f"so does letter.txt: {faults}", (faults.startswith("letter.txt:\n  Zoë counts.\n"), "--yes" in faults), (True, True))
+        self.say("call", "--yes")
+        self.say("call")
         self.say("call", "--take-back")
         self.say("codes")
         self.say("call")

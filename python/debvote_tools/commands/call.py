@@ -3,6 +3,7 @@
 import dataclasses
 import pathlib
 import shutil
+from collections.abc import Mapping
 
 from debvote_tools.cli.arguments import Acting, flag, option
 from debvote_tools.text import times
@@ -77,7 +78,7 @@ class Arguments(Acting):
     )
     take_back: bool = flag("Take the call back; possible until a ballot or a letter has come")
     yes: bool = flag(
-        "In a secret vote: answer yes when asked whether everybody may read the texts of the options"
+        "In a secret vote: answer yes when asked whether everybody may read letter.txt and the texts of the options"
     )
 
 
@@ -126,15 +127,27 @@ def call(election: Election, arguments: Arguments) -> None:
     if public != poll:
         files[POLL_WITH_NAMES] = poll.as_bytes()
     if poll.secret:
-        said["agreed"] = agreed_texts(
-            history, texts_of_poll(poll), is_agreed=arguments.yes, done="nothing was changed"
-        )
+        said["agreed"] = agreed(history, texts_of_poll(poll), found.letter_text, arguments)
     with election.book.act("call", said, seen=history.last.number) as act:
         for name, data in files.items():
             act.insert("sealed", name=name, data=data)
         if not is_on_roll:
             queries.put_electors(act, (one._replace(mark=new_own_mark()) for one in electors))
     tell_checked(found)
+
+
+def agreed(
+    history: History, texts: Mapping[str, str], letter_text: str, arguments: Arguments
+) -> list[str]:
+    """The checksums of the texts that everybody may read, those of the options and letter.txt,
+    which begins the letter to all.
+    """
+    return agreed_texts(
+        history,
+        {**texts, LETTER_TEXT: letter_text},
+        is_agreed=arguments.yes,
+        done="nothing was changed",
+    )
 
 
 def call_again(election: Election, arguments: Arguments) -> None:
@@ -162,6 +175,8 @@ def call_again(election: Election, arguments: Arguments) -> None:
         raise Fault("--until", words, "name a later time", Status.BAD_WORDS)
     keyring = keyring_in(election, arguments.keyring)
     files = sealed_by(election, said, letter_text, keyring)
+    if election.sealed().counted.secret and LETTER_TEXT in files:
+        said["agreed"] = agreed(history, {}, letter_text, arguments)
     if keyring is not None:
         said["keyring"] = True
     with election.book.act(
