@@ -152,7 +152,7 @@ class SecretVote:
 @dataclasses.dataclass(frozen=True)
 class Facts:
     poll: SealedPoll
-    # the lines in time
+    # the lines in time; in a secret vote the ballots that stand, under aliases
     ballots: bytes
     language: Language = ENGLISH
     casting: CastingVote | None = None
