@@ -67,12 +67,8 @@ class Doubt:
     # not so where an earlier act was forced although there was this doubt
     stops: bool = True
 
-    @classmethod
-    def from_data(cls, data: Mapping[str, Any]) -> "Doubt":
-        """The doubt that an act of the book keeps as `as_data`."""
-        return cls(data["kind"], data)
-
     def as_data(self) -> dict[str, Any]:
+        """As the act of a publication keeps it."""
         return {"kind": self.kind, **self.places}
 
     def for_secretary(self) -> str:
