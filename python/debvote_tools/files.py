@@ -7,6 +7,7 @@ import os
 import pathlib
 import shutil
 import signal
+import stat
 import tempfile
 from collections.abc import Collection, Iterator, Mapping
 from typing import BinaryIO
@@ -39,40 +40,57 @@ def read_at_most(file: pathlib.Path | str, limit: int) -> bytes:
         return source.read(limit + 1)
 
 
-def read_whole(file: pathlib.Path | str, limit: int, unread: str, then: str = "") -> bytes:
-    """The bytes of a file. `unread` is the cure if it can't be read; `then` follows each cure."""
+def bad_file(file: object, reason: object, cure: str) -> Fault:
+    return Fault(file, reason, cure, Status.BAD_WORDS, None)
+
+
+def read_whole(
+    file: pathlib.Path | str, limit: int, unread: str, then: str = "", *, may_wait: bool = False
+) -> bytes:
+    """The bytes of a file. `unread` is the cure if it can't be read; `then` follows each cure. A
+    pipe keeps its reader waiting, and is refused unless the command line names it.
+    """
     try:
+        mode = os.stat(file).st_mode
+        if not (may_wait or stat.S_ISREG(mode) or stat.S_ISDIR(mode)):
+            raise bad_file(file, "it is no plain file", unread + then)
         data = read_at_most(file, limit)
     except OSError as error:
-        raise Fault(file, error.strerror, unread + then, Status.BAD_WORDS, None) from None
+        raise bad_file(file, error.strerror, unread + then) from None
     if len(data) > limit:
-        raise Fault(
-            file, f"it is longer than {limit} bytes", f"shorten it{then}", Status.BAD_WORDS, None
-        )
+        raise bad_file(file, f"it is longer than {limit} bytes", f"shorten it{then}")
     return data
 
 
-def file_text(
-    data: bytes, file: pathlib.Path | str, empty: str, then: str = "", refused: str = ""
+def read_text(
+    file: pathlib.Path | str,
+    limit: int,
+    unread: str,
+    empty: str,
+    then: str = "",
+    *,
+    refused: str = "",
+    may_wait: bool = False,
 ) -> str:
     """The text of a file in UTF-8, without its byte-order mark, and with line feeds alone.
 
-    `empty` is the cure of an empty one; `then` follows each cure. Characters that no plain text has
-    are `refused` too.
+    `empty` is the cure of an empty one; for the others see `read_whole`. Characters that no plain
+    text has are `refused` too.
     """
+    data = read_whole(file, limit, unread, then, may_wait=may_wait)
     try:
         text = data.decode().removeprefix("\ufeff").replace("\r\n", "\n")
     except UnicodeDecodeError as error:
         line = data.count(b"\n", 0, error.start) + 1
         cure = f"save it as plain text in UTF-8{then}"
-        raise Fault(f"{file}:{line}", "it is not in UTF-8", cure, Status.BAD_WORDS, None) from None
+        raise bad_file(f"{file}:{line}", "it is not in UTF-8", cure) from None
     odd = odd_sign(text, allowed="\t\n", refused=refused)
     if odd is not None:
         line = text.count("\n", 0, text.index(odd)) + 1
         words = f"it has the character {number_of(odd)}, which no plain text has"
-        raise Fault(f"{file}:{line}", words, f"take it out{then}", Status.BAD_WORDS, None)
+        raise bad_file(f"{file}:{line}", words, f"take it out{then}")
     if not text.strip():
-        raise Fault(file, "it is empty", empty + then, Status.BAD_WORDS, None)
+        raise bad_file(file, "it is empty", empty + then)
     return text
 
 

@@ -21,7 +21,8 @@ from tests.support.at_browser import BROWSER, Window
 
 sys.path.insert(0, str(pathlib.Path(__file__).resolve().parents[2] / "python"))
 
-from debvote_tools.poll.call import CallData, call_files, call_letter, demand_mail_address, demand_web_address, extension_letter  # noqa: E402
+from debvote_tools.poll.announced import demand_mail_address, demand_web_address  # noqa: E402
+from debvote_tools.poll.call import CallData, call_files, call_letter, extension_letter  # noqa: E402
 from debvote_tools.cli.faults import Fault, Status  # noqa: E402
 from debvote_tools.text.language import LANGUAGES, language_of  # noqa: E402
 from debvote_tools.inbox.lines import changed  # noqa: E402

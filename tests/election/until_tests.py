@@ -10,7 +10,7 @@ import unittest.mock
 
 sys.path.insert(0, str(pathlib.Path(__file__).resolve().parents[2] / "python"))
 
-from debvote_tools.poll.until import demand_future, parse_until  # noqa: E402
+from debvote_tools.poll.announced import demand_future, parse_until  # noqa: E402
 from debvote_tools.cli.faults import Fault, Status  # noqa: E402
 from debvote_tools.text.language import language_of  # noqa: E402
 from debvote_tools.text.times import date_in_words, minute_in_words, now, time_in_words  # noqa: E402

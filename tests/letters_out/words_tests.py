@@ -14,7 +14,8 @@ from tests.support.at_browser import BROWSER
 
 from debvote_tools.book.queries import Elector, Envelope
 from debvote_tools.book.sent import SentLetter
-from debvote_tools.poll.call import CallData, is_mail_address
+from debvote_tools.poll.announced import is_mail_address
+from debvote_tools.poll.call import CallData
 from debvote_tools.text.language import LANGUAGES, language_of
 from debvote_tools.inbox.rules import Outcome
 from debvote_tools.inbox.of_electors import Became, Came

@@ -35,7 +35,9 @@ def all_electors(book: Book) -> list[Elector]:
     state = book.last_number(), book.connection.total_changes
     if book.electors_at[0] != state:
         rows = book.rows("SELECT * FROM elector_now ORDER BY position")
-        found = [Elector._make([*row[:4], tuple(json.loads(row[4])), *row[5:]]) for row in rows]
+        # all lists of addresses at once: one after the other takes five times as long
+        mails = json.loads(f"[{','.join(row[4] for row in rows)}]")
+        found = [Elector(*row[:4], tuple(mail), *row[5:]) for row, mail in zip(rows, mails)]
         book.electors_at = state, found
     return list(book.electors_at[1])
 
@@ -107,6 +109,8 @@ class Envelope(NamedTuple):
 # conditions on envelopes, with the acts that no `undo` took back
 NOT_STRUCK = "struck IS NULL"
 IN_TIME, LATE = f"late = 0 AND {NOT_STRUCK}", f"late = 1 AND {NOT_STRUCK}"
+# the elector has no later ballot that counts
+NOT_REPLACED = "NOT EXISTS (SELECT 1 FROM ballot WHERE ballot.elector = envelope.elector AND (ballot.time, ballot.envelope) > (envelope.time, envelope.envelope))"
 NOT_UNDONE = "act NOT IN (SELECT json_extract(detail, '$.act') FROM act WHERE name = 'undo')"
 
 # the envelopes that were entered anew: late ones as in time, and others by `add --again`

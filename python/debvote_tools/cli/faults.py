@@ -68,6 +68,13 @@ class Fault(Exception):
         return self
 
 
+def bad_words(
+    option: object, reason: object, cure: str, done: str | None = NOTHING_CHANGED
+) -> Fault:
+    """The fault of an option, or of what it names."""
+    return Fault(option, reason, cure, Status.BAD_WORDS, done)
+
+
 def acts_in_words(acts: Sequence[str]) -> str:
     """What a run has done, each act as `act 7 (add)`."""
     many = f"{len(acts)} acts were done, the last is {acts[-1]}"

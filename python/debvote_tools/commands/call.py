@@ -9,13 +9,7 @@ from debvote_tools.cli.arguments import Acting, flag, option
 from debvote_tools.text import times
 from debvote_tools.book import queries
 from debvote_tools.book.book import Detail
-from debvote_tools.poll.call import (
-    call_files,
-    CallData,
-    demand_web_address,
-    extension_letter,
-    named_address,
-)
+from debvote_tools.poll.call import CallData, call_files, extension_letter
 from debvote_tools.cli.console import act_time, tell
 from debvote_tools.result.publication import agreed_texts, current_data, texts_of_poll, until_of
 from debvote_tools.commands.codes import CODES, SLIPS, write_slips
@@ -34,7 +28,12 @@ from debvote_tools.book.election import (
 )
 from debvote_tools.files import OWN, PUBLIC, read_at_most, write_made
 from debvote_tools.poll.draft import checked, lacks_codes, letter_text_in, tell_checked
-from debvote_tools.poll.until import demand_future, parse_until
+from debvote_tools.poll.announced import (
+    demand_future,
+    demand_web_address,
+    named_address,
+    parse_until,
+)
 from debvote_tools.cli.faults import Fault, Status, kept_in, stop_at
 from debvote_tools.inbox.signature import read_keyring
 from debvote_tools.poll.secret import aliased_poll, demand_no_code

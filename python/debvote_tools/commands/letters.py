@@ -18,10 +18,11 @@ from debvote_tools.cli import console
 from debvote_tools.cli.faults import Fault, Status
 from debvote_tools.files import locked, uninterrupted
 from debvote_tools.outbox import files, smtp
-from debvote_tools.outbox.due import WAS_REFUSED, LettersDue, unreached
+from debvote_tools.outbox.due import LettersDue
+from debvote_tools.outbox.reached import WAS_REFUSED, reached_by_call
 from debvote_tools.outbox.smtp import Server
 from debvote_tools.outbox.words import SUBJECTS
-from debvote_tools.poll.call import demand_mail_address, demand_web_address
+from debvote_tools.poll.announced import demand_mail_address, demand_web_address
 
 # how many electors without an address are named
 MOST = 20
@@ -114,8 +115,10 @@ def tell_files(
     if written:
         host = [] if remembered(due.history) else ["--server", "HOST"]
         command = due.election.command("letters", due.kind, "--send", *host)
+        new = sum(bool(letter.address) for letter in due.new)
+        of_them = "" if new == written else f", {new or 'none'} of them new"
         tell(
-            f"Wrote {count_of(written, 'letter')}: {place}",
+            f"Wrote {count_of(written, 'letter')}{of_them}: {place}",
             f"Next: send them with your mail program, or by {command}",
         )
     else:
@@ -139,9 +142,10 @@ def tell_sent(due: LettersDue, tried: Sequence[SentLetter]) -> None:
 
 def tell_unreached(election: Election) -> None:
     """Names those whom the call has not reached, until a letter to them is taken."""
+    unreached, _ = reached_by_call(election, election.history())
     found = [
         f"{elector.name} ({why}{f': {shown_text(reply)}' if why == WAS_REFUSED else ''})"
-        for elector, why, reply in unreached(election, election.history())
+        for elector, why, reply in unreached
     ]
     if found:
         tell(f"Not reached by the call: {listed(found, MOST)}")

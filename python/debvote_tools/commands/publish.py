@@ -15,12 +15,12 @@ from debvote_tools.cli.console import act_time, odd_sign, tell
 from debvote_tools.debvote import casting_words
 from debvote_tools.commands import count
 from debvote_tools.book.election import LETTERS, RESULT, RESULT_LETTER, Election, History
-from debvote_tools.files import OWN, file_text, locked, read_whole, uninterrupted, write_made
+from debvote_tools.files import OWN, locked, read_text, uninterrupted, write_made
 from debvote_tools.inbox.waiting import in_time, waiting_letters
 from debvote_tools.cli.faults import Fault, Status
 from debvote_tools.text.language import LANGUAGES
 from debvote_tools.result import folder, publication
-from debvote_tools.result.facts import CHECKSUMS, Facts
+from debvote_tools.result.facts import CHECKSUMS, PAGE, Facts
 from debvote_tools.result.folder import NOTHING_DONE
 from debvote_tools.result.publication import Words
 
@@ -122,6 +122,10 @@ def demand_place(target_folder: pathlib.Path, history: History) -> None:
     what was published before.
     """
     place = folder.real_place(target_folder)
+    for above in place.parents:
+        if all((above / name).is_file() for name in (CHECKSUMS, PAGE)):
+            words = f"it would be in {above}, whose files are published as they are"
+            raise bad_words(target_folder, words, "name a folder outside of it")
     if folder.is_free(place):
         return
     sums = [act.detail["checksums"][CHECKSUMS] for act in publication.publications(history)]
@@ -177,8 +181,11 @@ def words_of(arguments: Arguments) -> Words:
     if reason is not None:
         reason = demand_reason(reason, "--force", has_paragraphs=True)
     if arguments.about is not None:
-        data = read_whole(arguments.about, TEXT_LIMIT, "give a file that you may read with --about")
-        about = file_text(data, arguments.about, "write it, or leave --about out")
+        unread, empty = (
+            "give a file that you may read with --about",
+            "write it, or leave --about out",
+        )
+        about = read_text(arguments.about, TEXT_LIMIT, unread, empty, may_wait=True)
     return Words(
         casting=arguments.casting,
         cast_by=by,
@@ -210,7 +217,7 @@ def holder_and_day(by: str | None, on: str | None) -> tuple[str, str]:
     return by.strip(), day.isoformat()
 
 
-def bad_words(option: str, reason: str, cure: str) -> Fault:
+def bad_words(option: object, reason: str, cure: str) -> Fault:
     return Fault(option, reason, cure, Status.BAD_WORDS, NOTHING_DONE)
 
 

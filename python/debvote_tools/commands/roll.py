@@ -8,7 +8,7 @@ from debvote_tools.cli.arguments import Acting, flag
 from debvote_tools.inbox.mime import address_key
 from debvote_tools.book import queries
 from debvote_tools.book.book import Book
-from debvote_tools.poll.call import is_mail_address
+from debvote_tools.poll.announced import is_mail_address
 from debvote_tools.cli.console import count_of, is_terminal, is_yes, listed, shown_text, tell
 from debvote_tools.book.election import MEMBERS_FILE, Election, History
 from debvote_tools.poll.marks import new_own_mark

@@ -21,6 +21,7 @@ from debvote_tools.debvote import Finding, Findings, Totals
 from debvote_tools.book.election import LETTERS, RESULT_LETTER, Election, History, Stage
 from debvote_tools.inbox.waiting import Arrived, stopping, waiting_letters
 from debvote_tools.inbox.lines import ballot_file
+from debvote_tools.outbox.reached import reached_by_call
 
 # how many characters the bar of those who have voted has
 BAR = 50
@@ -88,20 +89,11 @@ def state_of(election: Election, history: History) -> tuple[State, list[Refused]
     state["stopping"] = stopping(waiting, history)
     without_ballot = [name for name in roll if name not in voters]
     state["without_ballot"] = None if has_codes else without_ballot
-    state |= letters_of_call(election, history)
+    unreached, printed = reached_by_call(election, history)
+    state["not_reached"] = {elector.name: why for elector, why, _ in unreached}
+    state["printed"] = printed
     state |= {"act": history.last.number, "digest": history.last.digest}
     return state, refused if has_codes else [line for line in refused if line.name not in voters]
-
-
-def letters_of_call(election: Election, history: History) -> State:
-    """Once `letters call` was run: whom it has not reached, each with why, and who gets it printed."""
-    if not any(act.detail["kind"] == "call" for act in history.since_call("letters out")):
-        return {"not_reached": {}, "printed": []}
-    # it takes a while to be imported
-    from debvote_tools.outbox import due
-
-    not_reached = dict(due.not_reached(election, history))
-    return {"not_reached": not_reached, "printed": due.printed(election, history)}
 
 
 def stage_words(election: Election, history: History) -> Iterator[str]:

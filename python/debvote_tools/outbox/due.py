@@ -1,12 +1,12 @@
 """Which letters of a kind are due, and what each says: those that were written before, and new
-ones. And whom the call has not reached.
+ones.
 """
 
 import collections
 import dataclasses
 import datetime
 import secrets
-from collections.abc import Callable, Iterator, Mapping, Sequence
+from collections.abc import Callable, Mapping, Sequence
 
 from debvote_tools.book import queries, sent
 from debvote_tools.book.election import LETTERS, RESULT_LETTER, Election, History
@@ -14,11 +14,10 @@ from debvote_tools.book.queries import Elector
 from debvote_tools.book.sent import REFUSED, TAKEN, WRITTEN, About, SentLetter
 from debvote_tools.cli.faults import Fault, Status
 from debvote_tools.inbox.lines import ballot_file
-from debvote_tools.inbox.mime import address_key
 from debvote_tools.inbox.of_electors import NOBODY, Became, Came, of_electors
 from debvote_tools.inbox.rules import Outcome
+from debvote_tools.outbox.reached import CAME_BACK, address_in, reached_by_call
 from debvote_tools.outbox.words import Composer
-from debvote_tools.poll.call import is_mail_address
 from debvote_tools.result.publication import closing_letter, current_data, last_publication
 from debvote_tools.text.language import language_of
 from debvote_tools.text.times import now
@@ -51,7 +50,8 @@ class LettersDue:
         typed = {act.number for act in self.history.named("enter") if not act.detail.get("lines")}
         self.composer = Composer(current_data(election, self.history), is_over, on_list, typed)
         self.letters = sent.sent_letters(election.book, kind)
-        back = {one.number for one, why, _ in unreached(election, self.history) if why == CAME_BACK}
+        unreached, _ = reached_by_call(election, self.history)
+        back = {elector.number for elector, why, _ in unreached if why == CAME_BACK}
         # the last letter to each of these, which is tried again
         self.came_back = {
             letter.elector: letter.message_id
@@ -313,69 +313,6 @@ class LettersDue:
 def is_refused_for_good(letter: SentLetter) -> bool:
     """Whether the server said that it never takes it, and not that it does not take it now."""
     return letter.state == REFUSED and not letter.reply.startswith("4")
-
-
-def address_in(addresses: Sequence[str]) -> str:
-    """The first of some addresses that every mail server takes; empty if there is none."""
-    return next(filter(is_mail_address, addresses), "")
-
-
-# ---------------------------------------------------------------- whom the call has not reached
-NO_LETTER, WAS_REFUSED, CAME_BACK = "no letter", "refused", "came back"
-
-
-def not_reached(election: Election, history: History) -> list[tuple[str, str]]:
-    """The names of those whom the call has not reached, each with the reason, until a letter is
-    taken: none was written since the call, the server refused the last one, or it came back.
-    """
-    return [(elector.name, why) for elector, why, _ in unreached(election, history)]
-
-
-def printed(election: Election, history: History) -> list[str]:
-    """The names of those who get the call printed."""
-    if not has_letters(election, history):
-        return []
-    electors = queries.electors(election.book)
-    return [elector.name for elector in electors if not address_in(elector.addresses)]
-
-
-def has_letters(election: Election, history: History) -> bool:
-    """Whether `letters call` was run since the call."""
-    acts = history.since_call("letters out")
-    return not history.has_codes_on_roll and any(act.detail["kind"] == "call" for act in acts)
-
-
-def unreached(election: Election, history: History) -> Iterator[tuple[Elector, str, str]]:
-    """The electors whom the call has not reached, the reason, and what the server said."""
-    if history.call is None or not has_letters(election, history):
-        return
-    electors = queries.electors(election.book)
-    states = sent.last_states(election.book, history.call.number)
-    back = came_back(election, electors)
-    for elector in electors:
-        if address := address_in(elector.addresses):
-            last = states.get((elector.number, address))
-            if last is None:
-                yield elector, NO_LETTER, ""
-                continue
-            act, state, reply = last
-            if state == REFUSED:
-                yield elector, WAS_REFUSED, reply
-            elif back.get(elector.number, 0) > act:
-                yield elector, CAME_BACK, ""
-
-
-def came_back(election: Election, electors: Sequence[Elector]) -> dict[int, int]:
-    """The last act with which a letter came back, by elector: one with their own mark, from no
-    address of theirs.
-    """
-    found: dict[int, int] = {}
-    by_mark = {elector.mark: elector for elector in electors if elector.mark}
-    for act, sender, marks in queries.returned_letters(election.book):
-        for elector in filter(None, map(by_mark.get, marks)):
-            if sender not in map(address_key, elector.addresses):
-                found[elector.number] = act
-    return found
 
 
 # ---------------------------------------------------------------- what electors are told

@@ -30,6 +30,8 @@ TO_PRINT = "to-print.html"
 CHANGED_ON_THE_WAY = re.compile(rb"(?m)^(?:(?=>*From ).|\.$)")
 # in characters; mail servers break lines of a thousand
 LONGEST_LINE = 900
+# of a line with encoded words, and what is between two lines of a field
+LONGEST_ENCODED, GOES_ON = 76, "\n "
 
 
 # ---------------------------------------------------------------- a letter
@@ -41,11 +43,11 @@ def message(due: LettersDue, letter: SentLetter, *, is_draft: bool) -> bytes:
     subject, mark = due.subject(letter)
     reply_to = due.composer.call.to
     fields = [
-        ("From", email.utils.formataddr((one_line(due.sender_name), due.sender))),
+        ("From", sender_of(due.sender_name, due.sender)),
         *([("Reply-To", reply_to)] if reply_to not in (None, due.sender) else []),
         ("To", letter.address),
         # on a line of its own it is found in a letter that comes back
-        ("Subject", f"{subject_field(subject)}\n {mark}"),
+        ("Subject", f"{field('Subject', subject)}{GOES_ON}{mark}"),
         ("Date", email.utils.format_datetime(letter.time)),
         ("Message-ID", letter.message_id),
         *([("X-Unsent", "1")] if is_draft else []),
@@ -58,14 +60,20 @@ def message(due: LettersDue, letter: SentLetter, *, is_draft: bool) -> bytes:
     return "".join(f"{name}: {value}\n" for name, value in fields).encode("ascii") + b"\n" + body
 
 
-# all letters of a run have the same but for the mark
+# all letters of a run have the same subject, but for the mark, and sender
 @functools.lru_cache
-def subject_field(subject: str) -> str:
-    """A subject as a head has it."""
-    charset = "us-ascii" if subject.isascii() else "utf-8"
-    return email.header.Header(one_line(subject), charset, header_name="Subject").encode(
-        splitchars=" "
-    )
+def field(name: str, text: str) -> str:
+    """A text on one line as a head has it; no encoded word is longer than 75 characters."""
+    charset, longest = ("us-ascii", None) if text.isascii() else ("utf-8", LONGEST_ENCODED)
+    return email.header.Header(one_line(text), charset, longest, name).encode(splitchars=" ")
+
+
+def sender_of(name: str, address: str) -> str:
+    if name.isascii():
+        return email.utils.formataddr((one_line(name), address))
+    said = field("From", name)
+    is_short = len(f"From: {said} <{address}>") <= LONGEST_ENCODED
+    return f"{said}{' ' if is_short else GOES_ON}<{address}>"
 
 
 def body_of(text: str) -> tuple[str, bytes]:

@@ -13,7 +13,7 @@ from debvote_tools.book import queries
 from debvote_tools.cli.console import LINE_ENDS, count_of, shown_text, tell, tell_as_it_is
 from debvote_tools.book.election import LETTER_TEXT, POLL_FILE, TEXTS, Election, History
 from debvote_tools.cli.faults import Fault, Status, kept_in, stop_at
-from debvote_tools.files import POLL_LIMIT, file_text, read_whole
+from debvote_tools.files import POLL_LIMIT, bad_file, read_text, read_whole
 from debvote_tools.poll.plain_names import bad_options, bad_title, plain_options, plain_title
 from debvote_tools.poll.sealed import KEYS, SealedPoll, is_set, plain_form, read_plain
 from debvote_tools.result.sheet import Sheet, sheet_in
@@ -119,28 +119,28 @@ def texts_in(folder: pathlib.Path, option_count: int) -> tuple[dict[int, str], l
         return {}, []
     except OSError as error:
         cure = "put a folder there with a text for each option"
-        return {}, [Fault(folder, error.strerror, cure, Status.BAD_WORDS, None)]
+        return {}, [bad_file(folder, error.strerror, cure)]
     for file in files:
         number = TEXT_NAME.fullmatch(file.name)
         if number is None or int(number[1]) > option_count:
             most = f"1.txt to {option_count}.txt" if option_count else "1.txt and so on"
             cure = f"name it by the number of an option that is not the default, {most}, or move it out of there"
             reason = "it is not the text of an option of this poll"
-            faults.append(Fault(file, reason, cure, Status.BAD_WORDS, None))
+            faults.append(bad_file(file, reason, cure))
             continue
         with kept_in(faults):
             texts[int(number[1])] = text_in(file, TEXTS_LIMIT)
     size = sum(len(text.encode()) for text in texts.values())
     if size > TEXTS_LIMIT:
         reason = f"the texts have {size} bytes together; at most {TEXTS_LIMIT} are allowed"
-        faults.append(Fault(folder, reason, f"shorten them{THEN}", Status.BAD_WORDS, None))
+        faults.append(bad_file(folder, reason, f"shorten them{THEN}"))
     return dict(sorted(texts.items())), faults
 
 
 def text_in(file: pathlib.Path, limit: int) -> str:
     """A text of the secretary. Raises `Fault` if it is not plain text in UTF-8."""
-    data = read_whole(file, limit, "put a readable file there, or remove it", THEN)
-    return file_text(data, file, "write it, or remove the file", THEN, refused=LINE_ENDS)
+    unread, empty = "put a readable file there, or remove it", "write it, or remove the file"
+    return read_text(file, limit, unread, empty, THEN, refused=LINE_ENDS)
 
 
 def letter_text_in(folder: pathlib.Path) -> str:
