@@ -8,7 +8,13 @@ import subprocess
 from typing import NamedTuple
 
 from debvote_tools.cli.faults import Fault, Status, other_format
-from debvote_tools.files import BALLOTS_LIMIT, LINES_LIMIT, OWN_FILES, POLL_LIMIT, in_memory
+from debvote_tools.files import (
+    BALLOTS_LIMIT,
+    LINES_LIMIT,
+    POLL_LIMIT,
+    demand_own_files,
+    in_memory,
+)
 
 
 class Answer(NamedTuple):
@@ -37,20 +43,15 @@ class Finding(NamedTuple):
         return f"{self.said}{question}{self.remark}"
 
 
-class Totals(NamedTuple):
-    """The last line of `explain`. Late lines are among the refused ones."""
-
-    lines: int
-    valid: int
-    refused: int
-    late: int
-    voters: int
-    electors: int
-
-
 class Findings(NamedTuple):
+    """What `explain` says of each refused line, also those that are late, and the numbers of its
+    last line.
+    """
+
     refused: list[Finding]
-    totals: Totals
+    lines: int = 0
+    valid: int = 0
+    voters: int = 0
 
 
 class Debvote:
@@ -68,19 +69,15 @@ class Debvote:
 
     def run(self, *words: str | os.PathLike[str], given: bytes = b"") -> Answer:
         """Runs debvote, with these bytes as its standard input."""
-        if given and not os.path.isdir(OWN_FILES):
-            reason = "it is missing, and debvote gets its input through it"
-            cure = "mount /proc, then run the command again"
-            raise Fault(OWN_FILES, reason, cure, Status.BAD_OUTPUT, "nothing was counted")
+        if given:
+            demand_own_files()
         try:
             ended = subprocess.run(
                 [self.path, *words], cwd=self.folder, capture_output=True, input=given
             )
         except OSError as error:
-            reason = f"it can't be started ({error.strerror})"
-            done = "nothing was counted, and no file was changed"
-            cure = "run the command again"
-            raise Fault(self.path, reason, cure, Status.BAD_OUTPUT, done) from None
+            reason, cure = f"it can't be started ({error.strerror})", "run the command again"
+            raise Fault(self.path, reason, cure, Status.BAD_OUTPUT) from None
         status = ended.returncode if ended.returncode >= 0 else 128 - ended.returncode
         text, faults = ended.stdout.decode("ascii", "replace"), ended.stderr
         return Answer(text, faults.decode("utf-8", "replace"), status)
@@ -94,9 +91,9 @@ class Debvote:
         with in_memory(poll_bytes) as poll_path:
             files = ("--poll", poll_path, "--ballots", "/dev/stdin")
             answer = self.run(task, *files, *words, given=ballots_bytes)
-        if answer.text or not answer.faults:
-            return answer
-        raise refusal(answer)
+        if answer.faults and not answer.text:
+            raise refusal(answer)
+        return answer
 
     def replies(self, poll_bytes: bytes, ballots_bytes: bytes) -> list[str]:
         """The reply of the box to each line, that to line i at index i - 1."""
@@ -136,7 +133,7 @@ def casting_words(name: str | None) -> list[str]:
 FINDING = re.compile(r"ballots:(\d+): (late|bad shape|bad rank count|bad not on roll): (.*)")
 NEAR = re.compile(r"(\S+ is not on the roll); did you mean (\S+(?: or \S+)*)\?(.*)")
 TOTALS = re.compile(
-    r"(\d+) lines: (\d+) valid, (\d+) refused, (\d+) of them late; (\d+) of (\d+) electors have a ballot"
+    r"(\d+) lines: (\d+) valid, \d+ refused, \d+ of them late; (\d+) of \d+ electors have a ballot"
 )
 
 
@@ -152,7 +149,7 @@ def findings_in(text: str) -> Findings:
             near = tuple(found[2].split(" or "))
             finding = finding._replace(said=found[1], near=near, remark=found[3])
         refused.append(finding)
-    return Findings(refused, Totals(*map(int, totals.groups())))
+    return Findings(refused, *map(int, totals.groups()))
 
 
 def standing_in(text: str) -> dict[str, str]:

@@ -181,14 +181,18 @@ def locked(place: pathlib.Path, *, is_directory: bool = False) -> Iterator[None]
         os.close(handle)
 
 
+def demand_own_files() -> None:
+    if not os.path.isdir(OWN_FILES):
+        words = "it is missing, and programs get their input through it"
+        raise Fault(OWN_FILES, words, "mount /proc, then run the command again", Status.BAD_OUTPUT)
+
+
 @contextlib.contextmanager
 def in_memory(data: bytes) -> Iterator[str]:
     """A file in memory, which other programs can read by this path while it lasts; a kill leaves
     nothing of it.
     """
-    if not os.path.isdir(OWN_FILES):
-        words = "it is missing, and programs get their input through it"
-        raise Fault(OWN_FILES, words, "mount /proc, then run the command again", Status.BAD_OUTPUT)
+    demand_own_files()
     try:
         handle = os.memfd_create("debvote")
     except OSError as error:

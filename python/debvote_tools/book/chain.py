@@ -16,7 +16,7 @@ import operator
 import pathlib
 import sqlite3
 from collections.abc import Iterator, Sequence
-from typing import Any, NamedTuple
+from typing import Any
 
 # the table of the acts themselves; each row of all others belongs to an act
 ACT = "act"
@@ -33,11 +33,8 @@ ACT_OF = operator.itemgetter(0)
 
 
 # ---------------------------------------------------------------- the schema
-class Schema(NamedTuple):
-    # each table, index, view and trigger: its kind, its name, its table, and what makes it
-    entries: frozenset[tuple[str, str, str, str | None]]
-    # of each table the SQL that makes a row of it a line
-    lines: dict[str, str]
+# each table, index, view and trigger: its kind, its name, its table, and what makes it
+Entries = frozenset[tuple[str, str, str, str | None]]
 
 
 def write_schema(connection: sqlite3.Connection) -> None:
@@ -54,13 +51,13 @@ def tables_of(connection: sqlite3.Connection) -> list[str]:
     return [name for name, in connection.execute(words)]
 
 
-def entries_of(connection: sqlite3.Connection) -> frozenset[tuple[str, str, str, str | None]]:
+def entries_of(connection: sqlite3.Connection) -> Entries:
     return frozenset(connection.execute("SELECT type, name, tbl_name, sql FROM sqlite_schema"))
 
 
 @functools.cache
-def schema() -> Schema:
-    """The schema that `new` writes."""
+def schema() -> tuple[Entries, dict[str, str]]:
+    """The schema that `new` writes, and of each table the SQL that makes a row of it a line."""
     with contextlib.closing(sqlite3.connect(":memory:")) as empty:
         write_schema(empty)
         lines = {}
@@ -69,7 +66,11 @@ def schema() -> Schema:
             left_out = "digest" if table == ACT else "act"
             parts = (as_json(name, kind) for name, kind in columns if name != left_out)
             lines[table] = f"json_array({', '.join(parts)})"
-        return Schema(entries_of(empty), lines)
+        return entries_of(empty), lines
+
+
+def line_of() -> dict[str, str]:
+    return schema()[1]
 
 
 def as_json(column: str, kind: str) -> str:
@@ -80,7 +81,7 @@ def as_json(column: str, kind: str) -> str:
 
 def other_schema(connection: sqlite3.Connection) -> str | None:
     """A table, index, view or trigger that is not as `new` writes it; None if there is none."""
-    differing = sorted(entries_of(connection) ^ schema().entries, key=str)
+    differing = sorted(entries_of(connection) ^ schema()[0], key=str)
     return f"the {differing[0][0]} {differing[0][1]}" if differing else None
 
 
@@ -99,7 +100,7 @@ def digest_of(connection: sqlite3.Connection, before: str, act: Sequence[object]
     row = [hashlib.sha256(one).hexdigest() if isinstance(one, bytes) else one for one in act]
     line = json.dumps(row, ensure_ascii=False, separators=(",", ":"))
     digest = hashlib.sha256(f"{before}\n{line}".encode())
-    for table in schema().lines:
+    for table in line_of():
         if table != ACT:
             name = f"\n{table}\n".encode()
             for piece in pieces_of(connection, table, act[0]):
@@ -112,7 +113,7 @@ def pieces_of(connection: sqlite3.Connection, table: str, act: object) -> Iterat
     """The rows of an act in a table, as lines, some at once: SQLite joins them faster than Python."""
     at_once = 1 if table in LONG_ROWS else ROWS_AT_ONCE
     next_row = f"SELECT min(rowid) FROM {table} WHERE act = ? AND rowid >= ?"
-    rows = f"SELECT {schema().lines[table]} AS line FROM {table} WHERE rowid BETWEEN ? AND ? AND +act = ? ORDER BY rowid"
+    rows = f"SELECT {line_of()[table]} AS line FROM {table} WHERE rowid BETWEEN ? AND ? AND +act = ? ORDER BY rowid"
     joined = f"SELECT CAST(group_concat(line, char(10)) AS BLOB) FROM ({rows})"
     [(first,)] = connection.execute(next_row, (act, -(2**63)))
     while first is not None:
@@ -149,7 +150,7 @@ def damage(connection: sqlite3.Connection) -> list[str]:
 
 def break_in(connection: sqlite3.Connection) -> str | None:
     """The first act at which the chain is broken, and how; None if it is whole."""
-    before, tables = BEGINNING, list(schema().lines)
+    before, tables = BEGINNING, list(line_of())
     found = heapq.merge(*(acts_in(connection, table) for table in tables), key=ACT_OF)
     for act, by_table in itertools.groupby(found, key=ACT_OF):
         _, table, rows = next(by_table)
@@ -179,6 +180,6 @@ def acts_in(
 
 def query_of_all(table: str) -> str:
     """It reads the table, once, and no index in place of it."""
-    line, digest = schema().lines[table], "digest" if table == ACT else "NULL"
+    line, digest = line_of()[table], "digest" if table == ACT else "NULL"
     order = "act" if table == ACT else "act, rowid"
     return f"SELECT act, CAST({line} AS BLOB), {digest} FROM {table} NOT INDEXED ORDER BY {order}"

@@ -37,7 +37,7 @@ def all_electors(book: Book) -> list[Elector]:
         rows = book.rows("SELECT * FROM elector_now ORDER BY position")
         # all lists of addresses at once: one after the other takes five times as long
         mails = json.loads(f"[{','.join(row[4] for row in rows)}]")
-        found = [Elector(*row[:4], tuple(mail), *row[5:]) for row, mail in zip(rows, mails)]
+        found = [Elector._make([*row[:4], tuple(mail), *row[5:]]) for row, mail in zip(rows, mails)]
         book.electors_at = state, found
     return list(book.electors_at[1])
 
