@@ -18,7 +18,7 @@ from debvote_tools.files import (
 
 
 class Answer(NamedTuple):
-    """What a run wrote on standard output and on standard error, and its exit status."""
+    """What a run wrote on both outputs, and its exit status."""
 
     text: str
     faults: str
@@ -26,9 +26,8 @@ class Answer(NamedTuple):
 
 
 class Finding(NamedTuple):
-    """What `explain` says of a line: the number of its envelope, the word of `steps`, and what is
-    wrong; the names on the roll that may have been meant, and a remark on their ballots in other
-    lines.
+    """What `explain` says of a line: its envelope, the word of `steps`, what is wrong, the names on
+    the roll that may have been meant, and a remark on their ballots in other lines.
     """
 
     envelope: int
@@ -55,8 +54,8 @@ class Findings(NamedTuple):
 
 
 class Debvote:
-    """Runs debvote in a folder; the names of its files are relative to this folder. debvote may be
-    in `program_folder`, beside the program that runs it.
+    """Runs debvote in a folder, to which file names are relative. It may be in `program_folder`,
+    beside the program that runs this.
     """
 
     def __init__(self, folder: pathlib.Path, program_folder: pathlib.Path | None = None) -> None:
@@ -85,7 +84,7 @@ class Debvote:
     def answer(
         self, task: str, poll_bytes: bytes, ballots_bytes: bytes = b"", *words: str
     ) -> Answer:
-        """What debvote writes about a poll and ballots in memory. Stops if it refuses them as a
+        """What debvote writes about a poll and ballots in memory, unless it refuses them as a
         whole.
         """
         with in_memory(poll_bytes) as poll_path:
@@ -107,7 +106,6 @@ class Debvote:
         return standing_in(self.answer("standing", poll_bytes, ballots_bytes).text)
 
     def version(self) -> str:
-        """As `debvote 1.1.0`."""
         return self.run("--version").text.strip()
 
 
@@ -122,9 +120,7 @@ def refusal(answer: Answer) -> Fault:
 
 
 def casting_words(name: str | None) -> list[str]:
-    """The arguments for a casting vote. As an argument of its own, a name that begins with a hyphen
-    would be read as another option.
-    """
+    """The arguments for a casting vote: a name with a hyphen would be read as an option."""
     if name is None:
         return []
     return [f"--casting={name}"] if name.startswith("-") else ["--casting", name]

@@ -104,8 +104,8 @@ def sync_folder(folder: pathlib.Path) -> None:
 
 
 def write_whole(file: pathlib.Path, data: bytes, mode: int) -> None:
-    """Writes a file with this mode, whole or not at all: a temporary beside it is brought to the
-    disk, and takes its place. Raises OSError, and then the file is as it was.
+    """Writes a file with this mode, whole or not at all: a temporary beside it takes its place.
+    Raises OSError, and then the file is as it was.
     """
     handle, name = tempfile.mkstemp(prefix=TEMPORARY, dir=file.parent)
     try:
@@ -128,15 +128,12 @@ def write_whole(file: pathlib.Path, data: bytes, mode: int) -> None:
 
 
 def temporary_folder(place: pathlib.Path) -> pathlib.Path:
-    """Makes a folder for files that are moved to this place, or away from it. Raises OSError."""
     return pathlib.Path(tempfile.mkdtemp(prefix=TEMPORARY, dir=place))
 
 
 @contextlib.contextmanager
 def whole_folder(place: pathlib.Path) -> Iterator[pathlib.Path]:
-    """A new folder, which takes its place when all is in it; if that fails, nothing of it is left.
-    Raises OSError.
-    """
+    """A new folder, which takes its place when all is in it; if that fails, nothing is left."""
     parent = place.absolute().parent
     made = temporary_folder(parent)
     try:
@@ -149,9 +146,7 @@ def whole_folder(place: pathlib.Path) -> Iterator[pathlib.Path]:
 
 
 def write_public(file: pathlib.Path, data: bytes) -> None:
-    """Writes a new file that everybody may read, whatever the umask, and brings it to the disk.
-    Raises OSError.
-    """
+    """Writes a new file that everybody may read, whatever the umask."""
     with open(file, "xb") as target:
         write_through(target, data, 0o644)
 
@@ -189,9 +184,7 @@ def demand_own_files() -> None:
 
 @contextlib.contextmanager
 def in_memory(data: bytes) -> Iterator[str]:
-    """A file in memory, which other programs can read by this path while it lasts; a kill leaves
-    nothing of it.
-    """
+    """A file in memory, which other programs can read by this path while it lasts."""
     demand_own_files()
     try:
         handle = os.memfd_create("debvote")
@@ -206,7 +199,7 @@ def in_memory(data: bytes) -> Iterator[str]:
 
 @contextlib.contextmanager
 def uninterrupted() -> Iterator[None]:
-    """Interrupts wait until this is done, so that whatever is done is also reported."""
+    """Interrupts wait until this is done, so that what is done is also reported."""
     signals = {signal.SIGINT, signal.SIGTERM, signal.SIGHUP}
     before = signal.pthread_sigmask(signal.SIG_BLOCK, signals)
     try:
@@ -226,9 +219,7 @@ def write_made(
     modes: tuple[int, int],
     outdated: Collection[str] = (),
 ) -> list[pathlib.Path]:
-    """Writes the files that are missing or differ, and returns them. Removes outdated files, and
-    leaves all others alone.
-    """
+    """Writes the files that are missing or differ, and returns them. Outdated files are removed."""
     folder_mode, file_mode = modes
     folder.mkdir(exist_ok=True)
     folder.chmod(folder_mode)

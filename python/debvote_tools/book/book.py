@@ -83,7 +83,7 @@ Detail = dict[str, Any]
 
 
 class Overtaken(Fault):
-    """Another act came between, and may have changed what this act was decided by."""
+    """Another act came between, which may have changed what this one was decided by."""
 
     def __init__(self) -> None:
         super().__init__(None, "another command changed the election meanwhile", AGAIN)
@@ -119,7 +119,7 @@ class NewAct(NamedTuple):
     def insert_all(
         self, table: str, columns: Sequence[str], rows: Iterable[Sequence[object]]
     ) -> None:
-        """Adds many rows of this act, each with its values in these columns."""
+        """Adds rows of this act, each with its values in these columns."""
         row, waiting = f"({self.number}{', ?' * len(columns)})", iter(rows)
         while part := list(itertools.islice(waiting, ROWS_AT_ONCE)):
             words = f"INSERT INTO {table} (act, {', '.join(columns)}) VALUES {row}"
@@ -169,12 +169,11 @@ class Book:
         return self.last_act().number
 
     def size(self) -> int:
-        """How many bytes its file has."""
         words = "SELECT page_count * page_size FROM pragma_page_count, pragma_page_size"
         return int(self.rows(words)[0][0])
 
     def digest_at(self, act: int) -> str | None:
-        """The digest of an act; None if the book has no such act."""
+        """The digest of an act; None if there is no such act."""
         [(digest,)] = self.rows("SELECT max(digest) FROM act WHERE act = ?", act)
         return None if digest is None else str(digest)
 
@@ -204,10 +203,9 @@ class Book:
     def act(
         self, name: ActName, detail: Detail | None = None, *, seen: int | None = None
     ) -> Iterator[NewAct]:
-        """One act: its rows are committed at the end, and an exception leaves the book as it was.
-
-        `seen` is the last act that was known when this act was decided; if others came since, it is
-        `Overtaken`. Within the act nobody is asked and no program runs.
+        """One act: its rows are committed at the end, or none after an exception. `seen` is the
+        last act that was known when this one was decided; if others came since, it is `Overtaken`.
+        Within the act nobody is asked and no program runs.
         """
         note = self.note()
         note.make_ready()
@@ -251,8 +249,8 @@ class Book:
         return digest
 
     def is_there(self, act: int) -> bool:
-        """Whether an act is in the book although SQLite says that its commit failed. Then nobody
-        knows whether it stays.
+        """Whether an act is in the book although its commit failed; then nobody knows whether it
+        stays.
         """
         try:
             self.connection.rollback()
@@ -302,8 +300,8 @@ class Book:
             raise Fault(self.path, why, f"find out how that came about; {right}, {repeat}")
 
     def accept(self, because: str) -> None:
-        """The act `moved`: from now on this machine takes this book for the right one. If the whole
-        disk was put back, with the note, only who did it knows.
+        """The act `moved`: this machine takes this book for the right one. If the whole disk was
+        put back, with the note, only who did it knows.
         """
         noted, last, why = self.note().read(), self.last_act(), self.strangeness() or RESTORED
         self.demand_locks()
@@ -319,7 +317,7 @@ class Book:
     # ------------------------------------------------------------ the file
     def doubts(self, *, is_accepted: bool = False) -> list[Fault]:
         """Why this may not be the book to work on: a copy lies beside it, or this machine knows
-        another one and this one is not accepted now.
+        another one, and this one is not accepted now.
         """
         words = f"it is another book of this election, with acts that {NAME} lacks; a sync tool may have left it"
         cure = "find out which book is right, and move the other out of the folder"
@@ -346,7 +344,7 @@ class Book:
                     yield file
 
     def begins_with(self, file: pathlib.Path) -> bool:
-        """Whether this book has all acts of another book. False if the other book can't be read."""
+        """Whether this book has all acts of another one; False if that can't be read."""
         try:
             with contextlib.closing(connected(file, "ro")) as other:
                 words = "SELECT act, digest FROM act ORDER BY act DESC LIMIT 1"
@@ -381,7 +379,7 @@ def is_locked_for_others(path: pathlib.Path) -> bool:
 
 # ---------------------------------------------------------------- making and opening
 def create(path: pathlib.Path, detail: Detail, final_path: pathlib.Path) -> None:
-    """Makes a new book with the act `new`, which lies at `final_path` once its folder is moved."""
+    """Makes a new book with the act `new`; its folder is moved, so that it lies at `final_path`."""
     os.close(os.open(path, os.O_RDWR | os.O_CREAT | os.O_EXCL, 0o600))
     connection = connected(path, "rw")
     book = Book(path, connection)
@@ -423,7 +421,9 @@ def open_book(path: pathlib.Path) -> Book:
 
 
 def demand_version(path: pathlib.Path) -> None:
-    """Stops at a file that is no book of this version; it is not opened, so it does not change."""
+    """Stops at a file that is no book of this version, which is not opened, so that it stays as it
+    is.
+    """
     head = head_of(path)
     if not head.startswith(SQLITE):
         raise damaged(path, "it is no database of SQLite")
@@ -461,7 +461,7 @@ PLACES = {
 
 @contextlib.contextmanager
 def sqlite_faults(path: pathlib.Path) -> Iterator[None]:
-    """An error of SQLite is raised as a fault of the file."""
+    """Raises an error of SQLite as a fault of the file."""
     try:
         yield
     except sqlite3.Error as error:
@@ -479,7 +479,7 @@ def damaged(path: pathlib.Path, how: str) -> Fault:
 
 
 def file_at(path: pathlib.Path) -> tuple[int, int] | None:
-    """What tells the file at a path from each other one; None if there is none."""
+    """What tells the file at a path from others; None if there is none."""
     try:
         found = path.stat()
     except OSError:
@@ -493,7 +493,7 @@ def head_of(file: pathlib.Path) -> bytes:
 
 
 def has_our_id(head: bytes) -> bool:
-    """Whether a file that begins so is a database of SQLite with the number of our books."""
+    """Whether a file that begins so is a database with the number of our books."""
     return head.startswith(SQLITE) and head[ID_AT] == APPLICATION_ID.to_bytes(4, "big")
 
 

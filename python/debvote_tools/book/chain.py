@@ -38,7 +38,6 @@ Entries = frozenset[tuple[str, str, str, str | None]]
 
 
 def write_schema(connection: sqlite3.Connection) -> None:
-    """Makes the tables, indexes, views and triggers of a new book."""
     for statement in pathlib.Path(__file__).with_name("schema.sql").read_text().split(";\n"):
         connection.execute(statement)
     for table in tables_of(connection):
@@ -80,7 +79,7 @@ def as_json(column: str, kind: str) -> str:
 
 
 def other_schema(connection: sqlite3.Connection) -> str | None:
-    """A table, index, view or trigger that is not as `new` writes it; None if there is none."""
+    """What is not as `new` writes it; None if all is."""
     differing = sorted(entries_of(connection) ^ schema()[0], key=str)
     return f"the {differing[0][0]} {differing[0][1]}" if differing else None
 
@@ -94,8 +93,8 @@ def prepare(connection: sqlite3.Connection) -> None:
 
 
 def digest_of(connection: sqlite3.Connection, before: str, act: Sequence[object]) -> str:
-    """The digest of an act (its row without the digest) by the rows that the book has of it, which
-    are found by an index.
+    """The digest of an act (its row without the digest), with the rows that the book has of it,
+    which are found by an index.
     """
     row = [hashlib.sha256(one).hexdigest() if isinstance(one, bytes) else one for one in act]
     line = json.dumps(row, ensure_ascii=False, separators=(",", ":"))
@@ -135,7 +134,7 @@ def broken(act: int) -> str:
 
 
 def damage(connection: sqlite3.Connection) -> list[str]:
-    """What is not as the acts of a book wrote it; empty if the book is whole."""
+    """What is not as the acts of a book wrote it."""
     order = "".join(words for words, in connection.execute("PRAGMA integrity_check(1)"))
     if order != "ok":
         # in the rows of such a file there may be anything
@@ -171,8 +170,8 @@ def break_in(connection: sqlite3.Connection) -> str | None:
 def acts_in(
     connection: sqlite3.Connection, table: str
 ) -> Iterator[tuple[int, str, Iterator[tuple[Any, ...]]]]:
-    """The acts that have rows in a table, in their order, each with the table and the rows: act,
-    line, and digest if the row is that of the act.
+    """The acts that have rows in a table, each with the table and the rows: act, line, and the
+    digest if the row is that of the act.
     """
     for act, rows in itertools.groupby(connection.execute(query_of_all(table)), key=ACT_OF):
         yield act, table, rows

@@ -25,8 +25,8 @@ ROOM = 20 + 64
 
 
 def machine_of(salt: bytes) -> str:
-    """This machine as the acts of a book name it, by the random bytes of the first act: two books do
-    not show that they are of one machine.
+    """This machine as the acts of a book name it. It differs by the random bytes of the first act,
+    so that two books do not show that they are of one machine.
     """
     try:
         machine_id = MACHINE_ID.read_bytes()
@@ -64,7 +64,7 @@ class MachineNote:
             raise Fault(self.file, words, cure, done=None) from None
 
     def make_ready(self) -> None:
-        """Makes room on the disk for the next note. Stops if there is none."""
+        """Makes room on the disk for the next note."""
         with self.under_lock():
             self.write_next(b"")
 

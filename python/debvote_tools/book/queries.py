@@ -13,9 +13,7 @@ from debvote_tools.book.book import Book, NewAct, as_text, from_text
 
 # ---------------------------------------------------------------- electors
 class Elector(NamedTuple):
-    """An elector as the book has them now. `position` is that in the list of members; None if they
-    are no longer on it.
-    """
+    """An elector as the book has them now. `position` is that in the list of members, if any."""
 
     number: int
     name: str
@@ -29,8 +27,8 @@ class Elector(NamedTuple):
 
 
 def all_electors(book: Book) -> list[Elector]:
-    """All electors that the book knows, those who are no longer on the list first. They are read
-    again only if somebody has changed the book.
+    """All whom the book knows, those who are no longer on the list first. They are read again only
+    if somebody has changed the book.
     """
     state = book.last_number(), book.connection.total_changes
     if book.electors_at[0] != state:
@@ -48,9 +46,7 @@ def electors(book: Book) -> list[Elector]:
 
 
 def public_names(electors: Iterable[Elector]) -> dict[str, str]:
-    """What the public of a secret vote sees in place of each name: the alias, or the name itself if
-    it is a code of the roll.
-    """
+    """What a secret vote shows in place of each name: the alias, or a code of the roll itself."""
     return {elector.name: elector.alias or elector.name for elector in electors}
 
 

@@ -29,7 +29,7 @@ NOTHING_CHANGED = f"{NOTHING}changed"
 
 class Fault(Exception):
     """Ends a run: the file, if the fault is in one, the reason, the cure, the exit status, and what
-    was done or was not, which is None if the reason says it. `others` stop the same act.
+    was done or was not, None if the reason says it. `others` stop the same act.
     """
 
     others: tuple["Fault", ...] = ()
@@ -47,7 +47,6 @@ class Fault(Exception):
 
     @property
     def words(self) -> str:
-        """The fault in one line."""
         where = "" if self.file is None else f"{self.file}: "
         done = "; " if self.done is None else f"; {self.done}: " if self.done else ": "
         return f"{where}{self.reason}{done}{self.cure}"
@@ -99,6 +98,5 @@ def kept_in(faults: list[Fault]) -> Iterator[None]:
 
 
 def other_format(what: str) -> Fault:
-    """The fault of an output of debvote that does not have its format."""
     cure = "install debvote and these programs from one package"
     return Fault(None, f"{what} has an unknown format", cure, Status.BAD_SHEET, None)

@@ -3,12 +3,11 @@
 import dataclasses
 import pathlib
 import shutil
-from collections.abc import Mapping
 
-from debvote_tools.cli.arguments import Acting, flag, option
+from debvote_tools.cli.arguments import Acting, flag, given, option
 from debvote_tools.text import times
 from debvote_tools.book import queries
-from debvote_tools.book.book import Detail
+from debvote_tools.book.book import ActName, Detail
 from debvote_tools.poll.call import CallData, call_files, extension_letter
 from debvote_tools.cli.console import act_time, tell
 from debvote_tools.result.publication import agreed_texts, current_data, texts_of_poll, until_of
@@ -34,7 +33,7 @@ from debvote_tools.poll.announced import (
     named_address,
     parse_until,
 )
-from debvote_tools.cli.faults import Fault, Status, kept_in, stop_at
+from debvote_tools.cli.faults import NOTHING_CHANGED, Fault, bad_words, kept_in, stop_at
 from debvote_tools.inbox.signature import read_keyring
 from debvote_tools.poll.secret import aliased_poll, demand_no_code
 from debvote_tools.poll.marks import new_own_mark
@@ -100,7 +99,7 @@ def call(election: Election, arguments: Arguments) -> None:
     said, is_on_roll = announced(arguments, None, faults), history.has_codes_on_roll
     if is_on_roll and arguments.marked:
         reason = "codes are on the roll, so no elector can be given an own mark"
-        faults.append(Fault("--marked", reason, "leave it out", Status.BAD_WORDS))
+        faults.append(bad_words("--marked", reason, "leave it out"))
     with kept_in(faults):
         demand_read(election, history)
     with kept_in(faults):
@@ -108,17 +107,16 @@ def call(election: Election, arguments: Arguments) -> None:
         poll = found.poll
         if poll.secret and arguments.names:
             cure = "leave it out: in a secret vote no names are published"
-            faults.append(Fault("--names", "the vote is secret", cure, Status.BAD_WORDS))
+            faults.append(bad_words("--names", "the vote is secret", cure))
         if lacks_codes(election, history, poll):
             cure = f"run {election.command('codes')} first"
             raise Fault(None, "the vote is secret, and electors have no codes", cure)
     stop_at(faults)
-    electors = queries.electors(election.book)
-    public = poll
+    electors, public = queries.electors(election.book), poll
     if poll.secret and not is_on_roll:
         public = aliased_poll(poll, queries.public_names(electors))
-    said.update({"form": arguments.form, "names": arguments.names, "marked": arguments.marked})
-    said.update({"codes_on_roll": is_on_roll, "quorum_votes": found.sheet.quorum})
+    said |= {"form": arguments.form, "names": arguments.names, "marked": arguments.marked}
+    said |= {"codes_on_roll": is_on_roll, "quorum_votes": found.sheet.quorum}
     said["signed"] = arguments.keyring is not None
     keyring = keyring_in(election, arguments.keyring)
     files = sealed_by(election, said, found.letter_text, keyring, Sealed(public, poll))
@@ -126,32 +124,19 @@ def call(election: Election, arguments: Arguments) -> None:
     if public != poll:
         files[POLL_WITH_NAMES] = poll.as_bytes()
     if poll.secret:
-        said["agreed"] = agreed(history, texts_of_poll(poll), found.letter_text, arguments)
+        # letter.txt begins the letter to all
+        texts = texts_of_poll(poll) | {LETTER_TEXT: found.letter_text}
+        said["agreed"] = agreed_texts(history, texts, is_agreed=arguments.yes, done=NOTHING_CHANGED)
     with election.book.act("call", said, seen=history.last.number) as act:
-        for name, data in files.items():
-            act.insert("sealed", name=name, data=data)
+        act.insert_all("sealed", ["name", "data"], files.items())
         if not is_on_roll:
             queries.put_electors(act, (one._replace(mark=new_own_mark()) for one in electors))
     tell_checked(found)
 
 
-def agreed(
-    history: History, texts: Mapping[str, str], letter_text: str, arguments: Arguments
-) -> list[str]:
-    """The checksums of the texts that everybody may read, those of the options and letter.txt,
-    which begins the letter to all.
-    """
-    return agreed_texts(
-        history,
-        {**texts, LETTER_TEXT: letter_text},
-        is_agreed=arguments.yes,
-        done="nothing was changed",
-    )
-
-
 def call_again(election: Election, arguments: Arguments) -> None:
-    """Extends the vote, or adds what the call did not say yet. A new end is refused after a close,
-    and if it is not later than the end that electors know.
+    """Extends the vote, or adds what the call did not say yet. A new end comes before no close, and
+    is later than the one that electors know.
     """
     history, faults = election.history(), list[Fault]()
     said = announced(arguments, history.announced("zone"), faults)
@@ -171,18 +156,17 @@ def call_again(election: Election, arguments: Arguments) -> None:
         raise Fault("--until", words, cure)
     if until is not None and history.until is not None and until <= history.until:
         words = f"electors rely on {times.time_in_words(history.until)}, and {times.time_in_words(until)} is not later"
-        raise Fault("--until", words, "name a later time", Status.BAD_WORDS)
+        raise bad_words("--until", words, "name a later time")
     keyring = keyring_in(election, arguments.keyring)
     files = sealed_by(election, said, letter_text, keyring)
     if election.sealed().counted.secret and LETTER_TEXT in files:
-        said["agreed"] = agreed(history, {}, letter_text, arguments)
+        new = {LETTER_TEXT: letter_text}
+        said["agreed"] = agreed_texts(history, new, is_agreed=arguments.yes, done=NOTHING_CHANGED)
     if keyring is not None:
         said["keyring"] = True
-    with election.book.act(
-        "announce" if until is None else "extend", said, seen=history.last.number
-    ) as act:
-        for name, data in files.items():
-            act.insert("sealed", name=name, data=data)
+    name: ActName = "announce" if until is None else "extend"
+    with election.book.act(name, said, seen=history.last.number) as act:
+        act.insert_all("sealed", ["name", "data"], files.items())
 
 
 def take_back(election: Election) -> None:
@@ -227,9 +211,8 @@ def sealed_by(
     keyring: bytes | None,
     sealed: Sealed | None = None,
 ) -> dict[str, bytes]:
-    """What an act seals, by its name in the book: the files of the call, so that they can be made
-    again with the same bytes, the text of the letters if it is new, and the keyring. Stops if a
-    text would have the code of an elector.
+    """What an act seals: the files of the call, so that they can be made again with the same bytes,
+    the text of the letters if it is new, and the keyring.
     """
     data = dataclasses.replace(
         current_data(election, said=said, sealed=sealed), letter_text=letter_text
@@ -243,14 +226,14 @@ def sealed_by(
     if data.poll.secret:
         codes = {elector.code or elector.name for elector in queries.electors(election.book)}
         for name, content in files.items():
-            demand_no_code(name, content, codes, "nothing was changed")
+            demand_no_code(name, content, codes, NOTHING_CHANGED)
     return files if keyring is None else {**files, KEYRING: keyring}
 
 
 # ---------------------------------------------------------------- the words of the command line
 def announced(arguments: Arguments, earlier_zone: str | None, faults: list[Fault]) -> Detail:
-    """What the act keeps of these options, if they are right. An extension is in the zone of the
-    end before, unless it names another.
+    """What the act keeps of these options. An extension is in the zone of the end before, unless it
+    names another.
     """
     said: Detail = {}
     with kept_in(faults):
@@ -273,11 +256,8 @@ def announced(arguments: Arguments, earlier_zone: str | None, faults: list[Fault
 def demand_no_change(
     election: Election, history: History, arguments: Arguments, said: Detail
 ) -> None:
-    changed = [
-        f"--{name}"
-        for name in ("form", "names", "marked")
-        if getattr(arguments, name) and not history.announced(name)
-    ]
+    flags = given(arguments, "form", "names", "marked")
+    changed = [flag for flag in flags if not history.announced(flag.removeprefix("--"))]
     if said.get("to") not in (None, history.announced("to")):
         changed.append("--to")
     if arguments.keyring is not None and not history.announced("signed"):
@@ -285,9 +265,8 @@ def demand_no_change(
     if changed:
         is_address = changed == ["--to"]
         words = "the call has sealed the address" if is_address else "the call was made without it"
-        again = election.command("call", "--take-back")
-        cure = f"as long as nothing has come, take the call back and call anew: {again}"
-        raise Fault(", ".join(changed), words, cure)
+        again = f"take the call back and call anew: {election.command('call', '--take-back')}"
+        raise Fault(", ".join(changed), words, f"as long as nothing has come, {again}")
 
 
 def keyring_in(election: Election, file: str | None) -> bytes | None:
@@ -297,8 +276,7 @@ def keyring_in(election: Election, file: str | None) -> bytes | None:
     try:
         data = read_at_most(pathlib.Path(file), KEYRING_LIMIT)
     except OSError as error:
-        cure = "name the file that gpg --export wrote"
-        raise Fault(file, error.strerror, cure, Status.BAD_WORDS) from None
+        raise bad_words(file, error.strerror, "name the file that gpg --export wrote") from None
     keyring, electors = read_keyring(file, data), queries.electors(election.book)
     missing = [one.name for one in electors if one.key and one.key not in keyring.fingerprints]
     if missing:

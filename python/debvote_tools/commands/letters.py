@@ -126,7 +126,6 @@ def tell_files(
 
 
 def tell_sent(due: LettersDue, tried: Sequence[SentLetter]) -> None:
-    """Says what the server took, and what it did not."""
     refused = [letter for letter in tried if letter.state != TAKEN]
     if tried:
         tell(f"Sent {len(tried) - len(refused)} of {count_of(len(tried), 'letter')}.")
@@ -166,15 +165,15 @@ def demand_words(arguments: Arguments) -> None:
 
 
 def remembered(history: History) -> Detail | None:
-    """The detail of the last act of a letter that was sent, which names the server; None if there
-    is none since the election was moved: a copy for a rehearsal sends no real letters.
+    """The detail of the last act of a letter that was sent, which names the server; None since a
+    move: a copy for a rehearsal sends no real letters.
     """
     acts = history.named("letter sent", "moved")
     return acts[-1].detail if acts and acts[-1].name == "letter sent" else None
 
 
 def server_of(history: History, server: Server | None, arguments: Arguments) -> Server:
-    """The server that is named, or that of the last letters, which is shown; with the password."""
+    """The server that is named, or that of the last letters, with the password."""
     user = arguments.user
     if server is None:
         detail = remembered(history)
@@ -204,7 +203,7 @@ def server_of(history: History, server: Server | None, arguments: Arguments) -> 
 
 
 def announce(election: Election, book: Book, address: str) -> None:
-    """The act that says where the page of the vote is, if it is not known already."""
+    """The act that says where the page of the vote is, if it is not known."""
     demand_web_address(address)
     history = election.history()
     election.called(history)
@@ -215,9 +214,7 @@ def announce(election: Election, book: Book, address: str) -> None:
 
 # ---------------------------------------------------------------- the acts
 def write(book: Book, due: LettersDue, place: pathlib.Path) -> int:
-    """Writes and notes the letters that are due; returns how many files there are for a mail
-    program.
-    """
+    """Writes and notes the letters that are due; returns how many a mail program can send."""
     made = files.letter_files(due, [*due.written, *due.new])
     with files.in_place(made, place):
         if due.new:
@@ -228,9 +225,8 @@ def write(book: Book, due: LettersDue, place: pathlib.Path) -> int:
 
 
 def write_lost(due: LettersDue, kind_folder: pathlib.Path) -> dict[pathlib.Path, list[SentLetter]]:
-    """Makes the folders of earlier receipts that are not there; returns them, each with its
-    letters. What they say holds now. A folder from which files were taken out is left alone: they
-    may have been sent.
+    """Makes the folders of earlier receipts that are not there, as they hold now; returns their
+    letters. A folder from which files were taken out is left alone: they may have been sent.
     """
     lost = {}
     for act, letters in itertools.groupby(due.earlier, key=lambda letter: letter.for_act):
@@ -243,9 +239,7 @@ def write_lost(due: LettersDue, kind_folder: pathlib.Path) -> dict[pathlib.Path,
 
 
 def send_waiting(book: Book, due: LettersDue, server: Server) -> list[SentLetter]:
-    """Sends the letters that wait, and returns them with what the server said. The act of each
-    names the server.
-    """
+    """Sends the letters that wait, and returns them with what the server said."""
     letters, tried = due.waiting, list[SentLetter]()
     if not letters:
         return tried

@@ -116,9 +116,7 @@ def run(election: Election, arguments: Arguments) -> int:
 
 def demand_place(target_folder: pathlib.Path, history: History) -> None:
     """Stops unless the place is free, or has what was published last: an earlier result, or that of
-    another election, stays.
-
-    A run that was killed after its act has left its folder beside the place; then the place has
+    another election, stays. After a run that was killed, its folder is beside the place, which has
     what was published before.
     """
     place = folder.real_place(target_folder)
@@ -198,7 +196,7 @@ def words_of(arguments: Arguments) -> Words:
 
 
 def holder_and_day(by: str | None, on: str | None) -> tuple[str, str]:
-    """Whose the casting vote was, and when it was given: a day that is not to come."""
+    """Whose the casting vote was, and on which day."""
     if by is None or on is None:
         cure = 'say it with --cast-by "NAME" --cast-on 2026-12-05'
         raise bad_words(
@@ -222,9 +220,7 @@ def bad_words(option: object, reason: str, cure: str) -> Fault:
 
 
 def agreed_in_secret(history: History, facts: Facts, *, is_agreed: bool) -> list[str]:
-    """Asks before a secret vote is published: about texts that are new, by where they are from, and
-    about what two results would show.
-    """
+    """Asks about texts that are new in a secret vote, and about what two results would show."""
     acts = facts.chronicle.acts if facts.chronicle else ()
     texts = {"--about": facts.about, "--because": facts.because}
     texts["--cast-by"] = facts.casting.by if facts.casting else None

@@ -61,7 +61,7 @@ def read_roll(election: Election, history: History) -> Roll:
 
 def demand_read(election: Election, history: History) -> None:
     """Stops if the list of members is not the one that `roll` read. Codes on the roll come from no
-    list, so nothing is compared then.
+    list.
     """
     if not history.has_codes_on_roll and not is_kept(election.book, read_roll(election, history)):
         cure = f"run {election.command('roll')} first"
@@ -76,7 +76,7 @@ def is_kept(book: Book, roll: Roll) -> bool:
 
 # ---------------------------------------------------------------- the acts
 def keep_electors(book: Book, roll: Roll, seen: int) -> None:
-    """The act after which the electors are those of the list. If they already are, there is no act."""
+    """The act after which the electors are those of the list, if they are not already."""
     if is_kept(book, roll):
         return
     before = {elector.name: elector for elector in queries.all_electors(book)}
@@ -92,8 +92,8 @@ def keep_electors(book: Book, roll: Roll, seen: int) -> None:
 
 
 def change_addresses(book: Book, changed: Sequence[Member], seen: int) -> None:
-    """The act after the call: new addresses and keys of the same people. A new address makes a new
-    own mark: who reads the old one knows the mark.
+    """The act after the call. A new address makes a new own mark: who reads the old one knows the
+    mark.
     """
     if not changed:
         tell("Nothing was changed.")

@@ -18,7 +18,7 @@ from debvote_tools.cli.console import (
     wrapped,
 )
 from debvote_tools.debvote import Finding, Findings
-from debvote_tools.book.election import LETTERS, RESULT_LETTER, Election, History, Stage
+from debvote_tools.book.election import LETTERS, RESULT_LETTER, Election, History
 from debvote_tools.inbox.waiting import Arrived, stopping, waiting_letters
 from debvote_tools.inbox.lines import ballot_file
 from debvote_tools.outbox.reached import reached_by_call
@@ -53,7 +53,7 @@ def run(election: Election, arguments: Arguments) -> None:
 
 def state_of(election: Election, history: History) -> tuple[State, list[Refused]]:
     """The numbers of an election, and the lines that debvote refuses, but for those of electors who
-    have a ballot; with codes on the roll all of them.
+    have a ballot; with codes on the roll all.
     """
     book, has_codes, found = election.book, history.has_codes_on_roll, Findings([])
     lines, waiting = list[tuple[int, bytes]](), dict[int, Arrived]()
@@ -149,9 +149,7 @@ def named(what: str, names: list[str] | None) -> Iterator[str]:
 
 
 def refused_words(refused: list[Refused], without_ballot: list[str] | None) -> Iterator[str]:
-    """Lines, each with its envelope and what debvote says of it. With codes on the roll a line
-    would tell a code.
-    """
+    """Lines, each with what debvote says of it. With codes on the roll they would tell codes."""
     if without_ballot is None:
         if refused:
             yield f"Refused: envelopes {', '.join(str(number) for number, *_ in refused)}"
@@ -167,12 +165,12 @@ def refused_words(refused: list[Refused], without_ballot: list[str] | None) -> I
 
 
 def what_next(election: Election, state: State) -> str:
-    if state["stage"] is Stage.NEW:
+    if state["stage"] == "new":
         return f"{election.command('roll')}, then {election.command('check')}, then {election.command('call')}"
-    if state["stage"] is Stage.CALLED:
+    if state["stage"] == "called":
         add = f"{election.command('add', 'FILE')}, or {election.command('desk')}"
         return f"add the ballots as they come: {add}; when the vote is over: {election.command('close')}"
-    if state["stage"] is Stage.PUBLISHED and not state["stopping"]:
+    if state["stage"] == "published" and not state["stopping"]:
         # where nobody knows whose each code is, no letter can be written to an elector
         send = election.command("letters", "result")
         if state["without_ballot"] is None:
@@ -182,8 +180,6 @@ def what_next(election: Election, state: State) -> str:
 
 
 def bar_of(part: int, whole: int) -> str:
-    """How many of all have voted, as a bar: it is full only if all have, and empty only if nobody
-    has.
-    """
+    """How many of all have voted; it is full only if all have, and empty only if nobody has."""
     full = part * BAR // whole if part in (0, whole) else min(max(part * BAR // whole, 1), BAR - 1)
     return f"[{'#' * full}{'.' * (BAR - full)}] {part * 100 // whole} %"

@@ -36,14 +36,14 @@ LONGEST_ENCODED, GOES_ON = 76, "\n "
 
 # ---------------------------------------------------------------- a letter
 def message(due: LettersDue, letter: SentLetter, *, is_draft: bool) -> bytes:
-    """The bytes of a letter. An answer with a ballot goes to the address of the call. As a draft,
-    mail programs offer to send it.
+    """The bytes of a letter. An answer goes to the address of the call. Mail programs offer to send
+    a draft.
     """
     coding, body = body_of(due.text(letter))
     subject, mark = due.subject(letter)
     reply_to = due.composer.call.to
     fields = [
-        ("From", sender_of(due.sender_name, due.sender)),
+        ("From", sender_of(str(due.history.announced("to_name") or ""), due.sender)),
         *([("Reply-To", reply_to)] if reply_to not in (None, due.sender) else []),
         ("To", letter.address),
         # on a line of its own it is found in a letter that comes back
@@ -77,9 +77,7 @@ def sender_of(name: str, address: str) -> str:
 
 
 def body_of(text: str) -> tuple[str, bytes]:
-    """The name of the coding, and the coded text. A text that every program leaves as it is stays
-    as it is.
-    """
+    """The name of the coding, and the coded text: as it is if every program leaves it so."""
     data = text.encode("utf-8", "replace")
     if (
         text.isascii()
@@ -94,9 +92,7 @@ def body_of(text: str) -> tuple[str, bytes]:
 
 # ---------------------------------------------------------------- the folder
 def letter_files(due: LettersDue, letters: Sequence[SentLetter]) -> dict[str, bytes]:
-    """The files of letters by their names. Letters that are sent, or that a server has taken, have
-    none.
-    """
+    """The files of letters by name. Letters that are sent, or that a server has taken, have none."""
     files: dict[str, bytes] = {}
     printed = []
     for letter in letters:
@@ -119,7 +115,7 @@ def letter_files(due: LettersDue, letters: Sequence[SentLetter]) -> dict[str, by
 
 
 def rows_to_print(text: str, call: CallData) -> list[tuple[str, bool]]:
-    """The rows of a letter, each with whether it begins an option of which it asks for the rank."""
+    """The rows of a letter, each with whether it asks for the rank of an option."""
     said = (
         call.language.say(OPTION, number=n, name="") for n in range(1, len(call.poll.names) + 1)
     )
@@ -131,8 +127,8 @@ def rows_to_print(text: str, call: CallData) -> list[tuple[str, bool]]:
 
 @contextlib.contextmanager
 def in_place(files: Mapping[str, bytes], place: pathlib.Path) -> Iterator[None]:
-    """Puts the files into their folder, whole, while the caller notes them. If that fails, the
-    folder is as it was. The caller holds the lock.
+    """Puts the files into their folder, whole, while the caller, who holds the lock, notes them. If
+    that fails, the folder is as it was.
     """
     if not files:
         yield

@@ -18,9 +18,9 @@ Unreached = tuple[Elector, str, str]
 
 
 def reached_by_call(election: Election, history: History) -> tuple[list[Unreached], list[str]]:
-    """The electors whom the call has not reached, and the names of those who get it printed; nobody
-    before `letters call`. An elector is not reached until a letter is taken if none was written
-    since the call, the server refused the last one, or it came back.
+    """The electors whom the call has not reached, and the names of those who get it printed; none
+    before `letters call`. Until a letter is taken nobody is reached to whom none was written since
+    the call, or whose last one the server refused, or that came back.
     """
     runs = [act for act in history.since_call("letters out") if act.detail["kind"] == "call"]
     if history.call is None or history.has_codes_on_roll or not runs:

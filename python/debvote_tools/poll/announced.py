@@ -25,7 +25,7 @@ HOST = re.compile(r"[A-Za-z0-9.-]*[A-Za-z0-9]|\[[0-9A-Fa-f:.]+\]")
 def parse_until(
     text: str, zone: str | None, earlier_zone: str | None = None
 ) -> tuple[datetime.datetime, str | None]:
-    """The time that `--until` names, and its zone: its own offset, `--zone`, or the zone of the end
+    """The time that `--until` names, and its zone: its offset, `--zone`, or the zone of the end
     before; None for that of this computer.
     """
     text, named = text.strip(), earlier_zone if zone is None else zone
@@ -57,7 +57,7 @@ def demand_future(time: datetime.datetime, by: datetime.datetime) -> None:
 
 
 def in_zone(plain: datetime.datetime, name: str | None) -> datetime.datetime:
-    """The time when a clock in a zone, or of this computer, shows this. It has to do so just once."""
+    """The time when a clock in a zone, or of this computer, shows this, which it has to do once."""
     try:
         zone = None if name is None else zoneinfo.ZoneInfo(name)
     except (zoneinfo.ZoneInfoNotFoundError, ValueError, OSError):
@@ -84,7 +84,7 @@ def bad_until(reason: str, cure: str) -> Fault:
 
 # ---------------------------------------------------------------- addresses
 def named_address(text: str) -> tuple[str, str]:
-    """Name and address of `Name <ADDRESS>`, or of an address alone, whose name is empty."""
+    """Name and address of `Name <ADDRESS>`, or of an address alone."""
     found = NAMED.fullmatch(text.strip())
     name, address = (found["name"], found["address"]) if found else ("", text)
     demand_mail_address(address)
@@ -101,12 +101,12 @@ def demand_mail_address(text: str, option: str = "--to") -> None:
 
 
 def is_mail_address(text: str) -> bool:
-    """Whether a text is one plain mail address, in characters that every mail server takes."""
+    """Whether a text is one plain mail address, which every mail server takes."""
     return len(text) <= MAIL_LIMIT and MAIL.fullmatch(text) is not None
 
 
 def demand_web_address(text: str) -> None:
-    """Stops at what is no address by http or https, or has a user, a password or a fragment."""
+    """Stops at what is no address by http or https, and at a user, a password or a fragment."""
     try:
         parts = urllib.parse.urlsplit(text if WEB.fullmatch(text) else "")
         host = parts.netloc.rpartition(":")[0] or parts.netloc

@@ -61,9 +61,7 @@ class DraftPoll(NamedTuple):
 
 # ---------------------------------------------------------------- the files
 def draft_in(folder: pathlib.Path) -> DraftPoll:
-    """Reads the poll of a folder, and the texts beside it. Raises `Fault` if the poll can't be read
-    at all.
-    """
+    """Reads the poll of a folder, and the texts beside it."""
     file = folder / POLL_FILE
     data = read_whole(file, POLL_LIMIT, "write it", THEN)
     try:
@@ -138,20 +136,19 @@ def texts_in(folder: pathlib.Path, option_count: int) -> tuple[dict[int, str], l
 
 
 def text_in(file: pathlib.Path, limit: int) -> str:
-    """A text of the secretary. Raises `Fault` if it is not plain text in UTF-8."""
     unread, empty = "put a readable file there, or remove it", "write it, or remove the file"
     return read_text(file, limit, unread, empty, THEN, refused=LINE_ENDS)
 
 
 def letter_text_in(folder: pathlib.Path) -> str:
-    """What the secretary writes at the head of letters to electors; empty without such a file."""
+    """What begins letters to electors; empty without such a file."""
     file = folder / LETTER_TEXT
     return text_in(file, LETTER_LIMIT).strip("\n") + "\n" if os.path.lexists(file) else ""
 
 
 # ---------------------------------------------------------------- what is wrong with it as a whole
 def faults_when_sealed(draft: DraftPoll, language: str) -> list[Fault]:
-    """Names that electors could not read rightly, or tell from each other."""
+    """Names that electors could not read, or tell from each other."""
     faults, plain_names = [], plain_options(draft.names, language)
     for bad in (*bad_title(draft.title), *bad_options(draft.names, plain_names)):
         which = f"option {bad.number}" if bad.number else "the title"
@@ -168,8 +165,8 @@ def sealed_form(
     deadline: str | None = None,
     address: str | None = None,
 ) -> bytes:
-    """The poll as it would be sealed, for debvote to say what is wrong: a missing key stays missing,
-    a value of another type or an unknown key stays.
+    """The poll as it would be sealed, for debvote to say what is wrong: missing and unknown keys,
+    and values of a wrong type, stay.
     """
     title, plain_names = plain_title(draft.title, language), plain_options(draft.names, language)
     made = {
@@ -212,7 +209,7 @@ class Checked(NamedTuple):
 def checked(
     election: Election, *, deadline: str | None = None, address: str | None = None
 ) -> Checked:
-    """Checks the poll, with its texts, and the text of the letters. Raises all faults at once."""
+    """Checks the poll and all texts. Raises all faults at once."""
     try:
         draft = draft_in(election.folder)
     except Fault as fault:

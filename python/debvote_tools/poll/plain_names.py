@@ -53,8 +53,8 @@ REFUSED_IN_NAMES = f"{LINE_ENDS}\ufff9\ufffa\ufffb"
 
 # ---------------------------------------------------------------- plain text
 def without_accents(text: str, language: str) -> str:
-    """The text without accents, as the language spells it. Letters of other scripts stay. The page
-    of the result does the same.
+    """The text without accents, as the language spells it, as the page of the result does. Letters
+    of other scripts stay.
     """
     if text.isascii():
         return text
@@ -93,8 +93,8 @@ def plain_text(text: str, language: str, limit: int) -> str:
 def made_different(
     bases: Sequence[str], taken: Collection[str], limit: int, joint: str
 ) -> list[str]:
-    """A name for each base that looks like no other and like none that is taken. Equal bases all get
-    a number: a ballot for the bare name could be meant for any of them.
+    """A name for each base that looks like no other and like none that is taken. Equal bases all
+    get a number: the bare name could be meant for any of them.
     """
     used = set(map(alike, taken))
     several = {form for form, count in collections.Counter(map(alike, bases)).items() if count > 1}
@@ -118,7 +118,7 @@ def plain_title(title: str, language: str) -> str:
 
 
 def plain_options(names: Sequence[str], language: str) -> list[str]:
-    """The plain names of all options. An empty name stays empty, so that it is refused."""
+    """The plain names of all options. An empty one stays empty, so that it is refused."""
     bases = {
         number: plain_text(name, language, OPTION_LIMIT) or f"Option {number}"
         for number, name in enumerate(names, start=1)
@@ -131,9 +131,7 @@ def plain_options(names: Sequence[str], language: str) -> list[str]:
 
 # ---------------------------------------------------------------- electors
 def elector_name(who: str, language: str) -> str:
-    """Proposes a name on the roll: `Meier, Dr. Anna` is anna-meier. It may be too long, or empty if
-    nothing is left.
-    """
+    """Proposes a name on the roll, as anna-meier for `Meier, Dr. Anna`, perhaps too long or empty."""
     for text in (TITLE.sub(" ", who), who):
         parts = [
             re.sub(r"[^a-z0-9]+", "-", part).strip("-")
@@ -151,9 +149,7 @@ def is_elector_name(name: str) -> bool:
 
 
 def similar_names(names: Iterable[str]) -> Iterable[tuple[str, str]]:
-    """Pairs of names that differ by one sign, or by the order of their words. Numbers make no
-    difference.
-    """
+    """Pairs of names that differ by one sign, or by the order of their words, beside numbers."""
     bare: dict[str, str] = {}
     for name in names:
         bare.setdefault(re.sub("-?[0-9]+", "", name), name)

@@ -57,12 +57,11 @@ class SealedPoll:
 
     @property
     def plain_names(self) -> tuple[str, ...]:
-        """The plain names of all options, the default last."""
         return (*self.options, self.default)
 
     @property
     def names(self) -> tuple[str, ...]:
-        """The names of all options that people read, the default last."""
+        """The names that people read, the default last."""
         return self.shown_options or self.plain_names
 
     @functools.cached_property
@@ -111,7 +110,7 @@ def plain_form(values: dict[str, Any]) -> bytes:
 
 @functools.lru_cache(4)
 def read_plain(data: bytes, file: object = "poll.toml") -> SealedPoll:
-    """Reads a poll in plain form. Raises `Fault` if it is not in this form, byte for byte."""
+    """Reads a poll in plain form, which it must have byte for byte."""
     try:
         pairs = [line.split(" = ", 1) for line in data.decode("utf-8").split("\n")[:-1]]
         poll = poll_of({key: json.loads(value) for key, value in pairs})
@@ -124,9 +123,7 @@ def read_plain(data: bytes, file: object = "poll.toml") -> SealedPoll:
 
 
 def poll_of(values: dict[str, Any]) -> SealedPoll:
-    """The poll of these keys, with lists as JSON and TOML have them. Raises TypeError if a key is
-    missing or too many.
-    """
+    """The poll of these keys. Raises TypeError if a key is missing or too many."""
     return SealedPoll(
         **{key: tuple(value) if isinstance(value, list) else value for key, value in values.items()}
     )

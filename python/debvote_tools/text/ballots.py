@@ -39,9 +39,7 @@ IN_A_LIST = Phrases(
 
 
 def in_normal_form(ranks: str) -> str:
-    """The same order with ranks 1, 2 and so on: equal ranks stay equal, and options that are not
-    ranked stay so.
-    """
+    """The same order with ranks 1, 2 and so on."""
     given = ranks.split(",")
     in_order = enumerate(sorted({*given} - {UNRANKED}, key=int), start=1)
     normal = {UNRANKED: UNRANKED} | {rank: str(number) for number, rank in in_order}
@@ -49,9 +47,8 @@ def in_normal_form(ranks: str) -> str:
 
 
 def ranks_in_words(ranks: str, names: Sequence[str], language: Language = ENGLISH) -> str:
-    """A valid ballot in words without markup: "At the lake, then Further discussion, then ..".
-
-    The names are those of the options in the order of their numbers, the default option last.
+    """A valid ballot without markup: "At the lake, then Further discussion, then ..". The names are
+    those of the options, the default option last.
     """
     return BallotWords(names, language).of(ranks)
 
@@ -111,9 +108,9 @@ def may_read_as_ballot(line: str, options: int) -> bool:
 
 
 def without_ballots(text: str, options: int, is_name: Callable[[str], bool]) -> str:
-    """The text, in which no line reads as a ballot of this number of options, wherever its lines
-    are broken at blanks. A line that has a ballot in it gets a bar before it, and before the
-    ballot, which begins a line of its own: `paper: ada 1,2` becomes `|paper:` and `|ada 1,2`.
+    """The text, in which no line reads as a ballot of so many options, wherever it is broken at
+    blanks. Before a ballot in a line, and before that line, there is a bar, and the ballot begins a
+    line: `paper: ada 1,2` becomes `|paper:` and `|ada 1,2`.
     """
 
     def barred(line: str) -> str:
