@@ -211,6 +211,13 @@ class Election:
             raise Fault(None, "there is no call for votes yet", f"run {self.command('call')} first")
         return history.call
 
+    def to_all(self, kind: str, file: pathlib.Path) -> str:
+        """How a letter goes to all: where nobody knows whose each code is, none can be written to an
+        elector.
+        """
+        by_hand = f"send {file} to all electors"
+        return by_hand if self.history().has_codes_on_roll else self.command("letters", kind)
+
     def command(self, *words: str) -> str:
         folder = [] if self.folder == pathlib.Path() else ["--folder", str(self.folder)]
         return shlex.join(["debvote-election", *words[:1], *folder, *words[1:]])

@@ -203,6 +203,13 @@ def listed(names: Sequence[str], most: int) -> str:
     return ", ".join(names[:most]) + (f" and {len(names) - most} more" if len(names) > most else "")
 
 
+def bar(part: int, whole: int, width: int) -> str:
+    """How many of all are done; it is full only if all are, and empty only if none is."""
+    full = part * width // whole if part in (0, whole) else max(part * width // whole, 1)
+    full = min(full, width - (part < whole))
+    return f"[{'#' * full}{'.' * (width - full)}]"
+
+
 def act_time(time: datetime.datetime) -> str:
     """A time as `2026-12-04 17:00:00 UTC`."""
     return f"{time.astimezone(datetime.UTC):%Y-%m-%d %H:%M:%S} UTC"

@@ -36,7 +36,7 @@ from debvote_tools.poll.announced import (
 from debvote_tools.cli.faults import NOTHING_CHANGED, Fault, bad_words, kept_in, stop_at
 from debvote_tools.inbox.signature import read_keyring
 from debvote_tools.poll.secret import aliased_poll, demand_no_code
-from debvote_tools.poll.marks import new_own_mark
+from debvote_tools.poll.sealed import new_own_mark
 
 EXTENSION = "extension.txt"
 
@@ -135,8 +135,8 @@ def call(election: Election, arguments: Arguments) -> None:
 
 
 def call_again(election: Election, arguments: Arguments) -> None:
-    """Extends the vote, or adds what the call did not say yet. A new end comes before no close, and
-    is later than the one that electors know.
+    """Extends the vote, or adds what the call did not say yet. A new end is refused after a close,
+    and if it is not later than the one that electors know.
     """
     history, faults = election.history(), list[Fault]()
     said = announced(arguments, history.announced("zone"), faults)
@@ -302,7 +302,6 @@ def make_folders(election: Election) -> None:
 
 def report(election: Election, data: CallData) -> None:
     folder, slips = election.path(CALL), election.path(PRIVATE) / SLIPS
-    letters = election.command("letters", "call")
     lines = [f"Made the folder {folder} with the page index.html and the letter call.txt."]
     if data.has_aliases:
         lines += [
@@ -310,7 +309,6 @@ def report(election: Election, data: CallData) -> None:
             f"Print {slips}, cut the slips out, and give each elector their own.",
         ]
     if data.has_codes_on_roll:
-        letters = f"send {folder / 'call.txt'} to all electors"
         lines += [
             "Codes are on the roll: the call has the checksum of the poll, but no poll.toml.",
             f"Print {slips}, cut the slips out, and let each elector draw one.",
@@ -331,6 +329,6 @@ def report(election: Election, data: CallData) -> None:
     enter = f"{election.command('add', 'FILE')} or {election.command('desk')}"
     lines += [
         "The poll is sealed: poll.toml and texts/ of this folder are no longer read; roll still reads addresses and keys.",
-        f"Next: put {folder} on the web site, and write to the electors: {letters}; enter the ballots that come: {enter}",
+        f"Next: put {folder} on the web site, and write to the electors: {election.to_all('call', folder / 'call.txt')}; enter the ballots that come: {enter}",
     ]
     tell(*lines)

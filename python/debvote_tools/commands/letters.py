@@ -269,5 +269,4 @@ def send_waiting(book: Book, due: LettersDue, server: Server) -> list[SentLetter
 
 def show_progress(count: int, total: int) -> None:
     if console.shows():
-        done = BAR * count // total
-        console.tell_as_it_is(f"\r[{'#' * done}{'.' * (BAR - done)}] {count} of {total}")
+        console.tell_as_it_is(f"\r{console.bar(count, total, BAR)} {count} of {total}")

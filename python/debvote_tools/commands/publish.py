@@ -107,9 +107,7 @@ def run(election: Election, arguments: Arguments) -> int:
         ask = "it is a tie: ask for the casting vote, and then give its option, its holder and its day"
         tell(f"Next: {ask}: {election.command('publish', *cast)}")
     else:
-        send = election.command("letters", "result")
-        if history.has_codes_on_roll:
-            send = f"send {election.path(LETTERS) / RESULT_LETTER} to all electors"
+        send = election.to_all("result", election.path(LETTERS) / RESULT_LETTER)
         tell(f"Next: put the folder {target} on the web site as it is, then {send}")
     return made.answers.status
 

@@ -11,7 +11,7 @@ from debvote_tools.book.book import Book
 from debvote_tools.poll.announced import is_mail_address
 from debvote_tools.cli.console import count_of, is_terminal, is_yes, listed, shown_text, tell
 from debvote_tools.book.election import MEMBERS_FILE, Election, History
-from debvote_tools.poll.marks import new_own_mark
+from debvote_tools.poll.sealed import new_own_mark
 from debvote_tools.poll.members import Member, Roll, members_in, roll_of, several
 from debvote_tools.cli.faults import Fault, stop_at
 from debvote_tools.poll.plain_names import ELECTOR_LIMIT, alike, similar_names

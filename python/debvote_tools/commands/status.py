@@ -10,6 +10,7 @@ from debvote_tools.cli.arguments import Options, flag
 from debvote_tools.book import queries
 from debvote_tools.cli.console import (
     act_time,
+    bar,
     count_of,
     quorum_words,
     shown_line,
@@ -125,7 +126,8 @@ def words_of(
         yield f"Late, and not counted: {state['late']}"
     yield f"Electors with a valid ballot: {state['voters']} of {state['electors']}"
     if shows() and state["electors"]:
-        yield f"  {bar_of(state['voters'], state['electors'])}"
+        voters, electors = state["voters"], state["electors"]
+        yield f"  {bar(voters, electors, BAR)} {voters * 100 // electors} %"
     yield from named("Electors without a ballot", state["without_ballot"])
     yield from refused_words(refused, state["without_ballot"])
     if state["waiting"]:
@@ -171,15 +173,6 @@ def what_next(election: Election, state: State) -> str:
         add = f"{election.command('add', 'FILE')}, or {election.command('desk')}"
         return f"add the ballots as they come: {add}; when the vote is over: {election.command('close')}"
     if state["stage"] == "published" and not state["stopping"]:
-        # where nobody knows whose each code is, no letter can be written to an elector
-        send = election.command("letters", "result")
-        if state["without_ballot"] is None:
-            send = f"send {election.path(LETTERS) / RESULT_LETTER} to all electors"
+        send = election.to_all("result", election.path(LETTERS) / RESULT_LETTER)
         return f"put the published folder on the web site as it is, then {send}"
     return f"{election.command('count')}, then {election.command('publish')}"
-
-
-def bar_of(part: int, whole: int) -> str:
-    """How many of all have voted; it is full only if all have, and empty only if nobody has."""
-    full = part * BAR // whole if part in (0, whole) else min(max(part * BAR // whole, 1), BAR - 1)
-    return f"[{'#' * full}{'.' * (BAR - full)}] {part * 100 // whole} %"

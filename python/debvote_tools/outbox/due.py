@@ -40,6 +40,7 @@ class LettersDue:
             words = "codes are on the roll, and nobody knows whose they are, so no letters can be written to electors"
             cure = "with your mail program send call/call.txt, letters/closed.txt and letters/result.txt to all"
             raise Fault("letters", words, cure, done=NOTHING_WRITTEN)
+        self.sender_name = str(self.history.announced("to_name") or "")
         on_list, until = queries.electors(election.book), self.history.until
         self.electors = {elector.number: elector for elector in on_list}
         is_over = bool(self.history.closes) or (until is not None and self.time > until)

@@ -43,7 +43,7 @@ def message(due: LettersDue, letter: SentLetter, *, is_draft: bool) -> bytes:
     subject, mark = due.subject(letter)
     reply_to = due.composer.call.to
     fields = [
-        ("From", sender_of(str(due.history.announced("to_name") or ""), due.sender)),
+        ("From", sender_of(due.sender_name, due.sender)),
         *([("Reply-To", reply_to)] if reply_to not in (None, due.sender) else []),
         ("To", letter.address),
         # on a line of its own it is found in a letter that comes back

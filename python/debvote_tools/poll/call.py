@@ -11,8 +11,7 @@ from debvote_tools.text.ballots import IN_A_LIST, without_ballots
 from debvote_tools.files import sha256_of
 from debvote_tools.text.language import Language, marked
 from debvote_tools.text.rendering import render_letter, render_page, resources
-from debvote_tools.poll.marks import in_brackets
-from debvote_tools.poll.sealed import SealedPoll
+from debvote_tools.poll.sealed import SealedPoll, in_brackets
 
 # an option in a sentence: its number and its name do not run into each other
 OPTION = marked("Option {number}: {name}")

@@ -150,9 +150,10 @@ def letter_text_in(folder: pathlib.Path) -> str:
 def faults_when_sealed(draft: DraftPoll, language: str) -> list[Fault]:
     """Names that electors could not read, or tell from each other."""
     faults, plain_names = [], plain_options(draft.names, language)
-    for bad in (*bad_title(draft.title), *bad_options(draft.names, plain_names)):
-        which = f"option {bad.number}" if bad.number else "the title"
-        reason = f"{which}, `{shown_text(bad.name)}`: {bad.reason}"
+    bad_names = (*bad_title(draft.title), *bad_options(draft.names, plain_names))
+    for number, name, why in bad_names:
+        which = f"option {number}" if number else "the title"
+        reason = f"{which}, `{shown_text(name)}`: {why}"
         faults.append(bad_poll(draft.folder / POLL_FILE, reason, "write it in another way"))
     return faults
 

@@ -5,10 +5,9 @@ import itertools
 import re
 import unicodedata
 from collections.abc import Collection, Iterable, Mapping, Sequence
-from typing import NamedTuple
 
 from debvote_tools.cli.console import LINE_ENDS, number_of, odd_sign, shown_text
-from debvote_tools.poll.marks import marks_in
+from debvote_tools.poll.sealed import marks_in
 
 # how long a plain name may be, in bytes, and a name as people read it, in characters
 TITLE_LIMIT, OPTION_LIMIT, ELECTOR_LIMIT = 80, 40, 32
@@ -164,12 +163,8 @@ def similar_names(names: Iterable[str]) -> Iterable[tuple[str, str]]:
 
 
 # ---------------------------------------------------------------- names that people read
-class BadName(NamedTuple):
-    """Why a name is refused as people would read it. Options are numbered from 1; the title is 0."""
-
-    number: int
-    name: str
-    reason: str
+# a name that people would not read rightly, and why; options are numbered from 1, the title is 0
+BadName = tuple[int, str, str]
 
 
 def alike(text: str) -> str:
@@ -191,20 +186,20 @@ def bad_title(title: str) -> list[BadName]:
     if marks_in(title):
         # each answer would wait as one about that vote
         reasons.append("it has the mark of a vote in brackets, as only subjects of letters do")
-    return [BadName(0, title, reason) for reason in reasons]
+    return [(0, title, reason) for reason in reasons]
 
 
 def bad_options(names: Sequence[str], plain_names: Sequence[str]) -> list[BadName]:
     """Names of options that people can't read or tell apart. Of equal plain names debvote speaks."""
     options = list(enumerate(zip(names, plain_names), start=1))
-    found = [BadName(at, name, why) for at, (name, _) in options for why in bad_characters(name)]
+    found = [(at, name, why) for at, (name, _) in options for why in bad_characters(name)]
     for (first, (name, plain)), (second, (other, other_plain)) in itertools.combinations(
         options, 2
     ):
         like = {alike(plain): "the plain name of ", alike(name): ""}.get(alike(other))
         if like is not None and alike(other) and plain != other_plain:
             reason = f"it looks like {like}option {first}, `{shown_text(name)}`, except for case, accents, blanks or invisible characters"
-            found.append(BadName(second, other, reason))
+            found.append((second, other, reason))
     return found
 
 

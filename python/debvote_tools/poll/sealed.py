@@ -1,11 +1,14 @@
 """The sealed poll, in plain form: TOML with a line `key = value` for each key, in the order of
-`KEYS`, each value as JSON writes it. One SHA-256 covers all that the call announces.
+`KEYS`, each value as JSON writes it. One SHA-256 covers all that the call announces; its first
+digits are the mark of the poll in the subjects of letters.
 """
 
 import dataclasses
 import datetime
 import functools
 import json
+import re
+import secrets
 from collections.abc import Sequence
 from typing import Any, NamedTuple
 
@@ -132,3 +135,27 @@ def poll_of(values: dict[str, Any]) -> SealedPoll:
 def with_roll(poll: SealedPoll, roll: Sequence[str]) -> SealedPoll:
     """The same poll with another roll, as that of aliases."""
     return dataclasses.replace(poll, roll=tuple(roll))
+
+
+# ---------------------------------------------------------------- marks in subjects
+# an own mark has 10 of these signs, none of which is easily taken for another
+OWN_SIGNS, OWN_LENGTH = "23456789abcdefghjkmnpqrstuvwxyz", 10
+
+# a mark in a text without blanks, in either case
+MARKS = re.compile(rf"\[([0-9a-f]{{16}})(?:-([{OWN_SIGNS}]{{{OWN_LENGTH}}}))?\]")
+
+
+def new_own_mark() -> str:
+    return "".join(secrets.choice(OWN_SIGNS) for _ in range(OWN_LENGTH))
+
+
+def in_brackets(mark: str, own: str = "") -> str:
+    """The mark of a poll as subjects end with it, with the own mark of an elector who has one."""
+    return f"[{mark}-{own}]" if own else f"[{mark}]"
+
+
+def marks_in(text: str) -> list[tuple[str, str]]:
+    """The marks in a text: that of the poll, and the own one, which is empty if there is none.
+    Blanks and line ends within a mark are passed over, as mail programs fold subjects.
+    """
+    return MARKS.findall("".join(text.split()).lower())

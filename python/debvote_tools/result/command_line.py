@@ -144,11 +144,12 @@ def sealed_of(poll_bytes: bytes, file: str) -> SealedPoll:
         words = f"a sealed poll cannot have such a value of {', '.join(strange)}"
         raise refused(file, words, cure)
     poll = poll_of(values)
-    bad = bad_title(poll.name) if poll.name != poll.title else []
-    found = bad_options(poll.names, poll.plain_names)
-    bad += [name for name in found if name.name != poll.plain_names[name.number - 1]]
-    if bad:
-        raise refused(file, f"a shown name can't be published: {bad[0].reason}", cure)
+    found = bad_title(poll.name) if poll.name != poll.title else []
+    for number, name, why in bad_options(poll.names, poll.plain_names):
+        if name != poll.plain_names[number - 1]:
+            found.append((number, name, why))
+    for _, _, why in found[:1]:
+        raise refused(file, f"a shown name can't be published: {why}", cure)
     return poll
 
 
