@@ -7,7 +7,7 @@ import secrets
 from collections.abc import Callable, Mapping, Sequence
 
 from debvote_tools.book import queries, sent
-from debvote_tools.book.election import LETTERS, RESULT_LETTER, Election, History
+from debvote_tools.book.election import LETTERS, RESULT_LETTER, Election
 from debvote_tools.book.queries import Elector
 from debvote_tools.book.sent import REFUSED, TAKEN, WRITTEN, About, SentLetter
 from debvote_tools.cli.faults import Fault, bad_words
