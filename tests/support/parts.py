@@ -13,6 +13,9 @@ from collections.abc import Iterable
 
 ROOT = pathlib.Path(__file__).resolve().parent.parent.parent
 
+# as many tests at once as there are processors
+PYTEST = f"/usr/bin/python3 -m pytest -q -n {len(os.sched_getaffinity(0))}"
+
 COUNT = re.compile(r"(\d+) passed, (\d+) failed")
 SKIPPED = re.compile(r"skipped: (.*)")
 # what `rt try --test` says

@@ -38,9 +38,16 @@ def named() -> pathlib.Path:
 PROGRAM = named()
 
 
-def demand() -> None:
-    """Ends the tests if there is no program, and says where it was looked for."""
-    if not PROGRAM.is_file():
-        looked = "as DEBVOTE says" if os.environ.get("DEBVOTE") else "where make build makes it, with its proof, in 20 minutes"
-        quick = "tests/unproved /tmp/checked /tmp/debvote makes one without proof in two minutes; then set DEBVOTE=/tmp/debvote"
-        sys.exit(f"there is no program at {PROGRAM}, {looked}. {quick}")
+def missing(file: pathlib.Path = PROGRAM) -> str | None:
+    """If there is no program: where it was looked for, and how to make one."""
+    if file.is_file():
+        return None
+    looked = "as DEBVOTE says" if os.environ.get("DEBVOTE") else "where make build makes it, with its proof, in 20 minutes"
+    quick = "tests/unproved /tmp/checked /tmp/debvote makes one without proof in two minutes; then set DEBVOTE=/tmp/debvote"
+    return f"there is no program at {file}, {looked}. {quick}"
+
+
+def demand(file: pathlib.Path = PROGRAM) -> None:
+    """Ends a program of the tests if there is no debvote."""
+    if words := missing(file):
+        sys.exit(words)

@@ -12,10 +12,7 @@ import collections
 import concurrent.futures
 import csv
 import dataclasses
-import functools
 import html
-import importlib.machinery
-import importlib.util
 import io
 import json
 import os
@@ -28,6 +25,7 @@ import tomllib
 
 from tests import reference, reference_checks
 from tests.support import forks, page_parts as pages, publishing
+from tests.support.polls import random_polls
 
 PROGRAM, PUBLISH, SECONDS = publishing.PROGRAM, publishing.PUBLISH, publishing.SECONDS
 
@@ -42,15 +40,6 @@ KINDS = {
     "the default option, a few failed", "the default option, many failed", "a circle", "circles", "beats by chains", "beats one",
     "beats each of two", "beats each of many",
 }  # fmt: skip
-
-
-@functools.cache
-def random_polls():
-    """The module that makes random polls; its name has a hyphen."""
-    loader = importlib.machinery.SourceFileLoader("random_polls", str(publishing.ROOT / "tests" / "random-polls"))
-    module = importlib.util.module_from_spec(importlib.util.spec_from_loader("random_polls", loader))
-    loader.exec_module(module)
-    return module
 
 
 @dataclasses.dataclass

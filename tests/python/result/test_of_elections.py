@@ -56,6 +56,7 @@ class OfElections(publishing.PublishTest):
     poll = POLL
 
     def setUp(self):
+        super().setUp()
         self.folder = self.scratch / self.id().rpartition(".")[2]
         self.state = self.scratch / "state"
         self.say("new", str(self.folder), "--language", "de", cwd=self.scratch)

@@ -1,9 +1,7 @@
-#!/usr/bin/python3
 """Shows on random polls, by the built program, what an elector can rely on.
 
-    tests/sheet-laws                        200 polls for each law; poll i is made from seed 1 + i
-    tests/sheet-laws --n 1 --seed 123       each law on the poll of one seed again
-    tests/sheet-laws --program FILE         another program
+DEBVOTE_LAW_POLLS is the number of polls for each law, by default 200, and DEBVOTE_LAW_SEED the seed of the first, by default 1: with
+1 and 123 each law is tried on the poll of seed 123 again.
 
 The laws are those of docs/DEFINITIONS.md, "What an elector can rely on", which are proved of the printed sheet. For each of
 them an election is counted, changed, and counted again:
@@ -23,45 +21,33 @@ them an election is counted, changed, and counted again:
                                           the line Voters: on
 
 tests/reference.py says what a line is; the elections are made as in tests/random-polls. If a law does not hold, the files and sheets
-of both counts are kept in a folder. It prints how often it made each kind of change, and with 100 polls or more it fails if it never
-made one. The last line is 'N passed, M failed', and each law on each poll counts as one, and each kind of change too.
+of both counts are kept in a folder. With 100 polls or more each kind of change must have
+been made.
 """
 
-import argparse
 import collections
 import dataclasses
-import importlib.machinery
-import importlib.util
+import os
 import pathlib
 import random
 import re
 import shutil
 import subprocess
-import sys
 import tempfile
-import unittest
 
-HERE = pathlib.Path(__file__).resolve().parent
-sys.dont_write_bytecode = True
-sys.path.insert(0, str(HERE.parent))
+import pytest
 
-from tests import reference  # noqa: E402
-from tests.support import side_by_side  # noqa: E402
-from tests.support.program import PROGRAM  # noqa: E402
+from tests import reference
+from tests.support.polls import random_polls
+from tests.support.program import PROGRAM
+
+# how many polls are tried for each law, and the seed of the first
+POLLS, SEED = int(os.environ.get("DEBVOTE_LAW_POLLS", "200")), int(os.environ.get("DEBVOTE_LAW_SEED", "1"))
 
 SECONDS = 600
 
 # from this many polls on each kind of change must have been made
 ENOUGH = 100
-
-
-def random_polls():
-    """tests/random-polls, whose name Python cannot import."""
-    loader = importlib.machinery.SourceFileLoader("random_polls", str(HERE / "random-polls"))
-    module = importlib.util.module_from_spec(importlib.util.spec_from_loader("random_polls", loader))
-    loader.exec_module(module)
-    return module
-
 
 polls = random_polls()
 
@@ -364,53 +350,28 @@ LAWS = {
 }
 
 
-class LawTest(unittest.TestCase):
-    """A law; there is a class of this kind for each, with a test for each poll and one for each kind of change."""
+def class_of(law, kinds):
+    """A class of tests for a law, so that the laws run side by side."""
 
-    def __init__(self, test, about):
-        super().__init__(test)
-        self.about = about
+    class Law:
+        met = collections.Counter()
 
-    def id(self):
-        return f"{super().id()} {self.about}"
+        @pytest.mark.parametrize("seed", range(SEED, SEED + POLLS))
+        def test_it_holds(self, seed):
+            rng = random.Random(f"{law.__name__} {seed}")
+            folder = tempfile.mkdtemp(prefix=f"law-{seed}-")
+            try:
+                self.met.update(law(rng, election_of(rng), Count(PROGRAM, folder)))
+            except (Broken, subprocess.TimeoutExpired) as broken:
+                pytest.fail(f"{broken}; the files are in {folder}")
+            shutil.rmtree(folder)
 
-    def it_holds_of_the_poll_of_seed(self):
-        rng = random.Random(f"{self.law.__name__} {self.about}")
-        folder = tempfile.mkdtemp(prefix=f"law-{self.about}-")
-        try:
-            self.met.update(self.law(rng, election_of(rng), Count(asked.program.resolve(), folder)))
-        except (Broken, subprocess.TimeoutExpired) as broken:
-            self.fail(f"{broken}; the files are in {folder}")
-        shutil.rmtree(folder)
+        @pytest.mark.parametrize("kind", kinds)
+        def test_so_often_there_were(self, kind):
+            assert self.met[kind] or POLLS < ENOUGH, f"there never were {kind}"
 
-    def so_often_there_were(self):
-        print(f"{self.met[self.about]:8} {self.law.__name__}: {self.about}")
-        if asked.n >= ENOUGH:
-            self.assertTrue(self.met[self.about], f"there never were {self.about}")
+    return Law
 
 
-def load_tests(loader, tests, pattern):
-    """A class for each law, so that they run side by side."""
-    suite = unittest.TestSuite()
-    for law, kinds in LAWS.items():
-        of_law = type(law.__name__, (LawTest,), {"law": staticmethod(law), "met": collections.Counter()})
-        suite.addTests(of_law("it_holds_of_the_poll_of_seed", seed) for seed in range(asked.seed, asked.seed + asked.n))
-        suite.addTests(of_law("so_often_there_were", what) for what in kinds)
-    return suite
-
-
-def words():
-    """The arguments of the command."""
-    parser = argparse.ArgumentParser(description="Shows the laws of the sheet on random polls.")
-    parser.add_argument("--n", type=int, default=200, help="how many polls for each law")
-    parser.add_argument("--seed", type=int, default=1)
-    parser.add_argument("--program", type=pathlib.Path, default=PROGRAM)
-    found = parser.parse_args()
-    if not found.program.exists():
-        parser.error(f"{found.program} is not there: make build proves and builds it")
-    return found
-
-
-if __name__ == "__main__":
-    asked = words()
-    sys.exit(side_by_side.run_modules(["__main__"]))
+for law, kinds in LAWS.items():
+    globals()[f"Test_{law.__name__}"] = class_of(law, kinds)

@@ -21,7 +21,8 @@ def pytest_configure(config: pytest.Config) -> None:
         pytest.exit(f"type this first: sudo apt-get install -y {' '.join(packages)}", 2)
     if locale.getpreferredencoding(False).lower() not in ("utf-8", "utf8"):
         pytest.exit("pages, letters and tables are in UTF-8: type export PYTHONUTF8=1 first", 2)
-    program.demand()
+    if words := program.missing():
+        pytest.exit(words, 2)
     os.umask(0o022)
     if getattr(config.option, "numprocesses", None):
         config.option.dist = "loadscope"

@@ -1,15 +1,13 @@
-#!/usr/bin/python3
 """Compares the manual pages and the completions with the help of the programs.
 
 The help of debvote and of each of its commands says which commands and options there are; its page and its completions must have just
 these. The pages and completions of debvote-election and debvote-publish are those that docs/make-manual makes today. The exit statuses
 in help and page of debvote, and the line above the usage, are as docs/FORMATS.md has them. The version of the pages, of docs/FORMATS.md
 and of the newest version in CHANGELOG.md is the program's. If they are installed, `groff` and `man` read the pages without a warning,
-and bash, zsh and fish complete as their files say. The last line is 'N passed, M failed', and each test counts as one.
+and bash, zsh and fish complete as their files say.
 """
 
 import functools
-import os
 import pathlib
 import re
 import shutil
@@ -18,12 +16,8 @@ import sys
 import tempfile
 import unittest
 
-ROOT = pathlib.Path(__file__).resolve().parent.parent
-sys.dont_write_bytecode = True
-sys.path.insert(0, str(ROOT))
-
-from tests.support import expecting, side_by_side  # noqa: E402
-from tests.support.program import PROGRAM  # noqa: E402
+from tests.support import expecting
+from tests.support.program import PROGRAM, ROOT
 
 PUBLISH = ROOT / "bin" / "debvote-publish"
 ELECTION = ROOT / "bin" / "debvote-election"
@@ -320,13 +314,3 @@ class CompletionsTest(expecting.Expecting):
     @unittest.skipUnless(shutil.which("fish"), "fish is not installed")
     def test_fish_itself(self):
         try_fish_itself(self.expect, options_by_command(), options_of_election())
-
-
-def main():
-    if not PROGRAM.exists():
-        sys.exit(f"{PROGRAM} is not there: make build makes it; or name one of tests/unproved by DEBVOTE")
-    return side_by_side.run_modules(["__main__"])
-
-
-if __name__ == "__main__":
-    sys.exit(main())

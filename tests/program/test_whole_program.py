@@ -1,12 +1,5 @@
-#!/usr/bin/python3
 """Runs the built program as a user does on what a case cannot hold, since it is too large or needs more than files: the limits of
 files, outputs that fail, the terminal, help.
-
-    tests/whole-program                  all tests
-    tests/whole-program Limits Rolls     only the tests of these classes (LimitsTest, RollsTest)
-
-The program is the one that `rt ci` has proved and built, so run this after it. The last line is 'N passed, M failed', and each test
-counts as one.
 
 DEBVOTE_VOTES_EACH is how often each of 10,000 electors votes, by default 10, which makes the greatest number of lines.
 DEBVOTE_LARGE_POLLS is the size of polls with one large thing, in bytes; by default 131072 and nearly the limit.
@@ -18,18 +11,13 @@ import pty
 import re
 import select
 import subprocess
-import sys
 import tempfile
 import time
 import unittest
 
-ROOT = pathlib.Path(__file__).resolve().parent.parent
-sys.dont_write_bytecode = True
-sys.path.insert(0, str(ROOT))
-
-from tests import reference_checks, reference_findings  # noqa: E402
-from tests.support import expecting, side_by_side  # noqa: E402
-from tests.support.program import PROGRAM  # noqa: E402
+from tests import reference_checks, reference_findings
+from tests.support import expecting
+from tests.support.program import PROGRAM, ROOT
 
 EXAMPLE = ROOT / "examples" / "plain_win"
 
@@ -473,6 +461,7 @@ class WholeTest(expecting.Expecting):
     """A test with its own folder."""
 
     def setUp(self):
+        super().setUp()
         self.folder = pathlib.Path(self.enterContext(tempfile.TemporaryDirectory(prefix="debvote-whole-")))
 
     def expect(self, name, answer, wanted):
@@ -537,13 +526,3 @@ class HostilePollsTest(WholeTest):
 class BytesTest(WholeTest):
     def test_bytes_in_a_poll(self):
         try_bytes_in_a_poll(self.expect, self.folder)
-
-
-def main():
-    if not PROGRAM.exists():
-        sys.exit(f"{PROGRAM} is not there: make build proves and builds it")
-    return side_by_side.run_modules([f"__main__.{name}Test" for name in sys.argv[1:]] or ["__main__"])
-
-
-if __name__ == "__main__":
-    sys.exit(main())

@@ -1,4 +1,3 @@
-#!/usr/bin/python3
 """Builds the Debian package of the program, looks at it, unpacks it, and runs its programs as a user without rights.
 
 It builds the package twice, from two copies of this repository with other times and modes, and compares the bytes; it looks for
@@ -6,8 +5,7 @@ the files, their modes and their owner; it counts the examples with the unpacked
 its help, and reads an input from /dev/stdin. `packaging/deb` must refuse if there is no program, or one older than its
 sources. If lintian is installed, it must find no error.
 
-Run it after `rt ci`. If dpkg-deb, objdump, strip or msgfmt is not installed, nothing is tested. The last line is
-'N passed, M failed', and each test counts as one.
+If dpkg-deb, objdump, strip or msgfmt is not installed, nothing is tested.
 """
 
 import gzip
@@ -17,16 +15,11 @@ import pathlib
 import re
 import shutil
 import subprocess
-import sys
 import tempfile
 import unittest
 
-ROOT = pathlib.Path(__file__).resolve().parent.parent
-sys.dont_write_bytecode = True
-sys.path.insert(0, str(ROOT))
-
-from tests.support import expecting, side_by_side  # noqa: E402
-from tests.support.program import PROGRAM  # noqa: E402
+from tests.support import expecting
+from tests.support.program import PROGRAM, ROOT
 
 TOOLS = ["dpkg-deb", "objdump", "strip", "msgfmt"]
 
@@ -275,13 +268,3 @@ class PackageTest(expecting.Expecting):
     @unittest.skipUnless(shutil.which("lintian"), "lintian is not installed")
     def test_lintian(self):
         try_lintian(self.expect, self.package)
-
-
-def main():
-    if not PROGRAM.exists():
-        sys.exit(f"{PROGRAM} is not there: make build proves and builds it")
-    return side_by_side.run_modules(["__main__"])
-
-
-if __name__ == "__main__":
-    sys.exit(main())

@@ -1,8 +1,4 @@
-#!/usr/bin/python3
 """Types the commands of the guides, and compares what they print with what the guides say.
-
-    tests/guides             all guides
-    tests/guides FILE ..     these alone
 
 In a guide a block of ```console has commands, each after `$ `, and below each what it prints, faults included. A block that
 begins with ```toml FILE or ```text FILE is a file. A line `<!-- clock: TIME -->` sets the clock for the commands after it. Of a time of
@@ -10,8 +6,7 @@ the day only the form is compared. The commands of a guide run in their order, i
 examples/ and of reference.py, and the files that the guide has shown before. If Graphviz is not installed, a stand-in draws.
 
 The table of quorums in docs/SECRETARY.md is compared with what the program says for this number of electors. The program in
-docs/FORMATS.md that computes the digests of a book runs on a book, as it is and changed. The last line is 'N passed, M failed'; each
-guide counts as one, and so do table and program. Each command and each number is a fact.
+docs/FORMATS.md that computes the digests of a book runs on a book, as it is and changed.
 """
 
 import datetime
@@ -25,15 +20,10 @@ import sys
 import tempfile
 import unittest
 
-ROOT = pathlib.Path(__file__).resolve().parent.parent
-sys.dont_write_bytecode = True
-sys.path.insert(0, str(ROOT))
+from tests.support import expecting
+from tests.support.program import PROGRAM, ROOT
 
-from tests.support import expecting, side_by_side  # noqa: E402
-from tests.support.program import PROGRAM  # noqa: E402
-
-FORMATS = ROOT / "docs" / "FORMATS.md"
-GUIDES = [ROOT / "docs" / f"{name}.md" for name in ("SECRETARY", "SECRET-VOTES", "SPECIAL-CASES", "READING-A-SHEET")]
+DOCS = ROOT / "docs"
 
 BLOCK = re.compile(r"^```(console|toml|text)(?: (\S+))?\n(.*?)^```$|^<!-- clock: (\S+) -->$", re.MULTILINE | re.DOTALL)
 
@@ -84,7 +74,7 @@ def path_in(folder):
     return os.pathsep.join(map(str, [PROGRAM.parent, ROOT / "bin", tools, os.environ["PATH"]]))
 
 
-def answers_of(guide, steps):
+def answers_of(steps):
     """What the commands of a guide print, in their order."""
     with tempfile.TemporaryDirectory() as name:
         folder = pathlib.Path(name)
@@ -121,37 +111,53 @@ def rows_of_quorums(guide):
 
 # ---------------------------------------------------------------- the tests
 class GuideTest(expecting.Expecting):
-    """The commands of one guide; there is a class of this kind for each."""
+    """The commands of a guide print what the guide says. Each guide has a class, so that they run side by side."""
 
-    guide: pathlib.Path
-
-    def commands_print_what_the_guide_says(self):
-        steps = list(steps_of(self.guide))
+    def type_commands(self, guide):
+        steps = list(steps_of(DOCS / f"{guide}.md"))
         commands = [(words, wanted) for kind, words, wanted in steps if kind == "command"]
-        self.assertTrue(commands, f"nothing was read of {self.guide}")
-        found = answers_of(self.guide, steps)
+        self.assertTrue(commands, f"nothing was read of {guide}")
+        found = answers_of(steps)
         for place, (words, wanted) in enumerate(commands):
             answer = found[place] if place < len(found) else "(nothing)"
-            self.expect(f"{self.guide.name}: $ {words}", TIME.sub("TIME", answer), TIME.sub("TIME", wanted))
+            self.expect(f"{guide}: $ {words}", TIME.sub("TIME", answer), TIME.sub("TIME", wanted))
+
+
+class SecretaryTest(GuideTest):
+    def test_secretary(self):
+        self.type_commands("SECRETARY")
+
+
+class SecretVotesTest(GuideTest):
+    def test_secret_votes(self):
+        self.type_commands("SECRET-VOTES")
+
+
+class SpecialCasesTest(GuideTest):
+    def test_special_cases(self):
+        self.type_commands("SPECIAL-CASES")
+
+
+class ReadingASheetTest(GuideTest):
+    def test_reading_a_sheet(self):
+        self.type_commands("READING-A-SHEET")
 
 
 class QuorumsTest(expecting.Expecting):
-    guide = GUIDES[0]
-
-    def numbers_are_those_of_the_program(self):
-        rows = rows_of_quorums(self.guide)
-        self.assertTrue(rows, f"no table was read of {self.guide}")
+    def test_numbers_are_those_of_the_program(self):
+        rows = rows_of_quorums(DOCS / "SECRETARY.md")
+        self.assertTrue(rows, "no table was read")
         for electors, *numbers in rows:
             for multiple, number in enumerate(numbers, start=1):
                 said = f"Quorum: {multiple}Q, {number} votes"
-                self.expect(f"{self.guide.name}: {electors} electors, {multiple}Q", quorum_line(electors, multiple), said)
+                self.expect(f"{electors} electors, {multiple}Q", quorum_line(electors, multiple), said)
 
 
 class DigestsTest(expecting.Expecting):
     """The program of docs/FORMATS.md that computes the digests of a book."""
 
-    def says_what_debvote_election_says(self):
-        [program] = re.findall(r"^```python\n(.*?)^```$", FORMATS.read_text(), re.MULTILINE | re.DOTALL)
+    def test_it_says_what_debvote_election_says(self):
+        [program] = re.findall(r"^```python\n(.*?)^```$", (DOCS / "FORMATS.md").read_text(), re.MULTILINE | re.DOTALL)
         with tempfile.TemporaryDirectory() as name:
             self.folder = pathlib.Path(name)
             self.run_in(".", ROOT / "bin" / "debvote-election", "new", "é")
@@ -170,30 +176,3 @@ class DigestsTest(expecting.Expecting):
         environment = os.environ | {"HOME": str(self.folder), "XDG_STATE_HOME": str(self.folder / "state")}
         how = {"stdout": subprocess.PIPE, "text": True, "timeout": SECONDS, "check": True}
         return subprocess.run(words, cwd=self.folder / folder, env=environment, **how).stdout
-
-
-def load_tests(loader, tests, pattern):
-    """A class for each guide that is asked for, so that they run side by side."""
-    found = unittest.TestSuite()
-    for guide in asked():
-        name = re.sub(r"\W", "_", guide.stem)
-        found.addTest(type(name, (GuideTest,), {"guide": guide})("commands_print_what_the_guide_says"))
-        if guide == QuorumsTest.guide:
-            found.addTest(QuorumsTest("numbers_are_those_of_the_program"))
-            found.addTest(DigestsTest("says_what_debvote_election_says"))
-    return found
-
-
-def asked():
-    """The guides that the arguments name, or all."""
-    return [pathlib.Path(name).resolve() for name in sys.argv[1:]] or GUIDES
-
-
-def main():
-    if not PROGRAM.exists():
-        sys.exit(f"{PROGRAM} is not there: make build makes it; or name one of tests/unproved by DEBVOTE")
-    return side_by_side.run_modules(["__main__"])
-
-
-if __name__ == "__main__":
-    sys.exit(main())
