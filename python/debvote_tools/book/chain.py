@@ -15,7 +15,7 @@ import json
 import operator
 import pathlib
 import sqlite3
-from collections.abc import Iterator, Sequence
+from collections.abc import Iterable, Iterator, Sequence
 from typing import Any
 
 # the table of the acts themselves; each row of all others belongs to an act
@@ -98,13 +98,19 @@ def digest_of(connection: sqlite3.Connection, before: str, act: Sequence[object]
     """
     row = [hashlib.sha256(one).hexdigest() if isinstance(one, bytes) else one for one in act]
     line = json.dumps(row, ensure_ascii=False, separators=(",", ":"))
-    digest = hashlib.sha256(f"{before}\n{line}".encode())
-    for table in line_of():
-        if table != ACT:
-            name = f"\n{table}\n".encode()
-            for piece in pieces_of(connection, table, act[0]):
-                digest.update(name + piece)
-                name = b"\n"
+    tables = (table for table in line_of() if table != ACT)
+    rows = ((table, pieces_of(connection, table, act[0])) for table in tables)
+    return digest_over(before, line.encode(), rows)
+
+
+def digest_over(before: str, line: bytes, rows: Iterable[tuple[str, Iterable[bytes]]]) -> str:
+    """The digest over the one before, the line of an act, and by table its rows, some at once."""
+    digest = hashlib.sha256(before.encode() + b"\n" + line)
+    for table, pieces in rows:
+        name = f"\n{table}\n".encode()
+        for piece in pieces:
+            digest.update(name + piece)
+            name = b"\n"
     return digest.hexdigest()
 
 
@@ -156,15 +162,16 @@ def break_in(connection: sqlite3.Connection) -> str | None:
         if table != ACT:
             return f"it has rows of act {act}, and no such act"
         [(_, line, digest)] = rows
-        computed = hashlib.sha256(b"%b\n%b" % (before.encode(), line))
-        for _, table, rows in by_table:
-            computed.update(b"\n%b" % table.encode())
-            while piece := list(itertools.islice(rows, ROWS_AT_ONCE)):
-                computed.update(b"\n%b" % b"\n".join([line for _, line, _ in piece]))
-        before = computed.hexdigest()
+        others = ((table, joined(rows)) for _, table, rows in by_table)
+        before = digest_over(before, line, others)
         if before != digest:
             return broken(act)
     return None
+
+
+def joined(rows: Iterator[tuple[Any, ...]]) -> Iterator[bytes]:
+    while piece := list(itertools.islice(rows, ROWS_AT_ONCE)):
+        yield b"\n".join([line for _, line, _ in piece])
 
 
 def acts_in(
