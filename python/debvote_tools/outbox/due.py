@@ -14,8 +14,9 @@ from debvote_tools.cli.faults import Fault, bad_words
 from debvote_tools.inbox.lines import ballot_file
 from debvote_tools.inbox.of_electors import NOBODY, Became, Came, of_electors
 from debvote_tools.inbox.rules import Outcome
-from debvote_tools.outbox.reached import CAME_BACK, address_in, reached_by_call
+from debvote_tools.outbox.reached import CAME_BACK, reached_by_call
 from debvote_tools.outbox.words import Composer
+from debvote_tools.poll.announced import address_in
 from debvote_tools.result.publication import closing_letter, current_data, last_publication
 from debvote_tools.text.language import language_of
 from debvote_tools.text.times import now

@@ -9,7 +9,7 @@ from debvote_tools.book.election import Election, History
 from debvote_tools.book.queries import Elector
 from debvote_tools.book.sent import REFUSED
 from debvote_tools.inbox.mime import address_key
-from debvote_tools.poll.announced import is_mail_address
+from debvote_tools.poll.announced import address_in
 
 NO_LETTER, WAS_REFUSED, CAME_BACK = "no letter", "refused", "came back"
 
@@ -40,11 +40,6 @@ def reached_by_call(election: Election, history: History) -> tuple[list[Unreache
         elif back.get(elector.number, 0) > act:
             unreached.append((elector, CAME_BACK, ""))
     return unreached, printed
-
-
-def address_in(addresses: Sequence[str]) -> str:
-    """The first of some addresses that every mail server takes; empty if there is none."""
-    return next(filter(is_mail_address, addresses), "")
 
 
 def came_back(election: Election, electors: Sequence[Elector]) -> dict[int, int]:

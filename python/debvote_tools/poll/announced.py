@@ -4,6 +4,7 @@ import datetime
 import re
 import urllib.parse
 import zoneinfo
+from collections.abc import Iterable
 
 from debvote_tools.cli.console import LINE_ENDS, odd_sign
 from debvote_tools.cli.faults import Fault, bad_words
@@ -103,6 +104,11 @@ def demand_mail_address(text: str, option: str = "--to") -> None:
 def is_mail_address(text: str) -> bool:
     """Whether a text is one plain mail address, which every mail server takes."""
     return len(text) <= MAIL_LIMIT and MAIL.fullmatch(text) is not None
+
+
+def address_in(addresses: Iterable[str]) -> str:
+    """The first of some addresses that every mail server takes; empty if there is none."""
+    return next(filter(is_mail_address, addresses), "")
 
 
 def demand_web_address(text: str) -> None:
