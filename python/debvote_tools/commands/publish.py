@@ -20,7 +20,7 @@ from debvote_tools.inbox.waiting import in_time, waiting_letters
 from debvote_tools.cli.faults import Fault, Status
 from debvote_tools.text.language import LANGUAGES
 from debvote_tools.result import folder, publication
-from debvote_tools.result.facts import CHECKSUMS, PAGE, Facts
+from debvote_tools.result.facts import CHECKSUMS, Facts
 from debvote_tools.result.folder import NOTHING_DONE
 from debvote_tools.result.publication import Words
 
@@ -118,10 +118,7 @@ def demand_place(target_folder: pathlib.Path, history: History) -> None:
     what was published before.
     """
     place = folder.real_place(target_folder)
-    for above in place.parents:
-        if all((above / name).is_file() for name in (CHECKSUMS, PAGE)):
-            words = f"it would be in {above}, whose files are published as they are"
-            raise bad_words(target_folder, words, "name a folder outside of it")
+    folder.demand_outside(target_folder)
     if folder.is_free(place):
         return
     sums = [act.detail["checksums"][CHECKSUMS] for act in publication.publications(history)]
@@ -213,7 +210,7 @@ def holder_and_day(by: str | None, on: str | None) -> tuple[str, str]:
     return by.strip(), day.isoformat()
 
 
-def bad_words(option: object, reason: str, cure: str) -> Fault:
+def bad_words(option: str, reason: str, cure: str) -> Fault:
     return Fault(option, reason, cure, Status.BAD_WORDS, NOTHING_DONE)
 
 

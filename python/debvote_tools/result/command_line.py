@@ -67,6 +67,7 @@ def main(program_folder: pathlib.Path, given: Sequence[str] | None = None) -> in
     target_folder = pathlib.Path(arguments.target)
     console.prepare()
     try:
+        folder.demand_outside(target_folder)
         if not folder.is_free(target_folder):
             raise folder.in_use(target_folder, "an empty folder", "name another folder")
         facts = facts_of(arguments, program_folder)
