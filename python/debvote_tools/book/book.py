@@ -241,9 +241,9 @@ class Book:
         except sqlite3.Error as error:
             if not self.is_there(act.number):
                 raise
+            words = f"the commit failed ({error})"
+            cure = "see debvote-election status, which tells the last act"
             done = f"nobody knows whether act {act.number} was done"
-            cure, reason = "see debvote-election status, which tells the last act", f"({error})"
-            words = f"the commit failed {reason}"
             raise Fault(self.path, words, cure, Status.BAD_OUTPUT, done) from None
         self.own_acts.append(f"act {act.number} ({act.name})")
         return digest

@@ -28,8 +28,8 @@ TEXT_NAME = re.compile(r"([1-9][0-9]?)\.txt")
 # a file that an editor leaves beside another
 OF_EDITORS = re.compile(r"\..*|.*~|#.*#")
 
-# what follows each cure
-THEN = ", then run debvote-election check"
+# a cure, and what follows each cure
+BY_EDITOR, THEN = "put it right with an editor", ", then run debvote-election check"
 
 # how a key of a sealed poll is set that is not the secretary's; all others are
 SET_ELSEWHERE = {
@@ -67,8 +67,7 @@ def draft_in(folder: pathlib.Path) -> DraftPoll:
     try:
         values = tomllib.loads(data.decode("utf-8-sig"))
     except (ValueError, RecursionError) as error:
-        reason = f"it can't be read as TOML 1.0: {error}"
-        raise bad_poll(file, reason, "put it right with an editor") from None
+        raise bad_poll(file, f"it can't be read as TOML 1.0: {error}", BY_EDITOR) from None
     options = values["options"] if isinstance(values.get("options"), list) else []
     title, *names = (
         name.strip() if isinstance(name, str) else ""
@@ -222,7 +221,7 @@ def checked(
             raise
         tell_as_it_is(said)
         reason = "it can't be read as TOML, as said above"
-        raise bad_poll(fault.file, reason, "put it right with an editor") from None
+        raise bad_poll(fault.file, reason, BY_EDITOR) from None
     language = election.language.code
     roll = [elector.name for elector in queries.electors(election.book)]
     faults = [*draft.faults, *faults_when_sealed(draft, language)]
@@ -244,10 +243,9 @@ def faults_by_debvote(election: Election, poll_bytes: bytes) -> list[Fault]:
     if not answer.text:
         said = answer.faults.strip().removeprefix("debvote: ")
         reason = said or f"debvote ended with status {answer.status}"
-        cure = f"run {election.command('check')} again"
-        return [Fault(file, reason, cure, answer.status, None)]
+        return [Fault(file, reason, f"run {election.command('check')} again", answer.status, None)]
     return [
-        bad_poll(file, line.removeprefix("poll: "), "put it right with an editor")
+        bad_poll(file, line.removeprefix("poll: "), BY_EDITOR)
         for line in answer.text.splitlines()
         if line.startswith("poll: ")
     ]

@@ -10,7 +10,7 @@ import secrets
 from collections.abc import Collection, Iterable, Mapping, Sequence
 
 from debvote_tools.book.queries import Elector
-from debvote_tools.cli.faults import Fault, Status
+from debvote_tools.cli.faults import Fault
 from debvote_tools.files import sha256_of
 from debvote_tools.inbox.lines import CODE_WITHIN
 from debvote_tools.poll.call import PACKAGE, CallData
@@ -82,13 +82,8 @@ def new_code(name: str = "") -> str:
 def demand_no_code(name: str, data: bytes, codes: Collection[str], done: str) -> None:
     """Stops if a file for everybody would have a code: the list of codes may be one of the texts."""
     if codes and not {code.decode() for code in CODE_WITHIN.findall(data)}.isdisjoint(codes):
-        raise Fault(
-            None,
-            f"{name} would have the code of an elector in it",
-            "check the texts that you gave",
-            Status.DOUBT,
-            done,
-        )
+        words = f"{name} would have the code of an elector in it"
+        raise Fault(None, words, "check the texts that you gave", done=done)
 
 
 def codes_csv(electors: Iterable[Elector]) -> bytes:
