@@ -103,7 +103,7 @@ class Call(OutTest):
     def test_how_many_are_new(self) -> None:
         self.assertIn("Wrote 9 letters: letters/call/", self.done("letters", "call").output)
         self.assertIn("Wrote 9 letters, none of them new: ", self.done("letters", "call").output)
-        self.write("members.csv", members_of(NAMES).replace("ada@club", "ada@new"))
+        self.write("members.csv", elections.members_of(elections.NAMES).replace("ada@club", "ada@new"))
         self.done("roll", "--yes")
         self.assertIn("Wrote 9 letters, 1 of them new: ", self.done("letters", "call").output)
 
