@@ -1,7 +1,6 @@
 """Make the call for votes, a page and a letter; from then on the poll cannot change."""
 
 import dataclasses
-import pathlib
 import shutil
 
 from debvote_tools.cli.arguments import Acting, flag, given, option
@@ -25,7 +24,7 @@ from debvote_tools.book.election import (
     History,
     Sealed,
 )
-from debvote_tools.files import OWN, PUBLIC, read_at_most, write_made
+from debvote_tools.files import OWN, PUBLIC, read_whole, write_made
 from debvote_tools.poll.draft import checked, lacks_codes, letter_text_in, tell_checked
 from debvote_tools.poll.announced import (
     demand_future,
@@ -273,10 +272,8 @@ def keyring_in(election: Election, file: str | None) -> bytes | None:
     """The keyring, as gpgv reads it. Stops if the key of an elector is not in it."""
     if file is None:
         return None
-    try:
-        data = read_at_most(pathlib.Path(file), KEYRING_LIMIT)
-    except OSError as error:
-        raise bad_words(file, error.strerror, "name the file that gpg --export wrote") from None
+    unread = "name the file that gpg --export wrote"
+    data = read_whole(file, KEYRING_LIMIT, unread, may_wait=True)
     keyring, electors = read_keyring(file, data), queries.electors(election.book)
     missing = [one.name for one in electors if one.key and one.key not in keyring.fingerprints]
     if missing:

@@ -61,9 +61,11 @@ def run(election: Election, arguments: Arguments) -> int:
     book = election.book_for(arguments)
     election.called(election.history())
     server = server_of(election.history(), named, arguments) if arguments.send else None
-    if arguments.at is not None:
-        announce(election, book, arguments.at)
-    sender = arguments.sender or election.history().announced("to")
+    history = election.history()
+    if arguments.at not in (None, history.announced("at")):
+        with book.act("announce", {"at": arguments.at}, seen=history.last.number):
+            pass
+    sender = arguments.sender or history.announced("to")
     if sender is None:
         raise bad_words("--from", "the call names no address", "give the sender's address with it")
     demand_mail_address(sender, "--from")
@@ -162,6 +164,8 @@ def demand_words(arguments: Arguments) -> None:
     for option, kind in (("at", "result"), ("yes", "reminders")):
         if arguments.kind != kind and given(arguments, option):
             raise bad_words(f"--{option}", f"only with {kind}", "leave it out")
+    if arguments.at is not None:
+        demand_web_address(arguments.at)
 
 
 def remembered(history: History) -> Detail | None:
@@ -200,16 +204,6 @@ def server_of(history: History, server: Server | None, arguments: Arguments) -> 
         cure = "give --password-file FILE, or run the command at a terminal"
         raise bad_words("--user", words, cure)
     return dataclasses.replace(server, user=user, password=password)
-
-
-def announce(election: Election, book: Book, address: str) -> None:
-    """The act that says where the page of the vote is, if it is not known."""
-    demand_web_address(address)
-    history = election.history()
-    election.called(history)
-    if history.announced("at") != address:
-        with book.act("announce", {"at": address}, seen=history.last.number):
-            pass
 
 
 # ---------------------------------------------------------------- the acts
