@@ -56,12 +56,9 @@ class Language:
     def joined(self, entries: Iterable[str]) -> str:
         """The entries as part of a sentence; there is at least one."""
         *before, last = entries
-        start = self.made(", ").join(before) + self.and_last if before else self.made("")
-        return start + last
-
-    @functools.cached_property
-    def and_last(self) -> str:
-        return self.between("{entries} and {last}")
+        if not before:
+            return self.made("") + last
+        return self.made(", ").join(before) + self.between("{entries} and {last}") + last
 
     def between(self, text: str) -> str:
         """The words between the two places of a sentence, which join any number of parts."""
