@@ -68,7 +68,7 @@ class DebvoteReader:
         text = subprocess.run(words, input=given, capture_output=True, check=False).stdout.decode("ascii")
         os.close(handle)
         findings = findings_in(text)
-        assert findings.totals.lines == len(lines), text
+        assert findings.lines == len(lines), text
         found: dict[bytes, str | None] = dict.fromkeys(lines)
         for finding in findings.refused:
             found[lines[finding.envelope - 1]] = f"{finding.word}: {finding._replace(remark='').hint}"

@@ -47,9 +47,7 @@ def run(election: Election, arguments: Arguments) -> int:
 
 
 def demand_countable(election: Election, history: History, sealed: Sealed) -> None:
-    """Stops at a secret vote that is not closed: a person who sees its numbers grow sees who voted
-    what.
-    """
+    """Stops at a secret vote that is not closed: whoever sees its numbers grow sees who voted what."""
     if sealed.counted.secret and not history.is_closed:
         words = "the vote is secret, and can be counted only after the close"
         raise Fault(None, words, f"close it first: {election.command('close')}", done=NOTHING_DONE)

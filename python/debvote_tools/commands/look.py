@@ -93,7 +93,7 @@ def backup(election: Election, arguments: BackupArguments) -> None:
 
 
 def demand_new(election: Election, target: pathlib.Path, what: str) -> None:
-    """Stops if there is something, or if it would be in a folder for electors or the web site."""
+    """Stops if there is something, or a folder for others above it."""
     words, cure, place = "it exists already", f"name a new {what}", target.absolute().resolve()
     for name in (CALL, LETTERS, RESULT, PRIVATE):
         if place.is_relative_to(election.path(name).absolute().resolve()):

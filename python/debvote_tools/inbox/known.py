@@ -13,7 +13,7 @@ from collections.abc import Collection, Mapping
 from debvote_tools.book.queries import Elector
 from debvote_tools.inbox.mime import address_key
 from debvote_tools.inbox.letter import ParsedLetter
-from debvote_tools.poll.marks import MARKS
+from debvote_tools.poll.sealed import MARKS
 from debvote_tools.poll.plain_names import without_accents
 
 # what parts the words of a name, and what each name on a roll has

@@ -19,7 +19,7 @@ from debvote_tools.inbox.html import read_html
 from debvote_tools.inbox.mailbox import RawLetter
 from debvote_tools.inbox.mime import MAX_PARTS, Part, address_key
 from debvote_tools.inbox.reasons import Because, Reason
-from debvote_tools.poll.marks import OWN_LENGTH, OWN_SIGNS, marks_in
+from debvote_tools.poll.sealed import OWN_LENGTH, OWN_SIGNS, marks_in
 
 # in bytes: a text, and all texts of a letter
 MAX_TEXT, MAX_TEXTS = 262_144, 1_048_576

@@ -20,7 +20,7 @@ from debvote_tools.inbox.known import Ballot, Decision, Known
 from debvote_tools.inbox.letter import END, Body, Near, ParsedLetter, is_quoted
 from debvote_tools.inbox.mime import address_key
 from debvote_tools.inbox.reasons import Because, Reason
-from debvote_tools.poll.marks import marks_in
+from debvote_tools.poll.sealed import marks_in
 
 # how far the clock of a mail server or of an elector may be ahead
 AHEAD = datetime.timedelta(minutes=10)

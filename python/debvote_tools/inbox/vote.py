@@ -12,7 +12,7 @@ from debvote_tools.cli.faults import other_format
 from debvote_tools.debvote import Finding
 from debvote_tools.files import BALLOTS_LIMIT, LINES_LIMIT
 from debvote_tools.inbox.lines import Line, ballot_file, differences, has_code
-from debvote_tools.text.ballots import BallotWords
+from debvote_tools.text.ballots import ballots_in_words
 from debvote_tools.text.language import ENGLISH
 
 IS_CODE = " (32 digits, as in a code or an alias: a ballot has only the elector's name, and nobody may see a code)"
@@ -66,7 +66,7 @@ class Vote:
         self.has_form = bool(history.announced("form"))
         self.answered: dict[bytes, str | None] = {}
         # most ballots have one of a few orders
-        self.ranks_in_words = functools.lru_cache(4096)(BallotWords(self.option_names).of)
+        self.ranks_in_words = functools.lru_cache(4096)(ballots_in_words(self.option_names))
 
     @functools.cached_property
     def names_on_roll(self) -> frozenset[str]:

@@ -21,7 +21,7 @@ from debvote_tools.result import facts as files, scripts
 from debvote_tools.result.facts import Answers, Facts, after_the_end, all_acts, sentences_of
 from debvote_tools.result.result_letter import told_if_it_decides
 from debvote_tools.result.why import Why
-from debvote_tools.text.ballots import IN_A_LIST, BallotWords
+from debvote_tools.text.ballots import IN_A_LIST, ballots_in_words
 from debvote_tools.text.language import ENGLISH, Language
 from debvote_tools.text.rendering import InHtml, render_page, resources
 from debvote_tools.text.times import date_in_words
@@ -70,9 +70,8 @@ def page_of(given: Facts, answers: Answers, checksums: Mapping[str, str]) -> byt
     lines = ballot_lines(given.ballots)
     # many ballots are alike
     have_names = len(standing) * sum(map(len, named.values())) <= NAMES_LIMIT
-    words = BallotWords(
-        [str(named[key] if have_names else key) for key in named], language, IN_A_LIST
-    )
+    shown = [str(named[key] if have_names else key) for key in named]
+    in_words_of = ballots_in_words(shown, language, IN_A_LIST)
     style, picture = resources(__package__, "fields.css", "given.css", "page.css"), None
     if answers.picture is not None and len(names) <= MOST_IN_PAGE:
         in_words = language.say("The defeats as a graph. The list above says the same in words.")
@@ -108,7 +107,7 @@ def page_of(given: Facts, answers: Answers, checksums: Mapping[str, str]) -> byt
         explanations=explanations_of(poll),
         picture=picture,
         picture_command=shlex.join(drawing_words(len(names))),
-        ballot_words={ranks: Markup(words.of(ranks)) for ranks in set(standing.values())},
+        ballot_words={ranks: Markup(in_words_of(ranks)) for ranks in set(standing.values())},
         have_names=have_names,
         standing=standing,
         refused=runs_of(

@@ -245,11 +245,10 @@ def doubts_of(
 
 def late_letters_in_time(book: Book, history: History) -> list[Doubt]:
     """A doubt for each letter that arrived before the end and the first close, and whose ballot is
-    late and was not entered again.
+    late, was not entered again, and would count: its elector has no later ballot.
     """
-    late = (
-        queries.envelopes(book, f"{queries.LATE} AND letter IS NOT NULL") if history.closes else []
-    )
+    condition = f"{queries.LATE} AND letter IS NOT NULL AND {queries.NOT_REPLACED}"
+    late = queries.envelopes(book, condition) if history.closes else []
     if late:
         counting = {line: number for number, line in queries.numbered_lines_in_time(book)}
         late = [envelope for envelope in late if counting.get(envelope.line, 0) < envelope.number]

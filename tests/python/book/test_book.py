@@ -476,7 +476,7 @@ class Rewritten(BookTest):
     def test_the_chain_reads_no_index(self) -> None:
         with contextlib.closing(sqlite3.connect(self.book)) as connection:
             chain.prepare(connection)
-            queries_of_all = map(chain.query_of_all, chain.schema().lines)
+            queries_of_all = map(chain.query_of_all, chain.line_of())
             plans = [connection.execute(f"EXPLAIN QUERY PLAN {words}").fetchall() for words in queries_of_all]
         self.assertEqual(len(plans), 10)
         for plan in plans:
