@@ -14,8 +14,8 @@ from debvote_tools.book.election import Election, History
 from debvote_tools.book.queries import Envelope, NewEnvelope
 from debvote_tools.cli.console import count_of, shown_line, tell, tell_many
 from debvote_tools.cli.faults import Fault, Status, stop_at
-from debvote_tools.inbox import files as came, plan as plans
-from debvote_tools.inbox.files import HYPHEN, CameFile
+from debvote_tools.inbox import came, entering
+from debvote_tools.inbox.came import HYPHEN, CameFile
 from debvote_tools.inbox.lines import MARK, NOTHING_ADDED, Line, lines_in
 from debvote_tools.inbox.tables import Columns, OptionNames, are_table, columns_of, lines_of_table
 from debvote_tools.inbox.vote import LATE_REPLY, JudgedLine, Vote, summary
@@ -30,7 +30,7 @@ MAX_REFUSED, MAX_REPEATED = 10, 20
 MEMBERS_HEADS = {"who", "mail"}
 
 
-class Arguments(plans.Arguments):
+class Arguments(entering.Arguments):
     files: list[str] = positional(
         "FILE",
         "Letters (a mailbox, a Maildir, a folder of .eml), or ballots, one on each line, or tables (--csv); - or no FILE: standard input",
@@ -116,7 +116,7 @@ class FileLines(NamedTuple):
     again: tuple[int, ...] = ()
 
 
-class Plan(NamedTuple):
+class NewLines(NamedTuple):
     """Which lines would be entered, by the book as it is now."""
 
     openness: History
@@ -138,15 +138,15 @@ def take_lines(vote: Vote, came_files: Sequence[CameFile], arguments: Arguments)
     files, book = read_lines(vote, came_files, arguments), vote.book
     answer: bool | None = None
 
-    def plan() -> Plan:
+    def plan() -> NewLines:
         """It asks nothing of debvote, so it is made again within the act."""
         history = History(book.acts())
-        plans.demand_same_call(vote, history, "run the command again", NOTHING_ADDED)
+        vote.demand_same_call(history, "run the command again", NOTHING_ADDED)
         takes_again, is_reopened = arguments.again, history.is_reopened
         found = sorted_out(book, files, takes_again=takes_again, is_reopened=is_reopened)
-        return Plan(history.openness(), found)
+        return NewLines(history.openness(), found)
 
-    def show(found: Plan) -> bool:
+    def show(found: NewLines) -> bool:
         nonlocal answer
         stop_at(list(doubts(vote, found, arguments)))
         if not found.new_lines:
@@ -154,15 +154,15 @@ def take_lines(vote: Vote, came_files: Sequence[CameFile], arguments: Arguments)
             tell("There is nothing new, and nothing was added.")
             return False
         said = arguments.came_before_close
-        answer = plans.came_before_close(found.openness, said, NOTHING_ADDED)
+        answer = entering.came_before_close(found.openness, said, NOTHING_ADDED)
         return True
 
-    def act(found: Plan, seen: int) -> None:
+    def act(found: NewLines, seen: int) -> None:
         def told(numbers: range, replies: Sequence[str]) -> Iterator[str]:
             yield from report(vote, found, numbers, replies)
             yield f"Added {summary(replies)}."
 
-        plans.enter(
+        entering.enter_lines(
             vote,
             "add",
             detail_of(vote, found, arguments, answer),
@@ -177,7 +177,7 @@ def take_lines(vote: Vote, came_files: Sequence[CameFile], arguments: Arguments)
         with book.snapshot():
             found, lines, first = plan(), queries.lines_in_time(book), queries.last_envelope(book)
         look(vote, found, lines, first + 1, arguments)
-    elif plans.agreed_act(vote, plan, show, act).openness.is_closed:
+    elif entering.agreed_act(vote, plan, show, act).openness.is_closed:
         tell(f"Next: {vote.election.command('count')}")
     else:
         command = vote.election.command
@@ -277,7 +277,7 @@ def change_since(
     return f"{line.voter} has voted since (envelope {number})"
 
 
-def detail_of(vote: Vote, plan: Plan, arguments: Arguments, answer: bool | None) -> Detail:
+def detail_of(vote: Vote, plan: NewLines, arguments: Arguments, answer: bool | None) -> Detail:
     detail: Detail = {
         "files": [file.came.kept_name for file in plan.files],
         "lines": len(plan.new_lines),
@@ -293,7 +293,9 @@ def detail_of(vote: Vote, plan: Plan, arguments: Arguments, answer: bool | None)
     return detail
 
 
-def look(vote: Vote, plan: Plan, lines: Sequence[bytes], first: int, arguments: Arguments) -> None:
+def look(
+    vote: Vote, plan: NewLines, lines: Sequence[bytes], first: int, arguments: Arguments
+) -> None:
     """Says what would become of the lines, and stops if `add` would."""
     numbers = range(first, first + len(plan.new_lines))
     replies = [LATE_REPLY] * len(numbers)
@@ -312,7 +314,7 @@ def doubt(where: object, words: str, cure: str) -> Fault:
     return Fault(where, words, cure, Status.DOUBT, NOTHING_ADDED)
 
 
-def doubts(vote: Vote, plan: Plan, arguments: Arguments) -> Iterator[Fault]:
+def doubts(vote: Vote, plan: NewLines, arguments: Arguments) -> Iterator[Fault]:
     """All that stands against a plan."""
     is_unsorted = arguments.csv and not arguments.oldest_first and not arguments.newest_first
     for file in plan.files:
@@ -329,7 +331,7 @@ def doubts(vote: Vote, plan: Plan, arguments: Arguments) -> Iterator[Fault]:
     if arguments.force:
         return
     for file in plan.files:
-        long_lines = ((line.line.where, plans.too_long(line.line)) for line in file.new)
+        long_lines = ((line.line.where, line.line.why_too_long) for line in file.new)
         for where, why in itertools.islice((one for one in long_lines if one[1]), 1):
             yield doubt(where, str(why), f"take the line out if it is not a ballot, or {FORCE}")
     with_new_lines = [file for file in plan.files if file.new]
@@ -452,9 +454,11 @@ def cure_of(file: FileLines, refused: JudgedLine, arguments: Arguments) -> str:
 
 
 # ---------------------------------------------------------------- what is printed
-def report(vote: Vote, plan: Plan, numbers: Sequence[int], replies: Sequence[str]) -> Iterator[str]:
+def report(
+    vote: Vote, plan: NewLines, numbers: Sequence[int], replies: Sequence[str]
+) -> Iterator[str]:
     if numbers:
-        yield from plans.notes(vote.election, plan.openness, "what is added")
+        yield from entering.notes(vote.election, plan.openness, "what is added")
     for file in plan.files:
         yield from (f"{line.where}: it is empty, and was left out" for line in file.empty)
         yield from repeated_words(file)

@@ -14,9 +14,8 @@ from debvote_tools.book.election import Election, History
 from debvote_tools.cli.console import is_yes, shown_line, shown_text, tell, typed
 from debvote_tools.cli.faults import Fault, Status
 from debvote_tools.files import BALLOTS_LIMIT
-from debvote_tools.inbox import plan as plans
+from debvote_tools.inbox import entering
 from debvote_tools.inbox.lines import Line, lines_in
-from debvote_tools.inbox.plan import agreed_act, electors_of
 from debvote_tools.inbox.vote import JudgedLine, Vote, change_words, summary
 from debvote_tools.poll.plain_names import alike
 
@@ -31,7 +30,7 @@ TYPED = re.compile(r"(.+?)\s+([\d-].*)")
 # how many names are listed to choose from
 MAX_NAMES = 9
 
-Arguments = plans.Arguments
+Arguments = entering.Arguments
 
 
 class Desk:
@@ -54,7 +53,7 @@ class Desk:
     def ask_if_reopened(self, history: History, done: str = REPORTED) -> None:
         """If the vote was opened again, asks once whether what is cast came before the first close."""
         if self.came_before_close is None:
-            self.came_before_close = plans.came_before_close(history, self.answer, done)
+            self.came_before_close = entering.came_before_close(history, self.answer, done)
 
     def lines_of(self, data: bytes) -> list[Line]:
         lines = lines_in(data, "desk", self.next_line)
@@ -76,7 +75,7 @@ class Desk:
 
         def plan() -> tuple[History, list[queries.Envelope]]:
             history = History(self.vote.book.acts())
-            plans.demand_same_call(self.vote, history, "start the desk again", NOTHING_CAST)
+            self.vote.demand_same_call(history, "start the desk again", NOTHING_CAST)
             return history.openness(), queries.envelopes(self.vote.book, "elector = ?", elector)
 
         def show_all(now: tuple[History, list[queries.Envelope]]) -> bool:
@@ -87,7 +86,7 @@ class Desk:
             detail: Detail = {"lines": len(lines)}
             if now[0].is_reopened:
                 detail["came_before_close"] = self.came_before_close
-            plans.enter(
+            entering.enter_lines(
                 self.vote,
                 "desk",
                 detail,
@@ -103,7 +102,7 @@ class Desk:
             self.replies += replies
             return self.vote.report(lines, numbers, replies)
 
-        agreed_act(self.vote, plan, show_all, act)
+        entering.agreed_act(self.vote, plan, show_all, act)
 
 
 def run(election: Election, arguments: Arguments) -> None:
@@ -113,7 +112,7 @@ def run(election: Election, arguments: Arguments) -> None:
     election.book_for(arguments)
     desk = Desk(election, arguments.came_before_close)
     history = election.history()
-    tell(*plans.notes(election, history, "what is entered"))
+    tell(*entering.notes(election, history, "what is entered"))
     if desk.vote.is_signed:
         words = "in this vote letters must be signed, and a desk checks no signature"
         tell(f"Note: {words}: enter only ballots on paper or by word of mouth.")
@@ -136,7 +135,7 @@ def from_pipe(desk: Desk) -> None:
         for line in desk.lines_of(data):
             if line.is_empty:
                 tell(f"{line.where}: it is empty, and was left out")
-            elif why := plans.too_long(line):
+            elif why := line.why_too_long:
                 add = desk.vote.election.command("add", "--force", "FILE")
                 tell(f"{line.where}: {why}; it was not entered.", f"  To add it from a file: {add}")
             else:
@@ -185,7 +184,7 @@ def ask_and_cast(desk: Desk, line: Line) -> bool:
         tell("It was not entered.")
         return True
     [read] = desk.vote.read([meant])
-    [elector] = electors_of(desk.vote, [read.as_entered])
+    [elector] = desk.vote.electors_of([read.as_entered])
     answer: bool | None = None
 
     def show(history: History) -> bool:

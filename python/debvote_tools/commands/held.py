@@ -13,9 +13,9 @@ from debvote_tools.cli.faults import Fault, Status, stop_at
 from debvote_tools.inbox import letter_words, letters_in
 from debvote_tools.inbox.known import Decision
 from debvote_tools.inbox.rules import JudgedLetter, Outcome
-from debvote_tools.inbox.letters_in import Plan
+from debvote_tools.inbox.letters_in import NewBallots
 from debvote_tools.inbox.lines import lines_in, name_in
-from debvote_tools.inbox.plan import agreed_act
+from debvote_tools.inbox.entering import agreed_act
 from debvote_tools.inbox.vote import Vote
 
 # what --enter has without lines
@@ -139,7 +139,7 @@ def enter(vote: Vote, arguments: Arguments) -> None:
     chosen: list[Chosen] = []
     faults: dict[int, Fault] = {}
 
-    def plan() -> Plan:
+    def plan() -> NewBallots:
         nonlocal chosen
         history, found = vote.election.history(), all_letters(vote)
         wanted = chosen_letters(found, arguments.numbers)
@@ -172,9 +172,9 @@ def enter(vote: Vote, arguments: Arguments) -> None:
             words = "some of these letters arrived before the first close, and some after it"
             raise Fault("--enter", words, "enter those that arrived before it apart")
         new = [letters_in.envelope_of(one.letter, one.ballot) for one in chosen]
-        return Plan(new, done_with(vote, chosen), late.pop())
+        return NewBallots(new, done_with(vote, chosen), late.pop())
 
-    def show(_: Plan) -> bool:
+    def show(_: NewBallots) -> bool:
         who = letter_words.who_and_when
         tell(*(f"{who(one.letter)}: {vote.ballot_in_words(one.ballot)}" for one in chosen))
         tell(*(f"Waits on: {fault.file}: {fault.reason}" for fault in faults.values()))
@@ -183,14 +183,14 @@ def enter(vote: Vote, arguments: Arguments) -> None:
             raise Fault("held", "you did not say yes", "run the command again when you agree")
         return True
 
-    def act(now: Plan, seen: int) -> None:
+    def act(now: NewBallots, seen: int) -> None:
         numbers = list(dict.fromkeys(one.letter.number for one in chosen))
         detail: Detail = {"lines": [one.line for one in chosen if one.line]}
         if len(numbers) == 1:
             detail["letter"] = numbers[0]
         else:
             detail["letters"] = numbers
-        letters_in.enter(vote, "enter", detail, now, seen)
+        letters_in.enter_ballots(vote, "enter", detail, now, seen)
 
     agreed_act(vote, plan, show, act)
 

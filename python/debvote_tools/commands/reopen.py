@@ -11,7 +11,7 @@ from debvote_tools.book.queries import Envelope, NewEnvelope
 from debvote_tools.cli.console import act_time, count_of, is_terminal, shown_line, tell, typed
 from debvote_tools.cli.faults import Fault, Status, stop_at
 from debvote_tools.commands.strike import without_code
-from debvote_tools.inbox import plan as plans
+from debvote_tools.inbox import entering
 from debvote_tools.inbox.vote import Vote
 
 # of the number of an envelope
@@ -67,7 +67,7 @@ def run(election: Election, arguments: Arguments) -> None:
                 line = without_code(envelope.line, has_codes=vote.has_codes)
                 yield f"Envelope {number}, entered anew from late envelope {envelope.number}: {line}"
 
-        plans.enter(
+        entering.enter_lines(
             vote,
             "reopen",
             detail,
@@ -80,7 +80,7 @@ def run(election: Election, arguments: Arguments) -> None:
             is_late=False,
         )
 
-    plans.agreed_act(vote, plan, lambda _: True, act)
+    entering.agreed_act(vote, plan, lambda _: True, act)
     if left := [envelope.number for envelope in late_left(book)]:
         again_command = election.command("reopen", "--in-time", "NUMBER", "--because", "TEXT")
         cure = f"if one of them came before the first close, close again and run {again_command}"

@@ -13,7 +13,7 @@ from debvote_tools.cli.console import act_time, is_terminal, shown_line, tell
 from debvote_tools.cli.faults import Fault
 from debvote_tools.commands.undo import demand_open, demand_yes
 from debvote_tools.inbox.lines import name_in
-from debvote_tools.inbox.plan import agreed_act
+from debvote_tools.inbox.entering import agreed_act
 from debvote_tools.inbox.vote import Vote
 
 # what can be a code of the roll or the most of one, as if a digit was left out

@@ -9,8 +9,8 @@ from debvote_tools.book.book import DoneAct
 from debvote_tools.book.election import Election, History
 from debvote_tools.cli.console import act_time, count_of, is_terminal, is_yes, tell
 from debvote_tools.cli.faults import Fault
-from debvote_tools.inbox.plan import agreed_act, envelope_words
-from debvote_tools.inbox.vote import Vote, standing_words
+from debvote_tools.inbox.entering import agreed_act
+from debvote_tools.inbox.vote import Vote, envelope_words, standing_words
 
 
 class Arguments(Acting):

@@ -13,9 +13,9 @@ from debvote_tools.book.queries import KeptLetter, NewEnvelope
 from debvote_tools.cli.console import count_of, is_terminal, is_yes, shown_text, tell
 from debvote_tools.cli.faults import Fault, Status
 from debvote_tools.files import sha256_of
-from debvote_tools.inbox import letter_words, plan
+from debvote_tools.inbox import entering, letter_words
 from debvote_tools.inbox.known import Ballot, Decision, Known, Names
-from debvote_tools.inbox.files import CameFile, safe
+from debvote_tools.inbox.came import CameFile, safe
 from debvote_tools.inbox.rules import JudgedLetter, Outcome, judge_all
 from debvote_tools.inbox.lines import NOTHING_ADDED
 from debvote_tools.inbox.letter import ParsedLetter, as_json, from_json, parse
@@ -100,7 +100,7 @@ def keep(vote: Vote, raws: Sequence[RawLetter], found: Sequence[ParsedLetter]) -
     with vote.book.act("letters", {"letters": len(raws)}) as act:
         # their lines were read by the poll of this call
         cure = "run the command again"
-        plan.demand_same_call(vote, vote.election.history(), cure, NOTHING_ADDED)
+        vote.demand_same_call(vote.election.history(), cure, NOTHING_ADDED)
         known = queries.known_digests(vote.book)
         for raw, letter in zip(raws, found):
             # another command may have kept it meanwhile
@@ -109,7 +109,7 @@ def keep(vote: Vote, raws: Sequence[RawLetter], found: Sequence[ParsedLetter]) -
                 queries.keep_letter(act, where, raw.data, letter.identity, known_of_it)
 
 
-class Plan(NamedTuple):
+class NewBallots(NamedTuple):
     """The ballots of letters that would go in, by the book as it is now."""
 
     envelopes: list[NewEnvelope]
@@ -122,11 +122,11 @@ def envelope_of(letter: JudgedLetter, ballot: str) -> NewEnvelope:
     return NewEnvelope(ballot.encode(), "", letter.source, letter.number, letter.time)
 
 
-def enter(
+def enter_ballots(
     vote: Vote,
     name: ActName,
     detail: Detail,
-    now: Plan,
+    now: NewBallots,
     seen: int,
     end: Sequence[str] = (),
 ) -> None:
@@ -141,7 +141,7 @@ def enter(
         yield from end
 
     late = now.is_late
-    plan.enter(vote, name, detail, envelopes, report, seen, is_late=late)
+    entering.enter_lines(vote, name, detail, envelopes, report, seen, is_late=late)
 
 
 def going_in(found: Iterable[JudgedLetter]) -> list[JudgedLetter]:
@@ -153,15 +153,15 @@ def enter_letters(vote: Vote, *, is_agreed: bool) -> None:
     election, found = vote.election, list[JudgedLetter]()
     history = election.history()
 
-    def plan_now() -> Plan:
+    def plan_now() -> NewBallots:
         nonlocal history, found
         history = election.history()
-        plan.demand_same_call(vote, history, "run the command again", NOTHING_ADDED)
+        vote.demand_same_call(history, "run the command again", NOTHING_ADDED)
         found = judged(election, history, queries.letters(vote.book), vote=vote)
         new = [envelope_of(letter, letter.ballots[0].ballot) for letter in going_in(found)]
-        return Plan(new, [letter.number for letter in going_in(found)], history.is_closed)
+        return NewBallots(new, [letter.number for letter in going_in(found)], history.is_closed)
 
-    def show(now: Plan) -> bool:
+    def show(now: NewBallots) -> bool:
         tell_letters(vote, history, found)
         if not now.done:
             tell(letter_words.counts(found, 0))
@@ -172,13 +172,13 @@ def enter_letters(vote: Vote, *, is_agreed: bool) -> None:
             tell(f"Nothing was entered. The letters are kept, and wait: {waits}.")
         return False
 
-    def act(now: Plan, seen: int) -> None:
+    def act(now: NewBallots, seen: int) -> None:
         number = len(now.done)
         detail: Detail = {"letters": number, "lines": number}
         end = letter_words.counts(found, number)
-        enter(vote, "add", detail, now, seen, [end])
+        enter_ballots(vote, "add", detail, now, seen, [end])
 
-    plan.agreed_act(vote, plan_now, show, act)
+    entering.agreed_act(vote, plan_now, show, act)
     undo = f"; {election.command('undo')} takes back what was entered last"
     waiting = f"{election.command('held')}, which lists the letters that wait"
     is_waiting = any(letter.outcome is Outcome.WAITS for letter in found)
@@ -197,7 +197,7 @@ def agreed(ballots: str) -> bool:
 def tell_letters(vote: Vote, history: History, found: Sequence[JudgedLetter]) -> None:
     if new := going_in(found):
         if history.is_closed:
-            tell(*plan.notes(vote.election, history, "what is added"))
+            tell(*entering.notes(vote.election, history, "what is added"))
         tell(*letter_words.going_in(new, vote))
     tell(*letter_words.table([one for one in found if one.outcome is Outcome.WAITS]))
 

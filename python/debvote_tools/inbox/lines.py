@@ -19,6 +19,8 @@ MARK, BLANKS = codecs.BOM_UTF8, b" \t"
 
 # in bytes; a longer line is no ballot, and nothing of it is repaired
 LONGEST_REPAIRED = 1_000
+# in bytes; no ballot has half as many
+LONGEST_LINE = 500
 NOTHING_TO_REPAIR = re.compile(rb"[a-z0-9.-]+ [0-9-][0-9,-]*")
 
 # what can be a name on a roll, at the start of a line
@@ -79,6 +81,11 @@ class Line(NamedTuple):
     @property
     def is_empty(self) -> bool:
         return not self.repaired
+
+    @property
+    def why_too_long(self) -> str | None:
+        words = f"the line has {len(self.came)} bytes, and a ballot has a few dozen"
+        return words if len(self.came) > LONGEST_LINE else None
 
     @property
     def had_mark(self) -> bool:

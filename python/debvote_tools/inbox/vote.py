@@ -2,16 +2,18 @@
 
 import collections
 import functools
+import itertools
 import re
-from collections.abc import Iterable, Iterator, Sequence
+from collections.abc import Collection, Iterable, Iterator, Sequence
 from typing import NamedTuple
 
+from debvote_tools.book import queries
 from debvote_tools.book.election import Election, History
 from debvote_tools.cli.console import count_of, shown_line
-from debvote_tools.cli.faults import other_format
+from debvote_tools.cli.faults import Fault, other_format
 from debvote_tools.debvote import Finding
 from debvote_tools.files import BALLOTS_LIMIT, LINES_LIMIT
-from debvote_tools.inbox.lines import Line, ballot_file, differences, has_code
+from debvote_tools.inbox.lines import Line, ballot_file, differences, has_code, name_in
 from debvote_tools.text.ballots import BallotWords
 from debvote_tools.text.language import ENGLISH
 
@@ -76,6 +78,19 @@ class Vote:
     def right_line(self) -> str:
         ranks = ",".join(str(rank + 1) for rank in range(len(self.option_names)))
         return f"{'CODE' if self.has_codes else self.roll[0]} {ranks}"
+
+    def demand_same_call(self, history: History, cure: str, not_done: str) -> None:
+        """Stops if lines were read by the poll of another call."""
+        if history.call != self.call:
+            words = "the call for votes was made anew meanwhile"
+            raise Fault(None, words, cure, done=not_done)
+
+    def electors_of(self, lines: Sequence[bytes]) -> list[int | None]:
+        """Of each line the elector whose name it begins with."""
+        names = list(map(name_in, lines))
+        on_roll = self.names_on_roll & {name.decode("ascii") for name in set(names)}
+        numbers = queries.elector_numbers(self.book, on_roll)
+        return list(map({name.encode(): number for name, number in numbers.items()}.get, names))
 
     # ------------------------------------------------------------ what debvote says
     def read(self, lines: Sequence[Line]) -> list[JudgedLine]:
@@ -186,6 +201,15 @@ class Vote:
         name = "a code of the roll" if self.has_codes else "an elector of the roll"
         ranks = f"{len(self.option_names)} ranks with commas between, a rank or a hyphen for each option"
         return f"A valid line in this poll: {self.right_line} ({name}, a space, and {ranks})"
+
+
+def envelope_words(numbers: Collection[int]) -> str:
+    """Some envelopes, in their order, as `envelope 3` or `envelopes 3-5, 7`."""
+    runs = []
+    for _, run in itertools.groupby(enumerate(numbers), lambda one: one[1] - one[0]):
+        ends = [number for _, number in run]
+        runs.append("-".join(map(str, dict.fromkeys((ends[0], ends[-1])))))
+    return f"envelope{'s' * (len(numbers) != 1)} {', '.join(runs)}"
 
 
 def parts_of(lines: Sequence[bytes]) -> Iterator[list[bytes]]:

@@ -3,8 +3,7 @@ replies to them; and whether they come in time.
 """
 
 import contextlib
-import itertools
-from collections.abc import Callable, Collection, Iterable, Sequence
+from collections.abc import Callable, Iterable, Sequence
 from typing import TypeVar
 
 from debvote_tools.cli.arguments import Acting, option
@@ -23,15 +22,11 @@ from debvote_tools.cli.console import (
 )
 from debvote_tools.cli.faults import Fault, Status
 from debvote_tools.files import BALLOTS_LIMIT, LINES_LIMIT, uninterrupted
-from debvote_tools.inbox.lines import Line, name_in
-from debvote_tools.inbox.vote import LATE_REPLY, Vote
+from debvote_tools.inbox.vote import LATE_REPLY, Vote, envelope_words
 from debvote_tools.text.times import now, time_in_words
 
 CAME_BEFORE_CLOSE = "--came-before-close"
 MEANWHILE = "Nothing was done: another command changed the election meanwhile. Now it is so:"
-
-# in bytes; no ballot has half as many
-LONGEST_LINE = 500
 
 Plan = TypeVar("Plan")
 
@@ -72,7 +67,7 @@ def agreed_act(
             return found
 
 
-def enter(
+def enter_lines(
     vote: Vote,
     name: ActName,
     detail: Detail,
@@ -101,7 +96,7 @@ def enter(
             # whoever enters a ballot sees the reply to it: until then interrupts wait
             stack.enter_context(uninterrupted())
             first, lines = queries.last_envelope(book) + 1, [envelope.line for envelope in new]
-            electors = electors_of(vote, lines)
+            electors = vote.electors_of(lines)
             queries.add_envelopes(act, new, electors, is_late=is_late)
         numbers, replies = range(first, first + len(new)), [LATE_REPLY] * len(new)
         done = f"were entered nevertheless ({envelope_words(numbers)})"
@@ -119,14 +114,6 @@ def enter(
             raise fault.with_done(f"the lines {done}") from None
 
 
-def electors_of(vote: Vote, lines: Sequence[bytes]) -> list[int | None]:
-    """Of each line the elector whose name it begins with."""
-    names = list(map(name_in, lines))
-    on_roll = vote.names_on_roll & {name.decode("ascii") for name in set(names)}
-    numbers = queries.elector_numbers(vote.book, on_roll)
-    return list(map({name.encode(): number for name, number in numbers.items()}.get, names))
-
-
 def demand_room(book: Book, new: Sequence[NewEnvelope]) -> None:
     """Stops at more lines than debvote takes."""
     count, added = len(new), sum(len(envelope.line) + 1 for envelope in new)
@@ -137,20 +124,6 @@ def demand_room(book: Book, new: Sequence[NewEnvelope]) -> None:
             words = f"with the new lines there would be {count_of(line_count + count, 'line')} and {size + added} bytes of ballots"
             cure = f"debvote takes at most {LINES_LIMIT} lines and {BALLOTS_LIMIT} bytes: add fewer"
             raise Fault(book.path, words, cure, Status.BAD_BALLOTS, "nothing was added")
-
-
-def envelope_words(numbers: Collection[int]) -> str:
-    """Some envelopes, in their order, as `envelope 3` or `envelopes 3-5, 7`."""
-    runs = []
-    for _, run in itertools.groupby(enumerate(numbers), lambda one: one[1] - one[0]):
-        ends = [number for _, number in run]
-        runs.append("-".join(map(str, dict.fromkeys((ends[0], ends[-1])))))
-    return f"envelope{'s' * (len(numbers) != 1)} {', '.join(runs)}"
-
-
-def too_long(line: Line) -> str | None:
-    words = f"the line has {len(line.came)} bytes, and a ballot has a few dozen"
-    return words if len(line.came) > LONGEST_LINE else None
 
 
 # ---------------------------------------------------------------- whether it comes in time
@@ -188,10 +161,3 @@ def came_before_close(history: History, answer: str | None, not_done: str) -> bo
         words = "you did not say whether it came before the close"
         raise Fault(None, words, "run the command again", done=not_done)
     return said
-
-
-def demand_same_call(vote: Vote, history: History, cure: str, not_done: str) -> None:
-    """Stops if lines were read by the poll of another call."""
-    if history.call != vote.call:
-        words = "the call for votes was made anew meanwhile"
-        raise Fault(None, words, cure, done=not_done)
