@@ -16,10 +16,10 @@ sys.path.insert(0, str(ROOT / "python"))
 
 from debvote_tools.book.queries import Elector  # noqa: E402
 from debvote_tools.debvote import findings_in  # noqa: E402
-from debvote_tools.inbox.known import Ballot, Known, Names  # noqa: E402
-from debvote_tools.inbox.rules import JudgedLetter, Outcome, judge_all  # noqa: E402
-from debvote_tools.inbox.letter import ParsedLetter, as_json, from_json, parse  # noqa: E402
-from debvote_tools.inbox.candidates import read_all  # noqa: E402
+from debvote_tools.inbox.judging import judge_all  # noqa: E402
+from debvote_tools.inbox.letter import ParsedLetter, parse  # noqa: E402
+from debvote_tools.inbox.letter_lines import Names, ReadLetter, as_json, from_json, with_lines  # noqa: E402
+from debvote_tools.inbox.rules import Ballot, JudgedLetter, Known, Outcome  # noqa: E402
 from debvote_tools.inbox.reasons import Because  # noqa: E402
 from debvote_tools.inbox.mailbox import RawLetter  # noqa: E402
 
@@ -167,19 +167,18 @@ def mailbox(*letters: bytes) -> bytes:
 
 
 def parsed(data: bytes, where: str = "letter", *, is_parted_off: bool = False) -> ParsedLetter:
-    """A letter that was read, as the book gives it back."""
-    found = parse(RawLetter(where, data, is_parted_off))
-    kept = from_json(as_json(found))
-    assert kept == found, (kept, found)
-    return kept
+    """A letter as its bytes alone say it."""
+    return parse(RawLetter(where, data, is_parted_off))
 
 
-def read(*letters: bytes | ParsedLetter, reader: DebvoteReader | None = None, **of_names: object) -> list[ParsedLetter]:
+def read(*letters: bytes | ParsedLetter, reader: DebvoteReader | None = None, **of_names: object) -> list[ReadLetter]:
     """Letters with what their lines may be, as the book gives them back."""
     given = [
         one if isinstance(one, ParsedLetter) else parsed(one, f"letter {number}") for number, one in enumerate(letters, start=1)
     ]
-    found = read_all(given, names(**of_names), reader or DebvoteReader())
+    new = [one for one in given if not isinstance(one, ReadLetter)]
+    fresh = iter(with_lines(new, names(**of_names), (reader or DebvoteReader()).answers))
+    found = [one if isinstance(one, ReadLetter) else next(fresh) for one in given]
     kept = [from_json(as_json(one)) for one in found]
     assert kept == found and len(found) == len(given)
     return kept

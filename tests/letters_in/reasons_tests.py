@@ -9,7 +9,7 @@ import table_tests
 from letters_support import NAMES, at, label
 
 from debvote_tools.inbox.letter import may_be_ballot
-from debvote_tools.inbox.candidates import repaired
+from debvote_tools.inbox.letter_lines import repaired
 from debvote_tools.inbox.reasons import Because, Reason, for_elector, for_secretary
 
 # values of each name that a reason may have

@@ -4,8 +4,7 @@ import unittest
 
 from letters_support import OTHER_RANKS, RANKS, alternatives, at, judged, letter, lines_in, outcome, outcomes, parsed
 
-from debvote_tools.inbox.known import Ballot, Decision
-from debvote_tools.inbox.rules import JudgedLetter, Outcome
+from debvote_tools.inbox.rules import Ballot, Decision, JudgedLetter, Outcome
 from debvote_tools.inbox.letter import ParsedLetter
 
 BALLOT, OTHER = f"ada {RANKS}", f"ada {OTHER_RANKS}"

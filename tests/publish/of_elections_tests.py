@@ -28,7 +28,8 @@ from debvote_tools import files  # noqa: E402
 from debvote_tools.cli import command_line  # noqa: E402
 from debvote_tools.commands import publish as command  # noqa: E402
 from debvote_tools.book.election import Election  # noqa: E402
-from debvote_tools.inbox.letter import as_json, parse  # noqa: E402
+from debvote_tools.inbox.letter import parse  # noqa: E402
+from debvote_tools.inbox.letter_lines import as_json  # noqa: E402
 from debvote_tools.inbox.mailbox import RawLetter  # noqa: E402
 from debvote_tools.text.language import ENGLISH  # noqa: E402
 from debvote_tools.result.facts import Act, Chronicle, Facts, told, told_acts  # noqa: E402

@@ -105,8 +105,7 @@ class Envelope(NamedTuple):
 
 
 # conditions on envelopes, with the acts that no `undo` took back
-NOT_STRUCK = "struck IS NULL"
-IN_TIME, LATE = f"late = 0 AND {NOT_STRUCK}", f"late = 1 AND {NOT_STRUCK}"
+LATE = "late AND struck IS NULL"
 NOT_UNDONE = "act NOT IN (SELECT json_extract(detail, '$.act') FROM act WHERE name = 'undo')"
 
 # the envelopes that were entered anew: late ones as in time, and others by `add --again`
@@ -123,14 +122,14 @@ COLUMNS = "envelope, act, elector, line, source, letter, place, time, late, stru
 
 def envelopes(book: Book, condition: str = "1", *values: object) -> list[Envelope]:
     """The envelopes that meet a condition, in their order."""
-    words = f"SELECT {COLUMNS} FROM entered AS envelope WHERE {condition} ORDER BY envelope"
+    words = f"SELECT {COLUMNS} FROM envelope_now WHERE {condition} ORDER BY envelope"
     rows = book.rows(words, *values)
     return [Envelope._make([*row[:7], from_text(row[7]), bool(row[8]), row[9]]) for row in rows]
 
 
 def lines(book: Book, condition: str, *values: object) -> list[bytes]:
     """The line of each envelope that meets a condition, in their order."""
-    words = f"SELECT line FROM entered AS envelope WHERE {condition} ORDER BY envelope"
+    words = f"SELECT line FROM envelope_now WHERE {condition} ORDER BY envelope"
     return [line for line, in book.rows(words, *values)]
 
 
@@ -138,12 +137,12 @@ def lines_in_time(book: Book) -> list[bytes]:
     """The ballots that are counted: the line of each envelope that came in time and is not struck,
     in their order.
     """
-    return lines(book, IN_TIME)
+    return lines(book, "in_time")
 
 
 def numbered_lines_in_time(book: Book) -> list[tuple[int, bytes]]:
     """The same lines, each with the number of its envelope."""
-    return book.rows("SELECT envelope, line FROM ballot ORDER BY envelope")
+    return book.rows("SELECT envelope, line FROM envelope_now WHERE in_time ORDER BY envelope")
 
 
 def late_lines(book: Book) -> list[bytes]:
@@ -227,7 +226,9 @@ def of_electors(electors: Collection[int]) -> str:
 
 def envelopes_of(book: Book, electors: Collection[int]) -> list[Envelope]:
     """The envelopes of some electors that are not struck, also those that are late."""
-    return envelopes(book, f"{NOT_STRUCK} AND {of_electors(electors)}", json.dumps(list(electors)))
+    return envelopes(
+        book, f"struck IS NULL AND {of_electors(electors)}", json.dumps(list(electors))
+    )
 
 
 def lines_of_electors(book: Book, electors: Collection[int], *, without: int = 0) -> list[bytes]:
@@ -242,7 +243,7 @@ def entered_anew(book: Book) -> set[int]:
 
 def lines_that_came(book: Book) -> collections.Counter[bytes]:
     """How often each line came in a file of lines or a table that no `undo` took back."""
-    words = f"SELECT line, count(*) FROM entered WHERE {IN_FILES} GROUP BY line"
+    words = f"SELECT line, count(*) FROM envelope_now WHERE {IN_FILES} GROUP BY line"
     return collections.Counter(dict(book.rows(words)))
 
 
@@ -259,15 +260,16 @@ def came_in_files(book: Book) -> dict[bytes, list[Envelope]]:
 
 def last_numbers(book: Book) -> dict[int, tuple[int, bytes]]:
     """Number and line of the last envelope of each elector that is in time and not struck."""
+    condition = "in_time AND elector IS NOT NULL"
     words = (
-        "SELECT elector, max(envelope), line FROM ballot WHERE elector IS NOT NULL GROUP BY elector"
+        f"SELECT elector, max(envelope), line FROM envelope_now WHERE {condition} GROUP BY elector"
     )
     return {elector: (number, line) for elector, number, line in book.rows(words)}
 
 
 def size_in_time(book: Book) -> tuple[int, int]:
     """How many lines and bytes the ballots have that are counted."""
-    words = "SELECT count(*), coalesce(sum(length(line) + 1), 0) FROM ballot"
+    words = "SELECT count(*), coalesce(sum(length(line) + 1), 0) FROM envelope_now WHERE in_time"
     [(count, size)] = book.rows(words)
     return int(count), int(size)
 
@@ -299,8 +301,8 @@ class KeptLetter(NamedTuple):
     source: int
     # what a copy of it has in common with it
     identity: str
-    # what its bytes, the keyring and the sealed poll alone decide, as JSON
-    known: str
+    # what its bytes, the keyring and the sealed poll alone decide
+    parsed_json: str
     state: str
 
     @property
@@ -309,15 +311,15 @@ class KeptLetter(NamedTuple):
 
 
 def letters(book: Book) -> list[KeptLetter]:
-    words = "SELECT letter, act, source, identity, known, state FROM letter_now ORDER BY letter"
+    words = (
+        "SELECT letter, act, source, identity, parsed_json, state FROM letter_now ORDER BY letter"
+    )
     return [KeptLetter(*row) for row in book.rows(words)]
 
 
-def known_digests(book: Book) -> set[tuple[str, bool]]:
+def kept_digests(book: Book) -> set[tuple[str, bool]]:
     """The digests of the letters that came, each with whether it was parted off."""
-    words = (
-        "SELECT json_extract(known, '$.digest'), json_extract(known, '$.is_parted_off') FROM letter"
-    )
+    words = "SELECT json_extract(parsed_json, '$.digest'), json_extract(parsed_json, '$.is_parted_off') FROM letter"
     return {(str(digest), bool(is_parted_off)) for digest, is_parted_off in book.rows(words)}
 
 
@@ -330,8 +332,8 @@ def returned_letters(book: Book) -> list[tuple[int, str, list[str]]]:
     sender, and the own marks in it.
     """
     words = (
-        "SELECT act, json_extract(known, '$.sender'), json_extract(known, '$.returned') FROM letter "
-        "WHERE json_array_length(known, '$.returned') > 0 ORDER BY letter"
+        "SELECT act, json_extract(parsed_json, '$.sender'), json_extract(parsed_json, '$.returned') FROM letter "
+        "WHERE json_array_length(parsed_json, '$.returned') > 0 ORDER BY letter"
     )
     return [(act, sender, json.loads(marks)) for act, sender, marks in book.rows(words)]
 
@@ -342,10 +344,10 @@ def undecided(kept: list[KeptLetter]) -> list[KeptLetter]:
     return [letter for letter in kept if letter.identity in identities]
 
 
-def keep_letter(act: NewAct, where: str, data: bytes, identity: str, known: str) -> int:
+def keep_letter(act: NewAct, where: str, data: bytes, identity: str, parsed_json: str) -> int:
     """Keeps a letter, byte for byte, and returns its number."""
     return act.insert(
-        "letter", source=keep_source(act, where, data), identity=identity, known=known
+        "letter", source=keep_source(act, where, data), identity=identity, parsed_json=parsed_json
     )
 
 

@@ -51,7 +51,7 @@ CREATE TABLE letter (
   act INTEGER NOT NULL REFERENCES act DEFERRABLE INITIALLY DEFERRED,
   source INTEGER NOT NULL REFERENCES source,
   identity TEXT NOT NULL,               -- what a copy of it has in common with it
-  known TEXT NOT NULL                   -- JSON: what its bytes, the keyring and the sealed poll alone decide
+  parsed_json TEXT NOT NULL             -- what its bytes, the keyring and the sealed poll alone decide
 ) STRICT;
 
 CREATE TABLE letter_state (
@@ -87,7 +87,7 @@ CREATE TABLE sent (
   detail TEXT NOT NULL                  -- JSON: Message-ID, address, act that it belongs to, what it was about, what the server said
 ) STRICT;
 
--- The electors and the letters as they are now.
+-- The electors, the letters and the envelopes as they are now.
 CREATE VIEW elector_now AS
   SELECT elector, name, position, who, mail, key, code, alias, mark FROM elector JOIN elector_state USING (elector)
   WHERE elector_state.act = (SELECT max(act) FROM elector_state AS later WHERE later.elector = elector.elector);
@@ -97,11 +97,10 @@ CREATE VIEW letter_now AS
     SELECT state FROM letter_state WHERE letter_state.letter = letter.letter ORDER BY act DESC LIMIT 1
   ), 'waits') AS state FROM letter;
 
--- The envelopes, each with the act that struck it; and the ballots, which are counted.
-CREATE VIEW entered AS
-  SELECT envelope.*, struck.act AS struck FROM envelope LEFT JOIN struck USING (envelope);
-
-CREATE VIEW ballot AS SELECT * FROM entered WHERE late = 0 AND struck IS NULL;
+-- Each with the act that struck it. Those in time are counted: they are neither late nor struck.
+CREATE VIEW envelope_now AS
+  SELECT envelope.*, struck.act AS struck, late = 0 AND struck.act IS NULL AS in_time
+  FROM envelope LEFT JOIN struck USING (envelope);
 
 CREATE INDEX elector_by_act ON elector (act);
 CREATE INDEX elector_state_by_act ON elector_state (act);

@@ -19,7 +19,6 @@ from debvote_tools.inbox.came import HYPHEN, CameFile
 from debvote_tools.inbox.lines import MARK, NOTHING_ADDED, Line, lines_in
 from debvote_tools.inbox.tables import Columns, OptionNames, are_table, columns_of, lines_of_table
 from debvote_tools.inbox.vote import LATE_REPLY, JudgedLine, Vote, summary
-from debvote_tools.poll.sealed import read_plain
 
 FORCE = "add it anyway with --force"
 
@@ -78,7 +77,7 @@ def run(election: Election, arguments: Arguments) -> None:
         words = "only for lines and tables, and these are letters"
         raise Fault(", ".join(of_lines), words, "leave this out", Status.BAD_WORDS, NOTHING_ADDED)
     # what reads letters takes a while to be imported
-    from debvote_tools.inbox.letters_in import take_letters
+    from debvote_tools.inbox.taking import take_letters
 
     take_letters(vote, found, is_look=arguments.look, is_agreed=arguments.yes)
 
@@ -135,7 +134,7 @@ class NewLines(NamedTuple):
 
 def take_lines(vote: Vote, came_files: Sequence[CameFile], arguments: Arguments) -> None:
     """Enters the lines that are new, and prints the replies; or tells what would become of them."""
-    files, book = read_lines(vote, came_files, arguments), vote.book
+    files, book = file_lines(vote, came_files, arguments), vote.book
     answer: bool | None = None
 
     def plan() -> NewLines:
@@ -185,10 +184,10 @@ def take_lines(vote: Vote, came_files: Sequence[CameFile], arguments: Arguments)
         tell(f"Next: {command('status')}; {more}, and when the vote is over: {command('close')}")
 
 
-def read_lines(vote: Vote, files: Sequence[CameFile], arguments: Arguments) -> list[FileLines]:
+def file_lines(vote: Vote, files: Sequence[CameFile], arguments: Arguments) -> list[FileLines]:
     columns: Columns | None = None
     if arguments.name is not None and arguments.ranks is not None:
-        poll, names = read_plain(vote.poll_bytes), vote.names_on_roll
+        poll, names = vote.poll, vote.names_on_roll
         is_blank = arguments.blank_is_unranked
         columns = columns_of(arguments.name, arguments.ranks, poll, names, is_blank)
     is_sorted = arguments.newest_first or arguments.oldest_first
@@ -204,7 +203,7 @@ def read_lines(vote: Vote, files: Sequence[CameFile], arguments: Arguments) -> l
     stop_at([doubt(file.name, what, "write one ballot on each line") for file in empty])
     if arguments.newest_first:
         lists = [lines[::-1] for lines in lists]
-    read = iter(vote.read([line for lines in lists for line in lines if not line.is_empty]))
+    read = iter(vote.judge([line for lines in lists for line in lines if not line.is_empty]))
     found = []
     for file, lines in zip(files, lists):
         left_out = tuple(line for line in lines if line.is_empty)
@@ -225,14 +224,14 @@ def sorted_out(
     if not is_known and len(files) == 1:
         return (files[0]._replace(new=files[0].lines),)
     by_line = queries.came_in_files(book) if is_known else {}
-    with_envelopes = [list(envelopes_of(file.lines, by_line)) for file in files]
+    found_lines = [list(with_envelopes(file.lines, by_line)) for file in files]
     # a later row of the same file did not come since
-    own = {envelope.number for lines in with_envelopes for _, envelope, _ in lines if envelope}
+    own = {envelope.number for lines in found_lines for _, envelope, _ in lines if envelope}
     numbers = queries.last_numbers(book).items() if is_known else ()
     last = {elector: (number, line) for elector, (number, line) in numbers if number not in own}
     going_in: set[bytes] = set()
     found = []
-    for file, lines in zip(files, with_envelopes):
+    for file, lines in zip(files, found_lines):
         new, repeated, again, came_first = [], [], [], []
         for nth, envelope, line in lines:
             change = None
@@ -252,7 +251,7 @@ def sorted_out(
     return tuple(found)
 
 
-def envelopes_of(
+def with_envelopes(
     lines: Iterable[JudgedLine], by_line: Mapping[bytes, Sequence[Envelope]]
 ) -> Iterator[tuple[int, Envelope | None, JudgedLine]]:
     """Each line with its number among its copies, and with its envelope if it came before."""
@@ -363,7 +362,7 @@ def is_table(file: FileLines) -> bool:
 
 def under_other_names(vote: Vote, files: Sequence[FileLines]) -> Iterator[Fault]:
     """A fault for each file with a line that names options in another order."""
-    options = OptionNames(read_plain(vote.poll_bytes))
+    options = OptionNames(vote.poll)
     for file in files:
         for line in file.lines:
             if not line.is_ballot and options.are_in_another_order(line.line.unframed):

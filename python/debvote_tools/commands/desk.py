@@ -141,7 +141,7 @@ def from_pipe(desk: Desk) -> None:
             else:
                 lines.append(line)
         if lines:
-            desk.enter(desk.vote.read(lines))
+            desk.enter(desk.vote.judge(lines))
 
 
 def whole_lines() -> Iterator[bytes]:
@@ -183,7 +183,7 @@ def ask_and_cast(desk: Desk, line: Line) -> bool:
     if (meant := completed(desk, line)) is None:
         tell("It was not entered.")
         return True
-    [read] = desk.vote.read([meant])
+    [read] = desk.vote.judge([meant])
     [elector] = desk.vote.electors_of([read.as_entered])
     answer: bool | None = None
 

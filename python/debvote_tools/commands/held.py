@@ -10,10 +10,10 @@ from debvote_tools.book.book import ActName, Detail
 from debvote_tools.book.election import Election, History
 from debvote_tools.cli.console import count_of, is_terminal, is_yes, shown_line, shown_text, tell
 from debvote_tools.cli.faults import Fault, Status, stop_at
-from debvote_tools.inbox import letter_words, letters_in
-from debvote_tools.inbox.known import Decision
-from debvote_tools.inbox.rules import JudgedLetter, Outcome
-from debvote_tools.inbox.letters_in import NewBallots
+from debvote_tools.inbox import letter_words
+from debvote_tools.inbox.judging import ballots_in, judged
+from debvote_tools.inbox.rules import Decision, JudgedLetter, Outcome
+from debvote_tools.inbox.taking import NewBallots, enter_ballots, envelope_of
 from debvote_tools.inbox.lines import lines_in, name_in
 from debvote_tools.inbox.entering import agreed_act
 from debvote_tools.inbox.vote import Vote
@@ -88,7 +88,7 @@ def demand_words(arguments: Arguments) -> bool:
 
 def all_letters(vote: Vote) -> list[JudgedLetter]:
     kept, history = queries.letters(vote.book), vote.election.history()
-    return letters_in.judged(vote.election, history, kept, vote=vote)
+    return judged(vote, history, kept)
 
 
 def chosen_letters(found: Sequence[JudgedLetter], numbers: Sequence[int]) -> list[JudgedLetter]:
@@ -159,7 +159,7 @@ def enter(vote: Vote, arguments: Arguments) -> None:
             except Fault as fault:
                 faults[letter.number] = fault
         if not arguments.force:
-            faults.update(voted_since(vote, found, chosen))
+            faults.update(voted_since(vote, chosen))
         if arguments.numbers:
             stop_at(list(faults.values()))
         chosen = [one for one in chosen if one.letter.number not in faults]
@@ -167,11 +167,11 @@ def enter(vote: Vote, arguments: Arguments) -> None:
             words = "no letter was taken back that has one ballot"
             raise Fault("--enter", words, "name letters by their numbers, as held lists them")
         demand_one_order(chosen)
-        late = {letters_in.is_late(history, one.letter) for one in chosen}
+        late = {is_late(history, one.letter) for one in chosen}
         if len(late) > 1:
             words = "some of these letters arrived before the first close, and some after it"
             raise Fault("--enter", words, "enter those that arrived before it apart")
-        new = [letters_in.envelope_of(one.letter, one.ballot) for one in chosen]
+        new = [envelope_of(one.letter, one.ballot) for one in chosen]
         return NewBallots(new, done_with(vote, chosen), late.pop())
 
     def show(_: NewBallots) -> bool:
@@ -190,9 +190,17 @@ def enter(vote: Vote, arguments: Arguments) -> None:
             detail["letter"] = numbers[0]
         else:
             detail["letters"] = numbers
-        letters_in.enter_ballots(vote, "enter", detail, now, seen)
+        enter_ballots(vote, "enter", detail, now, seen)
 
     agreed_act(vote, plan, show, act)
+
+
+def is_late(history: History, letter: JudgedLetter) -> bool:
+    """Whether what is entered of a letter now is late: the vote is closed, or was reopened for what
+    had arrived before the first close.
+    """
+    arrived, closes = letter.parsed.arrived, history.closes
+    return history.is_late(arrived is not None and bool(closes) and arrived <= closes[0].time)
 
 
 def ballot_of(vote: Vote, text: str) -> str:
@@ -260,14 +268,11 @@ def chosen_in(
     return found
 
 
-def voted_since(
-    vote: Vote, found: Sequence[JudgedLetter], chosen: Sequence[Chosen]
-) -> Iterator[tuple[int, Fault]]:
+def voted_since(vote: Vote, chosen: Sequence[Chosen]) -> Iterator[tuple[int, Fault]]:
     """A fault for each letter with a ballot of an elector who has a later one, or another one of
     the same time, as from the same letter.
     """
-    parsed = [letter.parsed for letter in found]
-    ballots = letters_in.ballots_in(vote, {one.elector for one in chosen}, parsed)
+    ballots = ballots_in(vote, {one.elector for one in chosen})
     for letter, _, ballot in chosen:
         time, later = letter.time, ballots.get(ballot.partition(" ")[0], [])
         name, cure = f"letter {letter.number}", "if this ballot must count, repeat it with --force"

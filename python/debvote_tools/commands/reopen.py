@@ -140,7 +140,7 @@ def faults_of_older(book: Book, offered: Sequence[Envelope]) -> Iterator[Fault]:
     """
     last = {late.elector: late for late in offered if late.elector is not None}
     for elector, late in last.items():
-        in_time = queries.envelopes(book, f"elector = ? AND {queries.IN_TIME}", elector)
+        in_time = queries.envelopes(book, "elector = ? AND in_time", elector)
         newest = max(in_time, key=ORDER, default=late)
         if ORDER(newest) > ORDER(late):
             later = f"envelope {newest.number}, a later ballot of the same elector"

@@ -86,8 +86,7 @@ def what_is_taken_back(vote: Vote) -> Plan:
         if number is None:
             words = "there is nothing to take back"
             raise Fault("undo", words, f"see {election.command('status')}")
-        condition = f"act = ? AND {queries.NOT_STRUCK}"
-        envelopes = queries.envelopes(book, condition, number)
+        envelopes = queries.envelopes(book, "act = ? AND struck IS NULL", number)
         electors = {envelope.elector for envelope in envelopes if envelope.elector is not None}
         lines = queries.lines_of_electors(book, electors)
         lines_without = queries.lines_of_electors(book, electors, without=number)

@@ -6,14 +6,10 @@ import dataclasses
 import datetime
 import email.header
 import email.utils
-import functools
 import hashlib
 import itertools
-import json
 import re
-import typing
-from collections.abc import Callable, Sequence
-from typing import Any
+from collections.abc import Sequence
 
 from debvote_tools.inbox.html import read_html
 from debvote_tools.inbox.mailbox import RawLetter
@@ -106,35 +102,6 @@ class Signature:
 
 
 @dataclasses.dataclass(frozen=True)
-class Near:
-    """A line that is near to a ballot: its number in the letter, what may be the ballot, whether
-    that is within other words, and debvote's answer; None if it is a valid ballot.
-    """
-
-    number: int
-    ballot: str
-    is_within: bool
-    answer: str | None = None
-
-
-@dataclasses.dataclass(frozen=True)
-class ReadLine:
-    """What a line of a letter may be, by its number, from 1."""
-
-    number: int
-    # whose ballot: a name on the roll; or those whose name on the roll, or real name, may be meant
-    elector: str = ""
-    on_roll: tuple[str, ...] = ()
-    real: tuple[str, ...] = ()
-    # its ranks, and debvote's answer; None if they are valid
-    ranks: str = ""
-    answer: str | None = None
-    # why it is no ballot by itself, and is only offered to the secretary
-    offered_for: Reason | None = None
-    near: Near | None = None
-
-
-@dataclasses.dataclass(frozen=True)
 class ParsedLetter:
     """What the bytes of a letter say and, if letters have to be signed, what gpgv says of it."""
 
@@ -163,11 +130,6 @@ class ParsedLetter:
     # if letters have to be signed: the good signature, or why there is none
     signature: Signature | None = None
     why_unsigned: Because | None = None
-    # what its lines may be, or how many may be ballots if they are more than are read; and the
-    # lines with what looks like a code of a secret vote or an alias
-    read_lines: tuple[ReadLine, ...] = ()
-    crowd: int = 0
-    code_lines: tuple[int, ...] = ()
 
     @property
     def key(self) -> str:
@@ -417,38 +379,3 @@ def joined(lines: Sequence[str], *, deletes_space: bool) -> tuple[list[int], lis
     several = [(indices, words) for indices, words in texts if len(indices) > 1]
     flowing += [index for indices, _ in several for index in indices]
     return flowing, ["".join(words) for _, words in several]
-
-
-# ---------------------------------------------------------------- as the book keeps it
-def as_json(letter: ParsedLetter) -> str:
-    return json.dumps(vars(letter), default=as_plain)
-
-
-def as_plain(value: object) -> object:
-    if isinstance(value, datetime.datetime):
-        return value.isoformat()
-    return value.name if isinstance(value, Reason) else vars(value)
-
-
-def from_json(text: str) -> ParsedLetter:
-    letter: ParsedLetter = reader_of(ParsedLetter)(json.loads(text))
-    return letter
-
-
-@functools.cache
-def reader_of(kind: Any) -> Callable[[Any], Any]:
-    """Makes a value of this type from what JSON has of it."""
-    if dataclasses.is_dataclass(kind):
-        of_fields = {name: reader_of(one) for name, one in typing.get_type_hints(kind).items()}
-        return lambda kept: kind(**{name: of_fields[name](kept[name]) for name in kept})
-    first, *others = *typing.get_args(kind), None
-    if type(None) in others or Ellipsis in others:
-        of_one = reader_of(first)
-        if Ellipsis in others:
-            return lambda kept: tuple(map(of_one, kept))
-        return lambda kept: kept if kept is None else of_one(kept)
-    if isinstance(kind, type) and issubclass(kind, datetime.date):
-        return datetime.datetime.fromisoformat
-    if kind is Reason:
-        return lambda kept: Reason[kept]
-    return lambda kept: tuple(kept) if isinstance(kept, list) else kept

@@ -6,7 +6,8 @@ import re
 from collections.abc import Iterator, Sequence
 
 from debvote_tools.cli.console import act_time, count_of, shown_line, shown_text
-from debvote_tools.inbox.letter import Near, is_quoted
+from debvote_tools.inbox.letter import is_quoted
+from debvote_tools.inbox.letter_lines import Near
 from debvote_tools.inbox.rules import JudgedLetter, Outcome, above_end
 from debvote_tools.inbox.reasons import for_secretary
 from debvote_tools.inbox.vote import IS_CODE, Vote

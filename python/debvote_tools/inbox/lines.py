@@ -10,7 +10,6 @@ the cells of a table `tables.py` changes less. Nothing is guessed: no rank, no n
 
 import codecs
 import re
-from collections.abc import Iterable
 from typing import NamedTuple
 
 NOTHING_ADDED = "nothing was added"
@@ -114,15 +113,6 @@ def lines_in(data: bytes, name: str, first: int = 1) -> list[Line]:
         unframed = came.removesuffix(b"\r").removeprefix(MARK if number == 1 else b"")
         lines.append(Line(name, f":{number}", came, unframed, changed(unframed)))
     return lines
-
-
-def ballot_lines(ballots_bytes: bytes) -> list[bytes]:
-    """The lines of a ballot file; the last one may lack its line feed."""
-    return ballots_bytes.removesuffix(b"\n").split(b"\n") if ballots_bytes else []
-
-
-def ballot_file(lines: Iterable[bytes]) -> bytes:
-    return b"\n".join([*lines, b""])
 
 
 def name_in(line: bytes) -> bytes:

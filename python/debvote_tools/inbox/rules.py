@@ -5,8 +5,8 @@ The rules say what a letter has to be. No list of what may be wrong with a lette
 quotation looks like, can be complete, so there is none.
 """
 
-import bisect
 import collections
+import dataclasses
 import datetime
 import enum
 import functools
@@ -15,12 +15,12 @@ import re
 import unicodedata
 from collections.abc import Callable, Collection, Mapping, Sequence
 
-from debvote_tools.inbox.candidates import MAX_BALLOTS, BallotLine, view_of
-from debvote_tools.inbox.known import Ballot, Decision, Known
-from debvote_tools.inbox.letter import END, Body, Near, ParsedLetter, is_quoted
+from debvote_tools.book.queries import Elector
+from debvote_tools.inbox.letter import END, Body, ParsedLetter, is_quoted
+from debvote_tools.inbox.letter_lines import MAX_BALLOTS, MAX_NEAR, Near, ReadLetter, ReadLine
 from debvote_tools.inbox.mime import address_key
 from debvote_tools.inbox.reasons import Because, Reason
-from debvote_tools.poll.marks import marks_in
+from debvote_tools.poll.marks import MARKS, marks_in
 
 # how far the clock of a mail server or of an elector may be ahead
 AHEAD = datetime.timedelta(minutes=10)
@@ -41,6 +41,88 @@ PICTURES = re.compile("[\u2600-\u2767\u2794-\u27bf\U0001f300-\U0001faff]")
 OPENING, COLONS, LIKE_COLONS = ("¡", "¿"), (":", "：", "﹕"), "\u02d0\u0903\ua4fd"
 
 
+class Decision(enum.Enum):
+    ENTERED = "entered"
+    TAKEN_BACK = "taken back"
+    PUT_BACK = "put back"
+    SET_ASIDE = "set aside"
+    STRUCK = "struck"
+
+
+@dataclasses.dataclass(frozen=True)
+class Ballot:
+    """A ballot that is in and not struck: its time, in whole seconds, and its line."""
+
+    time: datetime.datetime
+    line: str
+
+
+def as_compared(subject: str) -> str:
+    return "".join(subject.split()).casefold()
+
+
+@dataclasses.dataclass(frozen=True)
+class Known:
+    """All that a letter is judged by, beside itself, as it is now. Times have a zone."""
+
+    # the mark of the poll, and the subject that the page of the call makes, without a mark
+    mark: str
+    subject: str
+    # the electors on the list, by name
+    electors: Mapping[str, Elector]
+    # whether letters need the own mark of their elector, and a signature
+    is_marked: bool
+    is_signed: bool
+    # the first call that was not taken back, the end as it is now, and the first close
+    called: datetime.datetime
+    end: datetime.datetime | None
+    first_close: datetime.datetime | None
+    now: datetime.datetime
+    # the Message-IDs of the letters that were written to each elector
+    our_letters: Mapping[str, Collection[str]]
+    # what acts decided, by the keys of the letters
+    decisions: Mapping[str, Decision]
+
+    def is_mark(self, line: str) -> bool:
+        """Whether a line is the mark of the poll, alone or with an own one."""
+        mark = MARKS.fullmatch(line.strip())
+        return mark is not None and mark[1] == self.mark
+
+    def passes_over(self, line: str) -> bool:
+        """Whether a line may be anywhere in a letter: the mark may, if letters have to be signed."""
+        return self.is_signed and self.is_mark(line)
+
+    @functools.cached_property
+    def electors_by_mark(self) -> dict[str, str]:
+        return {elector.mark: name for name, elector in self.electors.items() if elector.mark}
+
+    def marked_elector(self, letter: ParsedLetter) -> str | None:
+        """The elector whose own mark the subject of a letter has; None if it has several, or none.
+        A subject with the own mark of somebody else counts as one with the mark of the poll alone.
+        """
+        owns = {own for mark, own in letter.marks if own and mark == self.mark}
+        return self.electors_by_mark.get(*owns) if len(owns) == 1 else None
+
+    @functools.cached_property
+    def electors_by_address(self) -> dict[str, list[str]]:
+        found: dict[str, list[str]] = collections.defaultdict(list)
+        for name, elector in self.electors.items():
+            for key in dict.fromkeys(filter(None, map(address_key, elector.addresses))):
+                found[key].append(name)
+        return dict(found)
+
+    def elector_of(self, letter: ParsedLetter) -> str | None:
+        """The one elector whose address the sender of a letter has."""
+        electors = self.electors_by_address.get(letter.sender, [])
+        return electors[0] if len(electors) == 1 else None
+
+    def is_subject_of_page(self, subject: str) -> bool:
+        """Whether a subject is the one that the page of the call makes, but for its marks and
+        blanks.
+        """
+        return as_compared(MARKS.sub("", as_compared(subject))) == as_compared(self.subject)
+
+
 class Outcome(enum.Enum):
     GOES_IN = "goes in"
     WAITS = "waits"
@@ -59,6 +141,88 @@ DECIDED = {
 }
 
 
+# ---------------------------------------------------------------- what the lines are
+@dataclasses.dataclass(frozen=True)
+class BallotLine:
+    """A line that reads as a ballot: its number in the letter, from 1, and the ballot as it would
+    be entered.
+    """
+
+    number: int
+    ballot: str
+
+    @property
+    def elector(self) -> str:
+        return self.ballot.partition(" ")[0]
+
+    @property
+    def ranks(self) -> list[str]:
+        return self.ballot.partition(" ")[2].split(",")
+
+    @property
+    def has_high_rank(self) -> bool:
+        """Whether a rank is above the number of options. debvote takes this for a ballot, but
+        `Lars Winter 12,50` may be money.
+        """
+        return any(rank != "-" and int(rank) > len(self.ranks) for rank in self.ranks)
+
+
+@dataclasses.dataclass(frozen=True)
+class View:
+    """What the lines of a letter are, by who sent it.
+
+    `lines` are the ballots, by the indices of their lines among all that are shown, and `others`
+    those with the real name of somebody else, as in the letter of a family. The secretary may enter
+    what is `offered`; `offered_for` says why the first of these is no ballot by itself.
+    """
+
+    lines: Mapping[int, BallotLine]
+    others: tuple[BallotLine, ...] = ()
+    offered: tuple[BallotLine, ...] = ()
+    offered_for: Reason | None = None
+    near: tuple[Near, ...] = ()
+
+
+def view_of(lines: Sequence[ReadLine], sharing: Sequence[str], marked: str | None) -> View:
+    """What the lines are if it was sent by one of the electors who have the sender's address, or by
+    the one whose own mark is in the subject.
+
+    If only one has the address, they may have written their own name with accents, or their real
+    name. Ranks without a name are offered for the marked elector, or for the only one with the
+    address; if these differ, for none. A filled line of ours is offered for any of them.
+    """
+    sender = sharing[0] if len(sharing) == 1 else None
+    likely = sender if marked is None else marked if marked in (sharing or [marked]) else None
+    own, others, refused = dict[int, BallotLine](), list[BallotLine](), dict[str, Near]()
+    offered = dict[BallotLine, Reason]()
+    for line in lines:
+        name = line.elector or (sender if sender is not None and is_name_of(sender, line) else None)
+        if not (line.elector or line.on_roll or line.real):
+            name = likely
+        ballot = BallotLine(line.number, f"{name or next(iter(line.real), None)} {line.ranks}")
+        if line.offered_for is not None:
+            is_money = line.offered_for is not Reason.NO_NAME and ballot.has_high_rank
+            is_other = line.offered_for is Reason.FILLED_IN and name not in (*sharing, marked)
+            if line.answer is None and name is not None and not is_money and not is_other:
+                offered[ballot] = line.offered_for
+        elif line.answer is not None and name is not None:
+            refused.setdefault(ballot.ballot, Near(line.number, ballot.ballot, False, line.answer))
+        elif line.answer is None and line.ranks and name is not None:
+            own[line.number - 1] = ballot
+        elif line.answer is None and line.real:
+            others.append(ballot)
+    if own or refused:
+        return View(own, tuple(others), near=tuple(refused.values())[:MAX_NEAR])
+    near = tuple(line.near for line in lines if line.near is not None)
+    return View({}, (), tuple(offered), next(iter(offered.values()), None), near[:MAX_NEAR])
+
+
+def is_name_of(elector: str, line: ReadLine) -> bool:
+    """Whether the name in a line is that of this elector, and of no other on the roll."""
+    return elector in (*line.on_roll, *line.real) and set(line.on_roll) <= {elector}
+
+
+# ---------------------------------------------------------------- a letter
 class JudgedLetter:
     """A letter, and what becomes of it. The `reason` says why it waits or was set aside."""
 
@@ -70,7 +234,7 @@ class JudgedLetter:
     # in a secret vote with names on the roll: the lines with what looks like a code or an alias
     code_lines: tuple[int, ...] = ()
 
-    def __init__(self, letter: ParsedLetter, known: Known) -> None:
+    def __init__(self, letter: ReadLetter, known: Known) -> None:
         self.parsed, self.known = letter, known
         self.marked_elector = known.marked_elector(letter)
         sharing = known.electors_by_address.get(letter.sender, [])
@@ -349,123 +513,3 @@ def is_plain(character: str) -> bool:
     is_listed = unicodedata.category(character) in CATEGORIES or character in SIGNS
     is_digit_or_colon = character.isnumeric() or character in LIKE_COLONS
     return bool(is_listed or PICTURES.match(character)) and not is_digit_or_colon
-
-
-# ---------------------------------------------------------------- one letter beside the others
-class Box:
-    """The ballots that are in, by elector and time."""
-
-    def __init__(self) -> None:
-        self.times: dict[str, list[datetime.datetime]] = collections.defaultdict(list)
-        self.lines: dict[tuple[str, datetime.datetime], set[str]] = collections.defaultdict(set)
-
-    def add(self, elector: str, ballot: Ballot) -> None:
-        bisect.insort(self.times[elector], ballot.time)
-        self.lines[elector, ballot.time].add(ballot.line)
-
-    def last(self, elector: str) -> datetime.datetime | None:
-        return self.times[elector][-1] if self.times[elector] else None
-
-    def has_between(self, elector: str, after: datetime.datetime, until: datetime.datetime) -> bool:
-        times = self.times[elector]
-        return bisect.bisect_right(times, after) < bisect.bisect_left(times, until)
-
-
-def set_outcomes(cases: Sequence[JudgedLetter], box: Box) -> None:
-    """Sets what becomes of letters, which are in the order of their times. The ballots that go in
-    are added to the box.
-    """
-    groups: dict[str, list[JudgedLetter]] = collections.defaultdict(list)
-    for case in cases:
-        groups[case.parsed.identity].append(case)
-        if case.decision is not None:
-            case.outcome = DECIDED.get(case.decision, Outcome.WAITS)
-            if case.decision is not Decision.ENTERED:
-                case.reason = Reason[case.decision.name]()
-    firsts: set[JudgedLetter] = set()
-    at_once: dict[tuple[str, datetime.datetime | None], set[str]] = collections.defaultdict(set)
-    undecided = [group for group in groups.values() if any(case.decision is None for case in group)]
-    for group in undecided:
-        # the first copy that may go in, unless an act decided of one that hides it
-        may_go_in = (one for one in group if one.decision is None and one.why_by_itself is None)
-        is_hidden = any(case.decision is not None and case.hides for case in group)
-        for case in () if is_hidden else itertools.islice(may_go_in, 1):
-            firsts.add(case)
-            at_once[case.elector, case.time].add(case.ballots[0].ballot)
-    for case in filter(firsts.__contains__, cases):
-        case.reason = why_not_latest(case, box, at_once[case.elector, case.time])
-        if case.reason is None and case.time is not None:
-            case.outcome = Outcome.GOES_IN
-            box.add(case.elector, Ballot(case.time, case.ballots[0].ballot))
-    for group in undecided:
-        set_copies(group, firsts, box)
-
-
-def why_not_latest(case: JudgedLetter, box: Box, at_once: set[str]) -> Because | None:
-    """Its time is later than that of every ballot of its elector. A ballot of the same time has to
-    be the same.
-    """
-    assert case.time is not None
-    elector, time = case.elector, case.time
-    last = box.last(elector)
-    if last is not None and last > time:
-        return Reason.LATER_BALLOT(elector=elector, time=last)
-    others = (box.lines[elector, time] | at_once) - {case.ballots[0].ballot}
-    return Reason.SAME_TIME(elector=elector, time=time) if others else None
-
-
-def set_copies(group: Sequence[JudgedLetter], firsts: Collection[JudgedLetter], box: Box) -> None:
-    """Sets what becomes of the other letters of one identity: they are copies of one that went in,
-    or may go in. A letter that waits hides no other, but of those that wait for one reason with one
-    body only the first is shown.
-    """
-    hiding = [case for case in group if case.hides]
-    is_hidden = any(case.decision is not None or case.outcome is Outcome.GOES_IN for case in hiding)
-    hiding.sort(key=lambda case: (case.parsed.arrived is None, case.parsed.arrived))
-    first = next(iter(hiding), None)
-    waiting: dict[tuple[Because | None, Body], JudgedLetter] = {}
-    for case in sorted(group, key=lambda case: case.decision is None):
-        before = waiting.setdefault((case.why_by_itself, case.parsed.body), case)
-        if case.decision is not None or case in firsts:
-            continue
-        if first is not None and (is_hidden or case.why_by_itself is None):
-            set_copy(case, first, box)
-        elif before is not case:
-            set_copy(case, before, box)
-        else:
-            case.reason = case.why_by_itself
-
-
-def set_copy(case: JudgedLetter, first: JudgedLetter, box: Box) -> None:
-    """Ignores a copy of a letter that arrived before it. It waits if another ballot of its elector
-    came between.
-    """
-    arrived, before = case.parsed.arrived, first.parsed.arrived
-    case.outcome, case.reason = Outcome.COPY, None
-    if first.time is not None and before is not None and arrived is not None and arrived > before:
-        for line in (*case.ballots, *case.offered):
-            if box.has_between(line.elector, first.time, arrived):
-                case.outcome, case.reason = Outcome.WAITS, Reason.CAME_BEFORE(elector=line.elector)
-                return
-
-
-def judge_all(
-    letters: Sequence[ParsedLetter],
-    known: Known,
-    ballots_of: Callable[[Collection[str]], Mapping[str, Sequence[Ballot]]],
-) -> list[JudgedLetter]:
-    """Judges letters, and returns them in the order of their times; those without a time come last.
-    `ballots_of` returns the ballots of some electors that are in and not struck.
-    """
-    cases = [JudgedLetter(letter, known) for letter in letters]
-    ordered = sorted(cases, key=lambda case: (case.time is None, case.time or known.now))
-    box = Box()
-    electors = {elector for case in cases for elector in case.electors}
-    for elector, ballots in ballots_of(electors).items():
-        for ballot in ballots:
-            box.add(elector, ballot)
-    set_outcomes(ordered, box)
-    for case in ordered:
-        times = filter(None, map(box.last, case.electors))
-        case.has_voted_since = any(case.time is None or time > case.time for time in times)
-    return ordered

@@ -13,8 +13,8 @@ from debvote_tools.cli.console import count_of, shown_line
 from debvote_tools.cli.faults import Fault, other_format
 from debvote_tools.debvote import Finding
 from debvote_tools.files import BALLOTS_LIMIT, LINES_LIMIT
-from debvote_tools.inbox.lines import Line, ballot_file, differences, has_code, name_in
-from debvote_tools.text.ballots import BallotWords
+from debvote_tools.inbox.lines import Line, differences, has_code, name_in
+from debvote_tools.text.ballots import BallotWords, ballot_file
 from debvote_tools.text.language import ENGLISH
 
 IS_CODE = " (32 digits, as in a code or an alias: a ballot has only the elector's name, and nobody may see a code)"
@@ -58,9 +58,13 @@ class Vote:
     def __init__(self, election: Election, history: History) -> None:
         self.election, self.book, self.debvote = election, election.book, election.debvote
         self.call = election.called(history)
-        poll = election.sealed().counted
-        # the names of all options as people read them, the default last
-        self.poll_bytes, self.option_names, self.roll = poll.as_bytes(), poll.names, poll.roll
+        # the poll as ballots are counted, and the names of all options as people read them, the default last
+        self.poll = election.sealed().counted
+        self.poll_bytes, self.option_names, self.roll = (
+            self.poll.as_bytes(),
+            self.poll.names,
+            self.poll.roll,
+        )
         # the roll has codes: none is printed that was not typed
         self.has_codes = bool(history.announced("codes_on_roll"))
         self.is_signed = bool(history.announced("signed"))
@@ -93,7 +97,7 @@ class Vote:
         return list(map({name.encode(): number for name, number in numbers.items()}.get, names))
 
     # ------------------------------------------------------------ what debvote says
-    def read(self, lines: Sequence[Line]) -> list[JudgedLine]:
+    def judge(self, lines: Sequence[Line]) -> list[JudgedLine]:
         """What debvote says of lines, none of them empty. It is started twice at most.
 
         If the repaired line is refused, the line goes in as it came, and is refused too, since

@@ -13,7 +13,7 @@ from debvote_tools.book.election import LETTERS, RESULT_LETTER, Election, Histor
 from debvote_tools.book.queries import Elector
 from debvote_tools.book.sent import REFUSED, TAKEN, WRITTEN, About, SentLetter
 from debvote_tools.cli.faults import Fault, Status
-from debvote_tools.inbox.lines import ballot_file
+from debvote_tools.text.ballots import ballot_file
 from debvote_tools.inbox.mime import address_key
 from debvote_tools.inbox.of_electors import NOBODY, Became, Came, of_electors
 from debvote_tools.inbox.rules import Outcome

@@ -5,18 +5,30 @@ the list has and whatever time it is. So judging a letter again reads no letter.
 once about the lines of all new letters together.
 """
 
+import collections
 import dataclasses
+import datetime
+import functools
 import itertools
+import json
 import re
+import typing
 import unicodedata
-from collections.abc import Collection, Iterable, Iterator, Mapping, Sequence
-from typing import Protocol
+from collections.abc import Callable, Collection, Iterable, Iterator, Mapping, Sequence
+from typing import Any
 
-from debvote_tools.inbox.known import Names
-from debvote_tools.inbox.letter import Near, ParsedLetter, ReadLine, is_quoted, may_be_ballot
+from debvote_tools.book import queries
+from debvote_tools.book.election import KEYRING, Election
+from debvote_tools.inbox.letter import ParsedLetter, is_quoted, may_be_ballot, parse
 from debvote_tools.inbox.lines import DASHES, LONGEST_REPAIRED, changed, has_code
+from debvote_tools.inbox.mailbox import RawLetter
 from debvote_tools.inbox.reasons import Reason
+from debvote_tools.inbox.signature import find_gpgv, verified
+from debvote_tools.inbox.vote import Vote
+from debvote_tools.poll.plain_names import without_accents
 
+# what parts the words of a name, and what each name on a roll has
+NO_NAME, LATIN = re.compile(r"(?:[^\w.-]|[_\u02b0-\u02ff])+"), re.compile("[a-z0-9]")
 # the grammar of a ballot line, and ranks alone
 ONE_RANK = "(?:-|[1-9][0-9]?)"
 RANKS = rf"{ONE_RANK}(?:,{ONE_RANK})*"
@@ -42,26 +54,105 @@ MAX_BALLOTS, MAX_OTHERS, MAX_NEAR = 200, 50, 5
 # names at once
 MOST_AT_ONCE = 100
 
+# debvote's answer to each line, as `bad rank count: ..`; None for a valid ballot
+Ask = Callable[[Sequence[bytes]], Mapping[bytes, str | None]]
 
-class LineReader(Protocol):
-    def answers(self, lines: Sequence[bytes]) -> Mapping[bytes, str | None]:
-        """debvote's answer to each line, as `bad rank count: ..`; None for a valid ballot."""
+
+@dataclasses.dataclass(frozen=True)
+class Near:
+    """A line that is near to a ballot: its number in the letter, what may be the ballot, whether
+    that is within other words, and debvote's answer; None if it is a valid ballot.
+    """
+
+    number: int
+    ballot: str
+    is_within: bool
+    answer: str | None = None
+
+
+@dataclasses.dataclass(frozen=True)
+class ReadLine:
+    """What a line of a letter may be, by its number, from 1."""
+
+    number: int
+    # whose ballot: a name on the roll; or those whose name on the roll, or real name, may be meant
+    elector: str = ""
+    on_roll: tuple[str, ...] = ()
+    real: tuple[str, ...] = ()
+    # its ranks, and debvote's answer; None if they are valid
+    ranks: str = ""
+    answer: str | None = None
+    # why it is no ballot by itself, and is only offered to the secretary
+    offered_for: Reason | None = None
+    near: Near | None = None
+
+
+@dataclasses.dataclass(frozen=True)
+class ReadLetter(ParsedLetter):
+    """A letter with what its lines may be, or how many may be ballots if they are more than are
+    read; and the lines with what looks like a code of a secret vote or an alias.
+    """
+
+    read_lines: tuple[ReadLine, ...] = ()
+    crowd: int = 0
+    code_lines: tuple[int, ...] = ()
+
+
+@dataclasses.dataclass(frozen=True)
+class Names:
+    """The names of the electors, which never change after the call: on the roll, and real ones."""
+
+    roll: frozenset[str]
+    language: str
+    real_names: Mapping[str, str]
+
+    @functools.cached_property
+    def electors_by_real_name(self) -> dict[str, list[str]]:
+        """All electors by folded real name. Few letters need it, and it takes a while."""
+        found: dict[str, list[str]] = collections.defaultdict(list)
+        for elector, who in self.real_names.items():
+            for fold in self.folds(who):
+                found[fold].append(elector)
+        return dict(found)
+
+    def folds(self, name: str) -> set[str]:
+        """A name as `roll` makes one from it, but whole: `roll` cuts a long name, and omits letters of
+        other scripts, where other words may have been. Signs in place of an apostrophe are no letters.
+        """
+        plain = (without_accents(name, language).lower() for language in (self.language, ""))
+        folds = {NO_NAME.sub("-", one).strip("-") for one in plain}
+        return {fold for fold in folds if LATIN.search(fold)}
 
 
 # ---------------------------------------------------------------- once, when a letter comes
-def read_all(
-    letters: Sequence[ParsedLetter],
-    names: Names,
-    reader: LineReader,
-    known: Mapping[str, str | None] | None = None,
-) -> list[ParsedLetter]:
-    """The letters, each with what its lines may be. debvote is asked about what is not `known`."""
-    found = [read(letter, names) for letter in letters]
+def read_letters(vote: Vote, raws: Sequence[RawLetter]) -> list[ReadLetter]:
+    """What letters say, with their signatures if letters have to be signed, and what their lines
+    may be.
+    """
+    found, election = [parse(raw) for raw in raws], vote.election
+    if not found:
+        return []
+    if (keyring := keyring_of(election)) is not None:
+        found = verified(raws, found, keyring, find_gpgv())
+    real_names = {elector.name: elector.who for elector in queries.electors(vote.book)}
+    names = Names(vote.names_on_roll, election.language.code, real_names)
+    return with_lines(found, names, vote.answers)
+
+
+def keyring_of(election: Election) -> bytes | None:
+    """The keyring that holds; None if letters need no signature."""
+    is_signed = election.history().announced("signed")
+    return queries.sealed(election.book, KEYRING) if is_signed else None
+
+
+def with_lines(letters: Sequence[ParsedLetter], names: Names, ask: Ask) -> list[ReadLetter]:
+    """The letters, each with what its lines may be."""
+    found = [find_lines(letter, names) for letter in letters]
     stand_in = min(names.roll)
     lines = (line for letter in found for line in letter.read_lines)
-    asked = dict.fromkeys(text for line in lines for text in texts_of(line, stand_in))
-    answers = dict(known or {})
-    answers |= answers_to([text for text in asked if text not in answers], names, reader)
+    answers = answers_to(
+        dict.fromkeys(text for line in lines for text in texts_of(line, stand_in)), names, ask
+    )
 
     def answered(line: ReadLine) -> ReadLine:
         near = line.near and dataclasses.replace(line.near, answer=answers[line.near.ballot])
@@ -74,7 +165,7 @@ def read_all(
     ]
 
 
-def read(letter: ParsedLetter, names: Names) -> ParsedLetter:
+def find_lines(letter: ParsedLetter, names: Names) -> ReadLetter:
     """A letter with what its lines may be, before debvote has answered."""
     lines = list(enumerate(letter.shown_lines, start=1))
     code_lines = tuple(number for number, line in lines if has_code(line))
@@ -82,14 +173,14 @@ def read(letter: ParsedLetter, names: Names) -> ParsedLetter:
     own = [(number, line) for number, line in lines if not is_quoted(line)]
     several = [SEPARATOR.search(line) is not None for _, line in own]
     if (count := sum(several)) > MAX_BALLOTS:
-        return dataclasses.replace(letter, read_lines=(), crowd=count, code_lines=code_lines)
+        return ReadLetter(**vars(letter), crowd=count, code_lines=code_lines)
     others = (one for one, has_several in zip(own, several) if not has_several)
     chosen = sorted([*itertools.compress(own, several), *itertools.islice(others, MAX_OTHERS)])
     quoted = (read_quoted(number, line, names) for number, line in lines if is_quoted(line))
     found = [read_line(number, line, names) for number, line in chosen]
     found += itertools.islice(filter(None, quoted), MAX_NEAR)
     read_lines = tuple(filter(None, found))
-    return dataclasses.replace(letter, read_lines=read_lines, crowd=0, code_lines=code_lines)
+    return ReadLetter(**vars(letter), read_lines=read_lines, code_lines=code_lines)
 
 
 def read_line(number: int, line: str, names: Names) -> ReadLine | None:
@@ -186,7 +277,7 @@ def texts_of(line: ReadLine, stand_in: str) -> Iterator[str]:
         yield line.near.ballot
 
 
-def answers_to(texts: Iterable[str], names: Names, reader: LineReader) -> dict[str, str | None]:
+def answers_to(texts: Iterable[str], names: Names, ask: Ask) -> dict[str, str | None]:
     """debvote's answer to each text, whatever the others are."""
     certain: list[str] = []
     others: list[str] = []
@@ -198,97 +289,51 @@ def answers_to(texts: Iterable[str], names: Names, reader: LineReader) -> dict[s
     parts[0] += certain
     answers: dict[str, str | None] = {}
     for part in filter(None, parts):
-        said = reader.answers([text.encode() for text in part])
+        said = ask([text.encode() for text in part])
         answers |= {text: said[text.encode()] for text in part}
     return answers
 
 
-def answers_in(letters: Iterable[ParsedLetter], roll: Collection[str]) -> dict[str, str | None]:
+def answers_in(letters: Iterable[ReadLetter], roll: Collection[str]) -> dict[bytes, str | None]:
     """debvote's answers to the lines of letters that were read."""
     stand_in, found = min(roll), dict[str, str | None]()
     for letter in letters:
         for line in letter.read_lines:
             near = () if line.near is None else (line.near.answer,)
             found |= zip(texts_of(line, stand_in), (line.answer, *near) if line.ranks else near)
-    return found
+    return {text.encode(): answer for text, answer in found.items()}
 
 
-# ---------------------------------------------------------------- each time that it is judged
-@dataclasses.dataclass(frozen=True)
-class BallotLine:
-    """A line that reads as a ballot: its number in the letter, from 1, and the ballot as it would
-    be entered.
-    """
-
-    number: int
-    ballot: str
-
-    @property
-    def elector(self) -> str:
-        return self.ballot.partition(" ")[0]
-
-    @property
-    def ranks(self) -> list[str]:
-        return self.ballot.partition(" ")[2].split(",")
-
-    @property
-    def has_high_rank(self) -> bool:
-        """Whether a rank is above the number of options. debvote takes this for a ballot, but
-        `Lars Winter 12,50` may be money.
-        """
-        return any(rank != "-" and int(rank) > len(self.ranks) for rank in self.ranks)
+# ---------------------------------------------------------------- as the book keeps it
+def as_json(letter: ParsedLetter) -> str:
+    return json.dumps(vars(letter), default=as_plain)
 
 
-@dataclasses.dataclass(frozen=True)
-class View:
-    """What the lines of a letter are, by who sent it.
-
-    `lines` are the ballots, by the indices of their lines among all that are shown, and `others`
-    those with the real name of somebody else, as in the letter of a family. The secretary may enter
-    what is `offered`; `offered_for` says why the first of these is no ballot by itself.
-    """
-
-    lines: Mapping[int, BallotLine]
-    others: tuple[BallotLine, ...] = ()
-    offered: tuple[BallotLine, ...] = ()
-    offered_for: Reason | None = None
-    near: tuple[Near, ...] = ()
+def as_plain(value: object) -> object:
+    if isinstance(value, datetime.datetime):
+        return value.isoformat()
+    return value.name if isinstance(value, Reason) else vars(value)
 
 
-def view_of(lines: Sequence[ReadLine], sharing: Sequence[str], marked: str | None) -> View:
-    """What the lines are if it was sent by one of the electors who have the sender's address, or by
-    the one whose own mark is in the subject.
-
-    If only one has the address, they may have written their own name with accents, or their real
-    name. Ranks without a name are offered for the marked elector, or for the only one with the
-    address; if these differ, for none. A filled line of ours is offered for any of them.
-    """
-    sender = sharing[0] if len(sharing) == 1 else None
-    likely = sender if marked is None else marked if marked in (sharing or [marked]) else None
-    own, others, refused = dict[int, BallotLine](), list[BallotLine](), dict[str, Near]()
-    offered = dict[BallotLine, Reason]()
-    for line in lines:
-        name = line.elector or (sender if sender is not None and is_name_of(sender, line) else None)
-        if not (line.elector or line.on_roll or line.real):
-            name = likely
-        ballot = BallotLine(line.number, f"{name or next(iter(line.real), None)} {line.ranks}")
-        if line.offered_for is not None:
-            is_money = line.offered_for is not Reason.NO_NAME and ballot.has_high_rank
-            is_other = line.offered_for is Reason.FILLED_IN and name not in (*sharing, marked)
-            if line.answer is None and name is not None and not is_money and not is_other:
-                offered[ballot] = line.offered_for
-        elif line.answer is not None and name is not None:
-            refused.setdefault(ballot.ballot, Near(line.number, ballot.ballot, False, line.answer))
-        elif line.answer is None and line.ranks and name is not None:
-            own[line.number - 1] = ballot
-        elif line.answer is None and line.real:
-            others.append(ballot)
-    if own or refused:
-        return View(own, tuple(others), near=tuple(refused.values())[:MAX_NEAR])
-    near = tuple(line.near for line in lines if line.near is not None)
-    return View({}, (), tuple(offered), next(iter(offered.values()), None), near[:MAX_NEAR])
+def from_json(text: str) -> ReadLetter:
+    letter: ReadLetter = reader_of(ReadLetter)(json.loads(text))
+    return letter
 
 
-def is_name_of(elector: str, line: ReadLine) -> bool:
-    """Whether the name in a line is that of this elector, and of no other on the roll."""
-    return elector in (*line.on_roll, *line.real) and set(line.on_roll) <= {elector}
+@functools.cache
+def reader_of(kind: Any) -> Callable[[Any], Any]:
+    """Makes a value of this type from what JSON has of it."""
+    if dataclasses.is_dataclass(kind):
+        of_fields = {name: reader_of(one) for name, one in typing.get_type_hints(kind).items()}
+        return lambda kept: kind(**{name: of_fields[name](kept[name]) for name in kept})
+    first, *others = *typing.get_args(kind), None
+    if type(None) in others or Ellipsis in others:
+        of_one = reader_of(first)
+        if Ellipsis in others:
+            return lambda kept: tuple(map(of_one, kept))
+        return lambda kept: kept if kept is None else of_one(kept)
+    if isinstance(kind, type) and issubclass(kind, datetime.date):
+        return datetime.datetime.fromisoformat
+    if kind is Reason:
+        return lambda kept: Reason[kept]
+    return lambda kept: tuple(kept) if isinstance(kept, list) else kept

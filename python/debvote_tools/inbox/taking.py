@@ -1,0 +1,196 @@
+"""Letters that come: `add` keeps those that are new as they came, has all judged by what the book says
+now, and enters the ballots of those that are plainly ballots.
+"""
+
+import pathlib
+from collections.abc import Collection, Iterable, Iterator, Mapping, Sequence
+from typing import NamedTuple
+
+from debvote_tools.book import queries
+from debvote_tools.book.book import ActName, Detail, NewAct
+from debvote_tools.book.election import History
+from debvote_tools.book.queries import NewEnvelope
+from debvote_tools.cli.console import count_of, is_terminal, is_yes, shown_text, tell
+from debvote_tools.cli.faults import Fault, Status
+from debvote_tools.files import sha256_of
+from debvote_tools.inbox import entering, letter_words
+from debvote_tools.inbox.came import CameFile, safe
+from debvote_tools.inbox.rules import JudgedLetter, Outcome
+from debvote_tools.inbox.lines import NOTHING_ADDED
+from debvote_tools.inbox.letter_lines import ReadLetter, as_json, read_letters
+from debvote_tools.inbox.judging import judged
+from debvote_tools.inbox.mailbox import PassedOver, RawLetter, letters_of_file, letters_of_folder
+from debvote_tools.inbox.vote import Vote
+
+
+# ---------------------------------------------------------------- what `add` does with them
+def take_letters(
+    vote: Vote, files: Mapping[str, CameFile | None], *, is_look: bool, is_agreed: bool
+) -> None:
+    """Keeps the letters that are new, and enters the ballots that go in; or tells what would become
+    of them.
+    """
+    raws, passed_over = split_letters(files)
+    new = new_of(vote, raws)
+    found = read_letters(vote, new)
+    if not is_look:
+        keep(vote, new, found)
+    for one in passed_over:
+        tell(f"{shown_text(one.where)}: {one.why.what}, and was passed over; {one.why.cure}")
+    came_before = f"{count_of(len(new), 'new letter')}; {len(raws) - len(new)} came before."
+    if not is_look:
+        tell(came_before)
+        enter_letters(vote, is_agreed=is_agreed)
+        return
+    history, kept = vote.election.history(), queries.letters(vote.book)
+    all_letters = judged(vote, history, kept, found)
+    tell_letters(vote, history, all_letters)
+    would = letter_words.counts(all_letters, len(going_in(all_letters)))
+    tell(came_before, would.replace("went in", "would go in"), "Nothing was changed.")
+
+
+def split_letters(files: Mapping[str, CameFile | None]) -> tuple[list[RawLetter], list[PassedOver]]:
+    """The letters of mailboxes, files and folders, each read whole, and what is passed over. A
+    folder is None.
+    """
+    found, passed_over = [], []
+    for path, file in files.items():
+        try:
+            source = (
+                letters_of_folder(pathlib.Path(path))
+                if file is None
+                else letters_of_file(safe(file.name), file.data)
+            )
+        except OSError as error:
+            cure = "name letters that you may read"
+            raise Fault(path, error.strerror, cure, Status.BAD_BALLOTS, NOTHING_ADDED) from None
+        found += source.letters
+        passed_over += source.passed_over
+    return found, passed_over
+
+
+def new_of(vote: Vote, raws: Sequence[RawLetter]) -> list[RawLetter]:
+    kept = queries.kept_digests(vote.book)
+    # of letters with the same bytes the first that is not parted off, or else the first
+    chosen: dict[str, RawLetter] = {}
+    for raw in raws:
+        digest = sha256_of(raw.data)
+        if digest not in chosen or chosen[digest].is_parted_off > raw.is_parted_off:
+            chosen[digest] = raw
+    return [raw for digest, raw in chosen.items() if is_new(digest, raw.is_parted_off, kept)]
+
+
+def is_new(digest: str, is_parted_off: bool, kept: Collection[tuple[str, bool]]) -> bool:
+    """Whether a letter with these bytes is new. If it only came parted off, it is new when it comes
+    as a letter of its own.
+    """
+    return (digest, False) not in kept and not (is_parted_off and (digest, True) in kept)
+
+
+def keep(vote: Vote, raws: Sequence[RawLetter], found: Sequence[ReadLetter]) -> None:
+    if not raws:
+        return
+    with vote.book.act("letters", {"letters": len(raws)}) as act:
+        # their lines were read by the poll of this call
+        cure = "run the command again"
+        vote.demand_same_call(vote.election.history(), cure, NOTHING_ADDED)
+        kept = queries.kept_digests(vote.book)
+        for raw, letter in zip(raws, found):
+            # another command may have kept it meanwhile
+            if is_new(letter.digest, letter.is_parted_off, kept):
+                queries.keep_letter(
+                    act, safe(raw.where), raw.data, letter.identity, as_json(letter)
+                )
+
+
+class NewBallots(NamedTuple):
+    """The ballots of letters that would go in, by the book as it is now."""
+
+    envelopes: list[NewEnvelope]
+    # the letters that wait no longer then
+    done: list[int]
+    is_late: bool
+
+
+def envelope_of(letter: JudgedLetter, ballot: str) -> NewEnvelope:
+    return NewEnvelope(ballot.encode(), "", letter.source, letter.number, letter.time)
+
+
+def enter_ballots(
+    vote: Vote,
+    name: ActName,
+    detail: Detail,
+    now: NewBallots,
+    seen: int,
+    end: Sequence[str] = (),
+) -> None:
+    def envelopes(act: NewAct) -> list[NewEnvelope]:
+        for number in now.done:
+            queries.decide(act, number, queries.ENTERED)
+        return now.envelopes
+
+    def report(numbers: range, replies: Sequence[str]) -> Iterator[str]:
+        for number, reply, envelope in zip(numbers, replies, now.envelopes):
+            yield f"{number} {reply}  {vote.ballot_in_words(envelope.line.decode('ascii'))}"
+        yield from end
+
+    late = now.is_late
+    entering.enter_lines(vote, name, detail, envelopes, report, seen, is_late=late)
+
+
+def going_in(found: Iterable[JudgedLetter]) -> list[JudgedLetter]:
+    return [letter for letter in found if letter.outcome is Outcome.GOES_IN]
+
+
+def enter_letters(vote: Vote, *, is_agreed: bool) -> None:
+    """Enters the ballots that go in, once they are agreed to."""
+    election, found = vote.election, list[JudgedLetter]()
+    history = election.history()
+
+    def plan_now() -> NewBallots:
+        nonlocal history, found
+        history = election.history()
+        vote.demand_same_call(history, "run the command again", NOTHING_ADDED)
+        found = judged(vote, history, queries.letters(vote.book))
+        new = [envelope_of(letter, letter.ballots[0].ballot) for letter in going_in(found)]
+        return NewBallots(new, [letter.number for letter in going_in(found)], history.is_closed)
+
+    def show(now: NewBallots) -> bool:
+        tell_letters(vote, history, found)
+        if not now.done:
+            tell(letter_words.counts(found, 0))
+        elif is_agreed or agreed(count_of(len(now.done), "ballot")):
+            return True
+        else:
+            waits = letter_words.wait_words(sum(letter.waits for letter in found))
+            tell(f"Nothing was entered. The letters are kept, and wait: {waits}.")
+        return False
+
+    def act(now: NewBallots, seen: int) -> None:
+        number = len(now.done)
+        detail: Detail = {"letters": number, "lines": number}
+        end = letter_words.counts(found, number)
+        enter_ballots(vote, "add", detail, now, seen, [end])
+
+    entering.agreed_act(vote, plan_now, show, act)
+    undo = f"; {election.command('undo')} takes back what was entered last"
+    waiting = f"{election.command('held')}, which lists the letters that wait"
+    is_waiting = any(letter.outcome is Outcome.WAITS for letter in found)
+    following = waiting if is_waiting else election.command("status")
+    tell(f"Next: {following}{'' if history.is_closed else undo}")
+
+
+def agreed(ballots: str) -> bool:
+    """Asks the secretary. Stops if there is no terminal."""
+    if not is_terminal():
+        cure, done = "agree with --yes, or run it at a terminal", "and the letters are kept"
+        raise Fault(None, f"{ballots} would go in", cure, done=f"{NOTHING_ADDED}, {done}")
+    return bool(is_yes(f"Enter {ballots}?"))
+
+
+def tell_letters(vote: Vote, history: History, found: Sequence[JudgedLetter]) -> None:
+    if new := going_in(found):
+        if history.is_closed:
+            tell(*entering.notes(vote.election, history, "what is added"))
+        tell(*letter_words.going_in(new, vote))
+    tell(*letter_words.table([one for one in found if one.outcome is Outcome.WAITS]))
