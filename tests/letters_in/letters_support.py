@@ -16,10 +16,10 @@ sys.path.insert(0, str(ROOT / "python"))
 
 from debvote_tools.book.queries import Elector  # noqa: E402
 from debvote_tools.debvote import findings_in  # noqa: E402
-from debvote_tools.inbox.judging import judge_all  # noqa: E402
+from debvote_tools.inbox.judging import Ballot, judge_all  # noqa: E402
 from debvote_tools.inbox.letter import ParsedLetter, parse  # noqa: E402
 from debvote_tools.inbox.letter_lines import Names, ReadLetter, as_json, from_json, with_lines  # noqa: E402
-from debvote_tools.inbox.rules import Ballot, JudgedLetter, Known, Outcome  # noqa: E402
+from debvote_tools.inbox.rules import JudgedLetter, Known, Outcome  # noqa: E402
 from debvote_tools.inbox.reasons import Because  # noqa: E402
 from debvote_tools.inbox.mailbox import RawLetter  # noqa: E402
 

@@ -12,7 +12,7 @@ from debvote_tools.cli.console import count_of, is_terminal, is_yes, shown_line,
 from debvote_tools.cli.faults import Fault, Status, stop_at
 from debvote_tools.inbox import letter_words
 from debvote_tools.inbox.judging import ballots_in, judged
-from debvote_tools.inbox.rules import Decision, JudgedLetter, Outcome
+from debvote_tools.inbox.rules import JudgedLetter, Outcome
 from debvote_tools.inbox.taking import NewBallots, enter_ballots, envelope_of
 from debvote_tools.inbox.lines import lines_in, name_in
 from debvote_tools.inbox.entering import agreed_act
@@ -144,7 +144,7 @@ def enter(vote: Vote, arguments: Arguments) -> None:
         history, found = vote.election.history(), all_letters(vote)
         wanted = chosen_letters(found, arguments.numbers)
         if not arguments.numbers:
-            wanted = [one for one in found if one.decision is Decision.TAKEN_BACK]
+            wanted = [one for one in found if one.decision == queries.TAKEN_BACK]
         chosen = []
         faults.clear()
         for letter in sorted(wanted, key=lambda one: (one.time is None, one.time or one.number)):
@@ -237,9 +237,7 @@ def chosen_in(
     """The ballots of a letter to enter: what was typed, the lines that were named, or its only one."""
     name = f"letter {letter.number}"
     if typed is not None:
-        known, marked = letter.known, letter.known.marked_elector(letter.parsed)
-        sharing = known.electors_by_address.get(letter.parsed.sender, ())
-        possible = {*letter.electors, *sharing, *filter(None, [marked])}
+        possible = {*letter.electors, *letter.sharing, *filter(None, [letter.marked_elector])}
         chosen = Chosen(letter, 0, typed)
         if possible and chosen.elector not in possible and not is_forced:
             words = f"neither its sender nor a line of {name} is of {chosen.elector}"

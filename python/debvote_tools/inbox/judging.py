@@ -1,32 +1,47 @@
-"""What becomes of each letter that came, by the rules and beside the other letters, as the vote, the
-electors and the book are now. Letters are judged anew whenever they are looked at.
+"""What becomes of each letter: by the rules, beside the other letters, and as the vote, the electors
+and the book are now. Letters are judged anew whenever they are looked at.
 """
 
 import bisect
 import collections
 import datetime
 import itertools
+import operator
 from collections.abc import Callable, Collection, Mapping, Sequence
+from typing import NamedTuple
 
 from debvote_tools.book import queries
 from debvote_tools.book.election import KEYRING, History
 from debvote_tools.book.queries import KeptLetter
 from debvote_tools.inbox.letter import Body
-from debvote_tools.inbox.letter_lines import (
-    ReadLetter,
-    answers_in,
-    from_json,
-    keyring_of,
-    read_letters,
-)
+from debvote_tools.inbox.letter_lines import ReadLetter, answers_in, from_json, read_letters
 from debvote_tools.inbox.mailbox import RawLetter
 from debvote_tools.inbox.reasons import Because, Reason
-from debvote_tools.inbox.rules import DECIDED, Ballot, Decision, JudgedLetter, Known, Outcome
+from debvote_tools.inbox.rules import JudgedLetter, Known, Outcome
 from debvote_tools.inbox.vote import Vote
 from debvote_tools.poll.call import SUBJECT
 from debvote_tools.text import times
 
-SLOW = Reason.SLOW_SIGNATURE()
+# what an act decided holds, whatever the rules say
+DECIDED = {
+    queries.ENTERED: (Outcome.ENTERED, None),
+    queries.SET_ASIDE: (Outcome.SET_ASIDE, Reason.SET_ASIDE()),
+    queries.STRUCK: (Outcome.SET_ASIDE, Reason.STRUCK()),
+    queries.TAKEN_BACK: (Outcome.WAITS, Reason.TAKEN_BACK()),
+    queries.PUT_BACK: (Outcome.WAITS, Reason.PUT_BACK()),
+}
+
+
+class Ballot(NamedTuple):
+    """A ballot that is in and not struck: its time, in whole seconds, and its line."""
+
+    time: datetime.datetime
+    line: str
+
+
+# the ballots that are in, of each elector in the order of their times
+Box = dict[str, list[Ballot]]
+TIME = operator.attrgetter("time")
 
 
 def judged(
@@ -39,20 +54,17 @@ def judged(
         return []
     found = kept_letters(vote, kept)
     by_key = {letter.key: kept_letter for letter, kept_letter in zip(found, kept)}
-    letters_now = judge_all(
-        [*found, *looked_at],
-        known_now(vote, history, by_key),
-        lambda names: ballots_in(vote, names),
-    )
-    no_codes_expected = vote.poll.secret and not vote.has_codes
+    known = known_now(vote, history, by_key)
+    letters_now = judge_all([*found, *looked_at], known, lambda names: ballots_in(vote, names))
     for letter in letters_now:
         if (kept_letter := by_key.get(letter.parsed.key)) is not None:
             letter.number, letter.source = kept_letter.number, kept_letter.source
-        if no_codes_expected:
+        if vote.poll.secret and not vote.has_codes:
             letter.code_lines = letter.parsed.code_lines
     return letters_now
 
 
+# ---------------------------------------------------------------- what they are judged by
 def kept_letters(vote: Vote, kept: Sequence[KeptLetter]) -> list[ReadLetter]:
     """What the book keeps of letters. A signature is checked anew if the letter came before the
     present keyring, or gpgv was too slow: of a letter that waits; and, if a signed one waits, of
@@ -62,84 +74,80 @@ def kept_letters(vote: Vote, kept: Sequence[KeptLetter]) -> list[ReadLetter]:
     # what debvote has said of their lines it is not asked again
     vote.answered |= answers_in(found, vote.roll)
     sealed = queries.last_act_that_sealed(vote.book, KEYRING)
-    old = [
-        index
-        for index, (letter, one) in enumerate(zip(found, kept))
-        if (one.act < sealed and not letter.is_never_signed) or letter.why_unsigned == SLOW
-    ]
-    check_again(vote, kept, found, [index for index in old if kept[index].is_undecided])
+
+    def check_again(is_undecided: bool) -> None:
+        """Reads letters again, for their signatures."""
+        raws = {}
+        for index, (one, letter) in enumerate(zip(kept, found)):
+            is_old = one.act < sealed and not letter.is_never_signed
+            is_unsigned = is_undecided or letter.signature is None
+            if (is_old or letter.is_slow) and one.is_undecided == is_undecided and is_unsigned:
+                data = queries.source_of(vote.book, one.source)
+                raws[index] = RawLetter(letter.where, data, letter.is_parted_off)
+        for index, read in zip(raws, read_letters(vote, [*raws.values()])):
+            found[index] = read
+
+    check_again(True)
     if any(letter.signature is not None and one.is_undecided for letter, one in zip(found, kept)):
-        decided = [index for index in old if not kept[index].is_undecided]
-        unsigned = [index for index in decided if found[index].signature is None]
-        check_again(vote, kept, found, unsigned)
+        check_again(False)
     return found
 
 
-def check_again(
-    vote: Vote, kept: Sequence[KeptLetter], found: list[ReadLetter], indices: Sequence[int]
-) -> None:
-    """Reads some letters again, for their signatures."""
-    raws = []
-    for index in indices:
-        one, data = found[index], queries.source_of(vote.book, kept[index].source)
-        raws.append(RawLetter(one.where, data, one.is_parted_off))
-    for index, letter in zip(indices, read_letters(vote, raws)):
-        found[index] = letter
-
-
-def ballots_in(vote: Vote, names: Collection[str]) -> dict[str, list[Ballot]]:
+def ballots_in(vote: Vote, names: Collection[str]) -> Box:
     """The ballots of some electors that are in and not struck."""
     numbers = queries.elector_numbers(vote.book, names)
     by_number = {number: name for name, number in numbers.items()}
     envelopes = queries.envelopes_of(vote.book, by_number)
     answers = vote.answers([envelope.line for envelope in envelopes])
-    ballots: dict[str, list[Ballot]] = {}
+    box: Box = collections.defaultdict(list)
     for envelope in envelopes:
         if answers[envelope.line] is None and envelope.elector is not None:
             ballot = Ballot(envelope.time, envelope.line.decode("ascii"))
-            ballots.setdefault(by_number[envelope.elector], []).append(ballot)
-    return ballots
+            box[by_number[envelope.elector]].append(ballot)
+    return box
 
 
 def known_now(vote: Vote, history: History, by_key: Mapping[str, KeptLetter]) -> Known:
     election, call = vote.election, history.call
-    sealed, electors = election.sealed(), queries.electors(election.book)
     assert call is not None
+    public, electors = election.sealed().public, queries.electors(election.book)
     ids = queries.our_message_ids(election.book)
     states = ((key, kept.state) for key, kept in by_key.items())
     return Known(
-        mark=sealed.public.mark,
-        subject=election.language.say(SUBJECT, title=sealed.public.name),
+        mark=public.mark,
+        subject=election.language.say(SUBJECT, title=public.name),
         electors={elector.name: elector for elector in electors},
         is_marked=bool(history.announced("marked")),
-        is_signed=keyring_of(election) is not None,
+        is_signed=vote.is_signed,
         called=call.time,
         end=history.until,
         first_close=history.closes[0].time if history.closes else None,
         now=times.now(),
         our_letters={elector.name: ids.get(elector.number, []) for elector in electors},
-        decisions={key: Decision(state) for key, state in states if state != queries.WAITS},
+        decisions={key: state for key, state in states if state != queries.WAITS},
     )
 
 
 # ---------------------------------------------------------------- one letter beside the others
-class Box:
-    """The ballots that are in, by elector and time."""
-
-    def __init__(self) -> None:
-        self.times: dict[str, list[datetime.datetime]] = collections.defaultdict(list)
-        self.lines: dict[tuple[str, datetime.datetime], set[str]] = collections.defaultdict(set)
-
-    def add(self, elector: str, ballot: Ballot) -> None:
-        bisect.insort(self.times[elector], ballot.time)
-        self.lines[elector, ballot.time].add(ballot.line)
-
-    def last(self, elector: str) -> datetime.datetime | None:
-        return self.times[elector][-1] if self.times[elector] else None
-
-    def has_between(self, elector: str, after: datetime.datetime, until: datetime.datetime) -> bool:
-        times = self.times[elector]
-        return bisect.bisect_right(times, after) < bisect.bisect_left(times, until)
+def judge_all(
+    letters: Sequence[ReadLetter],
+    known: Known,
+    ballots_of: Callable[[Collection[str]], Mapping[str, Sequence[Ballot]]],
+) -> list[JudgedLetter]:
+    """Judges letters, and returns them in the order of their times; those without a time come last.
+    `ballots_of` returns the ballots of some electors that are in and not struck.
+    """
+    cases = [JudgedLetter(letter, known) for letter in letters]
+    cases.sort(key=lambda case: (case.time is None, case.time or known.now))
+    electors = {elector for case in cases for elector in case.electors}
+    box: Box = collections.defaultdict(list)
+    for elector, ballots in ballots_of(electors).items():
+        box[elector] = sorted(ballots, key=TIME)
+    set_outcomes(cases, box)
+    for case in cases:
+        last = (box[elector][-1] for elector in case.electors if box[elector])
+        case.has_voted_since = any(case.time is None or one.time > case.time for one in last)
+    return cases
 
 
 def set_outcomes(cases: Sequence[JudgedLetter], box: Box) -> None:
@@ -150,9 +158,7 @@ def set_outcomes(cases: Sequence[JudgedLetter], box: Box) -> None:
     for case in cases:
         groups[case.parsed.identity].append(case)
         if case.decision is not None:
-            case.outcome = DECIDED.get(case.decision, Outcome.WAITS)
-            if case.decision is not Decision.ENTERED:
-                case.reason = Reason[case.decision.name]()
+            case.outcome, case.reason = DECIDED[case.decision]
     firsts: set[JudgedLetter] = set()
     at_once: dict[tuple[str, datetime.datetime | None], set[str]] = collections.defaultdict(set)
     undecided = [group for group in groups.values() if any(case.decision is None for case in group)]
@@ -167,7 +173,7 @@ def set_outcomes(cases: Sequence[JudgedLetter], box: Box) -> None:
         case.reason = why_not_latest(case, box, at_once[case.elector, case.time])
         if case.reason is None and case.time is not None:
             case.outcome = Outcome.GOES_IN
-            box.add(case.elector, Ballot(case.time, case.ballots[0].ballot))
+            box[case.elector].append(Ballot(case.time, case.ballots[0].ballot))
     for group in undecided:
         set_copies(group, firsts, box)
 
@@ -177,12 +183,13 @@ def why_not_latest(case: JudgedLetter, box: Box, at_once: set[str]) -> Because |
     be the same.
     """
     assert case.time is not None
-    elector, time = case.elector, case.time
-    last = box.last(elector)
-    if last is not None and last > time:
-        return Reason.LATER_BALLOT(elector=elector, time=last)
-    others = (box.lines[elector, time] | at_once) - {case.ballots[0].ballot}
-    return Reason.SAME_TIME(elector=elector, time=time) if others else None
+    elector, time, ballots = case.elector, case.time, box[case.elector]
+    if ballots and ballots[-1].time > time:
+        return Reason.LATER_BALLOT(elector=elector, time=ballots[-1].time)
+    same_time = ballots[bisect.bisect_left(ballots, time, key=TIME) :]
+    others = {one.line for one in same_time} | at_once
+    is_alone = others == {case.ballots[0].ballot}
+    return None if is_alone else Reason.SAME_TIME(elector=elector, time=time)
 
 
 def set_copies(group: Sequence[JudgedLetter], firsts: Collection[JudgedLetter], box: Box) -> None:
@@ -215,28 +222,8 @@ def set_copy(case: JudgedLetter, first: JudgedLetter, box: Box) -> None:
     case.outcome, case.reason = Outcome.COPY, None
     if first.time is not None and before is not None and arrived is not None and arrived > before:
         for line in (*case.ballots, *case.offered):
-            if box.has_between(line.elector, first.time, arrived):
+            ballots = box[line.elector]
+            after = bisect.bisect_right(ballots, first.time, key=TIME)
+            if after < bisect.bisect_left(ballots, arrived, key=TIME):
                 case.outcome, case.reason = Outcome.WAITS, Reason.CAME_BEFORE(elector=line.elector)
                 return
-
-
-def judge_all(
-    letters: Sequence[ReadLetter],
-    known: Known,
-    ballots_of: Callable[[Collection[str]], Mapping[str, Sequence[Ballot]]],
-) -> list[JudgedLetter]:
-    """Judges letters, and returns them in the order of their times; those without a time come last.
-    `ballots_of` returns the ballots of some electors that are in and not struck.
-    """
-    cases = [JudgedLetter(letter, known) for letter in letters]
-    ordered = sorted(cases, key=lambda case: (case.time is None, case.time or known.now))
-    box = Box()
-    electors = {elector for case in cases for elector in case.electors}
-    for elector, ballots in ballots_of(electors).items():
-        for ballot in ballots:
-            box.add(elector, ballot)
-    set_outcomes(ordered, box)
-    for case in ordered:
-        times = filter(None, map(box.last, case.electors))
-        case.has_voted_since = any(case.time is None or time > case.time for time in times)
-    return ordered

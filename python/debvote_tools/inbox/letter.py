@@ -145,6 +145,11 @@ class ParsedLetter:
         return self.why_unsigned is not None and self.why_unsigned.reason in never
 
     @property
+    def is_slow(self) -> bool:
+        """Whether gpgv did not answer about it."""
+        return self.why_unsigned == Reason.SLOW_SIGNATURE()
+
+    @property
     def shown_lines(self) -> tuple[str, ...]:
         """The lines by number, from 1: those of its text, then those of other parts that may be
         ballots.

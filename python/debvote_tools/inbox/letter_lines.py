@@ -18,7 +18,7 @@ from collections.abc import Callable, Collection, Iterable, Iterator, Mapping, S
 from typing import Any
 
 from debvote_tools.book import queries
-from debvote_tools.book.election import KEYRING, Election
+from debvote_tools.book.election import KEYRING
 from debvote_tools.inbox.letter import ParsedLetter, is_quoted, may_be_ballot, parse
 from debvote_tools.inbox.lines import DASHES, LONGEST_REPAIRED, changed, has_code
 from debvote_tools.inbox.mailbox import RawLetter
@@ -132,17 +132,12 @@ def read_letters(vote: Vote, raws: Sequence[RawLetter]) -> list[ReadLetter]:
     found, election = [parse(raw) for raw in raws], vote.election
     if not found:
         return []
-    if (keyring := keyring_of(election)) is not None:
+    if vote.is_signed:
+        keyring = queries.sealed(vote.book, KEYRING) or b""
         found = verified(raws, found, keyring, find_gpgv())
     real_names = {elector.name: elector.who for elector in queries.electors(vote.book)}
     names = Names(vote.names_on_roll, election.language.code, real_names)
     return with_lines(found, names, vote.answers)
-
-
-def keyring_of(election: Election) -> bytes | None:
-    """The keyring that holds; None if letters need no signature."""
-    is_signed = election.history().announced("signed")
-    return queries.sealed(election.book, KEYRING) if is_signed else None
 
 
 def with_lines(letters: Sequence[ParsedLetter], names: Names, ask: Ask) -> list[ReadLetter]:

@@ -99,9 +99,9 @@ def of_electors(
     kept = queries.letters(election.book)
     kept_at = {letter.number: history.act(letter.act).time for letter in kept}
     for letter in judged(vote, history, kept):
-        sender = letter.known.elector_of(letter.parsed)
         time = letter.parsed.arrived or kept_at[letter.number]
-        for name in dict.fromkeys([*letter.electors, *([sender] if sender else [])]) or [NOBODY]:
+        names_of = filter(None, (*letter.electors, letter.sender))
+        for name in dict.fromkeys(names_of) or [NOBODY]:
             if name in found:
                 is_own = letter.parsed.sender in addresses.get(name, ())
                 found[name].append(Came(time, letter.outcome, letter=letter, is_own=is_own))

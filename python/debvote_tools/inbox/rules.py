@@ -1,8 +1,8 @@
-"""What becomes of each letter: it goes in by itself if all rules hold; else it waits, with the reason
-of the first rule that does not.
+"""The rules of a letter: it goes in by itself if all hold; else it waits, with the reason of the first
+that does not.
 
-The rules say what a letter has to be. No list of what may be wrong with a letter, or of what a
-quotation looks like, can be complete, so there is none.
+They say what a letter has to be. No list of what may be wrong with a letter, or of what a quotation
+looks like, can be complete, so there is none.
 """
 
 import collections
@@ -13,10 +13,12 @@ import functools
 import itertools
 import re
 import unicodedata
-from collections.abc import Callable, Collection, Mapping, Sequence
+from collections.abc import Collection, Mapping, Sequence
+from typing import NamedTuple
 
+from debvote_tools.book import queries
 from debvote_tools.book.queries import Elector
-from debvote_tools.inbox.letter import END, Body, ParsedLetter, is_quoted
+from debvote_tools.inbox.letter import END, is_quoted
 from debvote_tools.inbox.letter_lines import MAX_BALLOTS, MAX_NEAR, Near, ReadLetter, ReadLine
 from debvote_tools.inbox.mime import address_key
 from debvote_tools.inbox.reasons import Because, Reason
@@ -41,24 +43,14 @@ PICTURES = re.compile("[\u2600-\u2767\u2794-\u27bf\U0001f300-\U0001faff]")
 OPENING, COLONS, LIKE_COLONS = ("¡", "¿"), (":", "：", "﹕"), "\u02d0\u0903\ua4fd"
 
 
-class Decision(enum.Enum):
+class Outcome(enum.Enum):
+    GOES_IN = "goes in"
+    WAITS = "waits"
+    # it is a duplicate of another letter, and is ignored
+    COPY = "copy"
+    # an act decided; a letter whose envelope was struck is set aside, too
     ENTERED = "entered"
-    TAKEN_BACK = "taken back"
-    PUT_BACK = "put back"
     SET_ASIDE = "set aside"
-    STRUCK = "struck"
-
-
-@dataclasses.dataclass(frozen=True)
-class Ballot:
-    """A ballot that is in and not struck: its time, in whole seconds, and its line."""
-
-    time: datetime.datetime
-    line: str
-
-
-def as_compared(subject: str) -> str:
-    return "".join(subject.split()).casefold()
 
 
 @dataclasses.dataclass(frozen=True)
@@ -80,8 +72,8 @@ class Known:
     now: datetime.datetime
     # the Message-IDs of the letters that were written to each elector
     our_letters: Mapping[str, Collection[str]]
-    # what acts decided, by the keys of the letters
-    decisions: Mapping[str, Decision]
+    # what acts decided, by the keys of the letters: states of the book
+    decisions: Mapping[str, str]
 
     def is_mark(self, line: str) -> bool:
         """Whether a line is the mark of the poll, alone or with an own one."""
@@ -96,13 +88,6 @@ class Known:
     def electors_by_mark(self) -> dict[str, str]:
         return {elector.mark: name for name, elector in self.electors.items() if elector.mark}
 
-    def marked_elector(self, letter: ParsedLetter) -> str | None:
-        """The elector whose own mark the subject of a letter has; None if it has several, or none.
-        A subject with the own mark of somebody else counts as one with the mark of the poll alone.
-        """
-        owns = {own for mark, own in letter.marks if own and mark == self.mark}
-        return self.electors_by_mark.get(*owns) if len(owns) == 1 else None
-
     @functools.cached_property
     def electors_by_address(self) -> dict[str, list[str]]:
         found: dict[str, list[str]] = collections.defaultdict(list)
@@ -110,35 +95,6 @@ class Known:
             for key in dict.fromkeys(filter(None, map(address_key, elector.addresses))):
                 found[key].append(name)
         return dict(found)
-
-    def elector_of(self, letter: ParsedLetter) -> str | None:
-        """The one elector whose address the sender of a letter has."""
-        electors = self.electors_by_address.get(letter.sender, [])
-        return electors[0] if len(electors) == 1 else None
-
-    def is_subject_of_page(self, subject: str) -> bool:
-        """Whether a subject is the one that the page of the call makes, but for its marks and
-        blanks.
-        """
-        return as_compared(MARKS.sub("", as_compared(subject))) == as_compared(self.subject)
-
-
-class Outcome(enum.Enum):
-    GOES_IN = "goes in"
-    WAITS = "waits"
-    # it is a duplicate of another letter, and is ignored
-    COPY = "copy"
-    # an act decided; a letter whose envelope was struck is set aside, too
-    ENTERED = "entered"
-    SET_ASIDE = "set aside"
-
-
-# what an act decided holds, whatever the rules say; else a letter waits, as one that was put back
-DECIDED = {
-    Decision.ENTERED: Outcome.ENTERED,
-    Decision.SET_ASIDE: Outcome.SET_ASIDE,
-    Decision.STRUCK: Outcome.SET_ASIDE,
-}
 
 
 # ---------------------------------------------------------------- what the lines are
@@ -167,20 +123,16 @@ class BallotLine:
         return any(rank != "-" and int(rank) > len(self.ranks) for rank in self.ranks)
 
 
-@dataclasses.dataclass(frozen=True)
-class View:
-    """What the lines of a letter are, by who sent it.
-
-    `lines` are the ballots, by the indices of their lines among all that are shown, and `others`
-    those with the real name of somebody else, as in the letter of a family. The secretary may enter
-    what is `offered`; `offered_for` says why the first of these is no ballot by itself.
+class View(NamedTuple):
+    """What the lines of a letter are, by who sent it: the ballots; those with the real name of
+    somebody else, as in the letter of a family; what is offered to the secretary, with the reason
+    why it is no ballot by itself; and what is near to a ballot.
     """
 
-    lines: Mapping[int, BallotLine]
-    others: tuple[BallotLine, ...] = ()
-    offered: tuple[BallotLine, ...] = ()
-    offered_for: Reason | None = None
-    near: tuple[Near, ...] = ()
+    lines: Sequence[BallotLine]
+    others: Sequence[BallotLine]
+    offered: Mapping[BallotLine, Reason]
+    near: Sequence[Near]
 
 
 def view_of(lines: Sequence[ReadLine], sharing: Sequence[str], marked: str | None) -> View:
@@ -193,7 +145,7 @@ def view_of(lines: Sequence[ReadLine], sharing: Sequence[str], marked: str | Non
     """
     sender = sharing[0] if len(sharing) == 1 else None
     likely = sender if marked is None else marked if marked in (sharing or [marked]) else None
-    own, others, refused = dict[int, BallotLine](), list[BallotLine](), dict[str, Near]()
+    own, others, refused = list[BallotLine](), list[BallotLine](), dict[str, Near]()
     offered = dict[BallotLine, Reason]()
     for line in lines:
         name = line.elector or (sender if sender is not None and is_name_of(sender, line) else None)
@@ -208,13 +160,13 @@ def view_of(lines: Sequence[ReadLine], sharing: Sequence[str], marked: str | Non
         elif line.answer is not None and name is not None:
             refused.setdefault(ballot.ballot, Near(line.number, ballot.ballot, False, line.answer))
         elif line.answer is None and line.ranks and name is not None:
-            own[line.number - 1] = ballot
+            own.append(ballot)
         elif line.answer is None and line.real:
             others.append(ballot)
     if own or refused:
-        return View(own, tuple(others), near=tuple(refused.values())[:MAX_NEAR])
-    near = tuple(line.near for line in lines if line.near is not None)
-    return View({}, (), tuple(offered), next(iter(offered.values()), None), near[:MAX_NEAR])
+        return View(own, others, {}, list(refused.values())[:MAX_NEAR])
+    near = [line.near for line in lines if line.near is not None]
+    return View((), (), offered, near[:MAX_NEAR])
 
 
 def is_name_of(elector: str, line: ReadLine) -> bool:
@@ -236,26 +188,28 @@ class JudgedLetter:
 
     def __init__(self, letter: ReadLetter, known: Known) -> None:
         self.parsed, self.known = letter, known
-        self.marked_elector = known.marked_elector(letter)
-        sharing = known.electors_by_address.get(letter.sender, [])
-        self.view = view_of(letter.read_lines, sharing, self.marked_elector)
+        # the electors who have the sender's address, and the one whose own mark the subject has. A
+        # subject with several, or with that of nobody, counts as one with the poll's mark alone
+        self.sharing = known.electors_by_address.get(letter.sender, [])
+        owns = {own for mark, own in letter.marks if own and mark == known.mark}
+        self.marked_elector = known.electors_by_mark.get(*owns) if len(owns) == 1 else None
+        self.view = view_of(letter.read_lines, self.sharing, self.marked_elector)
         # that of its ballot: if letters have to be signed, that of the signature
         signature = letter.signature if known.is_signed else None
         self.time = letter.arrived if signature is None else signature.time
         self.decision = known.decisions.get(letter.key)
-        end = above_end(letter.body.lines)
-        self.index = next((index for index in self.view.lines if index < end), None)
-        self.ballot = None if self.index is None else self.view.lines[self.index]
+        # the ballot that may go in, and its index among the lines
+        end, lines = above_end(letter.body.lines), self.view.lines
+        self.ballot = next((line for line in lines if line.number <= end), None)
+        self.index = -1 if self.ballot is None else self.ballot.number - 1
         self.elector = "" if self.ballot is None else self.ballot.elector
-        # the lines that read as ballots, first the one that may go in; and lines that are no
-        # ballots by themselves. Each can be entered by its number
+        # all lines that read as ballots, first that one; and lines that are no ballots by
+        # themselves. Each can be entered by its number
         own = [self.ballot] if self.ballot else []
-        self.ballots: tuple[BallotLine, ...] = tuple(
-            dict.fromkeys((*own, *self.view.lines.values(), *self.view.others))
-        )
-        self.offered = self.view.offered
+        self.ballots = tuple(dict.fromkeys((*own, *lines, *self.view.others)))
+        self.offered = tuple(self.view.offered)
         # a letter that a program wrote quotes others, so nothing is said of its lines
-        self.near: tuple[Near, ...] = () if self.ballots or letter.is_automatic else self.view.near
+        self.near = () if self.ballots or letter.is_automatic else tuple(self.view.near)
 
     @property
     def has_own_mark(self) -> bool:
@@ -264,13 +218,13 @@ class JudgedLetter:
 
     @functools.cached_property
     def why_by_itself(self) -> Because | None:
-        """Why it waits, whatever other letters there are: all rules but `why_not_latest`."""
-        return next(filter(None, (rule(self, self.known) for rule in RULES)), None)
+        """Why it waits, whatever other letters there are."""
+        return next(filter(None, (rule(self) for rule in RULES)), None)
 
     @property
     def hides(self) -> bool:
         """Whether its copies are ignored: it went in, or may go in by itself."""
-        went_in = (Decision.ENTERED, Decision.TAKEN_BACK, Decision.STRUCK)
+        went_in = (queries.ENTERED, queries.TAKEN_BACK, queries.STRUCK)
         return self.decision in went_in or self.why_by_itself is None
 
     @property
@@ -287,24 +241,27 @@ class JudgedLetter:
         arrived, ends = self.parsed.arrived, (self.known.end, self.known.first_close)
         return arrived is not None and any(arrived > end for end in filter(None, ends))
 
+    @property
+    def sender(self) -> str | None:
+        """The only elector who has the sender's address."""
+        return self.sharing[0] if len(self.sharing) == 1 else None
+
     @functools.cached_property
     def electors(self) -> tuple[str, ...]:
         """The electors on its ballots, or near to one; else the one who has the sender's address."""
         named = [line.elector for line in (*self.ballots, *self.offered)]
         near = (near.ballot.partition(" ")[0] for near in self.view.near)
         named += [name for name in near if name in self.known.electors]
-        sender = self.known.elector_of(self.parsed)
-        return tuple(dict.fromkeys(named)) or (() if sender is None else (sender,))
+        return tuple(dict.fromkeys(named or filter(None, [self.sender])))
 
     @property
     def shared_with(self) -> tuple[str, ...]:
         """The other electors who have the sender's address."""
-        sharing = self.known.electors_by_address.get(self.parsed.sender, [])
-        return tuple(name for name in sharing if name not in self.electors)
+        return tuple(name for name in self.sharing if name not in self.electors)
 
 
 # ---------------------------------------------------------------- the rules
-def can_be_read(case: JudgedLetter, known: Known) -> Because | None:
+def can_be_read(case: JudgedLetter) -> Because | None:
     letter, body = case.parsed, case.parsed.body
     if letter.is_parted_off:
         return Reason.PARTED_OFF()
@@ -312,31 +269,31 @@ def can_be_read(case: JudgedLetter, known: Known) -> Because | None:
         return Reason.AUTOMATIC()
     if body.trouble is not None:
         return body.trouble
-    if crowd := letter.crowd:
+    if letter.crowd:
         what = "lines that may be ballots"
-        return Reason.TOO_LONG(length=crowd, what=what, limit=MAX_BALLOTS)
-    is_odd = body.is_html and case.index is not None and case.index >= body.plain_lines
+        return Reason.TOO_LONG(length=letter.crowd, what=what, limit=MAX_BALLOTS)
+    is_odd = body.is_html and case.ballot is not None and case.index >= body.plain_lines
     return Reason.HTML(element=body.first_other) if is_odd else None
 
 
-def arrived_in_time(case: JudgedLetter, known: Known) -> Because | None:
-    arrived, end, close = case.parsed.arrived, known.end, known.first_close
+def arrived_in_time(case: JudgedLetter) -> Because | None:
+    arrived, known = case.parsed.arrived, case.known
     if arrived is None:
         return Reason.NO_ARRIVAL()
     if case.arrived_before_call:
         return Reason.BEFORE_THE_CALL(called=known.called)
-    if end is not None and arrived > end:
-        return Reason.AFTER_THE_END(end=end)
-    if close is not None and arrived > close:
-        return Reason.AFTER_THE_CLOSE(close=close)
+    if known.end is not None and arrived > known.end:
+        return Reason.AFTER_THE_END(end=known.end)
+    if known.first_close is not None and arrived > known.first_close:
+        return Reason.AFTER_THE_CLOSE(close=known.first_close)
     return Reason.IN_THE_FUTURE(arrived=arrived) if arrived > known.now + AHEAD else None
 
 
-def is_sent_by_its_elector(case: JudgedLetter, known: Known) -> Because | None:
+def is_sent_by_its_elector(case: JudgedLetter) -> Because | None:
     """It comes from an address that the list has for the elector on the ballot. After `call
     --marked` its subject has the own mark of this elector, too.
     """
-    sender, elector = case.parsed.sender, case.elector
+    sender, elector, known = case.parsed.sender, case.elector, case.known
     listed = known.electors[elector].addresses if elector in known.electors else ()
     if not sender:
         return Reason.NO_SENDER(sender=case.parsed.shown_sender)
@@ -345,7 +302,7 @@ def is_sent_by_its_elector(case: JudgedLetter, known: Known) -> Because | None:
     if sender in map(address_key, listed):
         if case.has_own_mark or not known.is_marked:
             return None
-        return is_of_this_vote(case, known) or Reason.NO_OWN_MARK(elector=elector)
+        return is_of_this_vote(case) or Reason.NO_OWN_MARK(elector=elector)
     if case.has_own_mark:
         return Reason.OWN_MARK_ELSEWHERE(sender=sender, elector=elector)
     if not listed:
@@ -353,11 +310,11 @@ def is_sent_by_its_elector(case: JudgedLetter, known: Known) -> Because | None:
     return Reason.OTHER_SENDER(sender=sender, listed=" and ".join(listed), elector=elector)
 
 
-def is_signed_by_its_elector(case: JudgedLetter, known: Known) -> Because | None:
+def is_signed_by_its_elector(case: JudgedLetter) -> Because | None:
     """It has a good signature, if letters have to be signed. This comes before the rules about its
     text, since only what was signed is read as the text.
     """
-    letter, signature, elector = case.parsed, case.parsed.signature, case.elector
+    letter, signature, elector, known = case.parsed, case.parsed.signature, case.elector, case.known
     if not known.is_signed or case.ballot is None:
         return None
     if signature is None:
@@ -375,7 +332,7 @@ def is_signed_by_its_elector(case: JudgedLetter, known: Known) -> Because | None
     return None if has_mark else Reason.NO_MARK(mark=known.mark)
 
 
-def has_one_ballot(case: JudgedLetter, known: Known) -> Because | None:
+def has_one_ballot(case: JudgedLetter) -> Because | None:
     """No other line reads as a ballot that differs. This comes before `ballot_is_first`, whose
     reason would say less.
     """
@@ -387,39 +344,40 @@ def has_one_ballot(case: JudgedLetter, known: Known) -> Because | None:
     return Reason.SEVERAL_ELECTORS(electors=", ".join(electors))
 
 
-def ballot_is_first(case: JudgedLetter, known: Known) -> Because | None:
+def ballot_is_first(case: JudgedLetter) -> Because | None:
     """The ballot is the first line, but for a greeting. In an answer to a letter that only this
     elector has, a quotation of it may be above the ballot.
     """
-    body, ballot = case.parsed.body, case.ballot
-    if ballot is None or case.index is None:
-        if not case.ballots:
-            return (case.view.offered_for or Reason.NO_BALLOT)()
-        return Reason.JOINED() if body.flowing else Reason.ELSEWHERE(number=case.ballots[0].number)
-    if case.index in body.flowing:
+    flowing, ballot = case.parsed.body.flowing, case.ballot
+    if ballot is None and not case.ballots:
+        return next(iter(case.view.offered.values()), Reason.NO_BALLOT)()
+    if ballot is None and not flowing:
+        return Reason.ELSEWHERE(number=case.ballots[0].number)
+    if ballot is None or case.index in flowing:
         return Reason.JOINED()
     if ballot.has_high_rank:
         return Reason.HIGH_RANK(number=ballot.number, options=len(ballot.ranks))
     # lines that flow are judged as they stand, and joined
-    views = dict.fromkeys((frozenset(body.flowing), frozenset[int]()))
-    return next(filter(None, (why_not_first(case, case.index, joined) for joined in views)), None)
+    views = dict.fromkeys((frozenset(flowing), frozenset[int]()))
+    return next(filter(None, (why_not_first(case, joined) for joined in views)), None)
 
 
-def is_of_this_vote(case: JudgedLetter, known: Known) -> Because | None:
+def is_of_this_vote(case: JudgedLetter) -> Because | None:
     """Its subject has the mark of the poll, and no other. If letters have to be signed, no other
     mark is in the signed text, either.
     """
-    signed = case.parsed.shown_lines if known.is_signed else ()
+    own = case.known.mark
+    signed = case.parsed.shown_lines if case.known.is_signed else ()
     marks = [mark for mark, _ in case.parsed.marks]
     for mark in (*marks, *(mark for line in signed for mark, _ in marks_in(line))):
-        if mark != known.mark:
+        if mark != own:
             return Reason.OTHER_MARK(mark=mark)
     if marks:
         return None
     subject = "".join(case.parsed.subject.split()).lower()
-    pieces = (known.mark[place : place + PIECE] for place in range(len(known.mark) - PIECE + 1))
+    pieces = (own[place : place + PIECE] for place in range(len(own) - PIECE + 1))
     is_changed = any(piece in subject for piece in pieces)
-    return (Reason.CHANGED_MARK if is_changed else Reason.NO_SUBJECT_MARK)(mark=known.mark)
+    return (Reason.CHANGED_MARK if is_changed else Reason.NO_SUBJECT_MARK)(mark=own)
 
 
 RULES = (
@@ -439,30 +397,38 @@ def above_end(lines: Sequence[str]) -> int:
     return lines.index(END) if END in lines else len(lines)
 
 
-def paragraphs_of(
-    body: Body, passes_over: Callable[[str], bool], joined: Collection[int]
-) -> list[list[int]]:
+def paragraphs_of(case: JudgedLetter, joined: Collection[int]) -> list[list[int]]:
     """The paragraphs above the end of a letter, each as the indices of its lines. A line that is
     passed over is in no paragraph, and ends none; nor does an empty line that is joined to others.
     """
-    paragraphs: list[list[int]] = [[]]
-    for index, line in enumerate(body.lines[: above_end(body.lines)]):
+    lines, paragraphs = case.parsed.body.lines, [list[int]()]
+    for index, line in enumerate(lines[: above_end(lines)]):
         # a line of blanks is empty, no-break ones too
         has_text = bool(line.strip())
         if line == STROKE or not (has_text or index in joined):
             paragraphs.append([])
-        elif has_text and not passes_over(line):
+        elif has_text and not case.known.passes_over(line):
             paragraphs[-1].append(index)
     return [paragraph for paragraph in paragraphs if paragraph]
 
 
-def why_not_first(case: JudgedLetter, ballot: int, joined: Collection[int]) -> Because | None:
-    """Why the ballot with this index among the lines is not the first line; None if it is."""
-    letter, known, lines = case.parsed, case.known, case.parsed.body.lines
+def is_subject_of_page(case: JudgedLetter) -> bool:
+    """Whether the subject is the one that the page of the call makes, but for marks and blanks."""
+
+    def as_compared(subject: str) -> str:
+        return "".join(subject.split()).casefold()
+
+    subject = MARKS.sub("", as_compared(case.parsed.subject))
+    return as_compared(subject) == as_compared(case.known.subject)
+
+
+def why_not_first(case: JudgedLetter, joined: Collection[int]) -> Because | None:
+    """Why the ballot is not the first line; None if it is."""
+    letter, lines, ballot = case.parsed, case.parsed.body.lines, case.index
     is_ours = case.has_own_mark
-    is_answer = is_ours and letter.in_reply_to in known.our_letters.get(case.elector, ())
-    is_by_page = is_ours and letter.is_new and known.is_subject_of_page(letter.subject)
-    paragraphs = paragraphs_of(letter.body, known.passes_over, joined)
+    is_answer = is_ours and letter.in_reply_to in case.known.our_letters.get(case.elector, ())
+    is_by_page = is_ours and letter.is_new and is_subject_of_page(case)
+    paragraphs = paragraphs_of(case, joined)
     place = next(place for place, own in enumerate(paragraphs) if ballot in own)
     quoted = [any(is_quoted(lines[index]) for index in one) for one in paragraphs]
     first = quoted.index(True) if True in quoted[:place] else -1
