@@ -198,9 +198,9 @@ class Files(unittest.TestCase):
     def test_a_long_letter_is_named_and_the_others_are_read(self) -> None:
         long = letter("ada", "x" * MAX_LETTER)
         found = letters_of_file("box", mailbox(long, BEN))
-        self.assertEqual([(one.where, one.why) for one in found.passed_over], [("box, message 1", NotRead.TOO_LONG)])
+        self.assertEqual(found.passed_over, [("box, message 1", NotRead.TOO_LONG)])
         self.assertEqual([raw.data for raw in found.letters], [BEN])
-        self.assertEqual(letters_of_file("x", long).passed_over[0].why, NotRead.TOO_LONG)
+        self.assertEqual(letters_of_file("x", long).passed_over[0][1], NotRead.TOO_LONG)
 
     def test_what_is_no_letter_is_named(self) -> None:
         names = "__properties_version1.0".encode("utf-16-le")
@@ -210,7 +210,7 @@ class Files(unittest.TestCase):
         }  # fmt: skip
         for data, why in cases.items():
             found = letters_of_file("x", data)
-            self.assertEqual(([(one.where, one.why) for one in found.passed_over], found.letters), ([("x", why)], []))
+            self.assertEqual((found.passed_over, found.letters), ([("x", why)], []))
             self.assertTrue(why.what and why.cure)
 
     def test_a_file_of_lines_is_none(self) -> None:
@@ -275,7 +275,7 @@ class Conservation(unittest.TestCase):
                 self.assertEqual([raw.data for raw in found.letters], [one for _, one, _ in parts])
                 self.assertEqual(found.passed_over, [])
             else:
-                self.assertEqual([one.where for one in found.passed_over], ["box"])
+                self.assertEqual([one[0] for one in found.passed_over], ["box"])
             outcomes = outcome_of(found)
             self.assertEqual(len(outcomes), len(found.letters))
             becomes.update(one.partition(": ")[0] for one in outcomes)
@@ -296,7 +296,7 @@ class Conservation(unittest.TestCase):
                 (folder / f"{number}.eml").write_bytes(self.changed(chance))
             found = letters_of_folder(folder)
             self.assertEqual(
-                sorted([raw.where for raw in found.letters] + [one.where for one in found.passed_over]),
+                sorted([raw.where for raw in found.letters] + [one[0] for one in found.passed_over]),
                 sorted(map(str, folder.iterdir())),
             )
 
@@ -314,7 +314,7 @@ class Folders(unittest.TestCase):
         found = letters_of_folder(self.folder)
         place = f"{self.folder}{os.sep}"
         return [raw.where.removeprefix(place) for raw in found.letters], {
-            one.where.removeprefix(place): one.why for one in found.passed_over
+            where.removeprefix(place): why for where, why in found.passed_over
         }
 
     def test_a_folder_of_messages(self) -> None:

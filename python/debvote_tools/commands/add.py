@@ -140,7 +140,7 @@ def take_lines(vote: Vote, came_files: Sequence[CameFile], arguments: Arguments)
     def plan() -> NewLines:
         """It asks nothing of debvote, so it is made again within the act."""
         history = History(book.acts())
-        vote.demand_same_call(history, "run the command again", NOTHING_ADDED)
+        vote.demand_same_call(history, NOTHING_ADDED)
         takes_again, is_reopened = arguments.again, history.is_reopened
         found = sorted_out(book, files, takes_again=takes_again, is_reopened=is_reopened)
         return NewLines(history.openness(), found)
@@ -457,7 +457,7 @@ def report(
     vote: Vote, plan: NewLines, numbers: Sequence[int], replies: Sequence[str]
 ) -> Iterator[str]:
     if numbers:
-        yield from entering.notes(vote.election, plan.openness, "what is added")
+        yield from entering.late_notes(vote.election, plan.openness, "what is added")
     for file in plan.files:
         yield from (f"{line.where}: it is empty, and was left out" for line in file.empty)
         yield from repeated_words(file)

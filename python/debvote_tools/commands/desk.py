@@ -75,7 +75,7 @@ class Desk:
 
         def plan() -> tuple[History, list[queries.Envelope]]:
             history = History(self.vote.book.acts())
-            self.vote.demand_same_call(history, "start the desk again", NOTHING_CAST)
+            self.vote.demand_same_call(history, NOTHING_CAST, "start the desk again")
             return history.openness(), queries.envelopes(self.vote.book, "elector = ?", elector)
 
         def show_all(now: tuple[History, list[queries.Envelope]]) -> bool:
@@ -112,7 +112,7 @@ def run(election: Election, arguments: Arguments) -> None:
     election.book_for(arguments)
     desk = Desk(election, arguments.came_before_close)
     history = election.history()
-    tell(*entering.notes(election, history, "what is entered"))
+    tell(*entering.late_notes(election, history, "what is entered"))
     if desk.vote.is_signed:
         words = "in this vote letters must be signed, and a desk checks no signature"
         tell(f"Note: {words}: enter only ballots on paper or by word of mouth.")

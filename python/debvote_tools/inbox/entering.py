@@ -1,4 +1,4 @@
-"""What goes in: the loop that shows a plan, asks and does it; the act that enters lines, with the
+"""The loop that shows what would be done, asks and does it; the act that enters lines, with the
 replies to them; and whether they come in time.
 """
 
@@ -6,20 +6,13 @@ import contextlib
 from collections.abc import Callable, Iterable, Sequence
 from typing import TypeVar
 
-from debvote_tools.cli.arguments import Acting, option
 from debvote_tools.book import queries
 from debvote_tools.book.book import ActName, Book, Detail, NewAct, Overtaken
 from debvote_tools.book.election import Election, History
 from debvote_tools.book.queries import NewEnvelope
-from debvote_tools.cli.console import (
-    OutputFailed,
-    act_time,
-    count_of,
-    is_terminal,
-    is_yes,
-    tell,
-    tell_many,
-)
+from debvote_tools.cli import console
+from debvote_tools.cli.arguments import Acting, option
+from debvote_tools.cli.console import act_time, count_of, tell
 from debvote_tools.cli.faults import Fault, Status
 from debvote_tools.files import BALLOTS_LIMIT, LINES_LIMIT, uninterrupted
 from debvote_tools.inbox.vote import LATE_REPLY, Vote, envelope_words
@@ -41,7 +34,6 @@ class Arguments(Acting):
     )
 
 
-# ---------------------------------------------------------------- plan, question, act
 def agreed_act(
     vote: Vote,
     plan: Callable[[], Plan],
@@ -57,7 +49,7 @@ def agreed_act(
     while True:
         seen, found = vote.book.last_number(), plan()
         if found != shown:
-            if shown is not None and is_terminal():
+            if shown is not None and console.is_terminal():
                 tell(MEANWHILE)
             if not show(found):
                 return found
@@ -76,7 +68,7 @@ def enter_lines(
     seen: int,
     *,
     is_late: bool,
-    is_same: Callable[[], bool] | None = None,
+    is_same: Callable[[], bool] = lambda: False,
     what: str = "lines",
 ) -> None:
     """The act that enters lines, and the report on it, by the numbers of the envelopes and the
@@ -88,7 +80,7 @@ def enter_lines(
     book = vote.book
     with contextlib.ExitStack() as stack:
         with book.act(name, detail) as act:
-            if act.number != seen + 1 and not (is_same and is_same()):
+            if act.number != seen + 1 and not is_same():
                 raise Overtaken
             new = list(envelopes(act))
             if not is_late:
@@ -103,11 +95,10 @@ def enter_lines(
         try:
             if not is_late:
                 # replies depend on the lines of the same electors alone
-                known = frozenset(filter(None, electors))
-                before = queries.lines_after(book, act.number - 1, known)
-                replies = vote.replies(before, lines)
-            tell_many(report(numbers, replies))
-        except OutputFailed as fault:
+                same = frozenset(filter(None, electors))
+                replies = vote.replies(queries.lines_after(book, act.number - 1, same), lines)
+            console.tell_many(report(numbers, replies))
+        except console.OutputFailed as fault:
             cure, done = "see debvote-election status", f"the {what} {done}"
             raise Fault(None, "the output failed", cure, fault.status, done) from None
         except Fault as fault:
@@ -127,7 +118,7 @@ def demand_room(book: Book, new: Sequence[NewEnvelope]) -> None:
 
 
 # ---------------------------------------------------------------- whether it comes in time
-def notes(election: Election, history: History, what: str) -> list[str]:
+def late_notes(election: Election, history: History, what: str) -> list[str]:
     """What is said before lines are entered after the end; `what` says what is done with them."""
     if history.is_closed:
         closed = act_time(history.closes[-1].time)
@@ -152,11 +143,11 @@ def came_before_close(history: History, answer: str | None, not_done: str) -> bo
     if answer is not None:
         return answer == "yes"
     closed = f"vote was closed at {act_time(history.closes[0].time)} and opened again"
-    if not is_terminal():
+    if not console.is_terminal():
         words = f"the {closed}, and only what came before counts"
         cure = f"say whether this came before that close: {CAME_BEFORE_CLOSE} yes, or {CAME_BEFORE_CLOSE} no, which makes it late"
         raise Fault(CAME_BEFORE_CLOSE, words, cure, done=not_done)
-    said = is_yes(f"The {closed}. Did this come before that close?")
+    said = console.is_yes(f"The {closed}. Did this come before that close?")
     if said is None:
         words = "you did not say whether it came before the close"
         raise Fault(None, words, "run the command again", done=not_done)

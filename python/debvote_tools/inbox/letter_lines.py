@@ -1,8 +1,8 @@
-"""What the lines of a letter may be: a ballot, ranks without a name, or something near to a ballot.
+"""What is done once, when a letter comes: its bytes are parsed, its signature is checked, and it is
+found out what its lines may be: a ballot, ranks without a name, or something near to a ballot.
 
-Lines are read once, when the letter comes, and the book keeps what they may be, whatever addresses
-the list has and whatever time it is. So judging a letter again reads no letter. debvote is asked
-once about the lines of all new letters together.
+The book keeps this, whatever addresses the list has and whatever time it is. So judging a letter
+again reads no letter.
 """
 
 import collections
@@ -14,13 +14,13 @@ import json
 import re
 import typing
 import unicodedata
-from collections.abc import Callable, Collection, Iterable, Iterator, Mapping, Sequence
+from collections.abc import Callable, Collection, Iterable, Mapping, Sequence
 from typing import Any
 
 from debvote_tools.book import queries
 from debvote_tools.book.election import KEYRING
 from debvote_tools.inbox.letter import ParsedLetter, is_quoted, may_be_ballot, parse
-from debvote_tools.inbox.lines import DASHES, LONGEST_REPAIRED, changed, has_code
+from debvote_tools.inbox.lines import DASHES, LONGEST_REPAIRED, changed, has_code, name_in
 from debvote_tools.inbox.mailbox import RawLetter
 from debvote_tools.inbox.reasons import Reason
 from debvote_tools.inbox.signature import find_gpgv, verified
@@ -50,9 +50,9 @@ GAP = "_"
 # the most lines that may be ballots, else the letter waits; the most other lines with a number that
 # are read; and the most near or quoted lines
 MAX_BALLOTS, MAX_OTHERS, MAX_NEAR = 200, 50, 5
-# debvote looks for similar names for the first lines alone, so it gets at most so many unknown
-# names at once
-MOST_AT_ONCE = 100
+# for how many names that are not on the roll debvote looks for similar ones, and in how many parts
+# it gets such names at most
+MOST_SEARCHES, MOST_PARTS = 100, 10
 
 # debvote's answer to each line, as `bad rank count: ..`; None for a valid ballot
 Ask = Callable[[Sequence[bytes]], Mapping[bytes, str | None]]
@@ -124,7 +124,7 @@ class Names:
         return {fold for fold in folds if LATIN.search(fold)}
 
 
-# ---------------------------------------------------------------- once, when a letter comes
+# ---------------------------------------------------------------- letters
 def read_letters(vote: Vote, raws: Sequence[RawLetter]) -> list[ReadLetter]:
     """What letters say, with their signatures if letters have to be signed, and what their lines
     may be.
@@ -141,18 +141,16 @@ def read_letters(vote: Vote, raws: Sequence[RawLetter]) -> list[ReadLetter]:
 
 
 def with_lines(letters: Sequence[ParsedLetter], names: Names, ask: Ask) -> list[ReadLetter]:
-    """The letters, each with what its lines may be."""
-    found = [find_lines(letter, names) for letter in letters]
-    stand_in = min(names.roll)
+    """The letters, each with what its lines may be. debvote is asked about all of them together."""
+    found, stand_in = [find_lines(letter, names) for letter in letters], min(names.roll)
     lines = (line for letter in found for line in letter.read_lines)
-    answers = answers_to(
-        dict.fromkeys(text for line in lines for text in texts_of(line, stand_in)), names, ask
-    )
+    texts = dict.fromkeys(text for line in lines for text in texts_of(line, stand_in) if text)
+    answers = answers_to(list(texts), names.roll, ask) | {b"": None}
 
     def answered(line: ReadLine) -> ReadLine:
-        near = line.near and dataclasses.replace(line.near, answer=answers[line.near.ballot])
-        answer = answers[f"{line.elector or stand_in} {line.ranks}"] if line.ranks else None
-        return dataclasses.replace(line, answer=answer, near=near)
+        own, near_text = texts_of(line, stand_in)
+        near = line.near and dataclasses.replace(line.near, answer=answers[near_text])
+        return dataclasses.replace(line, answer=answers[own], near=near)
 
     return [
         dataclasses.replace(letter, read_lines=tuple(map(answered, letter.read_lines)))
@@ -194,9 +192,7 @@ def read_line(number: int, line: str, names: Names) -> ReadLine | None:
 
 
 def read_text(number: int, text: str, names: Names) -> ReadLine | None:
-    """What a repaired line is: a ballot, ranks with a name that people may write so, or ranks
-    alone.
-    """
+    """Whether a repaired line is a ballot, ranks with a name that people may write so, or ranks alone."""
     name, _, ranks = text.partition(" ")
     if BALLOT.fullmatch(text) and name in names.roll:
         return ReadLine(number, elector=name, ranks=ranks)
@@ -262,41 +258,40 @@ def repaired(line: str) -> str:
 
 
 # ---------------------------------------------------------------- debvote's answers
-def texts_of(line: ReadLine, stand_in: str) -> Iterator[str]:
-    """What debvote is asked about a line. If it has no name of the roll, it gets that of a stand-in:
-    whether ranks are valid is the same for all.
+def texts_of(line: ReadLine, stand_in: str) -> tuple[bytes, bytes]:
+    """What debvote is asked about the ranks of a line, and about what is near to a ballot; empty if
+    there is none. Ranks without a name of the roll get that of a stand-in: whether they are valid
+    is the same for all.
     """
-    if line.ranks:
-        yield f"{line.elector or stand_in} {line.ranks}"
-    if line.near is not None:
-        yield line.near.ballot
+    own = f"{line.elector or stand_in} {line.ranks}" if line.ranks else ""
+    return own.encode(), line.near.ballot.encode() if line.near else b""
 
 
-def answers_to(texts: Iterable[str], names: Names, ask: Ask) -> dict[str, str | None]:
-    """debvote's answer to each text, whatever the others are."""
-    certain: list[str] = []
-    others: list[str] = []
-    for text in texts:
-        is_certain = BALLOT.fullmatch(text) is not None and text.partition(" ")[0] in names.roll
-        (certain if is_certain else others).append(text)
-    firsts = range(0, len(others), MOST_AT_ONCE)
-    parts = [others[first : first + MOST_AT_ONCE] for first in firsts] or [[]]
-    parts[0] += certain
-    answers: dict[str, str | None] = {}
+def answers_to(texts: Sequence[bytes], roll: Collection[str], ask: Ask) -> dict[bytes, str | None]:
+    """debvote's answer to each text. The names that are not on the roll it gets in some parts, each
+    with as many as it looks for similar names of; the last part has all that are left.
+    """
+    known = [text for text in texts if name_in(text).decode() in roll]
+    unknown = [text for text in texts if name_in(text).decode() not in roll]
+    starts = range(0, MOST_SEARCHES * MOST_PARTS, MOST_SEARCHES)
+    parts = [unknown[start : start + MOST_SEARCHES] for start in starts]
+    parts[-1] += unknown[starts.stop :]
+    parts[0] += known
+    answers = dict[bytes, str | None]()
     for part in filter(None, parts):
-        said = ask([text.encode() for text in part])
-        answers |= {text: said[text.encode()] for text in part}
+        answers.update(ask(part))
     return answers
 
 
 def answers_in(letters: Iterable[ReadLetter], roll: Collection[str]) -> dict[bytes, str | None]:
     """debvote's answers to the lines of letters that were read."""
-    stand_in, found = min(roll), dict[str, str | None]()
+    stand_in, found = min(roll), dict[bytes, str | None]()
     for letter in letters:
         for line in letter.read_lines:
-            near = () if line.near is None else (line.near.answer,)
-            found |= zip(texts_of(line, stand_in), (line.answer, *near) if line.ranks else near)
-    return {text.encode(): answer for text, answer in found.items()}
+            own, near = texts_of(line, stand_in)
+            found |= {own: line.answer, near: line.near.answer if line.near else None}
+    found.pop(b"", None)
+    return found
 
 
 # ---------------------------------------------------------------- as the book keeps it

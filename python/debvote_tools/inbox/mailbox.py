@@ -11,6 +11,7 @@ import itertools
 import pathlib
 import re
 from collections.abc import Sequence
+from typing import NamedTuple
 
 from debvote_tools.inbox.lines import MARK
 from debvote_tools.inbox.mime import END_OF_HEAD, MAX_HEAD, MAX_LETTER, Part
@@ -89,14 +90,11 @@ class RawLetter:
     is_parted_off: bool = False
 
 
-@dataclasses.dataclass(frozen=True)
-class PassedOver:
-    where: str
-    why: NotRead
+# a file or letter that is passed over, by its name
+PassedOver = tuple[str, NotRead]
 
 
-@dataclasses.dataclass(frozen=True)
-class Source:
+class Source(NamedTuple):
     """The letters of a file or folder in their order, and what was passed over."""
 
     letters: list[RawLetter]
@@ -134,7 +132,7 @@ def letters_of_file(name: str, data: bytes) -> Source:
     """
     kind = kind_not_read(data) or (None if are_letters(data) else NotRead.NO_LETTER)
     if kind is not None:
-        return Source([], [PassedOver(name, kind)])
+        return Source([], [(name, kind)])
     found = Source([], [])
     parts = parts_of(data)
     possible_ends = ends_of(parts)
@@ -142,7 +140,7 @@ def letters_of_file(name: str, data: bytes) -> Source:
     for number, (above, letter, below) in enumerate(parts, start=1):
         where = f"{name}, message {number}" if len(parts) > 1 else name
         if len(letter) > MAX_LETTER:
-            found.passed_over.append(PassedOver(where, NotRead.TOO_LONG))
+            found.passed_over.append((where, NotRead.TOO_LONG))
         else:
             is_parted_off = place < reach or not is_ended or has_others(letter)
             found.letters.append(RawLetter(where, letter, is_parted_off))
@@ -175,12 +173,8 @@ def letters_of_folder(folder: pathlib.Path) -> Source:
     files = [file for file in folder.iterdir() if file not in own]
     if is_maildir:
         files += itertools.chain.from_iterable((folder / part).iterdir() for part in MAILDIR)
-    found = Source([], [])
-    for file in sorted(files, key=lambda file: (file.name, file)):
-        one = letter_of_file(file)
-        found.letters.extend(one.letters)
-        found.passed_over.extend(one.passed_over)
-    return found
+    found = [letter_of_file(file) for file in sorted(files, key=lambda file: (file.name, file))]
+    return joined(found)
 
 
 def letter_of_file(file: pathlib.Path) -> Source:
@@ -195,7 +189,12 @@ def letter_of_file(file: pathlib.Path) -> Source:
     data = b"" if why else file.read_bytes()
     if why is None and are_letters(data) and len(parts_of(data)) > 1:
         why = NotRead.MAILBOX
-    return Source([], [PassedOver(str(file), why)]) if why else letters_of_file(str(file), data)
+    return Source([], [(str(file), why)]) if why else letters_of_file(str(file), data)
+
+
+def joined(sources: Sequence[Source]) -> Source:
+    letters, passed_over = zip(*sources) if sources else ((), ())
+    return Source([*itertools.chain(*letters)], [*itertools.chain(*passed_over)])
 
 
 # ---------------------------------------------------------------- the parts of a file

@@ -1,5 +1,5 @@
-"""Letters that come: `add` keeps those that are new as they came, has all judged by what the book says
-now, and enters the ballots of those that are plainly ballots.
+"""Letters that come: `add` keeps those that are new, has all judged, and enters the ballots of those
+that go in.
 """
 
 import pathlib
@@ -13,17 +13,23 @@ from debvote_tools.book.queries import NewEnvelope
 from debvote_tools.cli.console import count_of, is_terminal, is_yes, shown_text, tell
 from debvote_tools.cli.faults import Fault, Status
 from debvote_tools.files import sha256_of
-from debvote_tools.inbox import entering, letter_words
+from debvote_tools.inbox import letter_words
 from debvote_tools.inbox.came import CameFile, safe
-from debvote_tools.inbox.rules import JudgedLetter, Outcome
-from debvote_tools.inbox.lines import NOTHING_ADDED
-from debvote_tools.inbox.letter_lines import ReadLetter, as_json, read_letters
+from debvote_tools.inbox.entering import agreed_act, enter_lines, late_notes
 from debvote_tools.inbox.judging import judged
-from debvote_tools.inbox.mailbox import PassedOver, RawLetter, letters_of_file, letters_of_folder
+from debvote_tools.inbox.letter_lines import ReadLetter, as_json, read_letters
+from debvote_tools.inbox.lines import NOTHING_ADDED
+from debvote_tools.inbox.mailbox import (
+    RawLetter,
+    Source,
+    joined,
+    letters_of_file,
+    letters_of_folder,
+)
+from debvote_tools.inbox.rules import JudgedLetter, Outcome
 from debvote_tools.inbox.vote import Vote
 
 
-# ---------------------------------------------------------------- what `add` does with them
 def take_letters(
     vote: Vote, files: Mapping[str, CameFile | None], *, is_look: bool, is_agreed: bool
 ) -> None:
@@ -32,31 +38,32 @@ def take_letters(
     """
     raws, passed_over = split_letters(files)
     new = new_of(vote, raws)
-    found = read_letters(vote, new)
+    read = read_letters(vote, new)
     if not is_look:
-        keep(vote, new, found)
-    for one in passed_over:
-        tell(f"{shown_text(one.where)}: {one.why.what}, and was passed over; {one.why.cure}")
+        keep(vote, new, read)
+    for where, why in passed_over:
+        tell(f"{shown_text(where)}: {why.what}, and was passed over; {why.cure}")
     came_before = f"{count_of(len(new), 'new letter')}; {len(raws) - len(new)} came before."
     if not is_look:
         tell(came_before)
         enter_letters(vote, is_agreed=is_agreed)
         return
-    history, kept = vote.election.history(), queries.letters(vote.book)
-    all_letters = judged(vote, history, kept, found)
-    tell_letters(vote, history, all_letters)
-    would = letter_words.counts(all_letters, len(going_in(all_letters)))
+    history = vote.election.history()
+    found = judged(vote, history, queries.letters(vote.book), read)
+    tell_letters(vote, history, found)
+    would = letter_words.counts(found, len(going_in(found)))
     tell(came_before, would.replace("went in", "would go in"), "Nothing was changed.")
 
 
-def split_letters(files: Mapping[str, CameFile | None]) -> tuple[list[RawLetter], list[PassedOver]]:
+# ---------------------------------------------------------------- keeping
+def split_letters(files: Mapping[str, CameFile | None]) -> Source:
     """The letters of mailboxes, files and folders, each read whole, and what is passed over. A
     folder is None.
     """
-    found, passed_over = [], []
+    found = list[Source]()
     for path, file in files.items():
         try:
-            source = (
+            found.append(
                 letters_of_folder(pathlib.Path(path))
                 if file is None
                 else letters_of_file(safe(file.name), file.data)
@@ -64,9 +71,7 @@ def split_letters(files: Mapping[str, CameFile | None]) -> tuple[list[RawLetter]
         except OSError as error:
             cure = "name letters that you may read"
             raise Fault(path, error.strerror, cure, Status.BAD_BALLOTS, NOTHING_ADDED) from None
-        found += source.letters
-        passed_over += source.passed_over
-    return found, passed_over
+    return joined(found)
 
 
 def new_of(vote: Vote, raws: Sequence[RawLetter]) -> list[RawLetter]:
@@ -87,22 +92,21 @@ def is_new(digest: str, is_parted_off: bool, kept: Collection[tuple[str, bool]])
     return (digest, False) not in kept and not (is_parted_off and (digest, True) in kept)
 
 
-def keep(vote: Vote, raws: Sequence[RawLetter], found: Sequence[ReadLetter]) -> None:
+def keep(vote: Vote, raws: Sequence[RawLetter], read: Sequence[ReadLetter]) -> None:
     if not raws:
         return
     with vote.book.act("letters", {"letters": len(raws)}) as act:
         # their lines were read by the poll of this call
-        cure = "run the command again"
-        vote.demand_same_call(vote.election.history(), cure, NOTHING_ADDED)
+        vote.demand_same_call(vote.election.history(), NOTHING_ADDED)
         kept = queries.kept_digests(vote.book)
-        for raw, letter in zip(raws, found):
+        for raw, letter in zip(raws, read):
             # another command may have kept it meanwhile
             if is_new(letter.digest, letter.is_parted_off, kept):
-                queries.keep_letter(
-                    act, safe(raw.where), raw.data, letter.identity, as_json(letter)
-                )
+                where, parsed_json = safe(raw.where), as_json(letter)
+                queries.keep_letter(act, where, raw.data, letter.identity, parsed_json)
 
 
+# ---------------------------------------------------------------- entering
 class NewBallots(NamedTuple):
     """The ballots of letters that would go in, by the book as it is now."""
 
@@ -117,25 +121,19 @@ def envelope_of(letter: JudgedLetter, ballot: str) -> NewEnvelope:
 
 
 def enter_ballots(
-    vote: Vote,
-    name: ActName,
-    detail: Detail,
-    now: NewBallots,
-    seen: int,
-    end: Sequence[str] = (),
+    vote: Vote, name: ActName, detail: Detail, new: NewBallots, seen: int, *end: str
 ) -> None:
     def envelopes(act: NewAct) -> list[NewEnvelope]:
-        for number in now.done:
+        for number in new.done:
             queries.decide(act, number, queries.ENTERED)
-        return now.envelopes
+        return new.envelopes
 
     def report(numbers: range, replies: Sequence[str]) -> Iterator[str]:
-        for number, reply, envelope in zip(numbers, replies, now.envelopes):
+        for number, reply, envelope in zip(numbers, replies, new.envelopes):
             yield f"{number} {reply}  {vote.ballot_in_words(envelope.line.decode('ascii'))}"
         yield from end
 
-    late = now.is_late
-    entering.enter_lines(vote, name, detail, envelopes, report, seen, is_late=late)
+    enter_lines(vote, name, detail, envelopes, report, seen, is_late=new.is_late)
 
 
 def going_in(found: Iterable[JudgedLetter]) -> list[JudgedLetter]:
@@ -147,32 +145,31 @@ def enter_letters(vote: Vote, *, is_agreed: bool) -> None:
     election, found = vote.election, list[JudgedLetter]()
     history = election.history()
 
-    def plan_now() -> NewBallots:
+    def plan() -> NewBallots:
         nonlocal history, found
         history = election.history()
-        vote.demand_same_call(history, "run the command again", NOTHING_ADDED)
+        vote.demand_same_call(history, NOTHING_ADDED)
         found = judged(vote, history, queries.letters(vote.book))
         new = [envelope_of(letter, letter.ballots[0].ballot) for letter in going_in(found)]
         return NewBallots(new, [letter.number for letter in going_in(found)], history.is_closed)
 
-    def show(now: NewBallots) -> bool:
+    def show(new: NewBallots) -> bool:
         tell_letters(vote, history, found)
-        if not now.done:
+        if not new.done:
             tell(letter_words.counts(found, 0))
-        elif is_agreed or agreed(count_of(len(now.done), "ballot")):
+        elif is_agreed or agreed(count_of(len(new.done), "ballot")):
             return True
         else:
             waits = letter_words.wait_words(sum(letter.waits for letter in found))
             tell(f"Nothing was entered. The letters are kept, and wait: {waits}.")
         return False
 
-    def act(now: NewBallots, seen: int) -> None:
-        number = len(now.done)
-        detail: Detail = {"letters": number, "lines": number}
-        end = letter_words.counts(found, number)
-        enter_ballots(vote, "add", detail, now, seen, [end])
+    def act(new: NewBallots, seen: int) -> None:
+        count = len(new.done)
+        end = letter_words.counts(found, count)
+        enter_ballots(vote, "add", {"letters": count, "lines": count}, new, seen, end)
 
-    entering.agreed_act(vote, plan_now, show, act)
+    agreed_act(vote, plan, show, act)
     undo = f"; {election.command('undo')} takes back what was entered last"
     waiting = f"{election.command('held')}, which lists the letters that wait"
     is_waiting = any(letter.outcome is Outcome.WAITS for letter in found)
@@ -191,6 +188,6 @@ def agreed(ballots: str) -> bool:
 def tell_letters(vote: Vote, history: History, found: Sequence[JudgedLetter]) -> None:
     if new := going_in(found):
         if history.is_closed:
-            tell(*entering.notes(vote.election, history, "what is added"))
+            tell(*late_notes(vote.election, history, "what is added"))
         tell(*letter_words.going_in(new, vote))
     tell(*letter_words.table([one for one in found if one.outcome is Outcome.WAITS]))

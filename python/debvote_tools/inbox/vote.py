@@ -83,7 +83,9 @@ class Vote:
         ranks = ",".join(str(rank + 1) for rank in range(len(self.option_names)))
         return f"{'CODE' if self.has_codes else self.roll[0]} {ranks}"
 
-    def demand_same_call(self, history: History, cure: str, not_done: str) -> None:
+    def demand_same_call(
+        self, history: History, not_done: str, cure: str = "run the command again"
+    ) -> None:
         """Stops if lines were read by the poll of another call."""
         if history.call != self.call:
             words = "the call for votes was made anew meanwhile"
