@@ -14,9 +14,9 @@ import unicodedata
 from collections.abc import Callable, Collection, Iterator, Mapping, Sequence
 from typing import NamedTuple
 
-from debvote_tools.cli.faults import Fault, Status
+from debvote_tools.cli.faults import Fault
 from debvote_tools.cli.console import shown_text
-from debvote_tools.inbox.lines import BLANKS, NOTHING_ADDED, Line
+from debvote_tools.inbox.lines import BLANKS, Line, bad_ballots, bad_words
 from debvote_tools.poll.plain_names import without_accents
 from debvote_tools.poll.sealed import SealedPoll
 from debvote_tools.text.ballots import NUMBERS, UNRANKED
@@ -155,81 +155,63 @@ def decoded(data: bytes, file: object, bad_table: BadTable) -> str:
 
 
 # ---------------------------------------------------------------- the columns of ballots
-class Columns(NamedTuple):
-    """The heads of the columns that are read: that of the names, then that of each rank in the
-    order of the options.
+def heads_of(name: str, ranks: str, poll: SealedPoll) -> list[str]:
+    """The heads of the columns that the command line names: that of the names, then that of each
+    rank in the order of the options. A head with a comma is in quotation marks.
     """
-
-    heads: list[str]
-    options: "OptionNames"
-    # whether an empty cell is an option that is not ranked
-    is_blank_unranked: bool = False
-
-
-def bad_columns(where: str, reason: str, cure: str) -> Fault:
-    return Fault(where, reason, cure, Status.BAD_WORDS, NOTHING_ADDED)
-
-
-def bad_ballots(where: object, reason: str, cure: str) -> Fault:
-    return Fault(where, reason, cure, Status.BAD_BALLOTS, NOTHING_ADDED)
-
-
-def columns_of(
-    name: str,
-    ranks: str,
-    poll: SealedPoll,
-    roll: Collection[str],
-    is_blank_unranked: bool = False,
-) -> Columns:
-    """The columns that the command line names. A head with a comma is in quotation marks."""
     try:
         named: list[str] = next(csv.reader([ranks], strict=True, skipinitialspace=True), [])
     except csv.Error as error:
         cure = "put quotation marks around a header with a comma"
-        raise bad_columns("--ranks", str(error), cure) from None
+        raise bad_words("--ranks", str(error), cure) from None
     heads = [head.strip() for head in (name, *named)]
     # then the first ballot would be lost as the head line
-    if head_form(name) in roll:
+    if head_form(name) in poll.roll:
         reason = f"`{heads[0]}` is an elector, so the table seems to have no header line"
         cure = "write a header line above the rows, and name the column by its header"
-        raise bad_columns("--name", reason, cure)
+        raise bad_words("--name", reason, cure)
     numbered = [f"{number} {option}" for number, option in enumerate(poll.names, start=1)]
     if len(heads) != 1 + len(numbered):
         reason = f"it names {len(heads) - 1} columns, and the poll has {len(numbered)} options with the default: {', '.join(numbered)}"
-        raise bad_columns("--ranks", reason, "name a column for each, in this order")
+        raise bad_words("--ranks", reason, "name a column for each, in this order")
     counts = collections.Counter(map(head_form, heads))
     if twice := next((head for head in heads if counts[head_form(head)] > 1), None):
         words = f"the column `{twice}` is named twice"
-        raise bad_columns("--name, --ranks", words, "name each column once")
+        raise bad_words("--name, --ranks", words, "name each column once")
     options = OptionNames(poll)
     for place, head in enumerate(heads[1:], start=1):
         if counts_choices(head) and options.option_of(head) != place:
-            raise bad_columns("--ranks", f"`{head}` counts choices; {OF_CHOICES}", TO_RANKS)
+            raise bad_words("--ranks", f"`{head}` counts choices; {OF_CHOICES}", TO_RANKS)
     if found := in_other_place(options, heads[1:]):
         place, other = found
         reason = f"`{heads[place]}` stands in the place of option {numbered[place - 1]}, and names option {numbered[other - 1]}"
         cure = f"name the columns in the order of the options: {', '.join(numbered)}"
-        raise bad_columns("--ranks", reason, cure)
-    return Columns(heads, options, is_blank_unranked)
+        raise bad_words("--ranks", reason, cure)
+    return heads
 
 
 # ---------------------------------------------------------------- the rows of ballots
 def lines_of_table(
-    data: bytes, file_name: str, columns: Columns, *, is_newest_first: bool | None = None
+    data: bytes,
+    file_name: str,
+    columns: Sequence[str],
+    poll: SealedPoll,
+    is_blank_unranked: bool = False,
+    is_newest_first: bool | None = None,
 ) -> list[Line]:
-    """The lines that the rows of a table make. Each cell is repaired by itself, so that none
-    becomes a part of another.
+    """The lines that the rows of a table make, by the heads of the columns. Each cell is repaired by
+    itself, so that none becomes a part of another. An empty cell may be an option not ranked.
 
     If it is known how the rows are sorted, the times in the table must not say otherwise.
     """
-    table = read_table(data, columns.heads, file_name, bad_ballots)
+    table = read_table(data, columns, file_name, bad_ballots)
     heads, width = table.heads, len(table.head.cells)
-    for column in columns.heads:
+    for column in columns:
         if (count := heads.count(head_form(column))) != 1:
             what = "there is more than one column" if count else "there is no column"
             words = f"{what} `{column}`; the headers are {table.heads_in_words}"
-            raise bad_columns(file_name, words, "name each column by its header")
-    indices, lines = [heads.index(head_form(column)) for column in columns.heads], []
+            raise bad_words(file_name, words, "name each column by its header")
+    indices, lines = [heads.index(head_form(column)) for column in columns], []
     for row in table.rows:
         place = f": row {row.number}"
         if row.cells_after(width):
@@ -241,15 +223,15 @@ def lines_of_table(
             continue
         cells = [row.cells[index].encode("utf-8", "backslashreplace") for index in indices]
         elector, *ranks = [on_one_line(cell).strip(BLANKS) for cell in cells]
-        if columns.is_blank_unranked and elector:
+        if is_blank_unranked and elector:
             ranks = [rank or UNRANKED.encode() for rank in ranks]
         came, repaired = line_from(cells), line_from([elector.lower(), *ranks])
         lines.append(Line(file_name, place, came, on_one_line(came), repaired))
-    demand_ranks(table, indices[1:], columns.options, file_name)
+    demand_ranks(table, indices[1:], OptionNames(poll), file_name)
     if is_newest_first is not None and (contradiction := against_order(table, is_newest_first)):
         option = "--newest-first" if is_newest_first else "--oldest-first"
         cure = "give the option that is right, or sort the rows by time, and add the file again"
-        raise bad_columns(file_name, f"{contradiction}, against {option}", cure)
+        raise bad_words(file_name, f"{contradiction}, against {option}", cure)
     return lines
 
 

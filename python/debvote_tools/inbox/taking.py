@@ -11,14 +11,14 @@ from debvote_tools.book.book import ActName, Detail, NewAct
 from debvote_tools.book.election import History
 from debvote_tools.book.queries import NewEnvelope
 from debvote_tools.cli.console import count_of, is_terminal, is_yes, shown_text, tell
-from debvote_tools.cli.faults import Fault, Status
+from debvote_tools.cli.faults import Fault
 from debvote_tools.files import sha256_of
 from debvote_tools.inbox import letter_words
 from debvote_tools.inbox.came import CameFile, safe
 from debvote_tools.inbox.entering import agreed_act, enter_lines, late_notes
 from debvote_tools.inbox.judging import judged
 from debvote_tools.inbox.letter_lines import ReadLetter, as_json, read_letters
-from debvote_tools.inbox.lines import NOTHING_ADDED
+from debvote_tools.inbox.lines import NOTHING_ADDED, bad_ballots
 from debvote_tools.inbox.mailbox import (
     RawLetter,
     Source,
@@ -70,7 +70,7 @@ def split_letters(files: Mapping[str, CameFile | None]) -> Source:
             )
         except OSError as error:
             cure = "name letters that you may read"
-            raise Fault(path, error.strerror, cure, Status.BAD_BALLOTS, NOTHING_ADDED) from None
+            raise bad_ballots(path, error.strerror, cure) from None
     return joined(found)
 
 
