@@ -101,7 +101,7 @@ def demand_words(arguments: Arguments) -> None:
         raise bad_words("--csv", reason, cure)
 
 
-# ---------------------------------------------------------------- lines
+# ---- lines
 class FileLines(NamedTuple):
     """A file and its lines in the order of entering, the new ones, and those that came before."""
 
@@ -298,7 +298,7 @@ def look(
     tell(f"These would be {summary(replies)}. Nothing was changed.")
 
 
-# ---------------------------------------------------------------- what a person has to look at first
+# ---- what a person has to look at first
 def doubts(vote: Vote, new: NewLines, arguments: Arguments) -> Iterator[Fault]:
     """All that stands against entering these lines."""
     is_unsorted = arguments.csv and not arguments.oldest_first and not arguments.newest_first
@@ -360,9 +360,7 @@ def under_other_names(vote: Vote, files: Sequence[FileLines]) -> Iterator[Fault]
 
 
 def of_unknown_order(file: FileLines) -> tuple[JudgedLine, JudgedLine] | None:
-    """Two different ballots of one elector, at least one of them new. Nobody has said which is
-    newer.
-    """
+    """Two different ballots of one elector, one of them new, and nobody said which is newer."""
     new = {line.line.place for line in file.new}
     above: dict[str, list[JudgedLine]] = collections.defaultdict(list)
     for line in filter(is_ballot, file.lines):
@@ -374,9 +372,7 @@ def of_unknown_order(file: FileLines) -> tuple[JudgedLine, JudgedLine] | None:
 
 
 def new_one_above(file: FileLines) -> tuple[JudgedLine, JudgedLine] | None:
-    """A new ballot, and a different ballot of the same elector below it that came before. By the
-    order of the file the new ballot is older, but it would count.
-    """
+    """A new ballot, and one of its elector below it that came before, which it would replace."""
     new = {line.line.place for line in file.new} if file.repeated else set()
     above: dict[str, JudgedLine] = {}
     for line in filter(is_ballot, file.lines if new else ()):
@@ -437,7 +433,7 @@ def cure_of(file: FileLines, refused: JudgedLine, arguments: Arguments) -> str:
     return f"look at the file ({which} `{shown_line(refused.as_entered)}`{why})"
 
 
-# ---------------------------------------------------------------- what is printed
+# ---- what is printed
 def report(
     vote: Vote, new: NewLines, numbers: Sequence[int], replies: Sequence[str]
 ) -> Iterator[str]:

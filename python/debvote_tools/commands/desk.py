@@ -69,9 +69,7 @@ class Desk:
         show: Callable[[History], bool] = lambda _: True,
         elector: int | None = None,
     ) -> None:
-        """Casts lines if `show` says so. It shows one anew if another act changed whether the vote
-        is open, or what came of its elector.
-        """
+        """Casts lines if `show` says so; it is asked anew if another act changed what it saw."""
 
         def plan() -> tuple[History, list[queries.Envelope]]:
             history = History(self.vote.book.acts())
@@ -127,7 +125,7 @@ def run(election: Election, arguments: Arguments) -> None:
     tell(f"This desk has entered {summary(desk.replies)}.", f"Next: {election.command('status')}")
 
 
-# ---------------------------------------------------------------- from a pipe
+# ---- from a pipe
 def from_pipe(desk: Desk) -> None:
     """Casts without asking what comes: the whole lines that each read brings."""
     for data in whole_lines():
@@ -145,9 +143,7 @@ def from_pipe(desk: Desk) -> None:
 
 
 def whole_lines() -> Iterator[bytes]:
-    """The lines that each read of standard input completes. A carriage return and a line feed are
-    one line end, even if they come in two reads.
-    """
+    """The lines that each read completes. A line end of Windows may come in two reads."""
     waiting, ended_with_return = bytearray(), False
     while data := os.read(sys.stdin.fileno(), READ):
         waiting += data.removeprefix(b"\n") if ended_with_return else data
@@ -163,7 +159,7 @@ def whole_lines() -> Iterator[bytes]:
         yield bytes(waiting)
 
 
-# ---------------------------------------------------------------- at a terminal
+# ---- at a terminal
 def at_terminal(desk: Desk) -> None:
     tell(*(f"  {number} {name}" for number, name in enumerate(desk.vote.option_names, start=1)))
     who = "the code" if desk.vote.has_codes else "the elector"
@@ -229,9 +225,7 @@ def completed(desk: Desk, line: Line) -> Line | None:
 
 
 def question(desk: Desk, line: JudgedLine, history: History, elector: int | None) -> str:
-    """Shows what a ballot would be, in words, or why debvote would refuse it. Returns the question
-    whether to cast it.
-    """
+    """Shows what a ballot would be, or why it would be refused. Returns what is asked."""
     tell(*change_words(line))
     if not line.is_ballot:
         # the one reason that stays after the changes that are allowed

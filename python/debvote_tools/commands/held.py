@@ -118,7 +118,7 @@ def decide(vote: Vote, arguments: Arguments) -> None:
     agreed_act(vote, plan, lambda _: True, act)
 
 
-# ---------------------------------------------------------------- entering
+# ---- entering
 # a ballot of a letter; its line is 0 if it was typed
 Chosen = tuple[JudgedLetter, BallotLine]
 
@@ -187,9 +187,7 @@ def enter(vote: Vote, arguments: Arguments) -> None:
 
 
 def is_late(history: History, letter: JudgedLetter) -> bool:
-    """Whether what is entered of a letter now is late: the vote is closed, or was reopened for what
-    had arrived before the first close.
-    """
+    """Whether what is entered of a letter now is late: the vote is closed, or it came after that."""
     arrived, closes = letter.parsed.arrived, history.closes
     return history.is_late(arrived is not None and bool(closes) and arrived <= closes[0].time)
 
@@ -255,9 +253,7 @@ def lines_of(
 
 
 def voted_since(vote: Vote, chosen: Sequence[Chosen]) -> Iterator[tuple[int, Fault]]:
-    """A fault for each letter with a ballot of an elector who has a later one, or another one of
-    the same time, as from the same letter.
-    """
+    """A fault for each ballot whose elector has a later one, or another one of its time."""
     ballots = ballots_in(vote, {line.elector for _, line in chosen})
     cure = "if this ballot must count, repeat it with --force"
     for letter, line in chosen:
@@ -282,9 +278,7 @@ def demand_one_order(chosen: Sequence[Chosen]) -> None:
 
 
 def done_with(vote: Vote, chosen: Sequence[Chosen]) -> list[int]:
-    """The letters in which each elector who has a ballot then has one entered, also if that was
-    struck.
-    """
+    """The letters in which each elector who has a ballot then has one entered, perhaps struck."""
     electors: dict[int, set[str]] = collections.defaultdict(set)
     for letter, line in chosen:
         electors[letter.number].add(line.elector)

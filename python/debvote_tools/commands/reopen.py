@@ -135,9 +135,7 @@ def asked(book: Book, *, has_codes: bool) -> list[int]:
 
 
 def faults_of_older(book: Book, offered: Sequence[Envelope]) -> Iterator[Fault]:
-    """A fault for each envelope that would replace a later ballot of its elector, since the last
-    one that is entered counts.
-    """
+    """A fault for each envelope that would replace a later ballot of its elector."""
     last = {late.elector: late for late in offered if late.elector is not None}
     for elector, late in last.items():
         in_time = queries.envelopes(book, "elector = ? AND in_time", elector)

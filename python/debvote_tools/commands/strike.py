@@ -85,7 +85,5 @@ def demand_envelope(election: Election, book: Book, number: int) -> Envelope:
 
 
 def without_code(line: bytes, *, has_codes: bool) -> str:
-    """A line as it is shown. A code of the roll that nobody typed is not shown, nor one with a
-    wrong digit.
-    """
+    """A line as it is shown: no code that nobody typed, nor one with a wrong digit."""
     return shown_line(LIKE_A_CODE.sub(b"CODE", line) if has_codes else line)

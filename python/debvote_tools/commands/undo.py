@@ -75,9 +75,7 @@ def demand_yes(command: str, question: str, when: str) -> None:
 
 
 def what_is_taken_back(vote: Vote) -> Plan:
-    """The last act that entered lines, and what it changes to take it back. Stops if there is none,
-    or if the vote is closed.
-    """
+    """The last act that entered lines, and what changes. Stops if there is none, or at a close."""
     book, election = vote.book, vote.election
     with book.snapshot():
         history = History(book.acts())

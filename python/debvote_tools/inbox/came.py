@@ -65,9 +65,7 @@ def are_all_letters(files: Mapping[str, CameFile | None]) -> bool:
 def read_files(
     election: Election, paths: Sequence[str], *, is_table: bool
 ) -> dict[str, CameFile | None]:
-    """What these paths name, each read whole; a folder is None. Stops at what has neither ballots
-    nor letters.
-    """
+    """What these paths name; a folder is None. Stops at what has neither ballots nor letters."""
     files: dict[str, CameFile | None] = {}
     faults = []
     for path in paths or [HYPHEN]:
@@ -83,9 +81,7 @@ def read_files(
 
 
 def read_file(election: Election, path: str) -> CameFile:
-    """Reads a file, or standard input; at a terminal it says how to end it. It may be a pipe, so it
-    is read once.
-    """
+    """Reads a file or standard input, once: it may be a pipe. At a terminal it says how to end."""
     if path == HYPHEN:
         if sys.stdin is None:
             raise bad_ballots(STANDARD_INPUT, "it is closed", "name a file")

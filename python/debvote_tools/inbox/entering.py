@@ -117,7 +117,7 @@ def demand_room(book: Book, new: Sequence[NewEnvelope]) -> None:
             raise Fault(book.path, words, cure, Status.BAD_BALLOTS, "nothing was added")
 
 
-# ---------------------------------------------------------------- whether it comes in time
+# ---- whether it comes in time
 def late_notes(election: Election, history: History, what: str) -> list[str]:
     """What is said before lines are entered after the end; `what` says what is done with them."""
     if history.is_closed:

@@ -47,9 +47,7 @@ TIME = operator.attrgetter("time")
 def judged(
     vote: Vote, history: History, kept: Sequence[KeptLetter], looked_at: Sequence[ReadLetter] = ()
 ) -> list[JudgedLetter]:
-    """Letters that came, as they are judged now, in the order of their times; and others that are
-    only looked at.
-    """
+    """Letters that came, as they are judged now, by their times; and others that are looked at."""
     if not kept and not looked_at:
         return []
     found = kept_letters(vote, kept)
@@ -64,7 +62,7 @@ def judged(
     return letters_now
 
 
-# ---------------------------------------------------------------- what they are judged by
+# ---- what they are judged by
 def kept_letters(vote: Vote, kept: Sequence[KeptLetter]) -> list[ReadLetter]:
     """What the book keeps of letters. A signature is checked anew if the letter came before the
     present keyring, or gpgv was too slow: of a letter that waits; and, if a signed one waits, of
@@ -128,15 +126,13 @@ def known_now(vote: Vote, history: History, by_key: Mapping[str, KeptLetter]) ->
     )
 
 
-# ---------------------------------------------------------------- one letter beside the others
+# ---- one letter beside the others
 def judge_all(
     letters: Sequence[ReadLetter],
     known: Known,
     ballots_of: Callable[[Collection[str]], Mapping[str, Sequence[Ballot]]],
 ) -> list[JudgedLetter]:
-    """Judges letters, and returns them in the order of their times; those without a time come last.
-    `ballots_of` returns the ballots of some electors that are in and not struck.
-    """
+    """Judges letters, and returns them by their times; those without a time come last."""
     cases = [JudgedLetter(letter, known) for letter in letters]
     cases.sort(key=lambda case: (case.time is None, case.time or known.now))
     electors = {elector for case in cases for elector in case.electors}
@@ -151,9 +147,7 @@ def judge_all(
 
 
 def set_outcomes(cases: Sequence[JudgedLetter], box: Box) -> None:
-    """Sets what becomes of letters, which are in the order of their times. The ballots that go in
-    are added to the box.
-    """
+    """Sets what becomes of letters, by their times. What goes in is added to the box."""
     groups: dict[str, list[JudgedLetter]] = collections.defaultdict(list)
     for case in cases:
         groups[case.parsed.identity].append(case)
@@ -179,9 +173,7 @@ def set_outcomes(cases: Sequence[JudgedLetter], box: Box) -> None:
 
 
 def why_not_latest(case: JudgedLetter, box: Box, at_once: set[str]) -> Because | None:
-    """Its time is later than that of every ballot of its elector. A ballot of the same time has to
-    be the same.
-    """
+    """Its time is later than that of each other ballot of its elector, but for the same one."""
     assert case.time is not None
     elector, time, ballots = case.elector, case.time, box[case.elector]
     if ballots and ballots[-1].time > time:
@@ -215,9 +207,7 @@ def set_copies(group: Sequence[JudgedLetter], firsts: Collection[JudgedLetter], 
 
 
 def set_copy(case: JudgedLetter, first: JudgedLetter, box: Box) -> None:
-    """Ignores a copy of a letter that arrived before it. It waits if another ballot of its elector
-    came between.
-    """
+    """Ignores a copy of a letter that arrived before, unless another ballot came between."""
     arrived, before = case.parsed.arrived, first.parsed.arrived
     case.outcome, case.reason = Outcome.COPY, None
     if first.time is not None and before is not None and arrived is not None and arrived > before:

@@ -133,9 +133,7 @@ class ParsedLetter:
 
     @property
     def key(self) -> str:
-        """Identifies the letter by its bytes. If the same bytes come parted off, and later as a
-        letter of their own, these are two letters.
-        """
+        """Identifies the letter; the same bytes parted off, and on their own, are two letters."""
         return f"{self.digest}, parted off" if self.is_parted_off else self.digest
 
     @property
@@ -151,9 +149,7 @@ class ParsedLetter:
 
     @property
     def shown_lines(self) -> tuple[str, ...]:
-        """The lines by number, from 1: those of its text, then those of other parts that may be
-        ballots.
-        """
+        """The lines by number, from 1: those of its text, then those of other parts."""
         return self.body.lines + self.body.other_lines
 
 
@@ -206,7 +202,7 @@ def returned_in(data: bytes, sender: str) -> tuple[str, ...]:
     return tuple(itertools.islice(dict.fromkeys(found), MAX_OWN))
 
 
-# ---------------------------------------------------------------- the head
+# ---- the head
 def decoded(value: str) -> str:
     """A field as people read it, on one line."""
     return " ".join(words_in(value).split())
@@ -226,9 +222,7 @@ def words_in(value: str) -> str:
 
 
 def decoded_bytes(data: bytes, charset: str) -> str:
-    """A text in its character set, or in Latin-1. Lone surrogates, which some character sets have,
-    are replaced.
-    """
+    """A text in its character set, or in Latin-1. Lone surrogates of the set are replaced."""
     try:
         text = data.decode(charset if SHOWN_CHARSETS.fullmatch(charset) else "latin-1")
         text = text.encode("utf-8", "replace").decode("utf-8")
@@ -238,9 +232,7 @@ def decoded_bytes(data: bytes, charset: str) -> str:
 
 
 def sender_of(senders: Sequence[str]) -> str:
-    """The address of a letter that has exactly one, else empty. The name before it has to be
-    decodable, and printable on one line.
-    """
+    """The address of a letter that has exactly one, with a name that can be read; else empty."""
     value = senders[0].replace("\t", " ") if len(senders) == 1 else ""
     found, shown = SENDER.fullmatch(value[: MAX_FIELD + 1]), words_in(value)
     is_plain = len(value) <= MAX_FIELD and shown.isprintable() and "=?" not in shown
@@ -265,9 +257,7 @@ def arrival_of(received: str) -> datetime.datetime | None:
 
 
 def identity_of(letter: Part, sender: str, body: Body) -> str:
-    """What copies of a letter have in common, though mail programs and servers change its head, its
-    attachments and its line ends.
-    """
+    """What copies of a letter share, though servers change head, attachments and line ends."""
     lines = (line[line.startswith(">From ") :].rstrip() for line in body.lines)
     text = "\n".join(lines).rstrip("\n")
     if not body.lines:
@@ -276,7 +266,7 @@ def identity_of(letter: Part, sender: str, body: Body) -> str:
     return hashlib.sha256("\0".join(parts).encode("utf-8", "surrogatepass")).hexdigest()
 
 
-# ---------------------------------------------------------------- the body
+# ---- the body
 def body_of(letter: Part) -> Body:
     """The text of a letter, and the other lines of all its parts."""
     parts = list(itertools.islice(letter.walk(), MAX_PARTS))
@@ -330,9 +320,7 @@ def is_quoted(line: str) -> bool:
 
 
 def text_of(part: Part, *, is_first: bool) -> tuple[Body, list[str]]:
-    """The lines of a part as far as they can be read, and what else in it may be lines. All bytes
-    of the first part have to be in its character set.
-    """
+    """The lines of a part as far as they can be read, and what else in it may be lines."""
     charset = part.parameters.get("charset", "")
     named = charset or "us-ascii"
     try:

@@ -60,9 +60,7 @@ Ask = Callable[[Sequence[bytes]], Mapping[bytes, str | None]]
 
 @dataclasses.dataclass(frozen=True)
 class Near:
-    """A line that is near to a ballot: its number in the letter, what may be the ballot, whether
-    that is within other words, and debvote's answer; None if it is a valid ballot.
-    """
+    """A line that is near to a ballot: its number, what may be the ballot, and debvote's answer."""
 
     number: int
     ballot: str
@@ -124,11 +122,9 @@ class Names:
         return {fold for fold in folds if LATIN.search(fold)}
 
 
-# ---------------------------------------------------------------- letters
+# ---- letters
 def read_letters(vote: Vote, raws: Sequence[RawLetter]) -> list[ReadLetter]:
-    """What letters say, with their signatures if letters have to be signed, and what their lines
-    may be.
-    """
+    """What letters say, with their signatures if they need one, and what their lines may be."""
     found, election = [parse(raw) for raw in raws], vote.election
     if not found:
         return []
@@ -234,9 +230,7 @@ def with_commas(text: str) -> str:
 
 
 def near_in(number: int, line: str, text: str, roll: Collection[str]) -> Near | None:
-    """A line with the shape of a ballot, with a name of the roll at its start, or with a ballot
-    within other words.
-    """
+    """A line shaped as a ballot, with a name of the roll at its start, or with a ballot in it."""
     for found in WITHIN.finditer(line[:MAX_LOOKED_THROUGH]):
         ballot = repaired(f"{found[1]} {found[2]}")
         has_words = re.search(r"\w", line[: found.start()] + line[found.end() :]) is not None
@@ -248,16 +242,14 @@ def near_in(number: int, line: str, text: str, roll: Collection[str]) -> Near | 
 
 
 def repaired(line: str) -> str:
-    """A line with the repairs that are allowed. If it is too long for them, each sequence of blanks
-    becomes one.
-    """
+    """A line with the repairs that are allowed; in one that is too long blanks are joined."""
     data = line.encode("utf-8", "replace")
     if len(data) > LONGEST_REPAIRED:
         data = " ".join(line.split()).encode("utf-8", "replace")
     return changed(data).decode("utf-8", "replace").replace("\n", " ")
 
 
-# ---------------------------------------------------------------- debvote's answers
+# ---- debvote's answers
 def texts_of(line: ReadLine, stand_in: str) -> tuple[bytes, bytes]:
     """What debvote is asked about the ranks of a line, and about what is near to a ballot; empty if
     there is none. Ranks without a name of the roll get that of a stand-in: whether they are valid
@@ -294,7 +286,7 @@ def answers_in(letters: Iterable[ReadLetter], roll: Collection[str]) -> dict[byt
     return found
 
 
-# ---------------------------------------------------------------- as the book keeps it
+# ---- as the book keeps it
 def as_json(letter: ParsedLetter) -> str:
     return json.dumps(vars(letter), default=as_plain)
 

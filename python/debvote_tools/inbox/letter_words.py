@@ -60,11 +60,9 @@ def arrival_of(letter: JudgedLetter) -> str:
     return "at an unknown time" if arrived is None else act_time(arrived)
 
 
-# ---------------------------------------------------------------- what goes in
+# ---- what goes in
 def going_in(letters: Sequence[JudgedLetter], vote: Vote) -> Iterator[str]:
-    """One line a letter: whose ballot it is, and how it is read. Those with more to look at come
-    last.
-    """
+    """One line a letter: whose ballot it is, and how it is read. The last have more to look at."""
     said = [(ballot_words(letter, vote), more_words(letter)) for letter in letters]
     yield from (words for words, more in said if not more)
     if worded := [f"{words}; {'; '.join(more)}" for words, more in said if more]:
@@ -87,7 +85,7 @@ def more_words(letter: JudgedLetter) -> list[str]:
     return [*found, *(f"line {number}{IS_CODE}" for number in letter.code_lines)]
 
 
-# ---------------------------------------------------------------- what waits
+# ---- what waits
 def table(letters: Sequence[JudgedLetter]) -> Iterator[str]:
     """Letters that wait: a line for each, and below it why."""
     rows = [(arrival_of(letter), sender_of(letter)) for letter in letters]
@@ -134,7 +132,7 @@ def wait_words(number: int) -> str:
     return count_of(number, "letter waits", "letters wait")
 
 
-# ---------------------------------------------------------------- a letter line by line
+# ---- a letter line by line
 def whole(letter: JudgedLetter) -> Iterator[str]:
     """A letter line by line, each with the number by which it can be entered. What it quotes of our
     letters is left out, but for lines that may be ballots.
@@ -214,9 +212,7 @@ def candidates(letter: JudgedLetter, near: Sequence[Near]) -> set[int]:
 
 
 def other_words(letter: JudgedLetter) -> str:
-    """The beginning of the sender's own words beside their ballots, without greetings, quotations,
-    and what a telephone adds.
-    """
+    """What the sender's own words begin with, without greetings and what a telephone adds."""
     lines, left_out = letter.parsed.body.lines, quoted_of_ours(letter)
     for quotation in quotations(lines):
         left_out.update(quotation if is_quoted(lines[quotation[-1]]) else ())

@@ -119,9 +119,7 @@ class Line(NamedTuple):
 
 
 def lines_in(data: bytes, name: str, first: int = 1) -> list[Line]:
-    """The lines of a file, numbered from `first`; a carriage return alone ends one, too. Line 1
-    loses its byte-order mark.
-    """
+    """The lines of a file, numbered from `first`; a carriage return alone ends one, too."""
     lines = []
     for number, line in enumerate(data.splitlines(keepends=True), start=first):
         came = line.removesuffix(b"\n")

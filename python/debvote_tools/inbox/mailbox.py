@@ -81,9 +81,7 @@ class NotRead(enum.Enum):
 
 @dataclasses.dataclass(frozen=True)
 class RawLetter:
-    """A letter as it came. A letter that is parted off waits: it may be text of the letter above it
-    in the mailbox, or have other letters in it.
-    """
+    """A letter as it came. One that is parted off may be text of the letter above it, and waits."""
 
     where: str
     data: bytes
@@ -101,7 +99,7 @@ class Source(NamedTuple):
     passed_over: list[PassedOver]
 
 
-# ---------------------------------------------------------------- files
+# ---- files
 def kind_not_read(data: bytes) -> NotRead | None:
     """What a file is that has no letters which this program reads; None if it may be read."""
     if data.startswith(b"!BDN"):
@@ -197,11 +195,9 @@ def joined(sources: Sequence[Source]) -> Source:
     return Source([*itertools.chain(*letters)], [*itertools.chain(*passed_over)])
 
 
-# ---------------------------------------------------------------- the parts of a file
+# ---- the parts of a file
 def parts_of(data: bytes) -> list[tuple[bytes, bytes, bytes]]:
-    """The parts of a file: of each the line that begins it, the letter, and the empty line that
-    ends it. Joined they are the file. Only an mbox has several.
-    """
+    """The parts of a file: of each the line that begins it, the letter, and the empty line."""
     start = begin_of(data)
     is_mailbox = begins_mailbox(start)
     begins = [start.span()] + [
@@ -233,9 +229,7 @@ def parts_letters(line: bytes) -> bool:
 
 
 def has_others(letter: bytes) -> bool:
-    """Whether other letters may be in a letter: it has a line that may begin one, but parts none,
-    since it has no date, was changed, or is not in an mbox.
-    """
+    """Whether other letters may be in a letter: a line may begin one, but parts none."""
     return any(
         DATED.match(line[0]) or FIELD.match(letter, line.end())
         for line in FROM_LINE.finditer(letter)

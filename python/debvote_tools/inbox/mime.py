@@ -124,9 +124,7 @@ class Part:
         return kind, parameters
 
     def open(self) -> None:
-        """Splits it into its parts. Each line that begins like a boundary has to be one, and the
-        last has to end the parts.
-        """
+        """Splits it into its parts. Each line like a boundary is one, and the last ends them."""
         boundary = self.parameters.get("boundary", "").rstrip()
         if self.kind == "message/rfc822":
             self.inner = [self.below]
@@ -158,9 +156,7 @@ class Part:
                 self.inner.append(part[:-2] if part.endswith(b"\r\n") else part.removesuffix(b"\n"))
 
     def walk(self, depth: int = 0, *, is_own: bool = True) -> Iterator[tuple["Part", bool]]:
-        """Yields the part and all parts within it, each with whether mail programs show it as the
-        text of the letter; others are attachments.
-        """
+        """Yields it and all parts in it, each with whether programs show it as the text."""
         has_name = any(name.startswith("name") for name in self.parameters)
         is_inline = self.value("content-disposition").lower() in ("", "inline")
         is_own = is_own and is_inline and not has_name

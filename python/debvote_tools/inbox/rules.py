@@ -97,12 +97,10 @@ class Known:
         return dict(found)
 
 
-# ---------------------------------------------------------------- what the lines are
+# ---- what the lines are
 @dataclasses.dataclass(frozen=True)
 class BallotLine:
-    """A line that reads as a ballot: its number in the letter, from 1, and the ballot as it would
-    be entered.
-    """
+    """A line that reads as a ballot: its number, from 1, and the ballot as it would be entered."""
 
     number: int
     ballot: str
@@ -117,9 +115,7 @@ class BallotLine:
 
     @property
     def has_high_rank(self) -> bool:
-        """Whether a rank is above the number of options. debvote takes this for a ballot, but
-        `Lars Winter 12,50` may be money.
-        """
+        """Whether a rank is above the number of options: `Lars Winter 12,50` may be money."""
         return any(rank != "-" and int(rank) > len(self.ranks) for rank in self.ranks)
 
 
@@ -174,7 +170,7 @@ def is_name_of(elector: str, line: ReadLine) -> bool:
     return elector in (*line.on_roll, *line.real) and set(line.on_roll) <= {elector}
 
 
-# ---------------------------------------------------------------- a letter
+# ---- a letter
 class JudgedLetter:
     """A letter, and what becomes of it. The `reason` says why it waits or was set aside."""
 
@@ -260,7 +256,7 @@ class JudgedLetter:
         return tuple(name for name in self.sharing if name not in self.electors)
 
 
-# ---------------------------------------------------------------- the rules
+# ---- the rules
 def can_be_read(case: JudgedLetter) -> Because | None:
     letter, body = case.parsed, case.parsed.body
     if letter.is_parted_off:
@@ -290,9 +286,7 @@ def arrived_in_time(case: JudgedLetter) -> Because | None:
 
 
 def is_sent_by_its_elector(case: JudgedLetter) -> Because | None:
-    """It comes from an address that the list has for the elector on the ballot. After `call
-    --marked` its subject has the own mark of this elector, too.
-    """
+    """It comes from an address of its elector, after `call --marked` with the own mark, too."""
     sender, elector, known = case.parsed.sender, case.elector, case.known
     listed = known.electors[elector].addresses if elector in known.electors else ()
     if not sender:
@@ -311,9 +305,7 @@ def is_sent_by_its_elector(case: JudgedLetter) -> Because | None:
 
 
 def is_signed_by_its_elector(case: JudgedLetter) -> Because | None:
-    """It has a good signature, if letters have to be signed. This comes before the rules about its
-    text, since only what was signed is read as the text.
-    """
+    """It has a good signature, if it must. This comes first: only what was signed is the text."""
     letter, signature, elector, known = case.parsed, case.parsed.signature, case.elector, case.known
     if not known.is_signed or case.ballot is None:
         return None
@@ -333,9 +325,7 @@ def is_signed_by_its_elector(case: JudgedLetter) -> Because | None:
 
 
 def has_one_ballot(case: JudgedLetter) -> Because | None:
-    """No other line reads as a ballot that differs. This comes before `ballot_is_first`, whose
-    reason would say less.
-    """
+    """No other line reads as a ballot that differs. `ballot_is_first` would say less."""
     if len({line.ballot for line in case.ballots}) <= 1:
         return None
     electors = sorted({line.elector for line in case.ballots})
@@ -363,9 +353,7 @@ def ballot_is_first(case: JudgedLetter) -> Because | None:
 
 
 def is_of_this_vote(case: JudgedLetter) -> Because | None:
-    """Its subject has the mark of the poll, and no other. If letters have to be signed, no other
-    mark is in the signed text, either.
-    """
+    """Its subject has the mark of the poll, and no other; nor has a text that must be signed."""
     own = case.known.mark
     signed = case.parsed.shown_lines if case.known.is_signed else ()
     marks = [mark for mark, _ in case.parsed.marks]
@@ -391,7 +379,7 @@ RULES = (
 )
 
 
-# ---------------------------------------------------------------- what may be above a ballot
+# ---- what may be above a ballot
 def above_end(lines: Sequence[str]) -> int:
     """How many lines are above the one that ends the letter."""
     return lines.index(END) if END in lines else len(lines)

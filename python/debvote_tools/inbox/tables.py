@@ -45,9 +45,7 @@ BadTable = Callable[[object, str, str], Fault]
 
 
 class Row(NamedTuple):
-    """A row, and the line of the file where it begins, both counted from 1. It has at least as many
-    cells as the head line.
-    """
+    """A row with as many cells as the head line, or more, and the line where it begins, from 1."""
 
     number: int
     line: int
@@ -154,7 +152,7 @@ def decoded(data: bytes, file: object, bad_table: BadTable) -> str:
         raise bad_table(f"{file}:{len(before)}", words, SAVE_AS) from None
 
 
-# ---------------------------------------------------------------- the columns of ballots
+# ---- the columns of ballots
 def heads_of(name: str, ranks: str, poll: SealedPoll) -> list[str]:
     """The heads of the columns that the command line names: that of the names, then that of each
     rank in the order of the options. A head with a comma is in quotation marks.
@@ -190,7 +188,7 @@ def heads_of(name: str, ranks: str, poll: SealedPoll) -> list[str]:
     return heads
 
 
-# ---------------------------------------------------------------- the rows of ballots
+# ---- the rows of ballots
 def lines_of_table(
     data: bytes,
     file_name: str,
@@ -255,7 +253,7 @@ def demand_ranks(
         raise bad_ballots(file_name, words, TO_RANKS)
 
 
-# ---------------------------------------------------------------- ranks in another order than the options
+# ---- ranks in another order than the options
 # the number of an option before its name, as `2 Hall`, `2. Hall` or `Option 2`
 NUMBERED = re.compile(r"(?:option )?([1-9][0-9]?)(?:[.):]+ ?|[ -]+|$)")
 
@@ -329,25 +327,21 @@ def in_other_place(options: OptionNames, heads: Sequence[str]) -> tuple[int, int
 
 
 def are_table(lines: Sequence[bytes]) -> bool:
-    """Whether all lines have the same sign, no comma and no space, between all ranks and between
-    name and ranks too.
-    """
+    """Whether all lines have the same sign, no comma and no space, between name and all ranks."""
     rows = [line.decode("utf-8", "replace").replace('"', "").strip(" ") for line in lines]
     signs = sorted(filter(SIGN.fullmatch, set(rows[0]))) if rows else ()
     return any(all(is_row(row, sign) for row in rows) for sign in signs)
 
 
 def is_row(line: str, sign: str) -> bool:
-    """Whether a line is a name and two or more ranks, each a number, a hyphen or nothing, with this
-    sign between all of them.
-    """
+    """Whether a line is a name and two or more ranks, with this sign between all of them."""
     name, *cells = line.split(sign)
     ranks = (cell.strip(" ") for cell in cells)
     are_ranks = all(rank.isdecimal() or rank in ("", UNRANKED) for rank in ranks)
     return len(cells) > 1 and NAME.fullmatch(name) is not None and are_ranks
 
 
-# ---------------------------------------------------------------- times that contradict the order of the rows
+# ---- times that contradict the order of the rows
 # a day and a time of that day, as forms and spreadsheets write them: `2026-11-23T10:00:00Z`,
 # `23.11.2026 10:00`, `11/23/26 9:05 PM`
 TIME = re.compile(

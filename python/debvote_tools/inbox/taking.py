@@ -33,9 +33,7 @@ from debvote_tools.inbox.vote import Vote
 def take_letters(
     vote: Vote, files: Mapping[str, CameFile | None], *, is_look: bool, is_agreed: bool
 ) -> None:
-    """Keeps the letters that are new, and enters the ballots that go in; or tells what would become
-    of them.
-    """
+    """Keeps new letters, and enters the ballots that go in; or tells what would become of them."""
     raws, passed_over = split_letters(files)
     new = new_of(vote, raws)
     read = read_letters(vote, new)
@@ -55,11 +53,9 @@ def take_letters(
     tell(came_before, would.replace("went in", "would go in"), "Nothing was changed.")
 
 
-# ---------------------------------------------------------------- keeping
+# ---- keeping
 def split_letters(files: Mapping[str, CameFile | None]) -> Source:
-    """The letters of mailboxes, files and folders, each read whole, and what is passed over. A
-    folder is None.
-    """
+    """The letters of files and folders, each read whole, and what is passed over."""
     found = list[Source]()
     for path, file in files.items():
         try:
@@ -86,9 +82,7 @@ def new_of(vote: Vote, raws: Sequence[RawLetter]) -> list[RawLetter]:
 
 
 def is_new(digest: str, is_parted_off: bool, kept: Collection[tuple[str, bool]]) -> bool:
-    """Whether a letter with these bytes is new. If it only came parted off, it is new when it comes
-    as a letter of its own.
-    """
+    """Whether a letter is new; one that only came parted off is, when it comes on its own."""
     return (digest, False) not in kept and not (is_parted_off and (digest, True) in kept)
 
 
@@ -106,7 +100,7 @@ def keep(vote: Vote, raws: Sequence[RawLetter], read: Sequence[ReadLetter]) -> N
                 queries.keep_letter(act, where, raw.data, letter.identity, parsed_json)
 
 
-# ---------------------------------------------------------------- entering
+# ---- entering
 class NewBallots(NamedTuple):
     """The ballots of letters that would go in, by the book as it is now."""
 

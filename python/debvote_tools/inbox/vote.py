@@ -98,7 +98,7 @@ class Vote:
         numbers = queries.elector_numbers(self.book, on_roll)
         return list(map({name.encode(): number for name, number in numbers.items()}.get, names))
 
-    # ------------------------------------------------------------ what debvote says
+    # ---- what debvote says
     def judge(self, lines: Sequence[Line]) -> list[JudgedLine]:
         """What debvote says of lines, none of them empty. It is started twice at most.
 
@@ -141,9 +141,7 @@ class Vote:
         return {lines[finding.envelope - 1]: finding for finding in refused}
 
     def other_names(self, finding: Finding) -> tuple[str, ...]:
-        """All names that fit as well as those that debvote offers, as `anna-meier-2` beside
-        `anna-meier`.
-        """
+        """All names that fit as well as those that debvote offers: `ada-2` beside `ada`."""
         bare_names = [NUMBER.sub("", near) for near in finding.near]
         alike = dict.fromkeys(name for bare in bare_names for name in self.names_by_bare_name[bare])
         return tuple(name for name in alike if name not in finding.near)
@@ -168,7 +166,7 @@ class Vote:
         """The ranks of the ballots that stand if these lines are all, by elector."""
         return self.debvote.standing(self.poll_bytes, ballot_file(lines)) if lines else {}
 
-    # ------------------------------------------------------------ words
+    # ---- words
     def report(
         self, lines: Sequence[JudgedLine], numbers: Iterable[int], replies: Sequence[str]
     ) -> Iterator[str]:
@@ -262,9 +260,7 @@ def summary(replies: Sequence[str]) -> str:
 def standing_words(
     vote: Vote, before: dict[str, str], after: dict[str, str], none: str
 ) -> list[str]:
-    """Whose ballot is another one afterwards, or is gone; `none` says that. In a vote with codes
-    only how many.
-    """
+    """Whose ballot is another one afterwards, or is gone (`none`); with codes only how many."""
     changed = {name: after.get(name) for name, ranks in before.items() if after.get(name) != ranks}
     if vote.has_codes:
         gone = list(changed.values()).count(None)

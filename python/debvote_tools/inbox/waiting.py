@@ -47,9 +47,7 @@ def in_time(waiting: Mapping[int, Arrived]) -> list[int]:
 
 
 def left(history: History) -> set[int]:
-    """The letters that a close or a publication left waiting, with a reason: they stop nothing
-    again.
-    """
+    """The letters that a close or a publication left waiting, which stop nothing again."""
     acts = history.since_call("close", "publish")
     return {number for act in acts for number in act.detail.get("left", [])}
 
