@@ -11,6 +11,7 @@ from collections.abc import Callable, Iterator, Sequence
 from debvote_tools.book import queries
 from debvote_tools.book.book import Detail
 from debvote_tools.book.election import Election, History
+from debvote_tools.book.queries import Elector, Envelope, NewEnvelope
 from debvote_tools.cli.console import is_yes, shown_line, shown_text, tell, typed
 from debvote_tools.cli.faults import Fault, Status
 from debvote_tools.files import BALLOTS_LIMIT
@@ -32,6 +33,9 @@ MAX_NAMES = 9
 
 Arguments = entering.Arguments
 
+# when the vote is open, and what came of the elector whose ballot is shown
+Seen = tuple[History, list[Envelope]]
+
 
 class Desk:
     """A desk, and the replies to what was cast there."""
@@ -45,7 +49,7 @@ class Desk:
         self.next_line = 1
 
     @functools.cached_property
-    def texts(self) -> list[tuple[queries.Elector, str]]:
+    def texts(self) -> list[tuple[Elector, str]]:
         """The electors, each with what a part of a name is looked for in."""
         electors = queries.electors(self.vote.book)
         return [(one, f"{alike(one.name)}\n{alike(one.who)}") for one in electors]
@@ -60,9 +64,6 @@ class Desk:
         self.next_line += len(lines)
         return lines
 
-    def is_late(self, history: History) -> bool:
-        return history.is_late(self.came_before_close)
-
     def enter(
         self,
         lines: list[JudgedLine],
@@ -70,37 +71,38 @@ class Desk:
         elector: int | None = None,
     ) -> None:
         """Casts lines if `show` says so; it is asked anew if another act changed what it saw."""
+        vote = self.vote
 
-        def plan() -> tuple[History, list[queries.Envelope]]:
-            history = History(self.vote.book.acts())
-            self.vote.demand_same_call(history, NOTHING_CAST, "start the desk again")
-            return history.openness(), queries.envelopes(self.vote.book, "elector = ?", elector)
+        def plan() -> Seen:
+            history = History(vote.book.acts())
+            vote.demand_same_call(history, NOTHING_CAST, "start the desk again")
+            return history.openness(), queries.envelopes(vote.book, "elector = ?", elector)
 
-        def show_all(now: tuple[History, list[queries.Envelope]]) -> bool:
+        def show_all(now: Seen) -> bool:
             self.ask_if_reopened(now[0])
             return show(now[0])
 
-        def act(now: tuple[History, list[queries.Envelope]], seen: int) -> None:
+        def report(numbers: range, replies: Sequence[str]) -> Iterator[str]:
+            self.replies += replies
+            return vote.report(lines, numbers, replies)
+
+        def act(now: Seen, seen: int) -> None:
             detail: Detail = {"lines": len(lines)}
             if now[0].is_reopened:
                 detail["came_before_close"] = self.came_before_close
             entering.enter_lines(
-                self.vote,
+                vote,
                 "desk",
                 detail,
-                lambda _: [queries.NewEnvelope(one.as_entered, one.line.place) for one in lines],
+                lambda _: [NewEnvelope(one.as_entered, one.line.place) for one in lines],
                 report,
                 seen,
-                is_late=self.is_late(now[0]),
+                is_late=now[0].is_late(self.came_before_close),
                 is_same=lambda: plan() == now,
                 what="ballots to be reported",
             )
 
-        def report(numbers: range, replies: Sequence[str]) -> Iterator[str]:
-            self.replies += replies
-            return self.vote.report(lines, numbers, replies)
-
-        entering.agreed_act(self.vote, plan, show_all, act)
+        entering.agreed_act(vote, plan, show_all, act)
 
 
 def run(election: Election, arguments: Arguments) -> None:
@@ -116,10 +118,8 @@ def run(election: Election, arguments: Arguments) -> None:
         tell(f"Note: {words}: enter only ballots on paper or by word of mouth.")
     try:
         desk.ask_if_reopened(history, NOTHING_CAST)
-        if sys.stdin.isatty():
-            at_terminal(desk)
-        else:
-            from_pipe(desk)
+        cast = at_terminal if sys.stdin.isatty() else from_pipe
+        cast(desk)
     except KeyboardInterrupt:
         tell("")
     tell(f"This desk has entered {summary(desk.replies)}.", f"Next: {election.command('status')}")
@@ -185,9 +185,8 @@ def ask_and_cast(desk: Desk, line: Line) -> bool:
 
     def show(history: History) -> bool:
         nonlocal answer
-        answer = is_yes(
-            question(desk, read, history, elector), "Type y to enter it, or n to drop it."
-        )
+        asked = question(desk, read, history, elector)
+        answer = is_yes(asked, "Type y to enter it, or n to drop it.")
         if answer is False:
             tell("It was not entered.")
         return bool(answer)
@@ -234,7 +233,7 @@ def question(desk: Desk, line: JudgedLine, history: History, elector: int | None
         tell(f"It would be refused: {shown_line(line.as_entered)}{why}", desk.vote.right_words())
         return "It would not count. Enter it anyway?"
     tell(desk.vote.in_words(line))
-    if desk.is_late(history):
+    if history.is_late(desk.came_before_close):
         tell("It is late, and will not count.")
     elif elector is not None:
         lines = queries.lines_of_electors(desk.vote.book, {elector})

@@ -58,13 +58,9 @@ class Vote:
     def __init__(self, election: Election, history: History) -> None:
         self.election, self.book, self.debvote = election, election.book, election.debvote
         self.call = election.called(history)
-        # the poll as ballots are counted, and the names of all options as people read them, the default last
-        self.poll = election.sealed().counted
-        self.poll_bytes, self.option_names, self.roll = (
-            self.poll.as_bytes(),
-            self.poll.names,
-            self.poll.roll,
-        )
+        # the poll as ballots are counted
+        self.poll = poll = election.sealed().counted
+        self.poll_bytes, self.option_names, self.roll = poll.as_bytes(), poll.names, poll.roll
         # the roll has codes: none is printed that was not typed
         self.has_codes = bool(history.announced("codes_on_roll"))
         self.is_signed = bool(history.announced("signed"))
@@ -93,10 +89,9 @@ class Vote:
 
     def electors_of(self, lines: Sequence[bytes]) -> list[int | None]:
         """Of each line the elector whose name it begins with."""
-        names = list(map(name_in, lines))
-        on_roll = self.names_on_roll & {name.decode("ascii") for name in set(names)}
-        numbers = queries.elector_numbers(self.book, on_roll)
-        return list(map({name.encode(): number for name, number in numbers.items()}.get, names))
+        names = [name_in(line).decode("ascii") for line in lines]
+        numbers = queries.elector_numbers(self.book, self.names_on_roll.intersection(names))
+        return list(map(numbers.get, names))
 
     # ---- what debvote says
     def judge(self, lines: Sequence[Line]) -> list[JudgedLine]:
@@ -107,18 +102,18 @@ class Vote:
         """
         refused = self.findings([line.repaired for line in lines])
         changed = (line for line in lines if line.repaired in refused)
-        refused_as_they_came = self.findings(
-            [line.unframed for line in changed if line.unframed != line.repaired]
-        )
-        read = []
+        as_they_came = [line.unframed for line in changed if line.unframed != line.repaired]
+        refused_as_they_came = self.findings(as_they_came)
+        judged = []
         for line in lines:
             finding = refused.get(line.repaired)
             if finding is None:
-                read.append(JudgedLine(line, line.repaired))
+                judged.append(JudgedLine(line, line.repaired))
             else:
-                now, other = refused_as_they_came.get(line.unframed, finding), self.other_names
-                read.append(JudgedLine(line, line.unframed, now, finding, other(now)))
-        return read
+                now = refused_as_they_came.get(line.unframed, finding)
+                others = self.other_names(now)
+                judged.append(JudgedLine(line, line.unframed, now, finding, others))
+        return judged
 
     def answers(self, lines: Sequence[bytes]) -> dict[bytes, str | None]:
         """What debvote says of each line, such as `bad rank count: ..`; None for a valid ballot. It
@@ -142,8 +137,8 @@ class Vote:
 
     def other_names(self, finding: Finding) -> tuple[str, ...]:
         """All names that fit as well as those that debvote offers: `ada-2` beside `ada`."""
-        bare_names = [NUMBER.sub("", near) for near in finding.near]
-        alike = dict.fromkeys(name for bare in bare_names for name in self.names_by_bare_name[bare])
+        bare_names = dict.fromkeys(NUMBER.sub("", near) for near in finding.near)
+        alike = (name for bare in bare_names for name in self.names_by_bare_name[bare])
         return tuple(name for name in alike if name not in finding.near)
 
     @functools.cached_property
@@ -231,17 +226,15 @@ def parts_of(lines: Sequence[bytes]) -> Iterator[list[bytes]]:
 
 def frame_words(lines: Iterable[Line]) -> Iterator[str]:
     """The marks and line ends of Windows that were removed, once a file."""
-    by_source: dict[str, list[Line]] = {}
-    for line in lines:
-        if line.came != line.repaired:
-            by_source.setdefault(line.source, []).append(line)
-    for name, repaired_lines in by_source.items():
-        return_count = sum(line.had_return for line in repaired_lines)
-        if any(line.had_mark for line in repaired_lines):
+    changed = [line for line in lines if line.came != line.repaired]
+    marked = {line.source for line in changed if line.had_mark}
+    returns = collections.Counter(line.source for line in changed if line.had_return)
+    for name in dict.fromkeys(line.source for line in changed):
+        if name in marked:
             yield f"{name}: it begins with a mark that Windows writes (byte-order mark); it was removed"
-        if return_count:
-            verb, they = ("ends", "it") if return_count == 1 else ("end", "them")
-            yield f"{name}: {count_of(return_count, 'line')} {verb} as Windows ends {they} (carriage return); that was removed"
+        if count := returns[name]:
+            verb, they = ("ends", "it") if count == 1 else ("end", "them")
+            yield f"{name}: {count_of(count, 'line')} {verb} as Windows ends {they} (carriage return); that was removed"
 
 
 def change_words(line: JudgedLine) -> Iterator[str]:
@@ -252,8 +245,8 @@ def change_words(line: JudgedLine) -> Iterator[str]:
 
 
 def summary(replies: Sequence[str]) -> str:
-    counts = collections.Counter(replies)
-    listed = ", ".join(f"{number} {reply}" for reply, number in counts.items())
+    counts = collections.Counter(replies).items()
+    listed = ", ".join(f"{number} {reply}" for reply, number in counts)
     return count_of(len(replies), "line") + (f" ({listed})" if listed else "")
 
 
@@ -262,12 +255,11 @@ def standing_words(
 ) -> list[str]:
     """Whose ballot is another one afterwards, or is gone (`none`); with codes only how many."""
     changed = {name: after.get(name) for name, ranks in before.items() if after.get(name) != ranks}
+    gone = list(changed.values()).count(None)
     if vote.has_codes:
-        gone = list(changed.values()).count(None)
         said = f"  {count_of(gone, 'elector')}: {none}; {count_of(len(changed) - gone, 'elector')}: an earlier ballot"
         return [said] if changed else []
-    words = {
-        name: ranks and f"{vote.ranks_in_words(ranks)}, as before"
+    return [
+        f"  {name}: {f'{vote.ranks_in_words(ranks)}, as before' if ranks else none}"
         for name, ranks in changed.items()
-    }
-    return [f"  {name}: {said or none}" for name, said in words.items()]
+    ]
