@@ -167,7 +167,7 @@ def parse(raw: RawLetter) -> ParsedLetter:
     is_automatic = any(map(AUTOMATIC.match, fields))
     return ParsedLetter(
         where=raw.where,
-        digest=hashlib.sha256(raw.data).hexdigest(),
+        digest=raw.digest,
         identity=identity_of(letter, sender or " ".join(senders), body),
         is_parted_off=raw.is_parted_off,
         in_reply_to=answered[0] if has_id else "",

@@ -7,12 +7,14 @@ them is kept, or named as not read.
 
 import dataclasses
 import enum
+import functools
 import itertools
 import pathlib
 import re
 from collections.abc import Sequence
 from typing import NamedTuple
 
+from debvote_tools.files import sha256_of
 from debvote_tools.inbox.lines import MARK
 from debvote_tools.inbox.mime import END_OF_HEAD, MAX_HEAD, MAX_LETTER, Part
 
@@ -87,6 +89,10 @@ class RawLetter:
     data: bytes
     is_parted_off: bool = False
 
+    @functools.cached_property
+    def digest(self) -> str:
+        return sha256_of(self.data)
+
 
 # a file or letter that is passed over, by its name
 PassedOver = tuple[str, NotRead]
@@ -143,11 +149,12 @@ def letters_of_file(name: str, data: bytes) -> Source:
             is_parted_off = place < reach or not is_ended or has_others(letter)
             found.letters.append(RawLetter(where, letter, is_parted_off))
         place += len(above + letter)
-        read = Part(letter)
-        lengths = map(re.compile(r"\d{1,15}").match, read.values("content-length"))
-        ends = {place - len(read.below) + int(length[0]) for length in lengths if length}
-        reach = max({reach, *ends & possible_ends})
-        is_ended = bool(below) and not read.is_open
+        if number < len(parts):
+            read = Part(letter)
+            lengths = map(re.compile(r"\d{1,15}").match, read.values("content-length"))
+            ends = {place - len(read.below) + int(length[0]) for length in lengths if length}
+            reach = max({reach, *ends & possible_ends})
+            is_ended = bool(below) and not read.is_open
         place += len(below)
     return found
 
@@ -230,7 +237,6 @@ def parts_letters(line: bytes) -> bool:
 
 def has_others(letter: bytes) -> bool:
     """Whether other letters may be in a letter: a line may begin one, but parts none."""
-    return any(
-        DATED.match(line[0]) or FIELD.match(letter, line.end())
-        for line in FROM_LINE.finditer(letter)
-    )
+    # the expression takes long, and few letters have the word
+    lines = FROM_LINE.finditer(letter) if b"from " in letter.lower() else ()
+    return any(DATED.match(line[0]) or FIELD.match(letter, line.end()) for line in lines)

@@ -139,8 +139,10 @@ class Part:
         if not boundary:
             self.around = self.below
             return
-        line = rb"(?m)^--%b([^\n]*)\n?" % re.escape(boundary.encode("utf-8", "surrogateescape"))
-        lines = list(itertools.islice(re.finditer(line, self.below), MAX_PARTS))
+        # without a sign for the begin of a line, since that takes long in a long letter
+        line = rb"--%b([^\n]*)\n?" % re.escape(boundary.encode("utf-8", "surrogateescape"))
+        found_lines = filter(self.begins_line, re.finditer(line, self.below))
+        lines = list(itertools.islice(found_lines, MAX_PARTS))
         if len(lines) == MAX_PARTS:
             self.found(Reason.TOO_MANY_PARTS())
         ends = [found[1].strip(b" \t\r") for found in lines]
@@ -154,6 +156,9 @@ class Part:
             if what != b"--":
                 part = self.below[found.end() : end]
                 self.inner.append(part[:-2] if part.endswith(b"\r\n") else part.removesuffix(b"\n"))
+
+    def begins_line(self, found: re.Match[bytes]) -> bool:
+        return found.start() == 0 or self.below[found.start() - 1 : found.start()] == b"\n"
 
     def walk(self, depth: int = 0, *, is_own: bool = True) -> Iterator[tuple["Part", bool]]:
         """Yields it and all parts in it, each with whether programs show it as the text."""

@@ -12,7 +12,6 @@ from debvote_tools.book.election import History
 from debvote_tools.book.queries import NewEnvelope
 from debvote_tools.cli.console import count_of, is_terminal, is_yes, shown_text, tell
 from debvote_tools.cli.faults import Fault
-from debvote_tools.files import sha256_of
 from debvote_tools.inbox import letter_words
 from debvote_tools.inbox.came import CameFile, safe
 from debvote_tools.inbox.entering import agreed_act, enter_lines, late_notes
@@ -75,9 +74,8 @@ def new_of(vote: Vote, raws: Sequence[RawLetter]) -> list[RawLetter]:
     # of letters with the same bytes the first that is not parted off, or else the first
     chosen: dict[str, RawLetter] = {}
     for raw in raws:
-        digest = sha256_of(raw.data)
-        if digest not in chosen or chosen[digest].is_parted_off > raw.is_parted_off:
-            chosen[digest] = raw
+        if raw.digest not in chosen or chosen[raw.digest].is_parted_off > raw.is_parted_off:
+            chosen[raw.digest] = raw
     return [raw for digest, raw in chosen.items() if is_new(digest, raw.is_parted_off, kept)]
 
 
