@@ -213,11 +213,13 @@ def lines_after(
     condition = "late = 0 AND (struck IS NULL OR struck > ?1) AND act <= ?1 AND act <> ?2"
     if electors is None:
         return lines(book, condition, act, without)
-    condition, numbers = f"{condition} AND {of_electors(electors)}", json.dumps(list(electors))
+    condition, numbers = f"{condition} AND {elector_condition(electors)}", json.dumps(
+        list(electors)
+    )
     return lines(book, condition, act, without, numbers)
 
 
-def of_electors(electors: Collection[int]) -> str:
+def elector_condition(electors: Collection[int]) -> str:
     """The condition that an envelope is of one of these electors, who are the last value, as JSON."""
     # with the sign SQLite uses no index: to look for the lines of each of many takes longer than to
     # look at all lines
@@ -227,7 +229,7 @@ def of_electors(electors: Collection[int]) -> str:
 def envelopes_of(book: Book, electors: Collection[int]) -> list[Envelope]:
     """The envelopes of some electors that are not struck, also those that are late."""
     return envelopes(
-        book, f"struck IS NULL AND {of_electors(electors)}", json.dumps(list(electors))
+        book, f"struck IS NULL AND {elector_condition(electors)}", json.dumps(list(electors))
     )
 
 

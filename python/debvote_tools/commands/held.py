@@ -142,7 +142,7 @@ def enter(vote: Vote, arguments: Arguments) -> None:
         for letter in sorted(wanted, key=lambda one: (one.time is None, one.time or one.number)):
             try:
                 demand_not_entered(vote, history, letter)
-                lines = lines_of(letter, arguments.enter, typed, is_forced=arguments.force)
+                lines = chosen_lines(letter, arguments.enter, typed, is_forced=arguments.force)
                 chosen += [(letter, line) for line in lines]
                 if letter.outcome is Outcome.COPY:
                     cure = "to enter its ballot once more, have the letter wait first with --wait"
@@ -218,7 +218,7 @@ def demand_not_entered(vote: Vote, history: History, letter: JudgedLetter) -> No
     raise Fault(name_of(letter), "it was entered, and is late", cure)
 
 
-def lines_of(
+def chosen_lines(
     letter: JudgedLetter, lines: str | None, typed: str | None, *, is_forced: bool
 ) -> list[BallotLine]:
     """The ballots of a letter to enter: what was typed, the lines that were named, or its only one."""

@@ -119,7 +119,7 @@ class ParsedLetter:
     subject: str
     # the marks of votes in its subject, each with the own mark of an elector or ""
     marks: tuple[tuple[str, str], ...]
-    # whether its head says that it answers a letter
+    # whether its head names no letter that it answers
     is_new: bool
     # by the mail server that received it last
     arrived: datetime.datetime | None

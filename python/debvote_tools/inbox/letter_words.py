@@ -61,7 +61,7 @@ def arrival_of(letter: JudgedLetter) -> str:
 
 
 # ---- what goes in
-def going_in(letters: Sequence[JudgedLetter], vote: Vote) -> Iterator[str]:
+def going_in_words(letters: Sequence[JudgedLetter], vote: Vote) -> Iterator[str]:
     """One line a letter: whose ballot it is, and how it is read. The last have more to look at."""
     said = [(ballot_words(letter, vote), more_words(letter)) for letter in letters]
     yield from (words for words, more in said if not more)
@@ -195,7 +195,7 @@ def quoted_of_ours(letter: JudgedLetter) -> set[int]:
     """
     lines, known, answered = letter.parsed.body.lines, letter.known, letter.parsed.in_reply_to
     is_answer = answered and any(answered in ids for ids in known.our_letters.values())
-    shown = candidates(letter, letter.near)
+    shown = indices_of_ballots(letter, letter.near)
     return {
         index
         for quotation in quotations(lines)
@@ -205,7 +205,7 @@ def quoted_of_ours(letter: JudgedLetter) -> set[int]:
     }
 
 
-def candidates(letter: JudgedLetter, near: Sequence[Near]) -> set[int]:
+def indices_of_ballots(letter: JudgedLetter, near: Sequence[Near]) -> set[int]:
     """The indices of the lines that can be entered, and of those near to a ballot."""
     lines = {line.number - 1 for line in (*letter.ballots, *letter.offered)}
     return lines | {one.number - 1 for one in near}
@@ -216,7 +216,7 @@ def other_words(letter: JudgedLetter) -> str:
     lines, left_out = letter.parsed.body.lines, quoted_of_ours(letter)
     for quotation in quotations(lines):
         left_out.update(quotation if is_quoted(lines[quotation[-1]]) else ())
-    left_out |= candidates(letter, [near for near in letter.near if not near.is_within])
+    left_out |= indices_of_ballots(letter, [near for near in letter.near if not near.is_within])
     names = set(WORD.findall(letter.parsed.shown_sender.partition("<")[0].casefold()))
 
     def says_something(line: str) -> bool:

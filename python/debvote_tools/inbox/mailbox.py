@@ -179,7 +179,7 @@ def letters_of_folder(folder: pathlib.Path) -> Source:
     if is_maildir:
         files += itertools.chain.from_iterable((folder / part).iterdir() for part in MAILDIR)
     found = [letter_of_file(file) for file in sorted(files, key=lambda file: (file.name, file))]
-    return joined(found)
+    return joined_sources(found)
 
 
 def letter_of_file(file: pathlib.Path) -> Source:
@@ -197,7 +197,7 @@ def letter_of_file(file: pathlib.Path) -> Source:
     return Source([], [(str(file), why)]) if why else letters_of_file(str(file), data)
 
 
-def joined(sources: Sequence[Source]) -> Source:
+def joined_sources(sources: Sequence[Source]) -> Source:
     letters, passed_over = zip(*sources) if sources else ((), ())
     return Source([*itertools.chain(*letters)], [*itertools.chain(*passed_over)])
 

@@ -97,7 +97,7 @@ def read_table(
     """The table of a file. Its delimiter is the one that finds most of the wanted heads in the
     first line that is not blank. With `skips_spaces` a quotation mark after spaces begins a cell.
     """
-    text = decoded(data, file, bad_table)
+    text = table_text(data, file, bad_table)
     head_line = next((line for line in re.split(r"[\r\n]+", text) if line.strip(' \t,;"')), "")
     wanted = set(map(head_form, wanted_heads))
 
@@ -130,7 +130,7 @@ def read_table(
     return Table(head, rows, delimiter)
 
 
-def decoded(data: bytes, file: object, bad_table: BadTable) -> str:
+def table_text(data: bytes, file: object, bad_table: BadTable) -> str:
     """The text of a file, by its mark; without one it is in UTF-8."""
     if (kind := kind_of(data)) is not None:
         raise bad_table(file, f"it is {kind}, not CSV", f"open it in the spreadsheet and {SAVE_AS}")

@@ -21,7 +21,7 @@ from debvote_tools.inbox.lines import NOTHING_ADDED, bad_ballots
 from debvote_tools.inbox.mailbox import (
     RawLetter,
     Source,
-    joined,
+    joined_sources,
     letters_of_file,
     letters_of_folder,
 )
@@ -66,7 +66,7 @@ def split_letters(files: Mapping[str, CameFile | None]) -> Source:
         except OSError as error:
             cure = "name letters that you may read"
             raise bad_ballots(path, error.strerror, cure) from None
-    return joined(found)
+    return joined_sources(found)
 
 
 def new_of(vote: Vote, raws: Sequence[RawLetter]) -> list[RawLetter]:
@@ -76,10 +76,10 @@ def new_of(vote: Vote, raws: Sequence[RawLetter]) -> list[RawLetter]:
     for raw in raws:
         if raw.digest not in chosen or chosen[raw.digest].is_parted_off > raw.is_parted_off:
             chosen[raw.digest] = raw
-    return [raw for digest, raw in chosen.items() if is_new(digest, raw.is_parted_off, kept)]
+    return [raw for digest, raw in chosen.items() if is_not_kept(digest, raw.is_parted_off, kept)]
 
 
-def is_new(digest: str, is_parted_off: bool, kept: Collection[tuple[str, bool]]) -> bool:
+def is_not_kept(digest: str, is_parted_off: bool, kept: Collection[tuple[str, bool]]) -> bool:
     """Whether a letter is new; one that only came parted off is, when it comes on its own."""
     return (digest, False) not in kept and not (is_parted_off and (digest, True) in kept)
 
@@ -93,7 +93,7 @@ def keep(vote: Vote, raws: Sequence[RawLetter], read: Sequence[ReadLetter]) -> N
         kept = queries.kept_digests(vote.book)
         for raw, letter in zip(raws, read):
             # another command may have kept it meanwhile
-            if is_new(letter.digest, letter.is_parted_off, kept):
+            if is_not_kept(letter.digest, letter.is_parted_off, kept):
                 where, parsed_json = safe(raw.where), as_json(letter)
                 queries.keep_letter(act, where, raw.data, letter.identity, parsed_json)
 
@@ -181,5 +181,5 @@ def tell_letters(vote: Vote, history: History, found: Sequence[JudgedLetter]) ->
     if new := going_in(found):
         if history.is_closed:
             tell(*late_notes(vote.election, history, "what is added"))
-        tell(*letter_words.going_in(new, vote))
+        tell(*letter_words.going_in_words(new, vote))
     tell(*letter_words.table([one for one in found if one.outcome is Outcome.WAITS]))

@@ -120,7 +120,7 @@ class Vote:
         gets as many lines at once as it takes, and none twice. What it remarks on other lines is
         left out.
         """
-        for part in parts_of([line for line in dict.fromkeys(lines) if line not in self.answered]):
+        for part in in_parts([line for line in dict.fromkeys(lines) if line not in self.answered]):
             self.answered.update(dict.fromkeys(part))
             for line, finding in self.findings(part).items():
                 self.answered[line] = f"{finding.word}: {finding._replace(remark='').hint}"
@@ -211,7 +211,7 @@ def envelope_words(numbers: Collection[int]) -> str:
     return f"envelope{'s' * (len(numbers) != 1)} {', '.join(runs)}"
 
 
-def parts_of(lines: Sequence[bytes]) -> Iterator[list[bytes]]:
+def in_parts(lines: Sequence[bytes]) -> Iterator[list[bytes]]:
     """Lines in parts, each of as many as debvote takes at once."""
     part: list[bytes] = []
     size = 0
