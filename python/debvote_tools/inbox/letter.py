@@ -156,9 +156,8 @@ class ParsedLetter:
 def parse(raw: RawLetter) -> ParsedLetter:
     letter = Part(raw.data)
     senders, subjects = letter.values("from"), letter.values("subject")
-    if (longest := max(map(len, subjects), default=0)) > MAX_FIELD:
-        what = "characters in its subject"
-        letter.found(Reason.TOO_LONG(length=longest, what=what, limit=MAX_FIELD))
+    longest = max(map(len, subjects), default=0)
+    letter.has_more(longest, "characters in its subject", MAX_FIELD)
     body, sender = body_of(letter), sender_of(senders)
     texts = (text for subject in subjects for text in (decoded(subject), subject))
     answered = letter.values("in-reply-to")
@@ -274,18 +273,13 @@ def body_of(letter: Part) -> Body:
         letter.found(Reason.TOO_MANY_PARTS())
     texts = [(part, is_own) for part, is_own in parts if part.kind.startswith("text/")]
     lengths = [len(part.below) for part, _ in texts] + [len(part.around) for part, _ in parts]
-    for length, limit, what in (
-        (max(lengths, default=0), MAX_TEXT, "a text"),
-        (sum(lengths), MAX_TEXTS, "all its texts"),
-    ):
-        if length > limit:
-            letter.found(Reason.TOO_LONG(length=length, what=f"bytes in {what}", limit=limit))
-            return Body(trouble=letter.trouble)
+    is_long = letter.has_more(max(lengths, default=0), "bytes in a text", MAX_TEXT)
+    if is_long or letter.has_more(sum(lengths), "bytes in all its texts", MAX_TEXTS):
+        return Body(trouble=letter.trouble)
     payloads = [part.payload for part, _ in texts]
     count = sum(len(data) - len(data.translate(None, LINE_OR_MARK)) for data in payloads)
-    if count > MAX_LINES:
-        letter.found(Reason.TOO_LONG(length=count, what="lines and marks", limit=MAX_LINES))
-        shown = decoded_bytes(payloads[0][: SHOWN_LINES * MAX_LINE], "utf-8").splitlines()
+    if letter.has_more(count, "lines and marks", MAX_LINES):
+        shown = lines_of(payloads[0][: SHOWN_LINES * MAX_LINE])
         return Body(tuple(shown[:SHOWN_LINES]), trouble=letter.trouble)
     first, is_own = texts[0] if texts else (letter, False)
     is_html_alone = first.kind == "text/html" and len(texts) == 1
@@ -295,9 +289,8 @@ def body_of(letter: Part) -> Body:
     text, pieces = read[0] if read else (Body(), [])
     # no program shows text around the parts, but it may be a letter that a mailbox did not part
     # off; so may text below an encoded one
-    outside = [decoded_bytes(part.around, "utf-8").splitlines() for part, _ in parts]
-    around = list(itertools.chain.from_iterable(outside))
-    below = decoded_bytes(first.below, "utf-8").splitlines()
+    around = [line for part, _ in parts for line in lines_of(part.around)]
+    below = lines_of(first.below)
     trouble = next(filter(None, (part.trouble for part, _ in parts)), None)
     if letter.fields and any(map(RECEIVED.match, (*text.lines, *pieces, *around, *below))):
         trouble = Reason.PARTED_OFF()
@@ -307,6 +300,10 @@ def body_of(letter: Part) -> Body:
     others = dict.fromkeys(" ".join(line.split()) for line in lines)
     other_lines = tuple(line for line in others if line not in own and may_be_ballot(line))
     return dataclasses.replace(text, other_lines=other_lines, trouble=trouble)
+
+
+def lines_of(data: bytes) -> list[str]:
+    return decoded_bytes(data, "utf-8").splitlines()
 
 
 def may_be_ballot(line: str) -> bool:

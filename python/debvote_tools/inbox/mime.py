@@ -77,8 +77,7 @@ class Part:
             (name.decode().lower(), on_one_line(value)) for name, value in FIELD.findall(head)
         ]
         limit = MAX_HEAD if end is None else MAX_LETTER
-        if len(data) > limit:
-            self.found(Reason.TOO_LONG(length=len(data), what="bytes", limit=limit))
+        self.has_more(len(data), "bytes", limit)
         if LONE_RETURN.search(data):
             self.found(Reason.CONTROL(character="U+000D"))
         if not PLAIN_HEAD.fullmatch(head):
@@ -100,6 +99,12 @@ class Part:
 
     def found(self, trouble: Because) -> None:
         self.trouble = self.trouble or trouble
+
+    def has_more(self, length: int, what: str, limit: int) -> bool:
+        """Whether it has more of something than is read, which then is its trouble."""
+        if length > limit:
+            self.found(Reason.TOO_LONG(length=length, what=what, limit=limit))
+        return length > limit
 
     def found_ambiguous(self, what: str) -> None:
         self.found(Reason.AMBIGUOUS(what=what))
