@@ -65,8 +65,9 @@ def going_in_words(letters: Sequence[JudgedLetter], vote: Vote) -> Iterator[str]
     """One line a letter: whose ballot it is, and how it is read. The last have more to look at."""
     said = [(ballot_words(letter, vote), more_words(letter)) for letter in letters]
     yield from (words for words, more in said if not more)
-    if worded := [f"{words}; {'; '.join(more)}" for words, more in said if more]:
-        yield from (READ_THESE, *worded)
+    if any(more for _, more in said):
+        yield READ_THESE
+    yield from (f"{words}; {'; '.join(more)}" for words, more in said if more)
 
 
 def ballot_words(letter: JudgedLetter, vote: Vote) -> str:

@@ -34,7 +34,7 @@ BEGINNINGS = {
 DELIMITERS = {",": "comma", ";": "semicolon", "\t": "tab"}
 # longer than a file that is read, so that a cell has no limit of its own
 CELL_LIMIT = 67_108_864
-SAVE_AS = "save it again as CSV in UTF-8"
+SAVE_AS, LINE_END = "save it again as CSV in UTF-8", rb"\r\n?|\n"
 
 OF_CHOICES = "such a table has the options in each row by preference, and a ballot has a rank for each option"
 TO_RANKS = "make a column for each option, with its rank in each row, and name these columns"
@@ -73,8 +73,9 @@ class Table(NamedTuple):
 
     @property
     def heads_in_words(self) -> str:
-        heads = (f"`{shown_text(cell)}`" for cell in self.head.cells if cell.strip())
-        return ", ".join(heads) or "none"
+        return (
+            ", ".join(f"`{shown_text(cell)}`" for cell in self.head.cells if cell.strip()) or "none"
+        )
 
 
 def kind_of(data: bytes) -> str | None:
@@ -109,25 +110,22 @@ def read_table(
     csv.field_size_limit(CELL_LIMIT)
     lines = io.StringIO(text, newline="")
     reader = csv.reader(lines, delimiter=delimiter, strict=True, skipinitialspace=skips_spaces)
-    head: Row | None = None
     rows: list[Row] = []
     line = 1
     try:
         for number, cells in enumerate(reader, start=1):
-            missing = len(head.cells) - len(cells) if head else 0
+            missing = len(rows[0].cells) - len(cells) if rows else 0
             row = Row(number, line, cells + [""] * missing)
             line = reader.line_num + 1
-            if head:
+            if rows or not row.is_blank:
                 rows.append(row)
-            elif not row.is_blank:
-                head = row
     except csv.Error as error:
         reason = f"the row that begins here is not a row of cells with a {DELIMITERS[delimiter]} between them ({error})"
         cure = "close each quotation mark, and put nothing between it and the delimiter"
         raise bad_table(f"{file}:{line}", reason, cure) from None
-    if head is None:
+    if not rows:
         raise bad_table(file, "it is empty", "write the header line, and a line for each row")
-    return Table(head, rows, delimiter)
+    return Table(rows[0], rows[1:], delimiter)
 
 
 def table_text(data: bytes, file: object, bad_table: BadTable) -> str:
@@ -144,12 +142,11 @@ def table_text(data: bytes, file: object, bad_table: BadTable) -> str:
         if is_utf_16:
             words = "it begins as text in UTF-16, but the rest is not"
             raise bad_table(file, words, SAVE_AS) from None
-        lines, before = (
-            re.split(rb"\r\n?|\n", part) for part in (error.object, error.object[: error.start])
-        )
-        seen = shown_text(lines[len(before) - 1].decode("cp1252", "replace"))
+        number = len(re.split(LINE_END, error.object[: error.start]))
+        line = re.split(LINE_END, error.object)[number - 1]
+        seen = shown_text(line.decode("cp1252", "replace"))
         words = f"it is not in UTF-8, but perhaps in Latin-1: {seen}"
-        raise bad_table(f"{file}:{len(before)}", words, SAVE_AS) from None
+        raise bad_table(f"{file}:{number}", words, SAVE_AS) from None
 
 
 # ---- the columns of ballots
@@ -178,7 +175,8 @@ def heads_of(name: str, ranks: str, poll: SealedPoll) -> list[str]:
         raise bad_words("--name, --ranks", words, "name each column once")
     options = OptionNames(poll)
     for place, head in enumerate(heads[1:], start=1):
-        if counts_choices(head) and options.option_of(head) != place:
+        counts_choices = COUNTS_CHOICES.search(without_accents(folded(head), "en"))
+        if counts_choices and options.option_of(head) != place:
             raise bad_words("--ranks", f"`{head}` counts choices; {OF_CHOICES}", TO_RANKS)
     if found := in_other_place(options, heads[1:]):
         place, other = found
@@ -223,7 +221,8 @@ def lines_of_table(
         elector, *ranks = [on_one_line(cell).strip(BLANKS) for cell in cells]
         if is_blank_unranked and elector:
             ranks = [rank or UNRANKED.encode() for rank in ranks]
-        came, repaired = line_from(cells), line_from([elector.lower(), *ranks])
+        came = b"%b %b" % (cells[0], b",".join(cells[1:]))
+        repaired = b"%b %b" % (elector.lower(), b",".join(ranks))
         lines.append(Line(file_name, place, came, on_one_line(came), repaired))
     demand_ranks(table, indices[1:], OptionNames(poll), file_name)
     if is_newest_first is not None and (contradiction := against_order(table, is_newest_first)):
@@ -235,10 +234,6 @@ def lines_of_table(
 
 def on_one_line(cell: bytes) -> bytes:
     return re.sub(rb"[\r\n]+", b" ", cell)
-
-
-def line_from(cells: Sequence[bytes]) -> bytes:
-    return cells[0] + b" " + b",".join(cells[1:])
 
 
 def demand_ranks(
@@ -299,17 +294,9 @@ class OptionNames:
         form = folded(text)
         return self.numbers.get(form) or self.numbers.get(NUMBERED.sub("", form, count=1))
 
-    def number_before(self, text: str) -> int | None:
-        found = NUMBERED.match(folded(text))
-        return int(found[1]) if found else None
-
 
 def folded(text: str) -> str:
     return " ".join(unicodedata.normalize("NFC", text).split()).casefold()
-
-
-def counts_choices(head: str) -> bool:
-    return COUNTS_CHOICES.search(without_accents(folded(head), "en")) is not None
 
 
 def in_other_place(options: OptionNames, heads: Sequence[str]) -> tuple[int, int] | None:
@@ -317,7 +304,8 @@ def in_other_place(options: OptionNames, heads: Sequence[str]) -> tuple[int, int
     and that option. A head with the name of its own option is right, whatever the number before it.
     Numbers that rise by one from head to head number the questions of a form.
     """
-    numbers = [options.number_before(head) for head in heads]
+    found = [NUMBERED.match(folded(head)) for head in heads]
+    numbers = [int(number[1]) if number else None for number in found]
     are_questions = numbers == [place + (numbers[0] or 0) for place in range(len(heads))]
     for place, head in enumerate(heads, start=1):
         option = options.option_of(head) or (None if are_questions else numbers[place - 1])
