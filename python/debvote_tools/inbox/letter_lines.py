@@ -263,12 +263,12 @@ def answers_to(texts: Sequence[bytes], roll: Collection[str], ask: Ask) -> dict[
     """debvote's answer to each text. The names that are not on the roll it gets in some parts, each
     with as many as it looks for similar names of; the last part has all that are left.
     """
-    known = [text for text in texts if name_in(text).decode() in roll]
-    unknown = [text for text in texts if name_in(text).decode() not in roll]
+    on_roll = [text for text in texts if name_in(text).decode() in roll]
+    others = [text for text in texts if name_in(text).decode() not in roll]
     starts = range(0, MOST_SEARCHES * MOST_PARTS, MOST_SEARCHES)
-    parts = [unknown[start : start + MOST_SEARCHES] for start in starts]
-    parts[-1] += unknown[starts.stop :]
-    parts[0] += known
+    parts = [others[start : start + MOST_SEARCHES] for start in starts]
+    parts[-1] += others[starts.stop :]
+    parts[0] += on_roll
     answers = dict[bytes, str | None]()
     for part in filter(None, parts):
         answers.update(ask(part))

@@ -24,11 +24,11 @@ MAILDIR, UNFINISHED = ("new", "cur"), "tmp"
 
 # a field of a head, and fields that most heads have
 FIELD = re.compile(rb"[!-9;-~]+[ \t]*:")
-KNOWN = re.compile(
+USUAL = re.compile(
     rb"(?im)^(from|date|subject|to|message-id|received|mime-version|return-path|delivered-to|reply-to|content-type|x-mozilla-status|"
     rb"von|datum|betreff|an)[ \t]*:"
 )
-MIN_KNOWN = 2
+MIN_USUAL = 2
 
 # what editors put before the first line of a file, and the line that begins an mbox
 START = re.compile(rb"(?:%b)?[\r\n]*(From [^\r\n]*\r?\n[\r\n]*)?" % MARK)
@@ -121,9 +121,9 @@ def are_letters(data: bytes) -> bool:
     """Whether a file begins as an mbox or a message does."""
     start = begin_of(data)
     head = END_OF_HEAD.split(data[start.end() : start.end() + MAX_HEAD], maxsplit=1)[0]
-    known = {name.lower() for name in KNOWN.findall(head)}
-    is_known = len(known) >= MIN_KNOWN or begins_mailbox(start)
-    return FIELD.match(head) is not None and is_known
+    usual = {name.lower() for name in USUAL.findall(head)}
+    is_usual = len(usual) >= MIN_USUAL or begins_mailbox(start)
+    return FIELD.match(head) is not None and is_usual
 
 
 def letters_of_file(name: str, data: bytes) -> Source:
