@@ -12,7 +12,7 @@ from debvote_tools.debvote import findings_in
 from debvote_tools.inbox.judging import Ballot, judge_all
 from debvote_tools.inbox.letter import ParsedLetter, parse
 from debvote_tools.inbox.letter_lines import Names, ReadLetter, as_json, from_json, with_lines
-from debvote_tools.inbox.mailbox import RawLetter
+from debvote_tools.inbox.mailbox import NotRead, RawLetter
 from debvote_tools.inbox.reasons import Because
 from debvote_tools.inbox.rules import JudgedLetter, Known, Outcome
 
@@ -207,6 +207,16 @@ def outcomes(*letters: bytes | ParsedLetter, **other: object) -> list[str]:
 def lines_in(*letters: bytes | ParsedLetter, **other: object) -> list[str]:
     """The ballots that go in, in their order."""
     return [one.ballots[0].ballot for one in judged(*letters, **other) if one.outcome is Outcome.GOES_IN]
+
+
+def read_in(found: Sequence[RawLetter]) -> list[RawLetter]:
+    """The letters among what a mailbox gives."""
+    return [one for one in found if one.why_not_read is None]
+
+
+def passed_over_in(found: Sequence[RawLetter]) -> list[tuple[str, NotRead]]:
+    """What is passed over of a mailbox, and why."""
+    return [(one.where, one.why_not_read) for one in found if one.why_not_read is not None]
 
 
 def with_time(one: ParsedLetter, time: datetime.datetime) -> ParsedLetter:

@@ -187,7 +187,7 @@ def enter(vote: Vote, arguments: Arguments) -> None:
 
 
 def is_late(history: History, letter: JudgedLetter) -> bool:
-    """Whether what is entered of a letter now is late: the vote is closed, or it came after that."""
+    """Whether what is entered of a letter now is late: the vote is closed, or was as it arrived."""
     arrived, closes = letter.parsed.arrived, history.closes
     return history.is_late(arrived is not None and bool(closes) and arrived <= closes[0].time)
 

@@ -1,5 +1,5 @@
-"""What becomes of each letter: by the rules, beside the other letters, and as the vote, the electors
-and the book are now. Letters are judged anew whenever they are looked at.
+"""What becomes of each letter: by the rules, beside the other letters, and by the vote, the electors
+and the book as they are now. Letters are judged anew whenever they are looked at.
 """
 
 import bisect

@@ -188,7 +188,7 @@ def read_line(number: int, line: str, names: Names) -> ReadLine | None:
 
 
 def read_text(number: int, text: str, names: Names) -> ReadLine | None:
-    """Whether a repaired line is a ballot, ranks with a name that people may write so, or ranks alone."""
+    """Whether a repaired line is a ballot, ranks with a name as people write it, or ranks alone."""
     name, _, ranks = text.partition(" ")
     if BALLOT.fullmatch(text) and name in names.roll:
         return ReadLine(number, elector=name, ranks=ranks)

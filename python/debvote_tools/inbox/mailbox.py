@@ -12,7 +12,6 @@ import itertools
 import pathlib
 import re
 from collections.abc import Sequence
-from typing import NamedTuple
 
 from debvote_tools.files import sha256_of
 from debvote_tools.inbox.lines import MARK
@@ -83,26 +82,18 @@ class NotRead(enum.Enum):
 
 @dataclasses.dataclass(frozen=True)
 class RawLetter:
-    """A letter as it came. One that is parted off may be text of the letter above it, and waits."""
+    """A letter as it came, or why it is passed over. One that is parted off may be text of the
+    letter above it, and waits.
+    """
 
     where: str
-    data: bytes
+    data: bytes = b""
     is_parted_off: bool = False
+    why_not_read: NotRead | None = None
 
     @functools.cached_property
     def digest(self) -> str:
         return sha256_of(self.data)
-
-
-# a file or letter that is passed over, by its name
-PassedOver = tuple[str, NotRead]
-
-
-class Source(NamedTuple):
-    """The letters of a file or folder in their order, and what was passed over."""
-
-    letters: list[RawLetter]
-    passed_over: list[PassedOver]
 
 
 # ---- files
@@ -126,7 +117,7 @@ def are_letters(data: bytes) -> bool:
     return FIELD.match(head) is not None and is_usual
 
 
-def letters_of_file(name: str, data: bytes) -> Source:
+def letters_of_file(name: str, data: bytes) -> list[RawLetter]:
     """The letters of a file that was read whole.
 
     A letter is parted off if it has others in it, or may be text of the letter above it: no empty
@@ -136,18 +127,17 @@ def letters_of_file(name: str, data: bytes) -> Source:
     """
     kind = kind_not_read(data) or (None if are_letters(data) else NotRead.NO_LETTER)
     if kind is not None:
-        return Source([], [(name, kind)])
-    found = Source([], [])
-    parts = parts_of(data)
+        return [RawLetter(name, why_not_read=kind)]
+    found, parts = list[RawLetter](), parts_of(data)
     possible_ends = ends_of(parts)
     place, reach, is_ended = 0, 0, True
     for number, (above, letter, below) in enumerate(parts, start=1):
         where = f"{name}, message {number}" if len(parts) > 1 else name
         if len(letter) > MAX_LETTER:
-            found.passed_over.append((where, NotRead.TOO_LONG))
+            found.append(RawLetter(where, why_not_read=NotRead.TOO_LONG))
         else:
             is_parted_off = place < reach or not is_ended or has_others(letter)
-            found.letters.append(RawLetter(where, letter, is_parted_off))
+            found.append(RawLetter(where, letter, is_parted_off))
         place += len(above + letter)
         if number < len(parts):
             read = Part(letter)
@@ -171,18 +161,18 @@ def ends_of(parts: Sequence[tuple[bytes, bytes, bytes]]) -> set[int]:
     return ends | {place + missing for missing in range(LONGEST_EMPTY_LINE + 1)}
 
 
-def letters_of_folder(folder: pathlib.Path) -> Source:
+def letters_of_folder(folder: pathlib.Path) -> list[RawLetter]:
     """The letters of a Maildir or a folder of messages, by name. Raises OSError."""
     is_maildir = all((folder / part).is_dir() for part in MAILDIR)
     own = {folder / part for part in (*MAILDIR, UNFINISHED)} if is_maildir else set()
     files = [file for file in folder.iterdir() if file not in own]
     if is_maildir:
         files += itertools.chain.from_iterable((folder / part).iterdir() for part in MAILDIR)
-    found = [letter_of_file(file) for file in sorted(files, key=lambda file: (file.name, file))]
-    return joined_sources(found)
+    files.sort(key=lambda file: (file.name, file))
+    return [raw for file in files for raw in letter_of_file(file)]
 
 
-def letter_of_file(file: pathlib.Path) -> Source:
+def letter_of_file(file: pathlib.Path) -> list[RawLetter]:
     """The letter of a file of a folder. A mailbox of several letters is named, and not split."""
     why = None
     if file.is_dir():
@@ -194,12 +184,9 @@ def letter_of_file(file: pathlib.Path) -> Source:
     data = b"" if why else file.read_bytes()
     if why is None and are_letters(data) and len(parts_of(data)) > 1:
         why = NotRead.MAILBOX
-    return Source([], [(str(file), why)]) if why else letters_of_file(str(file), data)
-
-
-def joined_sources(sources: Sequence[Source]) -> Source:
-    letters, passed_over = zip(*sources) if sources else ((), ())
-    return Source([*itertools.chain(*letters)], [*itertools.chain(*passed_over)])
+    if why is not None:
+        return [RawLetter(str(file), why_not_read=why)]
+    return letters_of_file(str(file), data)
 
 
 # ---- the parts of a file

@@ -1,5 +1,5 @@
-"""The rules of a letter: it goes in by itself if all hold; else it waits, with the reason of the first
-that does not.
+"""The rules of a letter: it goes in by itself if all hold; else it waits, with the reason of the
+first that does not.
 
 They say what a letter has to be. No list of what may be wrong with a letter, or of what a quotation
 looks like, can be complete, so there is none.

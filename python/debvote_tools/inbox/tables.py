@@ -195,8 +195,8 @@ def lines_of_table(
     is_blank_unranked: bool = False,
     is_newest_first: bool | None = None,
 ) -> list[Line]:
-    """The lines that the rows of a table make, by the heads of the columns. Each cell is repaired by
-    itself, so that none becomes a part of another. An empty cell may be an option not ranked.
+    """The lines that the rows of a table make, by the heads of the columns. Each cell is repaired
+    by itself, so that none becomes a part of another. An empty cell may be an option not ranked.
 
     If it is known how the rows are sorted, the times in the table must not say otherwise.
     """

@@ -1,5 +1,5 @@
-"""Letters that come: `add` keeps those that are new, has all judged, and enters the ballots of those
-that go in.
+"""Letters that come: `add` keeps those that are new, has all judged, and enters the ballots that go
+in.
 """
 
 import pathlib
@@ -18,13 +18,7 @@ from debvote_tools.inbox.entering import agreed_act, enter_lines, late_notes
 from debvote_tools.inbox.judging import judged
 from debvote_tools.inbox.letter_lines import ReadLetter, as_json, read_letters
 from debvote_tools.inbox.lines import NOTHING_ADDED, bad_ballots
-from debvote_tools.inbox.mailbox import (
-    RawLetter,
-    Source,
-    joined_sources,
-    letters_of_file,
-    letters_of_folder,
-)
+from debvote_tools.inbox.mailbox import RawLetter, letters_of_file, letters_of_folder
 from debvote_tools.inbox.rules import JudgedLetter, Outcome
 from debvote_tools.inbox.vote import Vote
 
@@ -33,13 +27,15 @@ def take_letters(
     vote: Vote, files: Mapping[str, CameFile | None], *, is_look: bool, is_agreed: bool
 ) -> None:
     """Keeps new letters, and enters the ballots that go in; or tells what would become of them."""
-    raws, passed_over = split_letters(files)
+    came = split_letters(files)
+    raws = [raw for raw in came if raw.why_not_read is None]
     new = new_of(vote, raws)
     read = read_letters(vote, new)
     if not is_look:
         keep(vote, new, read)
-    for where, why in passed_over:
-        tell(f"{shown_text(where)}: {why.what}, and was passed over; {why.cure}")
+    for raw in came:
+        if why := raw.why_not_read:
+            tell(f"{shown_text(raw.where)}: {why.what}, and was passed over; {why.cure}")
     came_before = f"{count_of(len(new), 'new letter')}; {len(raws) - len(new)} came before."
     if not is_look:
         tell(came_before)
@@ -53,12 +49,12 @@ def take_letters(
 
 
 # ---- keeping
-def split_letters(files: Mapping[str, CameFile | None]) -> Source:
+def split_letters(files: Mapping[str, CameFile | None]) -> list[RawLetter]:
     """The letters of files and folders, each read whole, and what is passed over."""
-    found = list[Source]()
+    found = list[RawLetter]()
     for path, file in files.items():
         try:
-            found.append(
+            found += (
                 letters_of_folder(pathlib.Path(path))
                 if file is None
                 else letters_of_file(safe(file.name), file.data)
@@ -66,7 +62,7 @@ def split_letters(files: Mapping[str, CameFile | None]) -> Source:
         except OSError as error:
             cure = "name letters that you may read"
             raise bad_ballots(path, error.strerror, cure) from None
-    return joined_sources(found)
+    return found
 
 
 def new_of(vote: Vote, raws: Sequence[RawLetter]) -> list[RawLetter]:
