@@ -100,7 +100,7 @@ def of_electors(
     kept_at = {letter.number: history.act(letter.act).time for letter in kept}
     for letter in judged(vote, history, kept):
         time = letter.parsed.arrived or kept_at[letter.number]
-        names_of = filter(None, (*letter.electors, letter.sender))
+        names_of = filter(None, (*letter.electors, letter.sending_elector))
         for name in dict.fromkeys(names_of) or [NOBODY]:
             if name in found:
                 is_own = letter.parsed.sender in addresses.get(name, ())

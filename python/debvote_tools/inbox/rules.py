@@ -238,7 +238,7 @@ class JudgedLetter:
         return arrived is not None and any(arrived > end for end in filter(None, ends))
 
     @property
-    def sender(self) -> str | None:
+    def sending_elector(self) -> str | None:
         """The only elector who has the sender's address."""
         return self.sharing[0] if len(self.sharing) == 1 else None
 
@@ -248,7 +248,7 @@ class JudgedLetter:
         named = [line.elector for line in (*self.ballots, *self.offered)]
         near = (near.ballot.partition(" ")[0] for near in self.view.near)
         named += [name for name in near if name in self.known.electors]
-        return tuple(dict.fromkeys(named or filter(None, [self.sender])))
+        return tuple(dict.fromkeys(named or filter(None, [self.sending_elector])))
 
     @property
     def shared_with(self) -> tuple[str, ...]:
