@@ -13,7 +13,7 @@ from debvote_tools.files import OWN, sha256_of, write_made
 from debvote_tools.inbox.waiting import Arrived, in_time, stopping, waiting_letters, why_they_stop
 from debvote_tools.result.publication import closing_letter
 from debvote_tools.cli.faults import Fault, stop_at
-from debvote_tools.inbox.lines import ballot_file
+from debvote_tools.text.ballots import ballot_file
 from debvote_tools.result.facts import CLOSED
 from debvote_tools.poll.secret import aliased_ballots, seal_line, sealed_checksum
 

@@ -10,7 +10,7 @@ from debvote_tools.debvote import casting_words
 from debvote_tools.book.election import Election, History, Sealed
 from debvote_tools.inbox.waiting import how_to_go_on, stopping, waiting_letters, why_they_stop
 from debvote_tools.cli.faults import Fault, Status
-from debvote_tools.inbox.lines import ballot_file
+from debvote_tools.text.ballots import ballot_file
 from debvote_tools.poll.sealed import SealedPoll
 from debvote_tools.result.sheet import Sheet, sheet_in
 

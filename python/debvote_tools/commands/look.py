@@ -14,7 +14,7 @@ from debvote_tools.cli.console import act_time, count_of, tell
 from debvote_tools.cli.arguments import Options, flag, positional
 from debvote_tools.cli.faults import Fault, Status
 from debvote_tools.files import whole_folder, write_whole
-from debvote_tools.inbox.lines import ballot_file
+from debvote_tools.text.ballots import ballot_file
 
 # what a file name keeps of the name under which something came
 UNSAFE = re.compile(r"[^A-Za-z0-9._-]+")

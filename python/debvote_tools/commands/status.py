@@ -21,8 +21,8 @@ from debvote_tools.cli.console import (
 from debvote_tools.debvote import Finding, Findings
 from debvote_tools.book.election import LETTERS, RESULT_LETTER, Election, History
 from debvote_tools.inbox.waiting import Arrived, stopping, waiting_letters
-from debvote_tools.inbox.lines import ballot_file
 from debvote_tools.outbox.reached import reached_by_call
+from debvote_tools.text.ballots import ballot_file
 
 # how many characters the bar of those who have voted has
 BAR = 50

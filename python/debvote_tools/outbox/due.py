@@ -11,7 +11,7 @@ from debvote_tools.book.election import LETTERS, RESULT_LETTER, Election
 from debvote_tools.book.queries import Elector
 from debvote_tools.book.sent import REFUSED, TAKEN, WRITTEN, About, SentLetter
 from debvote_tools.cli.faults import Fault, bad_words
-from debvote_tools.inbox.lines import ballot_file
+from debvote_tools.text.ballots import ballot_file
 from debvote_tools.inbox.of_electors import NOBODY, Became, Came, of_electors
 from debvote_tools.inbox.rules import Outcome
 from debvote_tools.outbox.reached import CAME_BACK, reached_by_call

@@ -71,8 +71,8 @@ class SealedPoll:
     def choices(self) -> list[Wording]:
         """All options, the default last."""
         texts = self.explanations or [""] * len(self.options)
-        facts = zip(self.names, self.plain_names, (*self.ratios, None), (*texts, ""))
-        return [Wording(number, *each) for number, each in enumerate(facts, start=1)]
+        rows = zip(self.names, self.plain_names, (*self.ratios, None), (*texts, ""))
+        return [Wording(number, *each) for number, each in enumerate(rows, start=1)]
 
     @property
     def name(self) -> str:

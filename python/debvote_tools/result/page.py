@@ -14,14 +14,13 @@ from markupsafe import Markup
 
 from debvote_tools.cli.console import seen, tell_aside
 from debvote_tools.debvote import standing_in
-from debvote_tools.inbox.lines import ballot_lines
 from debvote_tools.poll.secret import ALIAS, BY_OPENSSL, BY_PYTHON, REMAINS, sealed_checksum
 from debvote_tools.poll.call import OPTION, explanations_of, paragraphs_of
 from debvote_tools.result import facts as files, scripts
 from debvote_tools.result.facts import Answers, Facts, after_the_end, all_acts, sentences_of
 from debvote_tools.result.result_letter import told_if_it_decides
 from debvote_tools.result.why import Why
-from debvote_tools.text.ballots import IN_A_LIST, ballots_in_words
+from debvote_tools.text.ballots import IN_A_LIST, ballot_lines, ballots_in_words
 from debvote_tools.text.language import ENGLISH, Language
 from debvote_tools.text.rendering import InHtml, render_page, resources
 from debvote_tools.text.times import date_in_words

@@ -15,7 +15,6 @@ from debvote_tools.cli.console import is_terminal, is_yes, tell_aside
 from debvote_tools.cli.faults import Fault
 from debvote_tools.debvote import casting_words
 from debvote_tools.files import sha256_of
-from debvote_tools.inbox.lines import ballot_file
 from debvote_tools.inbox.waiting import left
 from debvote_tools.poll.secret import aliased_ballots, sealed_checksum
 from debvote_tools.poll.call import CallData
@@ -32,7 +31,7 @@ from debvote_tools.result.facts import (
     Facts,
     SecretVote,
 )
-from debvote_tools.text.ballots import in_normal_form
+from debvote_tools.text.ballots import ballot_file, in_normal_form
 from debvote_tools.text.language import Language, language_of
 from debvote_tools.text.rendering import render_letter
 
@@ -260,7 +259,7 @@ def late_letters_in_time(book: Book, history: History) -> list[Doubt]:
         numbers.setdefault(envelope.letter, []).append(str(envelope.number))
     found = []
     for kept in queries.letters(book):
-        arrived = json.loads(kept.known)["arrived"] if kept.number in numbers else None
+        arrived = json.loads(kept.parsed_json)["arrived"] if kept.number in numbers else None
         if arrived is not None and from_text(arrived) <= last:
             places = {
                 "letter": kept.number,
@@ -282,9 +281,11 @@ def chronicle_of(book: Book, history: History, *, is_secret: bool) -> Chronicle:
     # close had come before it, as its act says
     after_the_end = 0
     if history.until is not None:
-        condition = f"{queries.IN_TIME} AND letter IS NULL AND time > ? AND act < ?"
+        condition = "letter IS NULL AND time > ? AND act < ?"
         first_close = history.closes[0].number if history.closes else history.last.number + 1
-        after_the_end = len(queries.lines(book, condition, as_text(history.until), first_close))
+        after_the_end = len(
+            queries.lines(book, condition, as_text(history.until), first_close, view="ballot")
+        )
     return Chronicle(tuple(acts), history.until, after_the_end)
 
 

@@ -1,10 +1,10 @@
-"""A ballot in words, from its ranks as `standing` and the ballot file spell them, such as
+"""Ballot files; a ballot in words, from its ranks as `standing` and the ballot file spell them, such as
 `1,2,-,3`; and texts of which no line reads as a ballot.
 """
 
 import functools
 import re
-from collections.abc import Callable, Sequence
+from collections.abc import Callable, Iterable, Sequence
 from typing import NamedTuple
 
 from debvote_tools.text.language import ENGLISH, Language, marked
@@ -36,6 +36,15 @@ IN_A_LIST = Phrases(
     unranked=marked("{ranked}; not ranked: {unranked}"),
     nothing=marked("nothing is preferred"),
 )
+
+
+def ballot_lines(ballots_bytes: bytes) -> list[bytes]:
+    """The lines of a ballot file; the last one may lack its line feed."""
+    return ballots_bytes.removesuffix(b"\n").split(b"\n") if ballots_bytes else []
+
+
+def ballot_file(lines: Iterable[bytes]) -> bytes:
+    return b"\n".join([*lines, b""])
 
 
 def in_normal_form(ranks: str) -> str:

@@ -11,7 +11,7 @@ import unittest
 
 from debvote_tools.book.queries import Elector, Envelope
 from debvote_tools.book.sent import SentLetter
-from debvote_tools.inbox.letter import Near
+from debvote_tools.inbox.letter_lines import Near
 from debvote_tools.inbox.of_electors import Became, Came
 from debvote_tools.inbox.reasons import Reason, for_elector
 from debvote_tools.inbox.rules import Outcome

@@ -23,7 +23,8 @@ from debvote_tools.book.book import open_book
 from debvote_tools.book.election import Election
 from debvote_tools.cli import command_line
 from debvote_tools.commands import publish as command
-from debvote_tools.inbox.letter import as_json, parse
+from debvote_tools.inbox.letter import parse
+from debvote_tools.inbox.letter_lines import as_json
 from debvote_tools.inbox.mailbox import RawLetter
 from debvote_tools.result.facts import Act, Chronicle, Facts, told, told_acts
 from debvote_tools.result.folder import Made
