@@ -297,7 +297,7 @@ class CallPageTest(CallFolder):
             self.assertEqual(result["invalid"], "false" if found else "true", name)
             self.assertEqual("is not on the roll of this poll" in result["said"], not found and not suggested, name)
             self.assertEqual(result["said"].startswith("On the roll: "), bool(suggested), name)
-            self.assertEqual(result["missing"], "" if found else "Type your name as it is on the roll.", name)
+            self.assertEqual(result["missing"], "" if found else "Type your name.", name)
         # without the roll each name that one may have gets its line, and none is told
         for name, result in zip(wanted, unlisted["results"], strict=True):
             is_name = re.fullmatch("[A-Za-z0-9.-]+", name) is not None

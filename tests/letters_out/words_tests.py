@@ -121,12 +121,15 @@ class Texts(unittest.TestCase):
                 self.assertNotIn("_,_", over)
 
     def test_of_a_result(self) -> None:
-        """The letter for all, and before it the own ballot; where the result is, if the letter for all does not say it."""
-        for letter in ("RESULT\n", "RESULT at\n  https://club.example/vote/\n"):
+        """The letter for all, and within it, behind the winner, the own ballot and where the result is."""
+        rest = "THE FILES OF THE RESULT\n\nDownload them.\n"
+        place = "The result is published at:\n  https://club.example/vote/\n"
+        for letter in ("RESULT\n", f"RESULT\n\n{rest}", f"RESULT\n\n{place}\nDOUBTS\n\n{rest}"):
             texts = [now.text("result", ADA, letter=letter, has_ballot=True) for now in (vote(), vote(has_aliases=True))]
+            end = letter.removeprefix("RESULT\n").removeprefix(f"\n{place}")
             for text in texts:
-                self.assertTrue(text.endswith(f"\n\n{letter}"), text)
-                self.assertEqual(text.count("  https://club.example/vote/\n"), 1)
+                self.assertTrue(text.startswith(f"Dear Ada L.,\n\nRESULT\n\n{place}\nYour "), text)
+                self.assertTrue(text.endswith(end), text)
             self.assertIn("Your own ballot, in words:\n  https://club.example/vote/#ada\n", texts[0])
             self.assertNotIn("#", texts[1])
             self.assertIn("find it with your name, ada, and your code", " ".join(texts[1].split()))
@@ -172,8 +175,8 @@ class CallLetter(unittest.TestCase):
                 begin = "Dear friends,\n\npaper ballots go to the box in the hall.\n|Write\n|ada 1,2,3 or so.\n  |ben 3,2,1\n\nYours, Eve\n\n"
                 self.assertTrue(text.startswith(begin), text)
                 said = now.call.language.say(
-                    "These words, and all that this letter says about the options, are those of whoever sends it. "
-                    "The program has not checked them."
+                    "The words above are those of whoever sends this letter. "
+                    "The program debvote wrote the rest, and has not checked them."
                 )
                 self.assertEqual(" ".join(text.split()).count(said), 1)
             self.assertNotIn("Dear friends", refusing)
@@ -191,7 +194,8 @@ class CallLetter(unittest.TestCase):
             now = vote(poll=poll, at=None, letter_text=letter)
             text = dataclasses.replace(now, electors=(ADA,)).call_letter(ADA, is_extension=False)
             self.assertIn("\n\nOption 1: Lake\n\nA lake.\n|ada 1,2,3\n\nWHAT DECIDES\n", text)
-            self.assertEqual(text.count("The program has not checked"), 1)
+            self.assertEqual(text.count("checked"), 1)
+            self.assertEqual("The words above, and the texts" in text, bool(letter))
             self.assertNotIn("A lake", now.call_letter(ADA, is_extension=True))
         self.assertNotIn("A lake", vote(poll=poll).call_letter(ADA, is_extension=False))
 

@@ -120,7 +120,10 @@ class ScriptsTest(support.PublishTest):
         equal = ['equally Option 2: <i>B</i> & "C" and Option 3: N', "Not ranked: Option 1: 72 Euro", "The line: ben -,1,1"]
         self.expect("equal ranks", window.find("ben")[1:], equal)
         self.expect("hyphens alone", window.find("cleo")[1:], ["nothing is preferred", "The line: cleo -,-,-"])
-        self.expect("without its hyphens", window.find("a-d-a"), ["No elector has the name a-d-a. Type it as it is on the roll."])
+        no = "No elector has the name a-d-a. Type it as it is on the roll."
+        self.expect("without its hyphens", window.find("a-d-a"), [no, "On the roll: ada"])
+        window.ask("document.querySelector('#Answer button').click()")
+        window.until("document.getElementById('Answer').textContent.startsWith('This ballot counts for ada:')")
         self.expect("no ballot", window.find("dan"), ["dan is on the roll, and no ballot counts for this name."])
         self.expect("nobody", window.find("Zoë"), ["No elector has the name zoë. Type it as it is on the roll."])
         self.expect("a place of the page", window.find("Votes"), ["No elector has the name votes. Type it as it is on the roll."])
