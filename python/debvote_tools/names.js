@@ -13,6 +13,9 @@ function lettersOf(name) {
   return plain.replace(/[^\p{Letter}\p{Number}]/gu, "");
 }
 
+// A name as it is, and as German writes it without its dots: ä is ae.
+const spellings = (name) => [name, name.normalize("NFC").replace(/[äöü]/gi, "$&e")];
+
 // The letters of a name from each of its words on: of Eve Arnold "evearnold" and "arnold".
 function endsOf(name) {
   const words = name.split(/[\s.,_-]+/).map(lettersOf).filter(Boolean);
@@ -24,16 +27,16 @@ function endsOf(name) {
 function finderOf(electors) {
   const known = electors.map((names) => ({
     name: names[0],
-    wholes: names.map(lettersOf),
+    wholes: names.flatMap(spellings).map(lettersOf),
     // without the number of a namesake
     shared: lettersOf(names[0].replace(/-[0-9]+$/, "")),
-    ends: names.flatMap((name) => endsOf(name.replace(/-[0-9]+$/, ""))),
+    ends: names.flatMap(spellings).flatMap((name) => endsOf(name.replace(/-[0-9]+$/, ""))),
   }));
   const namesOf = (some) => some.map(({ name }) => name);
   return (text) => {
-    // in German ä is ae; the family name may come first
+    // the family name may come first
     const turned = text.split(",").reverse().join(" ");
-    const forms = [text, text.normalize("NFC").replace(/[äöü]/gi, "$&e"), turned].map(lettersOf).filter(Boolean);
+    const forms = [...spellings(text), turned].map(lettersOf).filter(Boolean);
     const isForm = (key) => forms.includes(key);
     const isWhole = ({ wholes }) => wholes.some(isForm);
     const same = known.filter((one) => isWhole(one) || isForm(one.shared));

@@ -168,8 +168,7 @@ class Slips(unittest.TestCase):
         said = "Vote untilFriday, 4 December 2026, 18:00 (UTC+01:00) Send your ballot tov@example.org "
         options = "_,_,_ 1 is the best, - is last. Equal ranks are allowed. 1 At the lake 2 72 Euro 3 None of the above "
         for row, text in zip(ELECTORS, self.each(CALL), strict=True):
-            text = re.sub(r"__*\w+ _,", "_ada _,", text)
-            for part in (said, options, "The code is no part of your ballot", "whoever sees it can see how you voted."):
+            for part in (said, f"A rank for each _{row.name} {options}", "The code is no part of your ballot", "whoever sees it can see how you voted."):
                 self.assertIn(part, text)
         for text in self.each(dataclasses.replace(CALL, at="https://example.org/vote/")):
             self.assertIn(f"{said}At the end of the subject{CALL.mark} The page of the votehttps://example.org/vote/ ", text)

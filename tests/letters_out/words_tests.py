@@ -29,6 +29,12 @@ from debvote_tools.poll.sealed import SealedPoll
 TIME = datetime.datetime(2026, 11, 23, 10, tzinfo=datetime.UTC)
 POLL = SealedPoll("Spring", ("Lake", "Hall"), (1, 1), "None", 1, ("ada", "ben"))
 ADA = Elector(1, "ada", 1, "Ada L.", ("ada@club.example",), mark="abcdefghjk")
+GUS = ADA._replace(name="gus", who="Gus G.", addresses=())
+TOO_LONG = (
+    "The texts about the options are too long for this letter: they are on the page of the vote. "
+    "The secretary gives them on paper to whoever asks."
+)
+TOO_LONG_WITHOUT_PAGE = "The texts about the options are too long for this letter. The secretary gives them to whoever asks."
 LETTER = SentLetter(1, "call", 1, "ada@club.example", "<1@club.example>", TIME, ())
 
 
@@ -207,20 +213,42 @@ class Printed(unittest.TestCase):
         names = tuple(f"A rather long name of an option, as societies have them, number {number}" for number in range(1, 12))
         poll = dataclasses.replace(POLL, options=names, ratios=(1,) * 11)
         for code in LANGUAGES:
-            now = vote(code, poll=poll, at=None, has_aliases=True, letter_text="Paper ballots go into the box in the hall of our house.\n" * 11)
+            words = "Paper ballots go into the box in the hall of our house.\n" * 11
+            now = vote(code, poll=poll, at=None, has_aliases=True, letter_text=words)
             text = now.call_letter(ADA._replace(code="c0de" * 8), is_extension=False)
-            style = resources(PACKAGE, "letter.css")
-            page = render_page(PACKAGE, "print.html", now.call.language, style=style, title="Spring", letters=[("Ada", rows_to_print(text, now.call))] * 3)
-            self.assertEqual(page.count(b'<span class="rank"></span>  Op'), 3 * 12)
-            with tempfile.TemporaryDirectory() as folder:
-                place = pathlib.Path(folder)
-                (place / "page.html").write_bytes(page)
-                words = [BROWSER, "--headless", "--no-sandbox", "--disable-gpu", f"--user-data-dir={folder}/of-browser"]
-                words += [f"--print-to-pdf={folder}/page.pdf", f"{folder}/page.html"]
-                subprocess.run(words, check=True, capture_output=True)
-                sides = re.findall(rb"/Type\s*/Page\b", (place / "page.pdf").read_bytes())
             self.assertGreater(len(text.splitlines()), 70)
-            self.assertEqual(len(sides), 6, code)
+            self.check_sides(now, text)
+
+    def test_who_has_no_address_gets_the_texts_on_paper_or_reads_where_they_are(self) -> None:
+        """As many as two sides have; and all else that others read on the page."""
+        for code in LANGUAGES:
+            for number, at in ((1, vote().call.at), (8, None), (9, vote().call.at), (70, vote().call.at), (70, None)):
+                poll = dataclasses.replace(POLL, explanations=("A lake, and a meadow with room for forty tents.\n\n" * number, "", ""))
+                now = vote(code, poll=poll, at=at, letter_text="Dear friends,\n\npaper goes into the box in the hall.\n")
+                text, by_mail = (now.call_letter(elector, is_extension=False) for elector in (GUS, ADA))
+                self.assertEqual(text.count("forty tents"), number if number < 70 else 0)
+                self.assertEqual(by_mail.count("forty tents"), 0 if at else number)
+                said = now.call.language.say(TOO_LONG if at else TOO_LONG_WITHOUT_PAGE).split()
+                self.assertEqual(" ".join(text.split()).count(" ".join(said)), int(number == 70))
+                for head in ("What decides", "What will be public"):
+                    self.assertIn(now.call.language.say(head).upper(), text)
+                self.assertEqual(f"{at}#{GUS.name}/{GUS.mark}" in text, at is not None)
+                self.check_sides(now, text)
+
+    def check_sides(self, now: Composer, text: str) -> None:
+        """Three letters have at most six sides, each with a place for the rank of each option."""
+        letters = [("Ada", rows_to_print(text, now.call))] * 3
+        style = resources(PACKAGE, "letter.css")
+        page = render_page(PACKAGE, "print.html", now.call.language, style=style, title="Spring", letters=letters)
+        self.assertEqual(page.count(b'<span class="rank"></span>  Op'), 3 * len(now.call.poll.names))
+        with tempfile.TemporaryDirectory() as folder:
+            place = pathlib.Path(folder)
+            (place / "page.html").write_bytes(page)
+            words = [BROWSER, "--headless", "--no-sandbox", "--disable-gpu", f"--user-data-dir={folder}/of-browser"]
+            words += [f"--print-to-pdf={folder}/page.pdf", f"{folder}/page.html"]
+            subprocess.run(words, check=True, capture_output=True)
+            sides = re.findall(rb"/Type\s*/Page\b", (place / "page.pdf").read_bytes())
+        self.assertLessEqual(len(sides), 6, text)
 
 
 class NoBallot(unittest.TestCase):

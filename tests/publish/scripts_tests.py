@@ -128,6 +128,13 @@ class ScriptsTest(support.PublishTest):
         self.expect("nobody", window.find("Zoë"), ["No elector has the name zoë. Type it as it is on the roll."])
         self.expect("a place of the page", window.find("Votes"), ["No elector has the name votes. Type it as it is on the roll."])
         self.expect("nothing typed", window.find(" "), ["Type your name."])
+        # a browser that opens the page at a name shows the ballot, too, and not its place in the list
+        window.tell("Page.navigate", url="about:blank")
+        window.until("location.href === 'about:blank'")
+        window.open(self.room / "result" / "index.html", "#ben")
+        window.until("document.getElementById('Answer').textContent.includes('ben')")
+        window.until("Math.abs(document.getElementById('Find-your-ballot').getBoundingClientRect().top) < 80")
+        self.expect("the list is folded", window.ask("document.getElementById('ben').closest('details').open"), False)
         for address, name in (("ben", "ben"), ("ada/23456789ab", "ada")):
             window.ask(f"location.hash = '#{address}'")
             window.until(f"document.getElementById('Answer').textContent.includes('{name}')")
