@@ -1,4 +1,4 @@
-"""A test of many facts, each with a name: it goes on after one that fails, and prints all that failed."""
+"""A test of many facts, each with a name: it goes on after one that fails, and at its end says all that failed."""
 
 import unittest
 
@@ -6,7 +6,18 @@ import unittest
 class Expecting(unittest.TestCase):
     maxDiff = 2_000
 
+    def setUp(self) -> None:
+        super().setUp()
+        self.wrong: list[str] = []
+        self.addCleanup(self.tell)
+
     def expect(self, name: str, found: object, wanted: object) -> None:
         """Checks one named fact."""
-        with self.subTest(name):
+        try:
             self.assertEqual(found, wanted)
+        except AssertionError as error:
+            self.wrong.append(f"{name}: {error}")
+
+    def tell(self) -> None:
+        if self.wrong:
+            self.fail("\n".join(self.wrong))

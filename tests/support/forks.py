@@ -19,15 +19,13 @@ import tempfile
 import time
 from collections.abc import Callable, Mapping, Sequence
 
-ROOT = pathlib.Path(__file__).resolve().parent.parent.parent
-CLOCK = str(ROOT / "tests" / "clock")
-sys.path[:0] = [str(ROOT / "python"), CLOCK]
+import debvote_tools
+import jinja2
+from debvote_tools.text.language import LANGUAGES, language_of
+from debvote_tools.text.rendering import templates_of
 
-import debvote_tools  # noqa: E402
-import jinja2  # noqa: E402
-from clock import set_clock  # noqa: E402
-from debvote_tools.text.language import LANGUAGES, language_of  # noqa: E402
-from debvote_tools.text.rendering import templates_of  # noqa: E402
+from tests.clock.clock import set_clock
+from tests.support.program import ROOT
 
 # the modules that the launchers call
 LAUNCHERS = {

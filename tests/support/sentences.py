@@ -1,9 +1,14 @@
-"""The sentences of debvote_tools that electors read, from its code, and their translations, from `locale`."""
+#!/usr/bin/python3
+"""The sentences of debvote_tools that electors read, from its code, and their translations, from `locale`.
+
+    tests/support/sentences.py de    prints the entries that de.po lacks, and those that nothing in the code uses
+"""
 
 import ast
 import dataclasses
 import pathlib
 import re
+import sys
 
 import jinja2
 
@@ -106,3 +111,18 @@ def quoted(text: str) -> str:
             line = ""
         line += word
     return '""\n' + "\n".join(f'"{part}"' for part in [*lines, line])
+
+
+def tell_new(code: str) -> None:
+    """Prints the entries that a file of translations lacks, and those that nothing uses."""
+    has = {entry.texts for entry in entries_in((LOCALE / f"{code}.po").read_text(encoding="utf-8"))[1:]}
+    said = in_code()
+    for texts, place in said.items():
+        if texts not in has:
+            print(f"#: {place}\n{as_po(texts, ('',) * len(texts))}")
+    for texts in sorted(has - said.keys()):
+        print(f"# not in the code: {texts[0]}")
+
+
+if __name__ == "__main__":
+    tell_new(sys.argv[1])

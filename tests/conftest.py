@@ -1,0 +1,52 @@
+"""What pytest needs for these tests: `pytest tests/python -k show` runs those with this word in their names, `-n 4` four at once.
+
+With -n all tests of a class run in one process, since a class makes its election once. At the end is a line for each reason for which
+tests were skipped, and above pytest's own last line 'N passed, M failed', as the other programs of the tests print it.
+"""
+
+import collections
+import locale
+import os
+
+import pytest
+from _pytest.terminal import TerminalReporter
+
+from tests.support import debian, forks, program
+
+# the classes that take longest begin first, so that none of them runs alone at the end
+LONGEST = ["SequencesTest", "LargestTest", "Damaged", "CallPageTest", "MarkedPublications", "RandomTest", "Sending"]
+
+
+def pytest_configure(config: pytest.Config) -> None:
+    if packages := debian.missing():
+        pytest.exit(f"type this first: sudo apt-get install -y {' '.join(packages)}", 2)
+    if locale.getpreferredencoding(False).lower() not in ("utf-8", "utf8"):
+        pytest.exit("pages, letters and tables are in UTF-8: type export PYTHONUTF8=1 first", 2)
+    if words := program.missing():
+        pytest.exit(words, 2)
+    os.umask(0o022)
+    if getattr(config.option, "numprocesses", None):
+        config.option.dist = "loadscope"
+
+
+def pytest_sessionstart(session: pytest.Session) -> None:
+    # with -n only the processes that run tests need this
+    if hasattr(session.config, "workerinput") or not getattr(session.config.option, "numprocesses", None):
+        forks.read_ahead()
+
+
+def pytest_collection_modifyitems(items: list[pytest.Item]) -> None:
+    def place(item: pytest.Item) -> int:
+        name = item.parent.name if item.parent else ""
+        return LONGEST.index(name) if name in LONGEST else len(LONGEST)
+
+    items.sort(key=place)
+
+
+def pytest_terminal_summary(terminalreporter: TerminalReporter) -> None:
+    stats = terminalreporter.stats
+    reasons = (report.longrepr[2].removeprefix("Skipped: ") for report in stats.get("skipped", []))
+    for why, number in collections.Counter(reasons).most_common():
+        terminalreporter.write_line(f"skipped: {why} ({number})")
+    failed = len(stats.get("failed", [])) + len(stats.get("error", []))
+    terminalreporter.write_line(f"{len(stats.get('passed', []))} passed, {failed} failed")

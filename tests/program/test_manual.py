@@ -1,0 +1,316 @@
+"""Compares the manual pages and the completions with the help of the programs.
+
+The help of debvote and of each of its commands says which commands and options there are; its page and its completions must have just
+these. The pages and completions of debvote-election and debvote-publish are those that docs/make-manual makes today. The exit statuses
+in help and page of debvote, and the line above the usage, are as docs/FORMATS.md has them. The version of the pages, of docs/FORMATS.md
+and of the newest version in CHANGELOG.md is the program's. If they are installed, `groff` and `man` read the pages without a warning,
+and bash, zsh and fish complete as their files say.
+"""
+
+import functools
+import pathlib
+import re
+import shutil
+import subprocess
+import sys
+import tempfile
+import unittest
+
+from tests.support import expecting
+from tests.support.program import PROGRAM, ROOT
+
+PUBLISH = ROOT / "bin" / "debvote-publish"
+ELECTION = ROOT / "bin" / "debvote-election"
+FORMATS = ROOT / "docs" / "FORMATS.md"
+OPTION = r"--[a-z]+(?:-[a-z]+)*"
+
+# more than any of these runs takes on a slow machine
+SECONDS = 600
+
+
+def output_of(*words, **how):
+    words = list(map(str, words))
+    return subprocess.run(words, stdout=subprocess.PIPE, stderr=subprocess.STDOUT, text=True, timeout=SECONDS, **how).stdout
+
+
+# ---------------------------------------------------------------- the help
+def commands_in(text):
+    """The commands of a help, in its order."""
+    part = re.search(r"^Commands:\n((?: .*\n)+)", text, re.MULTILINE)
+    return re.findall(r"^  ([a-z]+) ", part[1], re.MULTILINE) if part else []
+
+
+def options_in(text):
+    """The long options of a help, in its order."""
+    return re.findall(rf"^ +(?:-\w, +)?({OPTION})\b", text, re.MULTILINE)
+
+
+def statuses_in(text):
+    """The exit statuses that a help ends with, and their words, a line each."""
+    return [tuple(line.split(maxsplit=1)) for line in text.partition("\nExit statuses:\n")[2].splitlines()]
+
+
+def statuses_of_formats():
+    """The exit statuses of docs/FORMATS.md, with the words where each comes, and those of the help."""
+    part = FORMATS.read_text().partition("\n| status | where |")[2].partition("\n\n")[0]
+    return re.findall(r"^\| (\d+) \| (.*) \| (.*) \|$", part, re.MULTILINE)
+
+
+def try_words_of_help(expect):
+    """The line above the usage, and the words of the exit statuses."""
+    said = output_of(PROGRAM, "--help")
+    about = re.search(r"the line above its usage is `(.*?)`", FORMATS.read_text())
+    expect("--help: the line above the usage", said.partition("\n\nUsage: ")[0], about[1] if about else None)
+    wanted = [(number, words) for number, _, words in statuses_of_formats()]
+    expect("--help: the exit statuses", statuses_in(said), wanted)
+    expect("--help: exit statuses were read", len(wanted), 11)
+
+
+@functools.cache
+def options_by_command():
+    """The options of debvote itself, by the name "", and of each of its commands."""
+    top = output_of(PROGRAM, "--help")
+    options = {"": options_in(top)}
+    for command in commands_in(top):
+        # the command help has no help itself
+        options[command] = [] if command == "help" else options_in(output_of(PROGRAM, command, "--help"))
+    return options
+
+
+# ---------------------------------------------------------------- the manual pages
+def plain(text):
+    """A page without its requests for fonts: `.BI \\-\\-poll\\~ FILE` becomes `--poll FILE`."""
+    text = re.sub(r"\\[~c]", " ", text.replace("\\-", "-"))
+    return re.sub(r"^\.(?:B|I|BI|BR|RB|IR|RI) ", "", text, flags=re.MULTILINE)
+
+
+def part_of(page, head):
+    """The text below a heading, to the next one of its level or above."""
+    return re.search(rf"^\.S[HS] {head}\n(.*?)(?=^\.S[HS] |\Z)", page, re.MULTILINE | re.DOTALL)[1]
+
+
+def as_words(text):
+    """The lines of a paragraph as they are read: a word in bold has no space before its bracket or comma."""
+    return re.sub(r" ([,;.)])|(\() ", r"\1\2", " ".join(text.split()))
+
+
+def sentence(words):
+    """With a full stop, whether it begins with a capital or not."""
+    return words[0].lower() + words[1:].removesuffix(".") + "."
+
+
+def tagged_options(text):
+    """The options that a page explains, each in a paragraph with a tag."""
+    return [option for tag in re.findall(r"^\.TP\n(.*)", text, re.MULTILINE) for option in re.findall(OPTION, tag)]
+
+
+def try_page_of_debvote(expect, options):
+    page = plain((ROOT / "man" / "debvote.1").read_text())
+    commands = page[page.index("\n.SH COMMANDS") : page.index("\n.SH OPTIONS")]
+    names = re.findall(r"^\.SS (\w+)$", commands, re.MULTILINE)
+    expect("debvote.1: its commands", sorted(names), sorted(set(options) - {""}))
+    expect("debvote.1: options without a command", sorted(tagged_options(part_of(page, "OPTIONS"))), sorted(options[""]))
+    synopsis = part_of(page, "SYNOPSIS")
+    for command in names:
+        wanted = sorted(set(options.get(command, [])) - {"--help"})
+        expect(f"debvote.1: options of {command}", sorted(tagged_options(part_of(page, command))), wanted)
+        line = re.search(rf"^debvote {command}\n(.*?)(?=^\.br|\Z)", synopsis, re.MULTILINE | re.DOTALL)
+        expect(f"debvote.1: synopsis of {command}", sorted(re.findall(OPTION, line[1] if line else "")), wanted)
+    statuses = re.findall(r"^\.TP\n(\d+)\n((?:(?!\.TP\n).*\n)*)", part_of(page, "EXIT STATUS"), re.MULTILINE)
+    wanted = [(number, sentence(words.replace("`", ""))) for number, words, _ in statuses_of_formats()]
+    expect("debvote.1: exit statuses", [(number, sentence(as_words(text))) for number, text in statuses], wanted)
+
+
+@functools.cache
+def options_of_publish():
+    """The options of debvote-publish."""
+    return options_in(output_of(sys.executable, PUBLISH, "--help"))
+
+
+@functools.cache
+def options_of_election():
+    """The options of each command of debvote-election, in the order of its commands."""
+    names = re.findall(r"^    ([a-z]+) ", output_of(sys.executable, ELECTION, "--help"), re.MULTILINE)
+    return {name: options_in(output_of(sys.executable, ELECTION, name, "--help")) for name in names}
+
+
+def try_made(expect):
+    """The pages and completions that docs/make-manual makes are those that are here."""
+    with tempfile.TemporaryDirectory() as folder:
+        output = output_of(ROOT / "docs" / "make-manual", folder)
+        expect("docs/make-manual", output, "")
+        files = sorted(file.relative_to(folder) for file in pathlib.Path(folder).rglob("*") if file.is_file())
+        expect("docs/make-manual: files", len(files), 8)
+        old = [str(file) for file in files if (ROOT / file).read_text() != (pathlib.Path(folder) / file).read_text()]
+        expect("pages and completions that are not of today: run docs/make-manual", old, [])
+
+
+def try_version(expect):
+    """The version in the code; everywhere else it is the same."""
+    version = output_of(PROGRAM, "--version").strip()
+    expect("docs/FORMATS.md: the version", set(re.findall(r"`(debvote \d[\d.]*)`", FORMATS.read_text())), {version})
+    heads = re.findall(r"^## (\d[\d.]*), \d{4}-\d\d-\d\d$", (ROOT / "CHANGELOG.md").read_text(), re.MULTILINE)
+    expect("CHANGELOG.md: the newest version", [f"debvote {head}" for head in heads[:1]], [version])
+    for program in (ELECTION, PUBLISH):
+        said = f"{program.name} {version.removeprefix('debvote ')}\n"
+        expect(f"{program.name} --version", [output_of(sys.executable, program, word) for word in ("--version", "-V")], [said] * 2)
+
+
+def try_pages(expect):
+    """The head of each page."""
+    version = output_of(PROGRAM, "--version").strip()
+    for page in sorted((ROOT / "man").iterdir()):
+        head = page.read_text().splitlines()[0].replace("\\-", "-")
+        expect(f"{page.name}: its head", re.findall(r'^\.TH (\S+) 1 \S+ "(.*?)"', head), [(page.stem.upper(), version)])
+
+
+def try_warnings(expect, words):
+    """The output of man or groff for each page."""
+    for page in sorted((ROOT / "man").iterdir()):
+        # standard error; the page that man prints goes to standard output
+        where = {"PATH": "/usr/bin:/bin", "MANWIDTH": "80"}
+        ended = subprocess.run([*words, page], capture_output=True, text=True, env=where, timeout=SECONDS)
+        expect(f"{page.name}: warnings of {words[0]}", (ended.stderr, ended.returncode), ("", 0))
+
+
+# ---------------------------------------------------------------- the completions
+def try_bash(expect, options, of_publish, of_election):
+    """What bash offers for the last of some words."""
+    for program, command, wanted in [
+        *(("debvote", command, found) for command, found in options.items() if command not in ("", "help")),
+        *(("debvote-election", f"{command} -", found) for command, found in of_election.items()),
+        ("debvote-election", "", [*of_election, "--folder", "--help", "--version"]),
+        ("debvote", "help", [command for command in options if command]),
+        ("debvote", "", [*(command for command in options if command), *options[""]]),
+        ("debvote-publish", "-", of_publish),
+    ]:
+        words = [program, command, ""] if command.isalpha() else [program, *(command.split() or [""])]
+        script = (
+            f"source {ROOT}/completions/bash/{program}; COMP_WORDS=({' '.join(repr(word) for word in words)}); "
+            f'COMP_CWORD={len(words) - 1}; _{program.replace("-", "_")}; printf "%s\\n" "${{COMPREPLY[@]}}"'
+        )
+        found = output_of("bash", "--norc", "-c", script).split()
+        expect(f"bash: {program} {command}", sorted(found), sorted(wanted))
+
+
+# what a completion asks of zsh: this prints it, for the words after the command
+ZSH = """
+_arguments() { if [[ $1 == -C ]] { state=argument; return 1 } else { print -rl -- "$@" } }
+words=(%s)
+complete_words() { source %s }
+complete_words
+"""
+
+
+def try_zsh(expect, options):
+    """The options of each command as the files write them."""
+    file = ROOT / "completions" / "zsh" / "_debvote"
+    text = file.read_text()
+    names = re.findall(r"^    '(\w+):", text, re.MULTILINE)
+    expect("zsh: the commands", sorted(names), sorted(set(options) - {""}))
+    top = sorted(set(re.findall(rf"'({OPTION})\[", "\n".join(re.findall(r"_arguments -C.*", text)))) | {"--help"})
+    expect("zsh: options without a command", top, sorted(options[""]))
+    for command, wanted in options.items():
+        if command not in ("", "help"):
+            line = re.search(rf"^ +{command}\) _arguments (.*) ;;$", text, re.MULTILINE)
+            found = ["--" + name for name in re.findall(r'"\$(\w+)"', line[1] if line else "")]
+            expect(f"zsh: {command}", sorted(found), sorted(wanted))
+
+
+def try_zsh_itself(expect, options, of_election):
+    """The options of each command as zsh reads them."""
+    file = ROOT / "completions" / "zsh" / "_debvote"
+    election = ROOT / "completions" / "zsh" / "_debvote-election"
+    for command, wanted in options.items():
+        if command not in ("", "help"):
+            said = output_of("zsh", "-f", "-c", ZSH % (command, file))
+            found = re.findall(rf"^({OPTION})\[", said, re.MULTILINE)
+            expect(f"zsh itself: {command}", sorted(found), sorted(wanted))
+    for command, wanted in of_election.items():
+        found = re.findall(rf"^({OPTION})\[", output_of("zsh", "-f", "-c", ZSH % (command, election)), re.MULTILINE)
+        expect(f"zsh itself: debvote-election {command}", sorted(found), sorted(wanted))
+
+
+def try_fish(expect, options):
+    file = ROOT / "completions" / "fish" / "debvote.fish"
+    text = file.read_text()
+    lists = {name: set(words.split()) for name, words in re.findall(r"^set -l of_(\w+) (.*)$", text, re.MULTILINE)}
+    used = set(re.findall(r"\$of_(\w+)\" -l (\w+)", text))
+    expect("fish: each list is for its option", used, {(name, name) for name in lists})
+    for command, wanted in options.items():
+        if command not in ("", "help"):
+            found = [f"--{name}" for name, commands in lists.items() if command in commands] + ["--help"]
+            expect(f"fish: {command}", sorted(found), sorted(wanted))
+    names = re.search(r"^set -l all (.*)$", text, re.MULTILINE)[1].split()
+    expect("fish: the commands", sorted(names), sorted(set(options) - {""}))
+    described = re.findall(r'-a (\w+) -d "', text)
+    expect("fish: each command is described", sorted(described), sorted(names))
+
+
+def try_fish_itself(expect, options, of_election):
+    """The options of each command as fish reads them."""
+    file = ROOT / "completions" / "fish" / "debvote.fish"
+    for command, wanted in options.items():
+        if command != "help":
+            said = output_of("fish", "-N", "-c", f"source {file}; complete -C 'debvote {command} --'")
+            found = [line.split("\t")[0] for line in said.splitlines()]
+            expect(f"fish itself: debvote {command}", sorted(found), sorted(wanted))
+    file = ROOT / "completions" / "fish" / "debvote-election.fish"
+    for command, wanted in of_election.items():
+        said = output_of("fish", "-N", "-c", f"source {file}; complete -C 'debvote-election {command} --'")
+        found = [line.split("\t")[0] for line in said.splitlines()]
+        expect(f"fish itself: debvote-election {command}", sorted(found), sorted(wanted))
+    said = output_of("fish", "-N", "-c", f"source {file}; complete -C 'debvote-election '")
+    expect("fish itself: debvote-election", sorted(line.split("\t")[0] for line in said.splitlines()), sorted(of_election))
+
+
+# ---------------------------------------------------------------- the tests
+class HelpTest(expecting.Expecting):
+    def test_the_help_names_commands_and_options(self):
+        options = options_by_command()
+        is_read = len(options) > 4 and all(options[name] for name in options if name != "help")
+        self.expect("the help names commands and options", is_read, True)
+
+    def test_words_of_help(self):
+        try_words_of_help(self.expect)
+
+    def test_version(self):
+        try_version(self.expect)
+
+
+class PagesTest(expecting.Expecting):
+    def test_page_of_debvote(self):
+        try_page_of_debvote(self.expect, options_by_command())
+
+    def test_made_pages_and_completions(self):
+        try_made(self.expect)
+
+    def test_what_pages_say_of_themselves(self):
+        try_pages(self.expect)
+
+    @unittest.skipUnless(shutil.which("man"), "man is not installed")
+    def test_warnings_of_man(self):
+        try_warnings(self.expect, ["man", "--warnings", "-l"])
+
+    @unittest.skipUnless(shutil.which("groff"), "groff is not installed")
+    def test_warnings_of_groff(self):
+        try_warnings(self.expect, ["groff", "-man", "-ww", "-z"])
+
+
+class CompletionsTest(expecting.Expecting):
+    def test_bash(self):
+        try_bash(self.expect, options_by_command(), options_of_publish(), options_of_election())
+
+    def test_zsh(self):
+        try_zsh(self.expect, options_by_command())
+
+    @unittest.skipUnless(shutil.which("zsh"), "zsh is not installed")
+    def test_zsh_itself(self):
+        try_zsh_itself(self.expect, options_by_command(), options_of_election())
+
+    def test_fish(self):
+        try_fish(self.expect, options_by_command())
+
+    @unittest.skipUnless(shutil.which("fish"), "fish is not installed")
+    def test_fish_itself(self):
+        try_fish_itself(self.expect, options_by_command(), options_of_election())

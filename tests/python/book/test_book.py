@@ -1,0 +1,765 @@
+"""The book: what happens to an election whose book was copied, put back, rewritten, damaged, or lies where it can't be kept."""
+
+import contextlib
+import hashlib
+import json
+import os
+import pathlib
+import re
+import shutil
+import sqlite3
+import subprocess
+import sys
+from unittest import mock
+
+from debvote_tools.book import chain, machine_note, queries
+from debvote_tools.book.book import open_book
+from debvote_tools.cli.faults import Fault
+
+from tests.support import elections
+
+FORMATS = elections.ROOT / "docs" / "FORMATS.md"
+
+MOVED = ("--moved", "--because", "the disk was exchanged")
+
+# the commands that stop at a book that this machine does not know, and those that say so and go on
+ACTING = [
+    *(("add", "--yes", "more"), ("close",), ("roll",), ("strike", "1", "--because", "x"), ("undo", "--yes"), ("desk",)),
+    *(("held", "1", "--set-aside"), ("reopen", "--because", "x"), ("call", "--to", "x@club.example"), ("codes",)),
+    *(("count",), ("publish",), ("letters", "receipts")),
+]
+READING = [
+    ("status",),
+    ("status", "--json"),
+    ("show", "ada"),
+    ("log",),
+    ("log", "--check"),
+    ("held",),
+    ("check",),
+    ("add", "--look", "more"),
+]
+
+# gives each lock that somebody asks for, as some file systems do
+NO_LOCKS = """
+#define _GNU_SOURCE
+#include <dlfcn.h>
+#include <fcntl.h>
+#include <stdarg.h>
+int fcntl64(int file, int command, ...) {
+  va_list rest; va_start(rest, command); void *argument = va_arg(rest, void *); va_end(rest);
+  if (command == F_SETLK || command == F_SETLKW || command == F_OFD_SETLK) return 0;
+  if (command == F_GETLK) { ((struct flock *) argument)->l_type = F_UNLCK; return 0; }
+  int (*real)(int, int, ...) = dlsym(RTLD_NEXT, "fcntl64");
+  return real(file, command, argument);
+}
+int fcntl(int file, int command, ...) {
+  va_list rest; va_start(rest, command); void *argument = va_arg(rest, void *); va_end(rest);
+  return fcntl64(file, command, argument);
+}
+"""
+
+
+class BookTest(elections.ElectionTest):
+    @property
+    def book(self) -> pathlib.Path:
+        return self.folder / "election.db"
+
+    def add(self, *lines: str) -> None:
+        self.write("lines", "".join(f"{line}\n" for line in lines))
+        self.done("add", "--yes", "lines")
+
+    def sql(self, *statements: str) -> None:
+        """Changes the book with another program, past its triggers, which are there again afterwards."""
+        with contextlib.closing(sqlite3.connect(self.book, isolation_level=None)) as connection:
+            triggers = connection.execute("SELECT name, sql FROM sqlite_schema WHERE type = 'trigger'").fetchall()
+            for statement in (*(f"DROP TRIGGER {name}" for name, _ in triggers), *statements, *(sql for _, sql in triggers)):
+                connection.execute(statement)
+
+    def assert_stops(self, *parts: str) -> None:
+        """Each command that writes an act, or says what others rely on, stops; those that read say it and go on."""
+        self.write("more", "hal 1,2,3,4\n")
+        before = self.read("election.db")
+        for words in ACTING:
+            with self.subTest(words):
+                self.assert_fault(self.election(*words), 9, *parts, "nothing was changed")
+        for words in READING:
+            with self.subTest(words):
+                ended = self.election(*words)
+                self.assertEqual(ended.status, 0, ended)
+                self.assertRegex(ended.faults, r"\ANote: .*\n\Z")
+                for part in parts:
+                    self.assertIn(part, ended.faults)
+                # what a program reads is what it is otherwise
+                self.assertNotIn("Note: ", ended.output)
+        self.assertEqual(self.read("election.db"), before)
+
+
+class Copies(BookTest):
+    """A copy of the book in the place of the book, or beside it."""
+
+    def test_copy_of_yesterday(self) -> None:
+        copy = self.scratch / "copy"
+        self.add("ada 1,2,3,4")
+        shutil.copy(self.book, copy)
+        self.add("ben 1,2,3,4")
+        shutil.copy(copy, self.book)
+        self.assert_stops("election.db", "older copy")
+        self.assertIn("--moved", self.election("add", "--yes", "more").faults)
+
+    def test_accepted(self) -> None:
+        copy = self.scratch / "copy"
+        self.add("ada 1,2,3,4")
+        shutil.copy(self.book, copy)
+        self.add("ben 1,2,3,4")
+        shutil.copy(copy, self.book)
+        self.write("more", "hal 1,2,3,4\n")
+        self.assert_fault(self.election("add", "--yes", "--moved", "more"), 2, "--moved", "reason")
+        for text in ("a\u202eb", "a\x1b[1m", "one line\nand one more"):
+            odd = self.election("add", "--yes", "--moved", "--because", text, "more")
+            self.assert_fault(odd, 2, "--because: the text has the character U+", "nothing was changed")
+        self.done("add", "--yes", *MOVED, "more")
+        self.assertEqual([line.split()[4] for line in self.done("log").output.splitlines()[::2]][-2:], ["moved", "add"])
+        self.done("add", "--yes", "--again", "more")
+
+    def test_restored_disk(self) -> None:
+        """No file of a disk shows that all of it was put back, so the secretary says it."""
+        kept = self.scratch / "kept"
+        self.add("ada 1,2,3,4")
+        for folder in (self.folder, self.state):
+            shutil.copytree(folder, kept / folder.name)
+        self.write("more", "ben 1,2,3,4\n")
+        self.done("add", "--yes", "more")
+        for folder in (self.folder, self.state):
+            shutil.rmtree(folder)
+            (kept / folder.name).rename(folder)
+        self.write("more", "ada 1,2,3,4\nben 1,2,3,4\n")
+        self.assertIn("2 counted", self.done("add", "--yes", *MOVED, "more").output)
+        self.done("close")
+        self.done("publish")
+        self.assertIn("in which act 4 was the last", self.read("result/index.html").decode())
+
+    def test_gone_on_elsewhere(self) -> None:
+        copy = self.scratch / "copy"
+        shutil.copy(self.book, copy)
+        self.add("ada 1,2,3,4", "ben 1,2,3,4")
+        other = self.scratch / "other" / "election"
+        shutil.copytree(self.folder, other)
+        shutil.copy(copy, other / "election.db")
+        self.write("lines", "cleo 1,2,3,4\n")
+        self.done("add", "--yes", *MOVED, self.folder / "lines", cwd=other)
+        self.done("add", "--yes", "--again", self.folder / "lines", cwd=other)
+        shutil.copy(other / "election.db", self.book)
+        self.assert_stops("election.db", "is not the one that this computer saw")
+
+    def test_put_back_while_a_desk_is_open(self) -> None:
+        """The desk still has the file that is gone from the folder: what it entered there would be lost."""
+        copy = self.scratch / "copy"
+        shutil.copy(self.book, copy)
+        env = elections.environment() | {"XDG_STATE_HOME": str(self.state)}
+        pipes = {"stdin": subprocess.PIPE, "stdout": subprocess.PIPE, "stderr": subprocess.PIPE, "text": True}
+        desk = subprocess.Popen([sys.executable, elections.ELECTION, "desk"], cwd=self.folder, env=env, **pipes)
+        desk.stdin.write("ada 1,2,3,4\n")
+        desk.stdin.flush()
+        self.assertTrue(desk.stdout.readline().startswith("1 counted"))
+        copy.replace(self.book)
+        said, faults = desk.communicate("ben 1,2,3,4\n")
+        self.assertEqual((desk.returncode, said), (9, ""), faults)
+        self.assertIn("election.db: another file took its place while this command was running; act 4 (desk) was done: ", faults)
+        self.assert_stops("older copy")
+
+    def test_another_place(self) -> None:
+        moved = self.scratch / "moved"
+        self.folder.rename(moved)
+        self.folder = moved
+        self.assert_stops("never seen this election in this folder")
+
+    def test_another_computer(self) -> None:
+        self.state = self.scratch / "other state"
+        self.assert_stops("never seen this election in this folder")
+
+    def test_two_computers_with_one_home(self) -> None:
+        """Folder and home lie on a share: each computer has a note of its own, and an act names the computer that did it."""
+        other_id = self.scratch / "machine-id"
+        other_id.write_text("0123456789abcdef0123456789abcdef\n")
+        self.add("ada 1,2,3,4")
+        with mock.patch.object(machine_note, "MACHINE_ID", other_id):
+            self.assert_stops("never seen this election in this folder")
+            self.write("more", "hal 1,2,3,4\n")
+            self.done("add", "--yes", *MOVED, "more")
+        self.assert_stops("its act 6 was done on another computer")
+        self.write("more", "ida 1,2,3,4\n")
+        self.done("add", "--yes", *MOVED, "more")
+        with contextlib.closing(sqlite3.connect(self.book)) as connection:
+            [(salt,)] = connection.execute("SELECT salt FROM act WHERE act = 1")
+            machines = [machine for machine, in connection.execute("SELECT machine FROM act ORDER BY act")]
+        own_id = pathlib.Path("/etc/machine-id")
+        own, other = (
+            hashlib.sha256(salt + (file.read_bytes() if file.exists() else b"")).hexdigest()[:16] for file in (own_id, other_id)
+        )
+        self.assertEqual(machines, [own] * 4 + [other] * 2 + [own] * 2)
+
+    def test_restored_home(self) -> None:
+        """A home of yesterday is an act of the same book: nothing stops."""
+        kept = self.scratch / "kept"
+        shutil.copytree(self.state, kept)
+        self.add("ada 1,2,3,4")
+        shutil.rmtree(self.state)
+        kept.rename(self.state)
+        self.add("ben 1,2,3,4")
+
+    def test_note_that_can_not_be_written(self) -> None:
+        self.write("more", "hal 1,2,3,4\n")
+        before = self.contents()
+        (self.state / "debvote" / "lock").unlink()
+        (self.state / "debvote" / "lock").mkdir()
+        self.assert_fault(self.election("add", "--yes", "more"), 7, "this computer must note there")
+        self.assertEqual(self.contents(), before)
+
+    def note_file(self) -> pathlib.Path:
+        """What this computer noted of the election."""
+        place = str(self.book.resolve())
+        files = (file for file in (self.state / "debvote").iterdir() if file.suffix == "" and file.name != "lock")
+        [note] = (file for file in files if json.loads(file.read_text())["path"] == place)
+        return note
+
+    def injected(self, inject: str, *words: str) -> elections.Ended:
+        """Runs a command whose calls that write the next note fail."""
+        if shutil.which("strace") is None:
+            self.skipTest("strace is not installed")
+        traced = ["strace", "-o", "/dev/null", "-P", str(self.note_file().with_suffix(".next")), "-e", f"inject={inject}"]
+        return self.run_program(*traced, sys.executable, elections.ELECTION, *words)
+
+    def test_no_room_for_the_note(self) -> None:
+        """Room is made before the act. What fails after the commit leaves the note at an earlier act of the book."""
+        self.add("ada 1,2,3,4")
+        self.write("more", "hal 1,2,3,4\n")
+        before, noted = self.contents(), self.note_file().read_bytes()
+        for call in ("write:error=ENOSPC", "fsync:error=EIO"):
+            self.assert_fault(
+                self.injected(call, "add", "--yes", "more"), 7, "this computer must note there", "nothing was changed"
+            )
+            self.assertEqual((self.contents(), self.note_file().read_bytes()), (before, noted))
+        ended = self.injected("rename:error=ENOSPC", "add", "--yes", "more")
+        self.assertEqual((ended.status, ended.faults), (0, ""), ended)
+        self.assertEqual(self.note_file().read_bytes(), noted)
+        self.add("ben 1,2,3,4")
+        self.assertEqual(json.loads(self.note_file().read_bytes())["act"], 6)
+        self.assertFalse(self.note_file().with_suffix(".next").exists())
+
+    def test_a_new_election_in_the_same_place(self) -> None:
+        self.add("ada 1,2,3,4")
+        shutil.rmtree(self.folder)
+        self.done("new", str(self.folder), cwd=self.scratch)
+        self.write("members.csv", elections.members_of(elections.NAMES))
+        self.assertEqual(self.done("roll").faults, "")
+
+    def test_left_by_a_sync_tool(self) -> None:
+        self.add("ada 1,2,3,4")
+        conflict = self.folder / "election (conflicted copy).db"
+        shutil.copy(self.book, conflict)
+        self.add("ben 1,2,3,4")  # the copy is a beginning of the book
+        shutil.copy(self.book, self.scratch / "book")
+        state = self.scratch / "state of the other"
+        shutil.copytree(self.state, state)
+        self.add("cleo 1,2,3,4")
+        shutil.copy(self.book, conflict)
+        shutil.copy(self.scratch / "book", self.book)
+        shutil.rmtree(self.state)
+        state.rename(self.state)
+        self.assert_stops("election (conflicted copy).db", "acts that election.db lacks")
+
+    def test_another_book_with_fewer_acts(self) -> None:
+        """What this book lacks counts, and not how many acts there are."""
+        self.add("ada 1,2,3,4")
+        shutil.copytree(self.state, self.scratch / "other state")
+        other = self.scratch / "other"
+        shutil.copytree(self.folder, other)
+        self.add("ben 1,2,3,4")
+        self.add("cleo 1,2,3,4")
+        here, self.folder, before = self.folder, other, self.state
+        self.state = self.scratch / "other state"
+        self.write("more", "dan 1,2,3,4\n")
+        self.done("strike", "1", "--because", "x", *MOVED[:1])
+        self.folder, self.state = here, before
+        for name, data in {"conflict.db": (other / "election.db").read_bytes(), "cut.db": self.read("election.db")[:5_000]}.items():
+            (self.folder / name).write_bytes(data)
+            self.assert_stops(name, "acts that election.db lacks")
+            (self.folder / name).unlink()
+        # this book as it was, and what is no book
+        shutil.copy(self.book, self.folder / "copy.db")
+        (self.folder / "a.db").write_bytes(b"SQLite format 3\0")
+        self.add("dan 1,2,3,4")
+
+    def test_backup_beside_it(self) -> None:
+        self.add("ada 1,2,3,4")
+        self.done("backup", "copy.db")
+        self.add("ben 1,2,3,4")
+        self.assertEqual(self.election("backup", "copy.db").status, 2)
+        self.assertEqual((self.folder / "copy.db").stat().st_mode & 0o777, 0o600)
+
+
+def as_json(*row: object, line: int | None = None) -> str:
+    """A row as FORMATS has it, without the number of the act; `line` is the place of what came."""
+    in_text = {value: hashlib.sha256(value).hexdigest() for value in row if isinstance(value, bytes)}
+    if line is not None:
+        in_text[row[line]] = row[line].decode(errors="surrogateescape")
+    return json.dumps([in_text.get(value, value) for value in row], separators=(",", ":"), ensure_ascii=False)
+
+
+class Rewritten(BookTest):
+    """A book that somebody changed with another program."""
+
+    def setUp(self) -> None:
+        super().setUp()
+        self.add("ada 1,2,3,4", "ben 2,1,3,4")
+
+    def formats(self) -> list[str]:
+        """What the program of FORMATS prints of the book."""
+        [program] = re.findall(r"^```python\n(.*?)^```$", FORMATS.read_text(), re.MULTILINE | re.DOTALL)
+        ended = subprocess.run([sys.executable, "-c", program], cwd=self.folder, capture_output=True, text=True)
+        return ended.stdout.splitlines() + ended.stderr.splitlines()[-1:]
+
+    def assert_broken(self, act: int, *parts: str) -> None:
+        """Each command on whose words others rely says so, with the number of the act; so does the program of FORMATS."""
+        said = f"act {act} does not match its digest"
+        for words in (("log", "--check"), ("count",), ("close",), ("publish",), ("export", "out"), ("backup", "copy.db")):
+            with self.subTest(words):
+                self.assert_fault(self.election(*words), 9, "election.db", said, *parts)
+        self.assertIn(said, self.formats())
+
+    def test_whole(self) -> None:
+        self.assertIn("The chain is whole: 4 acts", self.done("log", "--check").output)
+        [last] = self.formats()
+        self.assertEqual(last.split()[-1], json.loads(self.done("status", "--json").output)["digest"])
+
+    def test_digests(self) -> None:
+        """Each digest is over the one before and all rows of the act."""
+        with contextlib.closing(sqlite3.connect(self.book)) as connection:
+            before, digests = "", []
+            for *act, digest in connection.execute("SELECT * FROM act").fetchall():
+                lines, count = [before, as_json(*act)], 0
+                for table in ("elector", "elector_state", "sealed", "source", "envelope"):
+                    names = [name for _, name, *_ in connection.execute(f"PRAGMA table_info({table})") if name != "act"]
+                    place = names.index("line") if "line" in names else None
+                    rows = connection.execute(f"SELECT {', '.join(names)} FROM {table} WHERE act = ?", act[:1]).fetchall()
+                    lines += [table, *(as_json(*row, line=place) for row in rows)] if rows else []
+                    count += len(rows)
+                before = hashlib.sha256("\n".join(lines).encode()).hexdigest()
+                digests.append((digest, before, count))
+        self.assertEqual([found for found, _, _ in digests], [computed for _, computed, _ in digests])
+        self.assertEqual([count for _, _, count in digests], [0, 9 + 9, 9 + 5, 1 + 2])
+
+    def test_the_view_of_the_ballots(self) -> None:
+        self.add("cleo 1,2,3,4")
+        self.done("strike", "1", "--because", "x")
+        self.done("close")
+        self.done("desk", given="dan 1,2,3,4\n")
+        with contextlib.closing(sqlite3.connect(self.book)) as connection:
+            ballots = [line for line, in connection.execute("SELECT line FROM ballot ORDER BY envelope")]
+        self.assertEqual(ballots, [b"ben 2,1,3,4", b"cleo 1,2,3,4"])
+
+    def test_lines_of_any_bytes(self) -> None:
+        """They stay as they are in what the digest is over, and none can be taken for the rows of two."""
+        odd = [b"ada \"1\\", b"\xff\xfe\x00\x7f", b"\xed\xa0\x80 \xe2\x80\xa8\t", b'x\n[3,1,"ada 1,2,3,4"]', b"", b"\xc3\xa9"]
+        with mock.patch.dict(os.environ, {"XDG_STATE_HOME": str(self.state)}):
+            book = open_book(self.book)
+            with contextlib.closing(book.connection), book.act("desk") as act:
+                queries.add_envelopes(act, map(queries.NewEnvelope, odd), [None] * len(odd), is_late=False)
+        self.assertIn("The chain is whole: 5 acts", self.done("log", "--check").output)
+        self.assertEqual(len(self.formats()), 1)
+
+    def test_an_act_with_its_digest_made_anew(self) -> None:
+        """Whoever changes an act can compute its digest, but then the next act does not match."""
+        self.add("cleo 1,2,3,4")
+        columns = "envelope, elector, line, source, letter, place, time, late"
+        with contextlib.closing(sqlite3.connect(self.book)) as connection:
+            [(before,)] = connection.execute("SELECT digest FROM act WHERE act = 3")
+            [[*act, _]] = connection.execute("SELECT * FROM act WHERE act = 4").fetchall()
+            sources = connection.execute("SELECT source, name, data FROM source WHERE act = 4").fetchall()
+            first, *others = connection.execute(f"SELECT {columns} FROM envelope WHERE act = 4").fetchall()
+        changed = (*first[:2], b"ada 4,3,2,1", *first[3:])
+        envelopes = [as_json(*row, line=2) for row in (changed, *others)]
+        rows = ["source", *(as_json(*row) for row in sources), "envelope", *envelopes]
+        digest = hashlib.sha256("\n".join([before, as_json(*act), *rows]).encode()).hexdigest()
+        self.sql(
+            "UPDATE envelope SET line = CAST('ada 4,3,2,1' AS BLOB) WHERE envelope = 1",
+            f"UPDATE act SET digest = '{digest}' WHERE act = 4",
+        )
+        self.assert_broken(5)
+
+    def test_each_column(self) -> None:
+        """One row of each table is changed in each of its columns, which the book itself names."""
+        self.write("mail", "From: Ada <ada@club.example>\nMessage-ID: <1@x>\nSubject: x\n\nHello\n")
+        self.done("add", "--yes", "mail")
+        self.done("held", "1", "--set-aside")
+        self.done("strike", "2", "--because", "x")
+        self.done("letters", "receipts")
+        whole, tried = self.read("election.db"), 0
+        with contextlib.closing(sqlite3.connect(self.book)) as connection:
+            tables = [name for name, in connection.execute("SELECT name FROM sqlite_schema WHERE type = 'table'")]
+            columns = [
+                (table, name, kind) for table in tables for _, name, kind, *_ in connection.execute(f"PRAGMA table_info({table})")
+            ]
+            owners = {table: connection.execute(f"SELECT max(rowid), act FROM {table}").fetchone() for table in tables}
+        later = "strftime('%Y-%m-%dT%H:%M:%SZ', {}, '+1 second')"
+        other = {"INTEGER": "coalesce({} + 1000, 1000)", "TEXT": "{} || ' '", "BLOB": "CAST({} || 'x' AS BLOB)"}
+        for table, column, kind in columns:
+            row, act = owners[table]
+            value = (later if column == "time" else other[kind]).format(column)
+            self.sql(f"UPDATE {table} SET {column} = {value} WHERE rowid = {row}")
+            ended = self.election("log", "--check")
+            # an act that has another number now is missing
+            said = (
+                f"rows of act {act}, and no such act"
+                if (table, column) == ("act", "act")
+                else f"act {act} does not match its digest"
+            )
+            with self.subTest(f"{table}.{column}"):
+                self.assertEqual(ended.status, 9, ended)
+                self.assertIn(said, ended.faults)
+                self.assertGreater(len(self.formats()), 1)
+            self.book.write_bytes(whole)
+            tried += 1
+        self.assertEqual((len(tables), tried), (10, 51))
+        self.done("log", "--check")
+
+    def test_line_changed(self) -> None:
+        self.sql("UPDATE envelope SET line = CAST('ada 4,3,2,1' AS BLOB) WHERE envelope = 1")
+        self.assert_broken(4)
+
+    def test_line_removed(self) -> None:
+        self.sql("DELETE FROM envelope WHERE envelope = 2")
+        self.assert_broken(4)
+
+    def test_line_added(self) -> None:
+        columns = "envelope, act, elector, line, place, time, late"
+        self.sql(
+            f"INSERT INTO envelope ({columns}) VALUES (3, 4, 3, CAST('cleo 1,2,3,4' AS BLOB), ':3', '2026-12-04T17:00:00Z', 0)"
+        )
+        self.assert_broken(4)
+
+    def test_rows_of_no_act(self) -> None:
+        """Rows before the first act, within a gap that there is not, and after the last act."""
+        whole = self.read("election.db")
+        for act in (-1, 0, 5, 1_000_000):
+            self.sql(f"INSERT INTO struck VALUES (1, {act}), (2, {act})")
+            for words in (("log", "--check"), ("count",), ("close",), ("publish",), ("export", "out"), ("backup", "copy.db")):
+                self.assert_fault(self.election(*words), 9, f"it has rows of act {act}, and no such act")
+            self.assertGreater(len(self.formats()), 1)
+            self.book.write_bytes(whole)
+
+    def test_an_index_that_answers_in_place_of_the_table(self) -> None:
+        """One bit of the table is changed, and the index says what was there before; or one of the index, and the table says it."""
+        self.done("strike", "1", "--because", "x")
+        whole = self.read("election.db")
+        with contextlib.closing(sqlite3.connect(self.book)) as connection:
+            [(size,)] = connection.execute("PRAGMA page_size")
+            pages = dict(connection.execute("SELECT name, rootpage FROM sqlite_schema WHERE tbl_name = 'struck'"))
+
+        def cell(name: str) -> int:
+            """Where the only cell of a page begins."""
+            start = (pages[name] - 1) * size
+            return start + int.from_bytes(whole[start + 5 : start + 7], "big")
+
+        # a row of the table: its length, its number, and the row; one of the index: its length, and the row
+        table, index = cell("struck"), cell("struck_by_act")
+        self.assertEqual(
+            (whole[table : table + 6], whole[index : index + 5]), (b"\x04\x01\x03\x00\x01\x05", b"\x04\x03\x01\x09\x05")
+        )
+        for name, at in {"the envelope": table + 1, "the act": table + 5, "the act of the index": index + 4}.items():
+            with self.subTest(name):
+                self.book.write_bytes(whole[:at] + bytes([whole[at] ^ 2]) + whole[at + 1 :])
+                for words in (("log", "--check"), ("count",), ("close",), ("export", "out")):
+                    self.assert_fault(self.election(*words), 9, "election.db: the book is damaged", "struck")
+                self.assertGreater(len(self.formats()), 1)
+
+    def test_the_chain_reads_no_index(self) -> None:
+        with contextlib.closing(sqlite3.connect(self.book)) as connection:
+            chain.prepare(connection)
+            queries_of_all = map(chain.query_of_all, chain.schema().lines)
+            plans = [connection.execute(f"EXPLAIN QUERY PLAN {words}").fetchall() for words in queries_of_all]
+        self.assertEqual(len(plans), 10)
+        for plan in plans:
+            self.assertEqual([step for *_, step in plan if "INDEX" in step], [])
+
+    def test_another_schema(self) -> None:
+        """What somebody adds to the schema, takes from it or changes in it is seen by each command that opens the book."""
+        whole = self.read("election.db")
+        strikes = "CREATE TRIGGER x AFTER INSERT ON envelope BEGIN INSERT INTO struck VALUES (new.envelope, new.act); END"
+        writable = "PRAGMA writable_schema = ON"
+        for name, statements in {
+            "trigger x": [strikes],
+            "trigger struck_DELETE": ["DROP TRIGGER struck_DELETE"],
+            "index struck_by_act": ["DROP INDEX struck_by_act", "CREATE INDEX struck_by_act ON struck (act DESC)"],
+            "index x": ["CREATE UNIQUE INDEX x ON envelope (elector)"],
+            "view x": ["CREATE VIEW x AS SELECT * FROM act"],
+            "table x": ["CREATE TABLE x (y)"],
+            "table sqlite_stat1": ["ANALYZE"],
+            "table struck": [
+                writable,
+                "UPDATE sqlite_schema SET sql = replace(sql, 'act INTEGER', 'act  INTEGER') WHERE name = 'struck'",
+            ],
+        }.items():
+            with contextlib.closing(sqlite3.connect(self.book, isolation_level=None)) as connection:
+                for statement in statements:
+                    connection.execute(statement)
+            changed = self.read("election.db")
+            for words in (("status",), ("desk",), ("log", "--check"), ("backup", "copy.db")):
+                with self.subTest(name, words=words):
+                    self.assert_fault(self.election(*words, given=""), 9, f"the {name} is not as new makes it")
+            self.assertEqual(self.read("election.db"), changed)
+            self.book.write_bytes(whole)
+
+    def test_nothing_is_built_on_a_broken_book(self) -> None:
+        """Each act computes the digest of the one before it anew."""
+        self.sql("UPDATE envelope SET line = CAST('ada 4,3,2,1' AS BLOB) WHERE envelope = 1")
+        self.write("more", "hal 1,2,3,4\n")
+        for words in (
+            ("add", "--yes", "more"),
+            ("strike", "1", "--because", "x"),
+            ("undo", "--yes"),
+            ("call", "--at", "https://club.example/"),
+        ):
+            self.assert_fault(self.election(*words), 9, "act 4 does not match its digest", "nothing was changed")
+
+    def test_what_no_command_can_read(self) -> None:
+        """It is told as what it is, by whatever command meets it."""
+        whole = self.read("election.db")
+        for act, statement in {
+            1: "UPDATE act SET detail = '{' WHERE act = 1",
+            2: "UPDATE elector_state SET mail = 'ada@club.example' WHERE elector = 1",
+            3: "UPDATE act SET detail = '[]' WHERE act = 3",
+            4: "UPDATE envelope SET time = 'noon' WHERE envelope = 1",
+        }.items():
+            self.sql(statement)
+            told = 0
+            for words in (("show", "ada"), ("status",), ("desk",), ("roll",), ("letters", "receipts")):
+                ended = self.election(*words, given="")
+                with self.subTest(statement, words=words):
+                    self.assertEqual(ended.status, 9 if ended.faults else 0, ended)
+                    if ended.faults:
+                        self.assert_fault(ended, 9, f"act {act} does not match its digest")
+                        told += 1
+            self.assertGreater(told, 0, statement)
+            self.book.write_bytes(whole)
+
+    def test_sealed_poll(self) -> None:
+        """A poll in the book that is not in plain form is the fault of the book, and of no file of the secretary's."""
+        whole = self.read("election.db")
+        for statement in ("DELETE FROM sealed", "UPDATE sealed SET data = CAST('title = 1' AS BLOB)"):
+            self.sql(statement)
+            for words in (("status",), ("desk",), ("held",)):
+                with self.subTest(statement, words=words):
+                    said = "election.db: the book is damaged, or another program changed it (its sealed poll is not in plain form)"
+                    self.assert_fault(self.election(*words, given=""), 9, said)
+            self.book.write_bytes(whole)
+
+    def test_elector_and_detail(self) -> None:
+        self.sql("UPDATE elector_state SET mail = '[\"eve@elsewhere.example\"]' WHERE elector = 1")
+        self.assert_broken(2)
+        self.sql('UPDATE act SET detail = \'{"language": "de"}\' WHERE act = 1')
+        self.assert_broken(1)
+
+    def test_act_cut_off(self) -> None:
+        for table in ("envelope", "source", "act"):
+            self.sql(f"DELETE FROM {table} WHERE act = 4")
+        self.assert_stops("older copy")
+
+    def test_triggers(self) -> None:
+        with sqlite3.connect(self.book) as connection:
+            connection.execute("PRAGMA recursive_triggers = ON")
+            for statement in (
+                "UPDATE envelope SET late = 1",
+                "DELETE FROM act",
+                "INSERT OR REPLACE INTO sealed SELECT * FROM sealed",
+                "REPLACE INTO elector SELECT * FROM elector",
+            ):
+                with self.subTest(statement), self.assertRaises(sqlite3.IntegrityError):
+                    connection.execute(statement)
+
+
+class CutOff(BookTest):
+    """An act that is cut off in its commit, or right after it."""
+
+    def traced(self, *how: str, words: tuple[str, ...], given: str | None = None) -> elections.Ended:
+        if shutil.which("strace") is None:
+            self.skipTest("strace is not installed")
+        return self.run_program("strace", "-o", "/dev/null", *how, sys.executable, elections.ELECTION, *words, given=given)
+
+    def last_act(self) -> int:
+        ended = self.done("status", "--json")
+        self.assertEqual(ended.faults, "")
+        return json.loads(ended.output)["act"]
+
+    def test_a_disk_that_fails_in_the_commit(self) -> None:
+        """If the journal is gone already, the act is there; nobody knows whether that is on the disk."""
+        said = []
+        for call in range(1, 9):
+            before = self.last_act()
+            ended = self.traced("-e", f"inject=fdatasync:error=EIO:when={call}", words=("desk",), given="ada 1,2,3,4\n")
+            done = self.last_act() - before
+            if ended.status == 0:
+                said.append("done")
+            elif "nothing was changed" in ended.faults:
+                self.assert_fault(ended, 7, "election.db: ")
+                self.assertEqual(done, 0)
+                said.append("nothing")
+            else:
+                self.assert_fault(ended, 7, f"nobody knows whether act {before + 1} was done: see debvote-election status")
+                self.assertEqual(done, 1)
+                said.append("nobody knows")
+        self.assertEqual(set(said), {"done", "nothing", "nobody knows"})
+
+    def test_interrupted_in_the_commit(self) -> None:
+        """What is done is reported: the signal comes when SQLite removes the journal."""
+        journal = str(self.book.resolve()) + "-journal"
+        for rank, signal in enumerate(("INT", "TERM", "HUP"), start=1):
+            self.write("more", f"ben {rank},2,3,4\n")
+            for words, given in ((("desk",), "ada 1,2,3,4\n"), (("add", "--yes", "more"), None)):
+                before = self.last_act()
+                ended = self.traced("-P", journal, "-e", f"inject=unlink:signal={signal}", words=words, given=given)
+                self.assertEqual(self.last_act(), before + 1)
+                self.assertRegex(ended.output, r"(?m)^\d+ (counted|replaced)  (ada|ben): ", (signal, words))
+        ended = self.traced("-P", journal, "-e", "inject=unlink:signal=INT", words=("close",))
+        self.assert_fault(ended, 130, f"interrupted; act {self.last_act()} (close) was done, and nothing else")
+
+
+class OnTheDisk(BookTest):
+    """What is brought to the disk, and in which order."""
+
+    def calls(self, *words: str, given: str | None = None, inject: str = "fsync:delay_exit=0") -> list[tuple[str, str]]:
+        """The calls of a command that bring a file to the disk or put it into its place, in their order, each with its path."""
+        if shutil.which("strace") is None:
+            self.skipTest("strace is not installed")
+        trace = self.scratch / "trace"
+        how = ["-y", "-o", trace, "-e", "trace=fsync,rename", "-e", f"inject={inject}"]
+        self.run_program("strace", *how, sys.executable, elections.ELECTION, *words, given=given)
+        return re.findall(r"(?m)^(fsync|rename)\((?:\d+<|\")([^>\"]*)", trace.read_text())
+
+    def test_what_takes_a_place_is_on_the_disk(self) -> None:
+        """The note, and files beside the book: first the content, then the name."""
+        for words, renames in ((("desk",), 1), (("close",), 2)):
+            calls = self.calls(*words, given="ada 1,2,3,4\n")
+            places = [(at, path) for at, (call, path) in enumerate(calls) if call == "rename"]
+            self.assertEqual(len(places), renames, calls)
+            for at, path in places:
+                around = [("fsync", path), ("rename", path), ("fsync", str(pathlib.Path(path).parent))]
+                self.assertEqual(calls[at - 1 : at + 2], around)
+
+    def test_what_can_not_take_its_place_is_gone(self) -> None:
+        self.calls("close", inject="rename:error=EIO:when=2")
+        self.assertEqual([file.name for file in self.folder.rglob("*") if file.name.startswith(".debvote-")], [])
+        self.assertFalse((self.folder / "letters" / "closed.txt").exists())
+
+    def test_a_note_goes_only_forward(self) -> None:
+        note = machine_note.MachineNote("a machine", self.book)
+        note.folder = self.scratch / "notes"
+        note.file, note.next = note.folder / "note", note.folder / "note.next"
+        for act, is_moved, stands in ((3, False, 3), (5, False, 5), (4, False, 5), (4, True, 4), (10**19, False, 10**19)):
+            note.make_ready()
+            note.put(machine_note.Note(act, hashlib.sha256(b"").hexdigest()), is_moved=is_moved)
+            self.assertEqual(note.read().act, stands)
+        # each has the room of the longest
+        size = note.file.stat().st_size
+        note.make_ready()
+        self.assertEqual(note.next.stat().st_size, size)
+
+    def test_rows_name_rows_that_are_there(self) -> None:
+        with mock.patch.dict(os.environ, {"XDG_STATE_HOME": str(self.state)}):
+            book = open_book(self.book)
+            with contextlib.closing(book.connection), self.assertRaises(Fault), book.act("strike") as act:
+                queries.strike_envelopes(act, [99])
+        self.assertIn("3 acts", self.done("log", "--check").output)
+
+
+class Places(BookTest):
+    """Folders in which there is no book that can be worked on."""
+
+    def test_in_a_folder_that_is_made(self) -> None:
+        for words in (("status",), ("add", "x"), ("roll",)):
+            ended = self.election(*words, cwd=self.folder / "call")
+            self.assert_fault(ended, 2, "one folder up")
+
+    def test_no_book(self) -> None:
+        self.assert_fault(self.election("status", cwd=self.scratch), 2, "no election.db")
+        self.assert_fault(self.election("status", "--folder", "nowhere"), 2, "nowhere", "no such folder")
+
+    def test_folder_of_version_1(self) -> None:
+        old = self.scratch / "old"
+        old.mkdir()
+        (old / "journal").write_text("")
+        self.assert_fault(self.election("status", cwd=old), 2, "debvote-election 1.x")
+
+    def test_other_databases(self) -> None:
+        with sqlite3.connect(self.folder / "other.db") as connection:
+            connection.execute("CREATE TABLE a (b)")
+        (self.folder / "other.db").replace(self.book)
+        self.assert_fault(self.election("status"), 2, "another program")
+        with sqlite3.connect(self.book) as connection:
+            connection.execute(f"PRAGMA application_id = {0x64627674}")
+            connection.execute("PRAGMA user_version = 2")
+        self.assert_fault(self.election("status"), 2, "it is a book (version 2), and this program writes version 4")
+
+    def test_book_of_version_2_0_0(self) -> None:
+        """It is refused by name, and not opened: what a command of 2.0.0 left when it was cut off stays, too."""
+        with contextlib.closing(sqlite3.connect(self.book)) as connection:
+            connection.execute("PRAGMA user_version = 3")
+        (self.folder / "election.db-journal").write_bytes(b"what a command that was cut off has left")
+        self.write("more", "hal 1,2,3,4\n")
+        before = self.contents()
+        for words in (("status",), ("add", "--yes", "more"), ("log", "--check"), ("close",)):
+            self.assert_fault(self.election(*words), 2, "it is a book of debvote-election 2.0.0 (version 3)", "nothing was changed")
+            self.assertEqual(self.contents(), before)
+
+    def test_damaged(self) -> None:
+        data = self.book.read_bytes()
+        for name, damage in {
+            "no database": b"words " * 1000,
+            "cut off": data[: len(data) // 2],
+            "zeros": data[:4096] + bytes(len(data) - 4096),
+            "empty": b"",
+        }.items():
+            with self.subTest(name):
+                self.book.write_bytes(damage)
+                ended = self.election("status")
+                self.assertIn(ended.status, (2, 9), ended)
+                self.assertEqual(len(ended.faults.splitlines()), 1, ended)
+                self.assertIn("election.db", ended.faults)
+                self.assertEqual(self.book.read_bytes(), damage)
+
+    def test_read_only_folder(self) -> None:
+        self.add("ada 1,2,3,4")
+        for file in (*self.folder.rglob("*"), self.state, *self.state.rglob("*")):
+            file.chmod(0o755 if file.is_dir() else 0o444)
+        self.close_folder()
+        ended = self.without_rights("status")
+        self.assertEqual(ended.status, 0, ended)
+        self.assertIn("Lines: 1", ended.output)
+        for words in (("log", "--check"), ("count",)):
+            ended = self.without_rights(*words)
+            self.assertEqual(ended.status, 0, ended)
+        for words in (("close",), ("publish",), ("count", *MOVED)):
+            self.assert_fault(self.without_rights(*words), 7, "is not writable")
+        self.write_outside = self.scratch / "more"
+        self.write_outside.write_text("ben 1,2,3,4\n")
+        self.assert_fault(self.without_rights("add", "--yes", self.write_outside), 7, "is not writable")
+
+    def test_no_locks(self) -> None:
+        compiler = shutil.which("cc")
+        if compiler is None:
+            self.skipTest("no C compiler is installed")
+        source, library = self.scratch / "locks.c", self.scratch / "locks.so"
+        source.write_text(NO_LOCKS)
+        subprocess.run([compiler, "-shared", "-fPIC", "-o", library, source, "-ldl"], check=True)
+        self.write("more", "ada 1,2,3,4\n")
+        # as if the folder was moved to another disk
+        self.state = self.scratch / "other state"
+        before = self.contents()
+        env = elections.environment() | {"LD_PRELOAD": str(library), "XDG_STATE_HOME": str(self.state)}
+        for words in (("add", "--yes", *MOVED, "more"), ("new", "another")):
+            ended = subprocess.run(
+                [sys.executable, elections.ELECTION, *words], cwd=self.folder, env=env, capture_output=True, text=True
+            )
+            self.assertEqual(ended.returncode, 9, ended)
+            self.assertIn("locks do not work", ended.stderr)
+            self.assertEqual(self.contents(), before)

@@ -1,0 +1,399 @@
+"""Random sequences of acts against a small model: killed between any two system calls, on a full disk, by eight desks at once.
+
+The model is a list of lines, and of letters that wait. After each command what `export` writes has to be the model's, and the numbers of
+`status` those that debvote gives for the exported files. A command that was killed has done all of its act or nothing, and all that it
+told.
+"""
+
+import collections
+import concurrent.futures
+import copy
+import dataclasses
+import json
+import os
+import pathlib
+import random
+import re
+import shutil
+import signal
+import subprocess
+import sys
+import time
+
+from tests.support import elections
+
+# how many sequences are tried, of how many commands each
+SEQUENCES = int(os.environ.get("DEBVOTE_SEQUENCES", "12"))
+LENGTH = 14
+
+# the system calls that change something, before any of which a run is killed; and those that fail on a full disk
+CHANGES = "pwrite64,write,fsync,fdatasync,unlink,rename,ftruncate,fchmod"
+WRITES = "pwrite64,ftruncate"
+
+# how many such calls a command makes at most
+MAX_CALLS = 80
+
+RANKS = ["1,2,3,4", "2,1,3,4", "-,-,1,2", "1,1,1,1", "4,3,2,1"]
+REPLY = re.compile(r"(?m)^(\d+) (counted|replaced|late|bad .*?|not .*?)  ")
+
+
+@dataclasses.dataclass
+class Line:
+    """An envelope of the model."""
+
+    text: str
+    is_late: bool
+    is_struck: bool = False
+    # the number of the letter that it is of
+    letter: int | None = None
+
+
+@dataclasses.dataclass
+class Letter:
+    """A letter of the model. None goes in by itself; one with `ranks` has one ballot."""
+
+    elector: str
+    ranks: str
+    is_taken_back: bool = False
+    waits: bool = True
+
+
+@dataclasses.dataclass
+class Model:
+    """What is in the book: the envelopes in their order, how often each line came in files, and the acts that entered."""
+
+    lines: list[Line] = dataclasses.field(default_factory=list)
+    letters: list[Letter] = dataclasses.field(default_factory=list)
+    came: collections.Counter = dataclasses.field(default_factory=collections.Counter)
+    entered: list[tuple[list[int], list[str]]] = dataclasses.field(default_factory=list)
+    # the late lines that a reopen entered anew, by the numbers of their new envelopes
+    anew: dict[int, int] = dataclasses.field(default_factory=dict)
+    is_closed: bool = False
+    is_reopened: bool = False
+
+    def enter(self, texts: list[str], *, is_late: bool, from_file: bool, letters: list[int | None] | None = None) -> None:
+        """One act that enters these lines, perhaps of letters."""
+        numbers = range(len(self.lines) + 1, len(self.lines) + len(texts) + 1)
+        self.lines += [Line(text, is_late, letter=letter) for text, letter in zip(texts, letters or [None] * len(texts))]
+        self.came.update(texts if from_file else [])
+        self.entered.append((list(numbers), texts if from_file else []))
+
+    def new_of(self, texts: list[str]) -> list[str]:
+        """Which lines of a file did not come before."""
+        seen: collections.Counter = collections.Counter()
+        new = []
+        for text in texts:
+            seen[text] += 1
+            if seen[text] > self.came[text]:
+                new.append(text)
+        return new
+
+    def undo(self) -> None:
+        numbers, texts = self.entered.pop()
+        self.came -= collections.Counter(texts)
+        for number in numbers:
+            line = self.lines[number - 1]
+            if line.letter is not None and not line.is_struck:
+                letter = self.letters[line.letter - 1]
+                letter.is_taken_back = letter.waits = True
+            line.is_struck = True
+            self.anew.pop(number, None)
+
+    def enter_letters(self, ballots: dict[int, str]) -> None:
+        """One act that enters these ballots of letters, in their order. All arrived before any close."""
+        for number in ballots:
+            letter = self.letters[number - 1]
+            letter.is_taken_back = letter.waits = False
+        self.enter([*ballots.values()], is_late=self.is_closed, from_file=False, letters=[*ballots])
+
+    @property
+    def waiting(self) -> list[int]:
+        """The letters that wait."""
+        return [number for number, letter in enumerate(self.letters, start=1) if letter.waits]
+
+    def exported(self) -> tuple[str, str]:
+        """The files of the lines in time and of the late ones."""
+        kept = [line for line in self.lines if not line.is_struck]
+        return tuple("".join(f"{line.text}\n" for line in kept if line.is_late == is_late) for is_late in (False, True))
+
+
+@dataclasses.dataclass
+class Step:
+    """A command, what it is given, and the models that are possible after it was killed; the last is that of a run to its end."""
+
+    words: list[str]
+    given: str | None
+    models: list[Model]
+
+
+class SequencesTest(elections.ElectionTest):
+    def setUp(self) -> None:
+        super().setUp()
+        self.set_clock("2026-11-25T09:00:00+00:00")
+        if shutil.which("strace") is None:
+            self.skipTest("strace is not installed")
+
+    def made(self) -> pathlib.Path:
+        """The call is older than the letters."""
+        self.set_clock("2026-11-20T09:00:00+00:00")
+        return super().made()
+
+    # ------------------------------------------------------------ the steps
+    def step(self, model: Model, chance: random.Random) -> Step:
+        """A command that can be given now, with what it does."""
+        steps = [self.adding] * 4 + [self.desk] * 3 + [self.mailing, self.typing, self.entering] * 2
+        steps += [self.undoing, self.striking, self.closing, self.reopening, self.bringing_back]
+        while True:
+            after = copy.deepcopy(model)
+            step = chance.choice(steps)(after, chance)
+            if step is not None:
+                step.models = [model, *step.models]
+                return step
+
+    def texts(self, chance: random.Random, most: int) -> list[str]:
+        names = [*elections.NAMES, "nobody"]
+        made = [f"{chance.choice(names)} {chance.choice(RANKS)}" for _ in range(chance.randint(1, most))]
+        return [text if chance.random() < 0.9 else text[: -chance.randint(1, 3)] for text in made]
+
+    def came_words(self, model: Model, chance: random.Random) -> tuple[list[str], bool]:
+        """After a close that was taken back it has to be said whether lines had come in time."""
+        if model.is_reopened and not model.is_closed:
+            answer = chance.choice(["yes", "no"])
+            return ["--came-before-close", answer], answer == "no"
+        return [], model.is_closed
+
+    def adding(self, model: Model, chance: random.Random) -> Step:
+        words, is_late = self.came_words(model, chance)
+        texts = self.texts(chance, 8)
+        self.write("file", "".join(f"{text}\n" for text in texts))
+        new = model.new_of(texts)
+        if new:
+            model.enter(new, is_late=is_late, from_file=True)
+        return Step(["add", "--yes", "--force", *words, "file"], None, [model])
+
+    def desk(self, model: Model, chance: random.Random) -> Step:
+        words, is_late = self.came_words(model, chance)
+        texts = self.texts(chance, 3)
+        # lines that come together are one act
+        model.enter(texts, is_late=is_late, from_file=False)
+        return Step(["desk", *words], "".join(f"{text}\n" for text in texts), [model])
+
+    def mailing(self, model: Model, chance: random.Random) -> Step:
+        """Letters that wait: a colon is above the ballot, or there is none. Each has a second of its own."""
+        box = ""
+        for number in range(len(model.letters) + 1, len(model.letters) + chance.randint(1, 3) + 1):
+            letter = Letter(chance.choice(elections.NAMES), chance.choice([*RANKS, ""]))
+            text = f"My ballot:\n\n{letter.elector} {letter.ranks}" if letter.ranks else "I am for the lake."
+            time = f"Mon, 23 Nov 2026 10:{number // 60:02}:{number % 60:02} +0000"
+            head = f"Received: from a by b; {time}\nFrom: {letter.elector}@club.example\nMessage-ID: <{number}@mail.example>\n"
+            box += f"From x@club.example Mon Nov 23 10:00:00 2026\n{head}\n{text}\n\n"
+            model.letters.append(letter)
+        self.write("box", box)
+        return Step(["add", "--yes", "box"], None, [model])
+
+    def entering(self, model: Model, chance: random.Random) -> Step | None:
+        """The one ballot of each of some letters."""
+        numbers = [number for number in model.waiting if model.letters[number - 1].ranks]
+        chosen = chance.sample(numbers, chance.randint(0, len(numbers)))
+        if not chosen:
+            return None
+        model.enter_letters({number: self.ballot(model, number) for number in sorted(chosen)})
+        return Step(["held", *map(str, chosen), "--enter", "--force"], None, [model])
+
+    def bringing_back(self, model: Model, chance: random.Random) -> Step | None:
+        """All letters that were taken back, but for those in which a ballot was read that is not there."""
+        numbers = [number for number in model.waiting if model.letters[number - 1].ranks and model.letters[number - 1].is_taken_back]
+        if not numbers:
+            return None
+        model.enter_letters({number: self.ballot(model, number) for number in numbers})
+        return Step(["held", "--enter", "--force"], None, [model])
+
+    def typing(self, model: Model, chance: random.Random) -> Step | None:
+        """What the secretary reads in a letter."""
+        if not model.waiting:
+            return None
+        number = chance.choice(model.waiting)
+        ballot = f"{model.letters[number - 1].elector} {chance.choice(RANKS)}"
+        model.enter_letters({number: ballot})
+        return Step(["held", str(number), "--as", ballot, "--force"], None, [model])
+
+    def ballot(self, model: Model, number: int) -> str:
+        letter = model.letters[number - 1]
+        return f"{letter.elector} {letter.ranks}"
+
+    def undoing(self, model: Model, chance: random.Random) -> Step | None:
+        if model.is_closed or not model.entered:
+            return None
+        model.undo()
+        return Step(["undo", "--yes"], None, [model])
+
+    def striking(self, model: Model, chance: random.Random) -> Step | None:
+        left = [number for number, line in enumerate(model.lines, start=1) if not line.is_struck]
+        if model.is_closed or not left:
+            return None
+        number = chance.choice(left)
+        model.lines[number - 1].is_struck = True
+        return Step(["strike", str(number), "--because", "it was taken down wrongly"], None, [model])
+
+    def closing(self, model: Model, chance: random.Random) -> Step | None:
+        if model.is_closed:
+            return None
+        model.is_closed = True
+        return Step(["close", "--force", "--because", "nobody answers"], None, [model])
+
+    def reopening(self, model: Model, chance: random.Random) -> Step | None:
+        if not model.is_closed:
+            return None
+        late = [number for number, line in enumerate(model.lines, start=1) if line.is_late and not line.is_struck]
+        late = [number for number in late if number not in model.anew.values()]
+        numbers = chance.sample(late, chance.randint(0, len(late)))
+        if numbers:
+            # they go in in the order of their times, however they are named: letters came before all acts
+            ordered = sorted(numbers, key=lambda number: (model.lines[number - 1].letter or len(model.letters) + 1, number))
+            model.anew |= {len(model.lines) + index: number for index, number in enumerate(ordered, start=1)}
+            lines = [model.lines[number - 1] for number in ordered]
+            model.enter([line.text for line in lines], is_late=False, from_file=False, letters=[line.letter for line in lines])
+        model.is_closed, model.is_reopened = False, True
+        words = ["--force", "--in-time", *map(str, numbers)] if numbers else []
+        return Step(["reopen", "--because", "a letter was forgotten", *words], None, [model])
+
+    # ------------------------------------------------------------ how they are run
+    def injected(self, step: Step, inject: str) -> elections.Ended:
+        """Runs a command under strace, which does something to one of its system calls."""
+        words = ["strace", "-o", "/dev/null", "-e", f"inject={inject}", sys.executable, elections.ELECTION, *step.words]
+        env = elections.environment() | self.clock | {"XDG_STATE_HOME": str(self.state)}
+        given = (step.given or "").encode()
+        ended = subprocess.run(words, cwd=self.folder, env=env, input=given, capture_output=True, timeout=elections.SECONDS)
+        return elections.Ended(ended.stdout.decode(), ended.stderr.decode(), ended.returncode)
+
+    def run_step(self, step: Step, chance: random.Random) -> tuple[Model, bool]:
+        """Runs a command, perhaps not to its end, and returns the model that holds, and whether it was cut off."""
+        kind = chance.random()
+        if kind < 0.4:
+            ended = self.election(*step.words, given=step.given)
+            self.assertIn(ended.status, (0, 9), ended)
+            self.assertEqual(self.exported(), step.models[-1].exported(), (step, ended))
+            self.assertEqual(self.numbers()["waiting"], len(step.models[-1].waiting), (step, ended))
+            return step.models[-1], False
+        when = chance.randint(1, MAX_CALLS)
+        if kind < 0.8:
+            ended = self.injected(step, f"{CHANGES}:signal=KILL:when={when}")
+            is_cut_off = ended.status in (-signal.SIGKILL, 128 + signal.SIGKILL)
+        else:
+            ended = self.injected(step, f"{WRITES}:error=ENOSPC:when={chance.randint(1, 20)}+")
+            is_cut_off = ended.status == 7
+            self.assertIn(ended.status, (0, 7, 9), ended)
+        held = self.held(step, ended)
+        if not is_cut_off:
+            self.assertIs(held, step.models[-1], (step, ended))
+        return held, is_cut_off
+
+    def held(self, step: Step, ended: elections.Ended) -> Model:
+        """The model that the book is in after a command that may have been cut off; what it told is in it."""
+        exported, numbers = self.exported(), self.numbers()
+        told = {int(number) for number, _ in REPLY.findall(ended.output)}
+        fitting = [model for model in step.models if (model.exported(), len(model.waiting)) == (exported, numbers["waiting"])]
+        self.assertTrue(fitting, (step, ended, exported, numbers))
+        # of models with the same lines the last one: a close that was killed is asked of the book below
+        held = next((model for model in reversed(fitting) if model.is_closed == (numbers["stage"] in ("closed", "published"))), None)
+        self.assertIsNotNone(held, (step, ended))
+        if told:
+            self.assertLessEqual(max(told), len(held.lines), (step, ended))
+        return held
+
+    def numbers(self) -> dict[str, object]:
+        return json.loads(self.done("status", "--json").output)
+
+    def exported(self) -> tuple[str, str]:
+        out = self.scratch / "out"
+        shutil.rmtree(out, ignore_errors=True)
+        ended = self.done("export", out)
+        # a kill leaves what this computer noted behind the book, and never ahead of it
+        self.assertEqual(ended.faults, "", ended)
+        return (out / "ballots.txt").read_text(), (out / "late.txt").read_text()
+
+    def check_numbers(self) -> None:
+        """The numbers of `status` are those that debvote gives for the exported files, and the chain is whole."""
+        status = self.numbers()
+        out = self.scratch / "out"
+        files = ["--poll", out / "poll.toml", "--ballots", out / "ballots.txt"]
+        standing = self.debvote("standing", *files).output.splitlines()
+        replies = [line.split(" ", 1)[1] for line in self.debvote("steps", *files).output.splitlines()]
+        valid = sum(reply in ("counted", "replaced") for reply in replies)
+        late = len((out / "late.txt").read_text().splitlines())
+        found = (status["lines"], status["valid"], status["refused"], status["late"], status["voters"])
+        self.assertEqual(found, (len(replies), valid, len(replies) - valid, late, len(standing)))
+        self.assertEqual(
+            status["without_ballot"], [name for name in elections.NAMES if name not in {line.split()[0] for line in standing}]
+        )
+        self.done("log", "--check")
+
+
+def sequence(seed: int):
+    def test(self: SequencesTest) -> None:
+        chance, model, cut_off = random.Random(seed), Model(), 0
+        for _ in range(LENGTH):
+            model, is_cut_off = self.run_step(self.step(model, chance), chance)
+            cut_off += is_cut_off
+        self.exported()
+        self.check_numbers()
+        print(f"sequence {seed}: {cut_off} of {LENGTH} commands were cut off")
+
+    return test
+
+
+# a class for each few sequences, so that they run side by side
+for first in range(1, SEQUENCES + 1, 3):
+    tests = {f"test_{seed}": sequence(seed) for seed in range(first, min(first + 3, SEQUENCES + 1))}
+    globals()[f"Sequences{first}"] = type(f"Sequences{first}", (SequencesTest,), tests)
+del first, tests
+
+
+class EightDesks(elections.ElectionTest):
+    """Eight desks at once, two of which are killed while they cast."""
+
+    LINES = 10
+
+    def at_desk(self, chance: random.Random, told: dict[int, str], killed_after: int | None) -> int:
+        """Types one line after the other at a desk, each after the reply to the one before, and returns how many."""
+        env = elections.environment() | {"XDG_STATE_HOME": str(self.state)}
+        pipes = {"stdin": subprocess.PIPE, "stdout": subprocess.PIPE, "stderr": subprocess.STDOUT}
+        desk = subprocess.Popen([sys.executable, elections.ELECTION, "desk"], cwd=self.folder, env=env, **pipes)
+        for typed in range(self.LINES):
+            line = f"{chance.choice(elections.NAMES)} {chance.choice(RANKS)}"
+            desk.stdin.write(f"{line}\n".encode())
+            desk.stdin.flush()
+            if typed == killed_after:
+                time.sleep(chance.random() / 20)
+                desk.kill()
+                desk.communicate()
+                return typed
+            said = []
+            while (reply := REPLY.match(line_said := desk.stdout.readline().decode())) is None:
+                if not line_said:
+                    raise AssertionError(f"the desk has ended: {said}")
+                said.append(line_said)
+            if int(reply[1]) in told:
+                raise AssertionError(f"envelope {reply[1]} was told twice")
+            told[int(reply[1])] = line
+        desk.stdin.close()
+        desk.stdout.read()
+        desk.stdout.close()
+        return self.LINES if desk.wait() == 0 else 0
+
+    def test_each_line_once_and_none_lost(self) -> None:
+        told: dict[int, str] = {}
+        with concurrent.futures.ThreadPoolExecutor(8) as desks:
+            killed = [4, 6, *[None] * 6]
+            typed = list(desks.map(self.at_desk, map(random.Random, range(8)), [told] * 8, killed))
+        self.assertEqual(typed, [4, 6, *[self.LINES] * 6])
+        out = self.scratch / "out"
+        self.done("export", out)
+        entered = (out / "ballots.txt").read_text().splitlines()
+        self.assertEqual(len(told), sum(typed))
+        for number, line in told.items():
+            self.assertEqual(entered[number - 1], line)
+        # a desk that was killed has entered one line more at most
+        self.assertLessEqual(len(entered), len(told) + 2)
+        checked = self.done("log", "--check")
+        self.assertEqual(checked.faults, "", checked)

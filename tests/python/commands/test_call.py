@@ -1,0 +1,452 @@
+"""`call` and `codes`: what is sealed, what electors are told, and how a call is extended, added to and taken back."""
+
+import contextlib
+import email
+import json
+import re
+import subprocess
+
+from debvote_tools.book import queries
+from debvote_tools.book.book import Book, open_book
+from debvote_tools.book.election import LETTER_TEXT, History
+from debvote_tools.poll.sealed import read_plain
+from debvote_tools.poll.secret import alias_of
+
+from tests.support import elections
+
+UNTIL = ("--until", "2026-12-04 18:00", "--zone", "Europe/Berlin")
+FIRST = "Friday, 4 December 2026, 18:00 (UTC+01:00)"
+SECOND = "Sunday, 6 December 2026, 18:00 (UTC+01:00)"
+
+
+class CallTest(elections.ElectionTest):
+    call_words = None
+
+    def setUp(self) -> None:
+        super().setUp()
+        self.set_clock("2026-11-27T09:00:00+00:00")
+
+    def texts(self) -> str:
+        """All that electors read of the call."""
+        return "".join(self.read(f"call/{name}").decode() for name in ("index.html", "call.txt"))
+
+
+class Open(CallTest):
+    def test_folder_and_seal(self) -> None:
+        ended = self.done("call", *UNTIL, "--to", "vote@club.example", "--at", "https://club.example/vote/")
+        self.assertEqual(sorted(file.name for file in (self.folder / "call").iterdir()), ["SHA256SUMS", "call.txt", "index.html", "poll.toml"])
+        poll = read_plain(self.read("call/poll.toml"))
+        self.assertEqual((poll.deadline, poll.address, list(poll.roll)), ("2026-12-04T18:00:00+01:00", "vote@club.example", elections.NAMES))
+        answered = subprocess.run(["sha256sum", "poll.toml"], cwd=self.folder / "call", capture_output=True, text=True).stdout
+        for text in (ended.output, self.texts()):
+            self.assertIn(answered.split()[0], text)
+            self.assertIn(f"[{poll.mark}]", text)
+        self.assertIn(FIRST, self.texts())
+        subprocess.run(["sha256sum", "--quiet", "-c", "SHA256SUMS"], cwd=self.folder / "call", check=True)
+        self.assertEqual({file.stat().st_mode & 0o777 for file in (self.folder / "call").iterdir()}, {0o644})
+
+    def test_real_names_are_told_only_with_names(self) -> None:
+        people = {name: f"Person{number} of {name.title()}" for number, name in enumerate(elections.NAMES)}
+        self.write("members.csv", "name,who,mail\n" + "".join(f"{name},{who},{name}@club.example\n" for name, who in people.items()))
+        self.done("roll")
+        self.done("call", *UNTIL)
+        told = b"".join(file.read_bytes() for file in (self.folder / "call").iterdir()).decode()
+        self.assertEqual([who for who in people.values() if who in told], [])
+        self.done("call", "--take-back")
+        self.done("call", *UNTIL, "--names")
+        self.assertEqual([who for who in people.values() if who in self.read("call/index.html").decode()], list(people.values()))
+
+    def test_made_again_is_the_same_and_no_act(self) -> None:
+        self.done("call", *UNTIL, "--to", "vote@club.example")
+        before, log = self.contents(), self.done("log").output
+        self.write("poll.toml", "title = 5\n")
+        self.write("members.csv", "nothing\n")
+        for file in (self.folder / "call").iterdir():
+            file.unlink()
+        (self.folder / "call" / "poll.toml").write_text("another")
+        self.done("call")
+        after = self.contents()
+        self.assertEqual({name: after[name] for name in after if name.startswith("call/")}, {name: before[name] for name in before if name.startswith("call/")})
+        self.assertEqual(self.done("log").output, log)
+
+    def test_the_list_has_to_be_the_one_that_was_read(self) -> None:
+        rows = elections.members_of(elections.NAMES)
+        keys = rows.replace("\n", ",\n").replace("mail,", "mail,key").replace("ben@club.example,", f"ben@club.example,{'A' * 40}")
+        for changed in (rows + "Jan,jan@club.example\n", rows.replace("ben@club", "ben@new"), keys):
+            self.write("members.csv", changed)
+            self.assert_fault(self.election("call"), 9, "members.csv: it has changed since roll read it", "debvote-election roll")
+
+    def test_no_line_reads_as_a_ballot(self) -> None:
+        self.done("call", *UNTIL, "--to", "vote@club.example")
+        lines = self.read("call/call.txt")
+        (self.folder / "all").write_bytes(b"".join(line.strip().lower() + b"\n" for line in lines.split(b"\n")))
+        ended = self.debvote("steps", "--poll", "call/poll.toml", "--ballots", "all")
+        self.assertNotRegex(ended.output, "(counted|replaced)")
+
+    def test_bad_words(self) -> None:
+        before = self.contents()
+        for words, part in {
+            ("--until", "2026-11-01 18:00"): "is past",
+            ("--until", "tomorrow"): "--until",
+            ("--to", "nobody"): "--to",
+            ("--at", "file:///etc"): "--at",
+            (*UNTIL[:2], "--zone", "Nowhere/Here"): "--zone",
+        }.items():
+            with self.subTest(words):
+                self.assert_fault(self.election("call", *words), 2, part, "nothing was changed")
+        self.assertEqual(self.contents(), before)
+
+    def test_all_faults_at_once(self) -> None:
+        self.write("poll.toml", elections.POLL.replace("quorum = 1", "quorum = 99"))
+        self.write("letter.txt", b"\xff")
+        self.write("members.csv", elections.members_of(elections.NAMES[1:]))
+        ended = self.election("call", "--until", "2026-11-01 18:00", "--to", "nobody", "--at", "file:///etc")
+        self.assertEqual(ended.status, 2)
+        parts = ["is past", "--to: it must be one mail address", "--at: it must be", "since roll read it", "letter.txt:1: ", "quorum: "]
+        self.assertEqual([part in line for part, line in zip(parts, ended.faults.splitlines(), strict=True)], [True] * 6, ended.faults)
+
+    def test_an_end_that_the_call_did_not_say(self) -> None:
+        """Electors who could send a ballot until the close have no more time by it."""
+        self.done("call", "--to", "vote@club.example")
+        self.done("call", *UNTIL)
+        text = " ".join(self.read("letters/extension.txt").decode().split())
+        self.assertIn("You can now vote until the time below. Nothing else that the call says has changed.", text)
+        self.assertIn(f"Vote until: {FIRST} The call did not", text)
+        self.assertNotIn("more time", text)
+
+
+class Again(CallTest):
+    def setUp(self) -> None:
+        super().setUp()
+        self.done("call", *UNTIL, "--to", "vote@club.example")
+        self.poll = self.read("call/poll.toml")
+
+    def test_extended_twice(self) -> None:
+        ended = self.done("call", "--until", "2026-12-05 18:00", "--zone", "Europe/Berlin")
+        self.set_clock("2026-12-05T20:00:00+01:00")
+        # in the zone of the end before
+        self.done("call", "--until", "2026-12-06 18:00")
+        self.assertEqual(self.read("call/poll.toml"), self.poll)
+        for text in (self.texts(), self.read("letters/extension.txt").decode(), self.done("status").output):
+            self.assertIn(SECOND, " ".join(text.split()).replace("&nbsp;", " "))
+        self.assertIn("letters/extension.txt", ended.output)
+        self.assert_fault(self.election("call", "--until", "2026-12-06 17:00"), 2, "is not later")
+        self.set_clock("2026-12-06T17:00:00+01:00")
+        self.assert_fault(self.election("close"), 9, SECOND)
+
+    def test_what_is_added_and_what_not(self) -> None:
+        self.done("call", "--at", "https://club.example/vote/")
+        self.assertIn("https://club.example/vote/", self.texts())
+        self.done("call", "--at", "https://club.example/moved/")
+        self.assertIn("https://club.example/moved/", self.texts())
+        self.assertNotIn("https://club.example/vote/", self.texts())
+        for words in (("--to", "other@club.example"), ("--names",), ("--form",), ("--keyring", "poll.toml")):
+            with self.subTest(words):
+                self.assert_fault(self.election("call", *words), 9, words[0], "--take-back")
+
+    def test_after_the_close(self) -> None:
+        self.done("close", "--early")
+        self.assert_fault(self.election("call", "--until", "2027-01-01 12:00"), 9, "closed")
+        self.done("call")
+
+    def test_taken_back(self) -> None:
+        self.done("call", "--until", "2026-12-05 18:00", "--zone", "Europe/Berlin")
+        # letters that nobody has sent have the void mark
+        self.done("letters", "call")
+        self.done("call", "--take-back")
+        self.assertEqual([file.name for name in ("call", "letters") for file in (self.folder / name).iterdir()], [".lock"])
+        self.assertEqual(json.loads(self.done("status", "--json").output)["stage"], "new")
+        self.assert_fault(self.election("letters", "call"), 9, "there is no call for votes yet")
+        self.write("poll.toml", elections.POLL.replace("spring", "autumn"))
+        self.done("call", "--to", "other@club.example")
+        self.assertIn(b"autumn", self.read("call/poll.toml"))
+        self.assert_fault(self.election("call", *UNTIL[:1], "2026-11-01 10:00"), 2, "is past")
+
+    def test_not_taken_back_once_something_came(self) -> None:
+        self.write("lines", "ada 1,2,3,4\n")
+        self.done("add", "--yes", "lines")
+        self.done("undo", "--yes")
+        self.assert_fault(self.election("call", "--take-back"), 9, "have come")
+
+    def test_not_taken_back_once_a_letter_waits(self) -> None:
+        """Also if it was set aside since."""
+        self.write("letter.eml", "From: stranger@example.org\nDate: Fri, 27 Nov 2026 09:30:00 +0000\n\nada 1,2,3,4\n")
+        self.set_clock("2026-11-27T10:00:00+00:00")
+        self.done("add", "--yes", "letter.eml")
+        self.assert_fault(self.election("call", "--take-back"), 9, "have come")
+        self.done("held", "1", "--set-aside")
+        self.assert_fault(self.election("call", "--take-back"), 9, "have come")
+
+
+class Letters(CallTest):
+    """What letters to electors are told by the call: a name to come from, own marks, and a text of the secretary."""
+
+    def electors(self) -> dict[str, queries.Elector]:
+        with contextlib.closing(open_book(self.folder / "election.db").connection) as connection:
+            return {elector.name: elector for elector in queries.electors(Book(self.folder / "election.db", connection))}
+
+    def marks(self) -> dict[str, str]:
+        return {name: elector.mark for name, elector in self.electors().items()}
+
+    def announced(self, key: str) -> object:
+        with contextlib.closing(open_book(self.folder / "election.db").connection) as connection:
+            return History(Book(self.folder / "election.db", connection).acts()).announced(key)
+
+    def letter_texts(self) -> list[bytes]:
+        with contextlib.closing(open_book(self.folder / "election.db").connection) as connection:
+            return [data for data, in connection.execute("SELECT data FROM sealed WHERE name = ? ORDER BY act", (LETTER_TEXT,))]
+
+    def test_a_name_of_the_address_is_kept_and_not_sealed(self) -> None:
+        self.done("call", *UNTIL, "--to", "Wahlleitung TSV <vote@club.example>")
+        self.assertEqual((self.announced("to"), self.announced("to_name")), ("vote@club.example", "Wahlleitung TSV"))
+        self.assertEqual(read_plain(self.read("call/poll.toml")).address, "vote@club.example")
+        self.assertNotIn("Wahlleitung", self.texts())
+        self.assertIn("mailto:vote@club.example", self.read("call/index.html").decode())
+        # the name alone may change, and may be taken away
+        self.done("call", "--to", '"Vereinsb\u00fcro, TSV" <vote@club.example>')
+        self.assertEqual(self.announced("to_name"), "Vereinsb\u00fcro, TSV")
+        self.done("call", "--to", "vote@club.example")
+        self.assertEqual(self.announced("to_name"), "")
+        self.assert_fault(self.election("call", "--to", "TSV <other@club.example>"), 9, "--to: the call has sealed the address")
+
+    def test_a_name_in_a_wrong_form(self) -> None:
+        for text in ("TSV <vote>", "TSV <vote@club.example", "TSV vote@club.example", "<>"):
+            self.assert_fault(self.election("call", "--to", text), 2, "--to: it must be one mail address", "nothing was changed")
+        for name in ("a\nb", "a\u2028b", "x" * 101, 'a "b" c', "a <b@c.de>", "a\u202eb"):
+            self.assert_fault(self.election("call", "--to", f"{name} <vote@club.example>"), 2, "--to: the name has", "nothing was changed")
+        self.assertIsNone(self.announced("to"))
+
+    def test_own_marks_stay_until_the_call_is_taken_back(self) -> None:
+        self.done("call", *UNTIL)
+        first = self.marks()
+        self.assertTrue(all(re.fullmatch("[2-9a-hj-km-np-z]{10}", mark) for mark in first.values()), first)
+        self.assertEqual(len(set(first.values())), 9)
+        self.done("call", "--until", "2026-12-05 18:00", "--zone", "Europe/Berlin")
+        self.assertEqual(self.marks(), first)
+        self.done("call", "--take-back")
+        self.assertEqual(set(self.marks().values()), {""})
+        self.done("call", *UNTIL)
+        self.assertFalse({*self.marks().values()} & {*first.values()})
+
+    def test_a_new_address_makes_a_new_own_mark(self) -> None:
+        self.done("call", *UNTIL)
+        before = self.electors()
+        rows = elections.members_of(elections.NAMES).replace("\n", ",\n").replace("mail,", "mail,key", 1)
+        self.write("members.csv", rows.replace("ada@club", "ada@new").replace("ben@club.example,", f"ben@club.example,{'A' * 40}"))
+        self.done("roll", "--yes")
+        after = self.electors()
+        self.assertEqual([name for name in before if before[name].mark != after[name].mark], ["ada"])
+        self.assertRegex(after["ada"].mark, "^[2-9a-z]{10}$")
+
+    def test_with_marks_alone(self) -> None:
+        ended = self.done("call", *UNTIL, "--to", "vote@club.example", "--at", "https://club.example/vote/", "--marked")
+        self.assertIn("A letter goes in by itself only with the own mark of its elector.\n", ended.output)
+        self.assertIs(self.announced("marked"), True)
+        said = "Open the link in your letter, or answer that letter: then the subject has your own mark"
+        self.assertIn(said, " ".join(self.read("call/index.html").decode().split()))
+        self.done("call", "--marked", "--until", "2026-12-05 18:00")
+        self.assertIs(self.announced("marked"), True)
+        self.done("call", "--take-back")
+        self.done("call", *UNTIL, "--to", "vote@club.example")
+        self.assertNotIn("your own mark", " ".join(self.texts().split()))
+        self.assert_fault(self.election("call", "--marked"), 9, "--marked: the call was made without it", "--take-back")
+
+    def test_the_text_is_sealed_by_each_call(self) -> None:
+        self.write("letter.txt", "\ufeffDear members,\r\npaper ballots go to the office.\r\n\r\n")
+        text = "Dear members,\npaper ballots go to the office.\n"
+        for output in (self.done("check").output, self.done("call", *UNTIL).output):
+            self.assertIn("Letters to electors begin with letter.txt:\n  Dear members,\n  paper ballots go to the office.\n", output)
+        acts = len(self.done("log").output.splitlines())
+        self.done("call")
+        self.assertEqual((self.letter_texts(), len(self.done("log").output.splitlines())), ([text.encode()], acts))
+        self.write("letter.txt", "Hello,\n")
+        self.done("call", "--until", "2026-12-05 18:00")
+        self.write("letter.txt", "Hello again,\n")
+        # the text alone is an act, too
+        self.done("call")
+        (self.folder / "letter.txt").unlink()
+        self.done("call", "--until", "2026-12-06 18:00")
+        self.assertEqual(self.letter_texts(), [text.encode(), b"Hello,\n", b"Hello again,\n", b""])
+        self.done("close", "--early")
+        self.write("letter.txt", "Too late\n")
+        self.done("call")
+        self.assertEqual(len(self.letter_texts()), 4)
+
+    def test_a_text_that_is_none(self) -> None:
+        for data, part in {
+            "Gr\u00fc\u00dfe".encode("latin-1"): "letter.txt:1: it is not in UTF-8; save it as plain text in UTF-8",
+            b"x" * 4_097: "letter.txt: it is longer than 4096 bytes; shorten it",
+            b"a\nb\x1b[31m": "letter.txt:2: it has the character U+001B",
+            "a\u202eb".encode(): "letter.txt:1: it has the character U+202E",
+            b" \n": "letter.txt: it is empty; write it, or remove the file",
+        }.items():
+            self.write("letter.txt", data)
+            for command in ("check", "call"):
+                self.assert_fault(self.election(command), 2, part, "then run debvote-election check")
+        self.write("letter.txt", b"x" * 4_096)
+        self.done("call", *UNTIL)
+        self.write("letter.txt", b"\xff")
+        self.assert_fault(self.election("call", "--until", "2026-12-05 18:00"), 2, "letter.txt:1: it is not in UTF-8")
+        self.write("poll.toml", "title = 5\n")
+        self.done("call", "--take-back")
+        ended = self.election("check")
+        self.assertIn("letter.txt:1: it is not in UTF-8", ended.faults)
+        self.assertIn("poll.toml: ", ended.faults)
+
+
+class Secret(CallTest):
+    poll = elections.POLL + "secret = true\n"
+
+    def test_codes_come_before_the_call(self) -> None:
+        self.assert_fault(self.election("call"), 9, "electors have no codes", "debvote-election codes")
+        self.done("codes")
+        self.done("call", *UNTIL, "--to", "vote@club.example")
+
+    def test_each_elector_has_a_code_of_their_own(self) -> None:
+        self.done("codes")
+        self.done("call", *UNTIL, "--to", "vote@club.example")
+        table = [line.split(",") for line in self.read("private/codes.csv").decode().splitlines()[1:]]
+        self.assertEqual([(row[0], row[2]) for row in table], [(name, f"{name}@club.example") for name in elections.NAMES])
+        self.assertEqual(len({row[3] for row in table}), 9)
+        self.assertEqual([row[4] for row in table], [alias_of(row[3], row[0]) for row in table])
+        poll = read_plain(self.read("call/poll.toml"))
+        self.assertEqual(list(poll.roll), sorted(row[4] for row in table))
+        slips = re.split('class="slip', self.read("private/slips.html").decode())[1:]
+        slips = [re.sub(r"<[^>]*>|\s", "", slip) for slip in slips]
+        for row in table:
+            having = [slip for slip in slips if row[3] in slip]
+            self.assertEqual(len(having), 1)
+            self.assertIn(row[0], having[0])
+        public = b"".join(file.read_bytes() for file in (self.folder / "call").iterdir()).decode()
+        for row in table:
+            self.assertNotIn(row[3], public)
+            self.assertNotRegex(public, rf"\b{row[0]}\b")
+
+    def test_modes(self) -> None:
+        self.done("codes")
+        private = self.folder / "private"
+        private.chmod(0o755)
+        (private / "codes.csv").chmod(0o644)
+        self.done("codes")
+        self.assertEqual(private.stat().st_mode & 0o777, 0o700)
+        self.assertEqual({file.stat().st_mode & 0o777 for file in private.iterdir()}, {0o600})
+
+    def test_codes_stay_and_new_electors_get_theirs(self) -> None:
+        self.done("codes")
+        before = self.read("private/codes.csv").decode().splitlines()
+        self.write("members.csv", elections.members_of([*elections.NAMES, "jan"]))
+        self.assert_fault(self.election("codes"), 9, "roll")
+        self.done("roll")
+        self.assert_fault(self.election("call"), 9, "electors have no codes")
+        self.assertIn("Made 1 code.", self.done("codes").output)
+        after = self.read("private/codes.csv").decode().splitlines()
+        self.assertEqual(after[:-1], before)
+
+    def test_a_code_stays_with_its_person(self) -> None:
+        """Also if the name is written in another way; whoever gets the name on the roll after them gets another code."""
+
+        def codes() -> list[list[str]]:
+            self.done("roll")
+            self.done("codes")
+            return [row.split(",")[3:] for row in self.read("private/codes.csv").decode().splitlines()[1:]]
+
+        before = codes()
+        others = "".join(f",{name.title()},{name}@club.example\n" for name in elections.NAMES[1:])
+        self.write("members.csv", f"name,who,mail\nada,ADA,ada@club.example\n{others}")
+        self.assertEqual(codes(), before)
+        self.write("members.csv", f"name,who,mail\nada,Zed,zed@club.example\n{others}")
+        after = codes()
+        self.assertEqual(after[1:], before[1:])
+        self.assertEqual([old == new for old, new in zip(before[0], after[0])], [False, False])
+
+    def test_slips_tell_the_end_as_it_is(self) -> None:
+        self.done("codes")
+        self.done("call", *UNTIL, "--to", "vote@club.example")
+        self.done("call", "--until", "2026-12-06 18:00", "--zone", "Europe/Berlin")
+        self.assertIn(SECOND, self.read("private/slips.html").decode())
+        self.done("call", "--at", "https://club.example/vote/")
+        self.assertIn("https://club.example/vote/", self.read("private/slips.html").decode())
+
+    def test_no_code_is_in_the_text_of_the_letters(self) -> None:
+        self.done("codes")
+        code = self.read("private/codes.csv").decode().splitlines()[1].split(",")[3]
+        self.write("letter.txt", f"Your code is {code}\n")
+        self.assert_fault(self.election("call", *UNTIL), 9, "letter.txt would have the code of an elector in it")
+        self.write("letter.txt", "Hello\n")
+        self.done("call", *UNTIL, "--yes")
+        self.write("letter.txt", f"Your code is {code}\n")
+        self.assert_fault(self.election("call"), 9, "letter.txt would have the code of an elector in it")
+
+    def test_codes_on_the_roll(self) -> None:
+        self.done("codes", "--on-roll")
+        self.assert_fault(self.election("call", "--marked"), 2, "--marked: codes are on the roll", "leave it out")
+        for status in (self.done("status").output, self.done("status", "--json").output):
+            self.assertNotRegex(status.rpartition("digest")[0], r"[0-9a-f]{32}")
+        self.assertEqual([file.name for file in (self.folder / "private").iterdir()], ["slips.html"])
+        self.assert_fault(self.election("roll"), 9, "codes are on the roll")
+        self.assertIn("Made 0 codes.", self.done("codes").output)
+        ended = self.done("call", *UNTIL)
+        self.assertEqual(sorted(file.name for file in (self.folder / "call").iterdir()), ["SHA256SUMS", "call.txt", "index.html"])
+        codes = set(re.findall(r"\b[0-9a-f]{32}\b", self.done("export", self.scratch / "out").output + (self.scratch / "out" / "poll.toml").read_text()))
+        self.assertEqual(len(codes), 9)
+        for text in (ended.output, self.texts(), self.done("status").output, self.done("status", "--json").output, self.done("log").output):
+            self.assertFalse(codes & set(re.findall(r"[0-9a-f]{32}", text)))
+        self.assertIsNone(json.loads(self.done("status", "--json").output)["without_ballot"])
+
+    def published_codes(self) -> set[str]:
+        return set(re.findall(r"\b[0-9a-f]{32}\b", self.read("call/poll.toml").decode()))
+
+    def test_codes_lapse_with_the_call(self) -> None:
+        """Two published rolls tell nothing about an elector who was added in between."""
+        self.done("codes")
+        self.done("call", *UNTIL, "--to", "vote@club.example")
+        slip, aliases = self.read("private/slips.html").decode(), self.published_codes()
+        self.assertIn(f"<b>[{read_plain(self.read('call/poll.toml')).mark}]</b>", slip)
+        self.assertNotIn(" is void", slip + self.texts())
+        said = self.done("call", "--take-back").output
+        self.assertIn("All 9 codes are void", said)
+        self.assertIn("Next: put right what was wrong, then run debvote-election codes\n", said)
+        self.assertEqual([*(self.folder / "private").iterdir()], [])
+        self.write("members.csv", elections.members_of([*elections.NAMES, "jan"]))
+        self.done("roll")
+        self.assert_fault(self.election("call"), 9, "electors have no codes")
+        self.assertIn("Made 10 codes.", self.done("codes").output)
+        self.done("call", *UNTIL, "--to", "vote@club.example")
+        self.assertEqual(self.published_codes() & aliases, set())
+        self.done("letters", "call")
+        letters = [email.message_from_bytes(file.read_bytes()) for file in (self.folder / "letters" / "call").rglob("*.eml")]
+        texts = [letter.get_payload(decode=True).decode() for letter in letters]
+        for text in (*texts, self.read("call/index.html").decode()):
+            self.assertIn("each code that was given out with it is void", " ".join(text.split()))
+        self.assertEqual((len(texts), self.read("private/slips.html").decode().count("An earlier slip is void.")), (10, 10))
+
+    def test_codes_on_the_roll_lapse_with_the_call(self) -> None:
+        def codes() -> set[str]:
+            self.done("codes", "--on-roll")
+            self.done("call", *UNTIL)
+            return set(re.findall(r"\b[0-9a-f]{32} _", self.read("private/slips.html").decode()))
+
+        before = codes()
+        said = self.done("call", "--take-back").output
+        self.assertIn("then run debvote-election roll\n", said)
+        self.assertEqual([*(self.folder / "private").iterdir()], [])
+        self.assert_fault(self.election("codes", "--on-roll"), 9, "debvote-election roll")
+        self.write("members.csv", elections.members_of([*elections.NAMES, "jan"]))
+        self.done("roll")
+        after = codes()
+        self.assertEqual((len(before), len(after), before & after), (9, 10, set()))
+        self.assertIn("is void", self.texts())
+
+    def test_not_a_secret_vote(self) -> None:
+        self.write("poll.toml", elections.POLL)
+        self.assert_fault(self.election("codes"), 9, "the vote is not secret", "secret = true")
+        self.write("poll.toml", self.poll)
+        self.done("codes")
+        self.assert_fault(self.election("codes", "--on-roll"), 9, "--on-roll", "electors have names with codes already")
+        self.assert_fault(self.election("call", "--names"), 2, "--names", "secret")
+
+    def test_after_the_call_of_a_vote_that_is_not_secret(self) -> None:
+        self.write("poll.toml", elections.POLL)
+        self.done("call", *UNTIL)
+        self.assert_fault(self.election("codes"), 9, "the vote is not secret", "debvote-election status")
+        self.assertFalse((self.folder / "private").exists())

@@ -1,0 +1,352 @@
+"""`close`, `reopen`, `status`, `export`: when lines are late, what the close binds, and what is said of it all."""
+
+import contextlib
+import hashlib
+import io
+import json
+import os
+from collections.abc import Iterator
+from unittest import mock
+
+from debvote_tools.book.book import open_book
+from debvote_tools.cli import command_line
+from debvote_tools.commands import close
+from debvote_tools.result import folder as result_folder
+
+from tests.support import elections
+from tests.support.terminal import Terminal
+
+UNTIL = ("--until", "2026-12-04 18:00", "--zone", "Europe/Berlin")
+
+
+class CloseTest(elections.ElectionTest):
+    def add(self, *lines: str, words: tuple[str, ...] = ()) -> elections.Ended:
+        self.write("lines", "".join(f"{line}\n" for line in lines))
+        return self.done("add", "--yes", *words, "lines")
+
+    def numbers(self) -> dict[str, object]:
+        return json.loads(self.done("status", "--json").output)
+
+    def exported(self) -> tuple[bytes, bytes]:
+        out = self.scratch / f"out{len(list(self.scratch.iterdir()))}"
+        self.done("export", out)
+        return (out / "ballots.txt").read_bytes(), (out / "late.txt").read_bytes()
+
+
+class Close(CloseTest):
+    def test_lines_after_it_are_late(self) -> None:
+        self.add("ada 1,2,3,4", "ben 2,1,3,4", "zoe 1")
+        before = self.exported()[0]
+        self.done("close")
+        self.assertIn("late", self.add("ada 4,3,2,1").output)
+        self.assertEqual(self.exported(), (before, b"ada 4,3,2,1\n"))
+        self.assertEqual(
+            {key: value for key, value in self.numbers().items() if key not in ("act", "digest", "without_ballot")},
+            {"stage": "closed", "electors": 9, "lines": 3, "valid": 2, "refused": 1, "late": 1, "voters": 2, "waiting": 0}
+            | {"stopping": [], "not_reached": {}, "printed": []},
+        )
+
+    def test_letter(self) -> None:
+        self.add("ada 1,2,3,4")
+        checksum = hashlib.sha256(b"ada 1,2,3,4\n").hexdigest()
+        ended = self.done("close")
+        letter = self.read("letters/closed.txt").decode()
+        poll = hashlib.sha256(self.read("call/poll.toml")).hexdigest()
+        digest = self.numbers()["digest"]
+        self.assertLess(letter.index(poll), letter.index(checksum))
+        self.assertLess(letter.index(checksum), letter.index(digest))
+        self.assertIn(f"Checksum of the ballots: {checksum}", ended.output)
+        self.assertTrue(ended.output.endswith("\nNext: debvote-election letters closed, then debvote-election count\n"), ended)
+        self.assertIn("1 line came in time", letter)
+        (self.folder / "letters" / "closed.txt").write_text("another")
+        log = self.done("log").output
+        self.add("ben 1,2,3,4")
+        self.assertIn("Nothing was changed", self.done("close").output)
+        self.assertEqual(self.read("letters/closed.txt").decode(), letter)
+        self.assertEqual(self.done("log").output.splitlines()[:-2], log.splitlines())
+
+    def test_the_time_is_in_the_zone_of_the_end(self) -> None:
+        """Also if a later call announced the end."""
+        self.set_clock("2026-11-27T09:00:00+00:00")
+        self.done("call", *UNTIL)
+        self.set_clock("2026-12-04T17:30:00+00:00")
+        self.done("close")
+        self.assertIn("18:30 (UTC+01:00)", " ".join(self.read("letters/closed.txt").decode().split()))
+
+    def test_without_ballots(self) -> None:
+        self.assertIn("0 lines came in time", self.done("close").output)
+
+    def test_after_the_end_a_line_still_counts(self) -> None:
+        self.set_clock("2026-11-27T09:00:00+00:00")
+        self.done("call", *UNTIL)
+        said = "\nEnd of the vote: Friday, 4 December 2026, 18:00 (UTC+01:00)"
+        self.assertIn(f"{said}\n", self.done("status").output)
+        self.set_clock("2026-12-04T19:00:00+01:00")
+        self.assertIn(f"{said}; that time has passed\n", self.done("status").output)
+        self.assertIn("1 counted", self.add("ada 1,2,3,4").output)
+        self.done("close")
+
+    def test_not_before_the_end(self) -> None:
+        self.set_clock("2026-11-27T09:00:00+00:00")
+        self.done("call", *UNTIL)
+        before = self.contents()
+        # what lets a close pass over letters says nothing of the end
+        for words in ((), ("--force", "--because", "all have voted")):
+            ended = self.election("close", *words)
+            self.assert_fault(ended, 9, "Friday, 4 December 2026, 18:00 (UTC+01:00)", "--early", "nothing was changed")
+        self.assertEqual(self.contents(), before)
+        self.assertIn("the announced end of the vote has not come yet", self.done("close", "--early").output)
+
+    def test_nothing_is_taken_back_after_it(self) -> None:
+        self.add("ada 1,2,3,4")
+        self.done("close")
+        for words in (("undo", "--yes"), ("strike", "1", "--because", "x")):
+            self.assertEqual(self.election(*words).status, 9)
+        self.assertEqual(self.exported()[0], b"ada 1,2,3,4\n")
+
+
+class Meanwhile(CloseTest):
+    """What others do while a vote is closed or published."""
+
+    def in_this_process(self, *words: str) -> tuple[int, str, str]:
+        """Runs a command here, where a test can put something between two of its steps."""
+        env = elections.environment() | {"XDG_STATE_HOME": str(self.state)}
+        output, faults = io.TextIOWrapper(io.BytesIO()), io.TextIOWrapper(io.BytesIO())
+        with mock.patch.dict(os.environ, env), contextlib.chdir(self.folder):
+            with contextlib.redirect_stdout(output), contextlib.redirect_stderr(faults):
+                status = command_line.main(elections.ELECTION.parent, words)
+        said = [stream.buffer.getvalue().decode() for stream in (output, faults)]
+        return status, said[0], said[1]
+
+    def closing_after(self, lines: Iterator[str]) -> mock._patch:
+        """Before each close that is decided, a desk enters the next of these lines."""
+        fixed = close.fixed
+
+        def after_a_desk(*found: object) -> object:
+            detail = fixed(*found)
+            if (line := next(lines, None)) is not None:
+                self.done("desk", given=f"{line}\n")
+            return detail
+
+        return mock.patch.object(close, "fixed", after_a_desk)
+
+    def test_a_line_between_checksum_and_close(self) -> None:
+        """The close is decided anew, with the line."""
+        self.add("ada 1,2,3,4")
+        with self.closing_after(iter(["ben 1,2,3,4", "cleo 2,1,3,4"])):
+            status, said, faults = self.in_this_process("close")
+        self.assertEqual((status, faults), (0, ""), said)
+        ballots = b"ada 1,2,3,4\nben 1,2,3,4\ncleo 2,1,3,4\n"
+        self.assertEqual(self.exported(), (ballots, b""))
+        self.assertIn(hashlib.sha256(ballots).hexdigest(), self.read("letters/closed.txt").decode())
+        self.assertIn("Closed: 3 lines came in time", said)
+        self.done("publish")
+
+    def test_a_desk_that_never_stops(self) -> None:
+        with mock.patch.object(close, "TRIES", 2), self.closing_after(iter(["ada 1,2,3,4"] * 9)):
+            status, _, faults = self.in_this_process("close")
+        self.assertEqual((status, self.numbers()["stage"]), (9, "called"))
+        self.assertIn("another command changed the election meanwhile; nothing was changed", faults)
+
+    def test_a_line_while_it_is_published(self) -> None:
+        """What is late by then is in no folder that does not say so; without new words the folder is that of the book, too."""
+        self.add("ada 1,2,3,4", "ben 1,2,3,4")
+        self.done("close")
+        made = result_folder.made
+
+        @contextlib.contextmanager
+        def before_a_line(*found: object) -> Iterator[object]:
+            with made(*found) as folder:
+                self.done("desk", given="dan 1,2,3,4\n")
+                yield folder
+
+        for is_made_again in (False, True):
+            if is_made_again:
+                self.done("publish")
+            files = {name: data for name, data in self.contents().items() if name.startswith("result/")}
+            with mock.patch.object(result_folder, "made", before_a_line):
+                status, _, faults = self.in_this_process("publish")
+            self.assertEqual(status, 9, faults)
+            self.assertIn("another command changed the election meanwhile; nothing was changed", faults)
+            self.assertEqual({name: data for name, data in self.contents().items() if name.startswith("result/")}, files)
+
+    def test_a_fault_after_the_act(self) -> None:
+        """It says which act was done, and not that nothing was changed."""
+        self.add("ada 1,2,3,4")
+        self.write("letters", "somebody's file")
+        ended = self.election("close")
+        self.assert_fault(ended, 7, "letters: File exists; it was not changed; act 5 (close) was done")
+        self.assertEqual(self.numbers()["stage"], "closed")
+        (self.folder / "letters").unlink()
+        self.assertIn("Made letters/closed.txt", self.done("close").output)
+        moved = self.election("publish", "--moved", "--because", "a new disk", "--casting", "nobody")
+        self.assert_fault(moved, 2, "; act 6 (moved) was done; nothing was published: ")
+
+
+class Asked(CloseTest):
+    def test_whether_that_is_all(self) -> None:
+        self.set_clock("2026-12-01T17:00:00+00:00")
+        self.add("ada 1,2,3,4")
+        self.set_clock("2026-12-02T18:30:00+00:00")
+        self.done("desk", given="ben 1,2,3,4\n")
+        last = "Added last: 2026-12-01 17:00:00 UTC. Entered last at a desk: 2026-12-02 18:30:00 UTC."
+        for answer in ("n\n", "\x04"):
+            terminal = Terminal(self, "close")
+            shown = terminal.until("[y/n] ")
+            self.assertIn(f"Until now 2 lines came in time. {last}", shown)
+            self.assertIn("mailbox", shown)
+            self.assertIn("desk is open", shown)
+            terminal.type(answer)
+            self.assertIn("you did not say that this is all; nothing was changed", terminal.end()[0])
+        self.assertEqual(self.numbers()["stage"], "called")
+        terminal = Terminal(self, "close")
+        terminal.until("[y/n] ")
+        self.done("desk", given="cleo 1,2,3,4\n")
+        terminal.type("y\n")
+        output, status = terminal.end()
+        # it is asked once, and the ballot that came meanwhile is closed, too
+        self.assertNotIn("[y/n]", output)
+        self.assertEqual((status, self.numbers()["lines"], self.numbers()["stage"]), (0, 3, "closed"))
+        self.assertIn("Closed: 3 lines came in time", output)
+
+    def test_yes(self) -> None:
+        terminal = Terminal(self, "close", "--yes")
+        output, status = terminal.end()
+        self.assertEqual((status, "[y/n]" in output), (0, False))
+        self.assertIn("Until now 0 lines came in time. Added last: never. Entered last at a desk: never.", output)
+
+
+class SecretClose(CloseTest):
+    poll = elections.POLL + "secret = true\n"
+
+    def test_checksum_tells_no_ballots(self) -> None:
+        self.add("ada 17,33,99,-", "ben 2,1,3,4", "ada 2,3,4,-")
+        self.done("close")
+        seal = open_book(self.folder / "election.db").last_act().detail
+        self.assertNotIn(seal["seal"], self.done("log").output)
+        aliases = {row.split(",")[0]: row.split(",")[4] for row in self.read("private/codes.csv").decode().splitlines()[1:]}
+        ballots = "".join(sorted(f"{aliases[name]} {ranks}\n" for name, ranks in {"ada": "1,2,3,-", "ben": "2,1,3,4"}.items()))
+        self.assertEqual(seal["checksum"], hashlib.sha256(f"{seal['seal']}\n{ballots}".encode()).hexdigest())
+        self.assertIn(seal["checksum"], self.read("letters/closed.txt").decode())
+        letters = b"".join(file.read_bytes() for file in (self.folder / "letters").iterdir())
+        private = hashlib.sha256(b"ada 17,33,99,-\nben 2,1,3,4\nada 2,3,4,-\n").hexdigest()
+        self.assertNotIn(private.encode(), letters)
+        self.assertNotIn(hashlib.sha256(ballots.encode()).hexdigest().encode(), letters)
+        self.assertNotIn(seal["seal"].encode(), letters)
+        # the poll that is exported is the one of these ballots
+        self.exported()
+        [out] = self.scratch.glob("out*")
+        steps = self.debvote("steps", "--poll", out / "poll.toml", "--ballots", out / "ballots.txt").output
+        self.assertEqual(steps.split(), ["1", "counted", "2", "counted", "3", "replaced"])
+
+
+class Reopen(CloseTest):
+    def setUp(self) -> None:
+        super().setUp()
+        self.add("ada 1,2,3,4")
+        self.done("close")
+        self.add("ben 1,2,3,4", "cleo 2,1,3,4")
+
+    def test_what_had_come_in_time(self) -> None:
+        ended = self.done("reopen", "--because", "a letter was forgotten", "--in-time", "3")
+        self.assertIn("Envelope 4, entered anew from late envelope 3: cleo 2,1,3,4", ended.output)
+        self.assertEqual(self.exported(), (b"ada 1,2,3,4\ncleo 2,1,3,4\n", b"ben 1,2,3,4\ncleo 2,1,3,4\n"))
+        self.write("more", "dan 1,2,3,4\n")
+        self.assertEqual(self.election("add", "--yes", "more").status, 9)
+        self.done("add", "--yes", "--came-before-close", "yes", "more")
+        self.write("more", "eve 1,2,3,4\n")
+        self.done("add", "--yes", "--came-before-close", "no", "more")
+        self.assertEqual(self.exported()[0], b"ada 1,2,3,4\ncleo 2,1,3,4\ndan 1,2,3,4\n")
+        self.assertIn(b"eve", self.exported()[1])
+        self.assertEqual(self.numbers()["stage"], "called")
+        checksum = hashlib.sha256(self.exported()[0]).hexdigest()
+        for said in ("Closed: 3 lines came in time", "with 3 lines in time. Nothing was changed"):
+            output = self.done("close").output
+            self.assertIn(said, output)
+            self.assertIn(f"Checksum of the ballots: {checksum}\n", output)
+        self.assertIn("3 lines came in time", self.read("letters/closed.txt").decode())
+
+    def test_faults(self) -> None:
+        self.assert_fault(self.election("reopen"), 2, "reason")
+        self.assert_fault(self.election("reopen", "--because", "x", "--in-time", "1"), 2, "envelope 1 is not one of the late lines")
+        self.done("reopen", "--because", "x")
+        self.assert_fault(self.election("reopen", "--because", "x"), 9, "not closed")
+
+    def test_a_result_before_the_last_close_is_not_the_result(self) -> None:
+        self.done("publish")
+        self.assertEqual(self.numbers()["stage"], "published")
+        self.assertTrue(self.done("status").output.endswith(", then debvote-election letters result\n"))
+        self.done("reopen", "--because", "x")
+        self.assertEqual(self.numbers()["stage"], "called")
+        self.done("close")
+        self.assertEqual(self.numbers()["stage"], "closed")
+
+    def test_status_says_whether_it_is_open(self) -> None:
+        self.assertRegex(self.done("status").output, r"\nClosed: at [^\n]* UTC\nQuorum")
+        self.done("reopen", "--because", "x")
+        self.assertRegex(self.done("status").output, r"\nClosed: not yet\nReopened: at [^\n]* UTC\nQuorum")
+
+
+class Told(CloseTest):
+    def test_status(self) -> None:
+        self.add("ada 1,2,3,4", "ben 1,2", "zoe 1,2,3,4", "ada 2,1,3,4")
+        ended = self.done("status")
+        for part in (
+            "Title: Where we meet in spring\n",
+            "Lines: 4 (2 valid, 2 refused)\n",
+            "Electors with a valid ballot: 1 of 9\n",
+            "Electors without a ballot (8):\n  ben cleo dan eve fay gus hal ida\n",
+            "Refused lines of electors without a ballot (1):\n  envelope 2: ben 1,2\n",
+            "Refused lines with no known elector (1):\n  envelope 3: zoe 1,2,3,4\n",
+            "Next: add the ballots as they come",
+        ):
+            self.assertIn(part, ended.output)
+
+    def test_a_refused_line_of_who_has_a_ballot_is_not_told(self) -> None:
+        self.add("ada 1,2", "ada 1,2,3,4", "ben 1,2,3,4", "zoe 1,2,3,4")
+        output = self.done("status").output
+        self.assertIn("Refused lines with no known elector (1):\n  envelope 4: zoe 1,2,3,4\n", output)
+        self.assertNotIn("ada 1,2", output)
+
+    def test_envelopes_keep_their_numbers(self) -> None:
+        self.add("ada 1,2,3,4", "ben 1,2")
+        self.done("strike", "1", "--because", "it was hers who asked")
+        self.assertIn("  envelope 2: ben 1,2\n", self.done("status").output)
+
+    def test_export(self) -> None:
+        self.add("ada 1,2,3,4", "zoe 1")
+        out = self.scratch / "out"
+        self.done("export", out)
+        came = sorted((out / "came").iterdir())
+        self.assertEqual([file.name for file in came], ["00001-lines"])
+        self.assertEqual(came[0].read_bytes(), b"ada 1,2,3,4\nzoe 1\n")
+        self.assertEqual((out / "poll.toml").read_bytes(), self.read("call/poll.toml"))
+        self.assertEqual(out.stat().st_mode & 0o777, 0o700)
+        self.assertEqual({file.stat().st_mode & 0o777 for file in out.rglob("*") if file.is_file()}, {0o600})
+        self.assert_fault(self.election("export", out), 2, "already")
+
+    def test_a_clock_that_went_back(self) -> None:
+        """By a minute at most it is only set right."""
+        for hour, back in (("18:00:00", True), ("18:58:59", True), ("18:59:00", False)):
+            self.set_clock("2026-12-04T19:00:00+01:00")
+            self.add(f"ada {hour[3:5]},2,3,4")
+            self.set_clock(f"2026-12-04T{hour}+01:00")
+            self.add(f"ben {hour[3:5]},2,3,4")
+            log = self.done("log").output
+            self.assertEqual(log.endswith("  the clock went back: the previous act has a later time\n"), back, hour)
+        self.set_clock("2026-12-04T19:00:00+01:00")
+        self.done("close")
+        self.done("publish")
+        self.assertEqual(self.read("result/index.html").decode().count("went back"), 2)
+
+    def test_a_line_after_the_end_by_its_zone(self) -> None:
+        """The end is announced in another zone than that in which the book keeps times."""
+        self.set_clock("2026-11-27T09:00:00+00:00")
+        self.done("call", *UNTIL)
+        for time, name in (("16:30", "ada"), ("17:30", "ben")):
+            self.set_clock(f"2026-12-04T{time}:00+00:00")
+            self.add(f"{name} 1,2,3,4")
+        self.done("close")
+        self.done("publish")
+        said = "1 ballot came after the end, and counts, since the vote was not closed yet."
+        self.assertIn(said, self.read("result/index.html").decode())

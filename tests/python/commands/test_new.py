@@ -1,0 +1,82 @@
+"""`new`: the folder, its files and modes, and what stops it."""
+
+import os
+import shutil
+import subprocess
+
+from tests.support import elections
+
+
+class New(elections.ElectionTest):
+    def begin(self) -> None:
+        """There is no election yet."""
+        self.folder.mkdir()
+
+    def test_folder(self) -> None:
+        ended = self.done("new", "spring")
+        folder = self.folder / "spring"
+        self.assertEqual(sorted(file.name for file in folder.iterdir()), ["election.db", "members.csv", "poll.toml"])
+        self.assertEqual(folder.stat().st_mode & 0o777, 0o700)
+        self.assertEqual({file.stat().st_mode & 0o777 for file in folder.iterdir()}, {0o600})
+        self.assertIn("Next: cd spring", ended.output)
+        self.done("log", "--check", cwd=folder)
+
+    def test_umask_and_empty_folder(self) -> None:
+        (self.folder / "spring").mkdir()
+        before = os.umask(0)
+        self.addCleanup(os.umask, before)
+        self.done("new", "spring")
+        self.assertEqual({file.stat().st_mode & 0o777 for file in (self.folder / "spring").iterdir()}, {0o600})
+
+    def test_language(self) -> None:
+        self.assertIn("will be in German", self.done("new", "--language", "de", "wahl").output)
+        (self.folder / "wahl" / "poll.toml").write_text(elections.POLL.replace("At the lake", "Zum Bärensee"))
+        (self.folder / "wahl" / "members.csv").write_text("who,mail\nJürgen Groß,j@club.example\n")
+        self.assertIn("juergen-gross", self.done("roll", cwd=self.folder / "wahl").output)
+        self.assertIn("plain: Zum Baerensee", self.done("check", cwd=self.folder / "wahl").output)
+
+    def test_nothing_is_overwritten(self) -> None:
+        self.done("new", "spring")
+        (self.folder / "full").mkdir()
+        (self.folder / "full" / "file").write_text("kept")
+        (self.folder / "file").write_text("kept")
+        (self.folder / "link").symlink_to("nowhere")
+        before = self.contents()
+        for name, words in {
+            "spring": "an election already",
+            "full": "not empty",
+            "file": "not a folder",
+            "link": "not a folder",
+        }.items():
+            with self.subTest(name):
+                self.assert_fault(self.election("new", name), 2, words, "nothing was changed")
+        self.assert_fault(self.election("new", "nowhere/else"), 2, "nowhere/else")
+        self.assert_fault(self.election("new", "--folder", "x", "y"), 2, "--folder")
+        self.assertEqual(self.contents(), before)
+
+    def test_unfinished_on_a_full_disk(self) -> None:
+        if shutil.which("strace") is None:
+            self.skipTest("strace is not installed")
+        for when in (1, 3, 5):
+            inject = f"inject=pwrite64:error=ENOSPC:when={when}+"
+            words = ["strace", "-o", "/dev/null", "-e", inject, "/usr/bin/python3", elections.ELECTION, "new", "spring"]
+            env = elections.environment() | {"XDG_STATE_HOME": str(self.state)}
+            ended = subprocess.run(words, cwd=self.folder, env=env, capture_output=True, text=True)
+            self.assertEqual(ended.returncode, 7, ended)
+            self.assertEqual(list(self.folder.iterdir()), [])
+
+    def test_a_misspelt_command(self) -> None:
+        for word, said in {"stauts": "'stauts'; did you mean status?", "Counts": "'Counts'; did you mean count?", "x": "'x'"}.items():
+            ended = self.election(word, cwd=self.scratch)
+            self.assertEqual((ended.status, ended.faults.splitlines()[-1]), (2, f"debvote-election: error: there is no command {said}"))
+
+    def test_commands_before_the_call(self) -> None:
+        self.done("new", "spring")
+        folder = self.folder / "spring"
+        (folder / "lines").write_text("ada 1,2,3,4\n")
+        for words in (("add", "--yes", "lines"), ("desk",), ("close",), ("undo",), ("count",), ("publish",), ("export", "x")):
+            with self.subTest(words):
+                ended = self.election(*words, cwd=folder)
+                self.assertEqual(ended.status, 9, ended)
+                self.assertIn("no call for votes yet", ended.faults)
+        self.assertIn("Call for votes: not made yet", self.done("status", cwd=folder).output)

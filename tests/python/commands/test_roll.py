@@ -1,0 +1,209 @@
+"""`roll` and `check`: the electors that the book gets, what they are called, and what is said of list and poll."""
+
+import json
+
+from tests.support import elections
+from tests.support.terminal import Terminal
+
+
+class RollTest(elections.ElectionTest):
+    call_words = None
+
+    def roll(self, *rows: str, head: str = "who,mail") -> elections.Ended:
+        """Reads a list of members."""
+        self.write("members.csv", "\n".join([head, *rows, ""]))
+        return self.election("roll")
+
+    def on_roll(self) -> list[str]:
+        """The electors without a ballot: all of them."""
+        return json.loads(self.done("status", "--json").output)["without_ballot"]
+
+
+class Roll(RollTest):
+    def test_names_are_proposed_and_the_list_is_not_written(self) -> None:
+        ended = self.roll("Chloé,chloe@club.example", "Anna Meier,", "Ødegård,o@club.example")
+        self.assertEqual(ended.status, 0, ended)
+        self.assertEqual(self.on_roll(), ["chloe", "anna-meier", "odegard"])
+        self.assertIn("  chloe: Chloé chloe@club.example\n", ended.output)
+        self.assertIn("3 names were proposed", ended.output)
+        self.assertIn("Without an address (letters in their names wait, letters to them are printed): anna-meier", ended.output)
+        self.assertEqual(self.read("members.csv").decode(), "who,mail\nChloé,chloe@club.example\nAnna Meier,\nØdegård,o@club.example\n")
+
+    def test_names_that_were_cut_or_are_similar_are_told(self) -> None:
+        output = self.roll("Maximiliane Theodora Louise Schulz,", "Dr. Anna Meier,", '"Maier, Anna",', "Meier Anna,").output
+        self.assertIn("at most 32 characters, so these were cut: maximiliane-theodora-louise-schu (Maximiliane Theodora Louise Schulz)\n", output)
+        self.assertIn("these names are easily mistaken for each other: anna-meier and anna-maier, anna-meier and meier-anna\n", output)
+        output = self.roll("Anna Meier,", "Anna-Meier,").output
+        self.assertNotIn("cut:", output)
+        self.assertNotIn("mistaken", output)
+
+    def test_an_address_that_not_every_mail_server_takes_is_told(self) -> None:
+        ended = self.roll("Cleo,cléo@club.example", "Ben,bén@club.example b@club.example")
+        self.assertIn("Without an address that every mail server takes (letters to them are printed): cleo\n", ended.output)
+        self.assertNotIn("Without an address (", ended.output)
+
+    def test_a_name_stays_with_its_person(self) -> None:
+        self.roll("Anna Meier,a@club.example", "Ben,b@club.example")
+        self.roll("Ben,new@club.example", "Zoe,z@club.example", "Anna  Meier,a@club.example")
+        self.assertEqual(self.on_roll(), ["ben", "zoe", "anna-meier"])
+        ended = self.roll("chair,Anna Meier,a@club.example", ",Ben,b@club.example", head="name,who,mail")
+        self.assertEqual(self.on_roll(), ["chair", "ben"])
+        self.assertIn("No longer on the list: zoe (Zoe)", ended.output)
+        ended = self.roll("Cleo,c@club.example")
+        self.assertIn("No longer on the list: chair (Anna Meier)\nNo longer on the list: ben (Ben)\n", ended.output)
+
+    def test_all_names_are_printed_if_asked(self) -> None:
+        self.roll(*(f"Elector {number},e{number}@club.example" for number in range(201)))
+        for command in ("roll", "check"):
+            self.assertIn("more (--all prints them)", self.done(command).output, command)
+            output = self.done(command, "--all").output
+            self.assertTrue(all(f"elector-{number}" in output for number in range(201)), command)
+            self.assertNotIn("--all", output, command)
+
+    def test_two_of_one_name(self) -> None:
+        ended = self.roll("Anna,a@club.example", "Anna,b@club.example")
+        self.assertEqual(ended.status, 9, ended)
+        self.assertIn("have the same `who`", ended.faults)
+        self.roll("Anna Meier,a@club.example", "Anna-Meier,b@club.example")
+        self.assertEqual(self.on_roll(), ["anna-meier-1", "anna-meier-2"])
+
+    def test_all_faults_at_once(self) -> None:
+        ended = self.roll("A B,x,Ada,a@club.example,z", "ÄÖ,Ben,b@club.example", ",,", "ada,Cleo,nowhere", head="name,who,mail")
+        self.assertEqual(ended.status, 9, ended)
+        self.assertGreaterEqual(len(ended.faults.splitlines()), 3, ended.faults)
+        self.assertTrue(all(line.startswith("debvote-election: members.csv:") for line in ended.faults.splitlines()), ended.faults)
+        self.assertEqual(self.on_roll(), elections.NAMES)
+
+    def test_shared_addresses_are_told(self) -> None:
+        ended = self.roll("Ada,a@club.example home@club.example", "Ben,Home@club.example", "Eve,e@club.example E@club.example", "Cleo,")
+        self.assertEqual(ended.status, 0)
+        self.assertIn("Note: several electors have the address home@club.example: ada, ben. Is that one person?\n", ended.output)
+        self.assertEqual(ended.output.count("Is that one person?"), 1)
+
+    def test_real_names_that_look_alike_are_told(self) -> None:
+        output = self.roll("Zo\u00eb,z@club.example", "zoe,", "Zo\u00eb L,").output
+        self.assertIn("Note: these real names look alike: zoe-1, zoe-2. Is that one person?\n", output)
+
+    def test_several_people_in_one_cell_are_told(self) -> None:
+        rows = ("Eve & Dan,e@club.example", "Fay und Gus Meier,", "Hal/Ida,", "Jan+Kim,", "Marie et Luc,", "Andrea Undset,", '"Meier, Anna",', "A-B,")
+        ended = self.roll(*rows)
+        self.assertEqual(ended.status, 0, ended)
+        people = "eve-dan (Eve & Dan), fay-und-gus-meier (Fay und Gus Meier), hal-ida (Hal/Ida), jan-kim (Jan+Kim), marie-et-luc (Marie et Luc)"
+        self.assertIn(f"Note: these look like several people, who have one ballot together: {people}. Give each a line of their own.\n", ended.output)
+
+    def test_again_is_no_act(self) -> None:
+        before = self.done("log").output
+        self.done("roll")
+        self.assertEqual(self.done("log").output, before)
+
+
+class AfterTheCall(RollTest):
+    call_words = ("--to", "vote@club.example")
+
+    def test_addresses_alone_may_change(self) -> None:
+        rows = [f"{name.title()},{name}@club.example" for name in elections.NAMES]
+        self.assertIn("Nothing was changed", self.roll(*rows).output)
+        ended = self.roll("Ada,new@club.example", *rows[1:])
+        self.assert_fault(ended, 9, "ada@club.example becomes new@club.example", "--yes")
+        ended = self.done("roll", "--yes")
+        self.assertIn("ada: address ada@club.example becomes new@club.example", ended.output)
+        self.assertIn("1 elector changed; the result page says how many", ended.output)
+        self.assertEqual(self.on_roll(), elections.NAMES)
+
+    def test_a_key_changes_once(self) -> None:
+        rows = [f"{name.title()},{name}@club.example," for name in elections.NAMES]
+        self.roll(f"{rows[0]}{'A' * 40}", *rows[1:], head="who,mail,key")
+        self.assertIn("1 elector changed", self.done("roll", "--yes").output)
+        self.assertIn("Nothing was changed", self.done("roll").output)
+
+    def test_each_change_is_asked_about(self) -> None:
+        """And what another `roll` has changed meanwhile stays."""
+        rows = [f"{name.title()},{name}@new.example" for name in elections.NAMES[:2]]
+        self.write("members.csv", "\n".join(["who,mail", *rows, *elections.members_of(elections.NAMES).splitlines()[3:], ""]))
+        for is_overtaken in (True, False):
+            terminal = Terminal(self, "roll")
+            terminal.until("ada (Ada): address ada@club.example becomes ada@new.example. Is that right? [y/n] ")
+            if is_overtaken:
+                before = self.read("members.csv")
+                self.write("members.csv", before.replace(b"ida@club", b"ida@new").replace(b"ada@new", b"ada@club").replace(b"ben@new", b"ben@club"))
+                self.done("roll", "--yes")
+                self.write("members.csv", before.replace(b"ida@club", b"ida@new"))
+            terminal.type("y\nn\n")
+            output, status = terminal.end()
+            self.assertIn("ben (Ben): address ben@club.example becomes ben@new.example. Is that right? [y/n] ", output)
+            self.assertEqual(status, 9 if is_overtaken else 0, output)
+            self.assertIn("another command changed" if is_overtaken else "1 elector changed; the result page says", output)
+            shown = "ada@club.example" if is_overtaken else "ada@new.example"
+            self.assertIn(shown, self.done("show", "ada").output)
+            self.assertIn("ben@club.example", self.done("show", "ben").output)
+
+    def test_other_people_stop(self) -> None:
+        rows = [f"{name.title()},{name}@club.example" for name in elections.NAMES]
+        before = self.done("log").output
+        for changed in (rows[1:], [*rows, "Jan,jan@club.example"], ["Adele,ada@club.example", *rows[1:]]):
+            ended = self.roll(*changed)
+            self.assertEqual(ended.status, 9, ended)
+            self.assertIn("after the call only addresses and keys may change", ended.faults)
+        self.assertEqual(self.done("log").output, before)
+
+
+class Check(RollTest):
+    def check(self, poll: str) -> elections.Ended:
+        self.write("poll.toml", poll)
+        return self.election("check")
+
+    def test_in_order(self) -> None:
+        (self.folder / "texts").mkdir()
+        (self.folder / "texts" / "1.txt").write_text("Near the water.\n")
+        ended = self.check(elections.POLL.replace("At the lake", "Am Bärensee"))
+        self.assertEqual(ended.status, 0, ended)
+        self.assertEqual(
+            ended.output.splitlines(),
+            [
+                "The poll is in order: 4 options, 9 electors.",
+                "Title: Where we meet in spring",
+                "Options:",
+                "  1  Am Bärensee (majority ratio 1)",
+                "     plain: Am Barensee",
+                "     text: 3 words from texts/1.txt",
+                "  2  In the town hall (majority ratio 1)",
+                "  3  Sell the house and meet there (majority ratio 3)",
+                "  4  Further discussion (the default option)",
+                "Quorum: 2 votes (1Q): at least 2 electors must prefer an option to the default option",
+                "Electors: 9",
+                "  ada ben cleo dan eve fay gus hal ida",
+                "Next: debvote-election call --until 'YYYY-MM-DD HH:MM' --to ADDRESS (the end of the vote, and the address for ballots; "
+                "both are optional)",
+            ],
+        )
+
+    def test_all_faults_at_once(self) -> None:
+        ended = self.check(elections.POLL.replace("[1, 1, 3]", "[1, 1]").replace("quorum = 1", 'quorum = 99\ncolour = "red"\nroll = []'))
+        self.assertEqual(ended.status, 3, ended)
+        for part in ("ratios", "quorum", "colour", "roll"):
+            self.assertIn(part, ended.faults)
+
+    def test_names_that_look_alike(self) -> None:
+        for one, other in (("At the lake", "At  The Lake"), ("Bär", "bar"), ("Zoë", "Zoe\u200b")):
+            ended = self.check(elections.POLL.replace("At the lake", one).replace("In the town hall", other))
+            self.assertEqual(ended.status, 3, (one, other, ended))
+
+    def test_of_what_is_no_toml_debvote_says_why_and_nobody_else(self) -> None:
+        polls = ["title = \n", 'title = "a\n', 'options = ["a", \u201cb\u201d]\n', "ada 1,2,3\n", "a = 1\na = 2\n", "a = " + "[" * 9000]
+        for poll in polls:
+            with self.subTest(poll=poll[:40]):
+                ended = self.check(poll)
+                said = self.run_program(elections.PROGRAM, "explain", "--poll", "poll.toml", cwd=self.folder)
+                self.assertEqual((ended.status, said.status), (3, 3))
+                self.assertTrue(said.output)
+                self.assertEqual(ended.output, said.output)
+                words = "poll.toml: it can't be read as TOML, as said above; put it right with an editor, then run debvote-election check"
+                self.assertEqual(ended.faults, f"debvote-election: {words}\n")
+
+    def test_a_newer_toml_than_python_reads(self) -> None:
+        ended = self.check(elections.POLL + "a = {b = 1,\n}\n")
+        self.assertEqual((ended.status, ended.output), (3, ""))
+        self.assertIn("poll.toml: it can't be read as TOML 1.0: ", ended.faults)
+
+    def test_secret(self) -> None:
+        self.assertIn("Next: debvote-election codes", self.check(elections.POLL + "secret = true\n").output)

@@ -1,0 +1,132 @@
+"""How often a command starts debvote: at most three times, `publish` eight times."""
+
+import hashlib
+import os
+
+from debvote_tools.cli.command_line import COMMANDS
+
+from tests.support import elections
+
+COUNTED = elections.ROOT / "tests" / "support" / "counted"
+MOST = {"publish": 8}
+CALLED, TEN, ELEVEN = (f"2026-11-{time}:00:00+00:00" for time in ("20T09", "23T10", "24T11"))
+
+# right lines, some that are repaired, and some that are refused
+LINES = "\ufeffada 1,2,4,3\r\nben 1, 2, 3, 4\nBen 2;1;3;4\ncle 1,2,3,4\ndan 1,2\n\neve 1,2,3,4,5\n"
+TABLE = "name,a,b,c,d\nfay,1,2,3,4\ngus,2,1,3,4\nhall,1,2,3,4\n"
+
+
+def letter_of(number: int, name: str, text: str, mark: str, kind: str = "plain") -> str:
+    head = f"Received: from a by b; Mon, 23 Nov 2026 09:00:{number:02} +0000\nFrom: {name}@club.example\n"
+    more = f"Subject: Re: vote [{mark}]\nMessage-ID: <{number}@x>\nContent-Type: text/{kind}; charset=utf-8\n"
+    return f"From x Mon Nov 23 09:00:00 2026\n{head}{more}\n{text}\n\n"
+
+
+class Starts(elections.ElectionTest):
+    call_words = None
+    secret = False
+
+    def set_clock(self, time: str) -> None:
+        super().set_clock(time)
+        path = os.pathsep.join([str(COUNTED), os.environ["PATH"]])
+        counting = {"DEBVOTE_COUNTED": str(elections.PROGRAM.absolute()), "DEBVOTE_STARTS": str(self.scratch / "starts")}
+        self.clock |= {"PATH": path, **counting}
+
+    def begin(self) -> None:
+        self.tried: set[str] = set()
+        self.set_clock(CALLED)
+        self.started("new", self.folder, cwd=self.scratch)
+        self.write("poll.toml", elections.POLL + ("secret = true\n" if self.secret else ""))
+        self.write("members.csv", elections.members_of(elections.NAMES))
+        self.started("roll")
+        if self.secret:
+            self.started("codes")
+        self.started("check")
+        self.started("call", "--to", "vote@club.example", "--at", "https://club.example/", "--until", "2026-12-04 18:00+00:00")
+
+    def started(self, *words: object, **how: object) -> None:
+        """Runs a command, which must do what it is asked for, and counts how often it starts debvote."""
+        counter = self.scratch / "starts"
+        counter.write_bytes(b"")
+        ended = self.election(*words, **how)
+        self.tried.add(str(words[0]))
+        with self.subTest(words):
+            self.assertIn(ended.status, (0, 1) if words[0] in ("count", "publish") else (0,), ended)
+            self.assertLessEqual(len(counter.read_bytes()), MOST.get(str(words[0]), 3))
+
+    def mailbox(self) -> str:
+        mark = hashlib.sha256(self.read("call/poll.toml")).hexdigest()[:16]
+        texts = [
+            ("ada", "Hello\n\nada 2,1,4,3"),
+            ("ben", "ben 1,2,3,4\nben 2,1,3,4"),
+            ("cleo", "1 2 3 4"),
+            ("dan", "I vote as follows:\ndann 1,2,3,4"),
+            ("eve", "eve 1, 2, 3, 4\n\nadieu"),
+            ("eve", "eve 1, 2, 3, 4\n\nadieu"),
+            ("fay", "gus 1,2,3,4"),
+            ("nobody", "hal 1,2"),
+        ]
+        letters = [letter_of(number, name, text, mark) for number, (name, text) in enumerate(texts, start=1)]
+        return "".join([*letters, letter_of(20, "ida", "<p>ida 1,2,3,4</p>", mark, "html")])
+
+    def votes(self) -> None:
+        """What comes, what is looked at, and what is corrected."""
+        self.write("lines", LINES)
+        self.write("table.csv", TABLE)
+        self.write("mail", self.mailbox())
+        self.started("letters", "call")
+        self.set_clock(TEN)
+        self.started("add", "--look", "lines")
+        for words in (("--yes", "--force", "lines"), ("--yes", "--force", "lines"), ("--again", "--yes", "--force", "lines")):
+            self.started("add", *words)
+        self.started("add", "--csv", "--name", "name", "--ranks", "a,b,c,d", "--yes", "--force", "table.csv")
+        self.started("add", "--look", "mail")
+        self.started("add", "--yes", "mail")
+        self.started("add", "--yes", "mail")
+        self.started("held")
+        self.started("held", 2)
+        self.started("held", 2, "--enter", 1, "--force")
+        self.started("held", 3, 4, "--set-aside")
+        self.started("desk", given="ada 1,2,3,4\n")
+        for words in (("show", "ada"), ("status",), ("status", "--json"), ("undo", "--yes"), ("log",), ("log", "--check")):
+            self.started(*words)
+        self.started("strike", 1, "--because", "x")
+        for kind in ("receipts", "reminders"):
+            self.started("letters", kind)
+        self.started("roll", "--yes")
+        self.started("call", "--until", "2026-12-05 18:00+00:00")
+
+    def result(self) -> None:
+        """From the close on."""
+        self.set_clock(ELEVEN)
+        self.started("close", "--early", "--force", "--because", "x")
+        self.started("close")
+        self.started("letters", "closed")
+        self.started("desk", given="ida 1,2,3,4\n")
+        self.started("reopen", "--because", "x")
+        self.started("add", "--look", "mail")
+        self.started("close", "--early", "--force", "--because", "x")
+        self.started("count", "--force")
+        self.started("publish", "--yes", "--force", "--because", "x")
+        self.started("publish")
+        for kind in ("result", "receipts"):
+            self.started("letters", kind)
+        self.started("status")
+        self.started("export", "out")
+        self.started("backup", "copy.db")
+
+
+class Open(Starts):
+    def test_each_command(self) -> None:
+        self.votes()
+        self.result()
+        self.assertEqual(self.tried, {*COMMANDS} - {"codes"})
+
+
+class Secret(Starts):
+    secret = True
+
+    def test_each_command(self) -> None:
+        self.votes()
+        self.result()
+        self.assertEqual(self.tried, {*COMMANDS})

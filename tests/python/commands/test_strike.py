@@ -1,0 +1,119 @@
+"""`strike`: one envelope is taken out, before the close, with a reason that the log keeps."""
+
+from debvote_tools.book import queries
+
+from tests.support.called import LAKE, OTHER_RANKS, RANKS, CalledTest
+from tests.support.terminal import Terminal
+
+WHY = ("--because", "it was pencil")
+
+
+class Strike(CalledTest):
+    def setUp(self) -> None:
+        super().setUp()
+        self.told("add", given=f"ada {RANKS}\nben {RANKS}\nada {OTHER_RANKS}\nx\n")
+
+    def test_the_line_and_what_stands_then(self) -> None:
+        output = self.told("strike", 3, *WHY)
+        self.assertEqual(
+            output,
+            f"Struck envelope 3: `ada {OTHER_RANKS}`, because: it was pencil\nThe current ballot of ada: {LAKE}\n"
+            "A strike cannot be undone: if it was a mistake, enter the line again.\nNext: debvote-election status\n",
+        )
+        self.assertEqual(self.lines(), [f"ada {RANKS}", f"ben {RANKS}", "x"])
+        self.assertEqual(self.acts()[-1], ("strike", {"envelope": 3, "because": "it was pencil"}))
+        self.assertIn("The current ballot of ada: none\n", self.told("strike", 1, *WHY))
+        self.assertIn("Struck envelope 4: `x`, because: it was pencil\nA strike cannot be undone", self.told("strike", 4, *WHY))
+        self.assertEqual(self.lines(), [f"ben {RANKS}"])
+        # the envelopes are still there, and keep their numbers
+        self.assertEqual([envelope.struck is None for envelope in self.envelopes()], [False, True, False, False])
+        self.assertIn("5 counted  cleo: ", self.told("desk", given=f"cleo {RANKS}\n"))
+
+    def test_what_is_refused(self) -> None:
+        self.told("strike", 3, *WHY)
+        before = self.last_act()
+        refused = {
+            (3, *WHY): (9, f"envelope 3 is struck already, by act {before} at "),
+            (9, *WHY): (9, "there is no envelope 9; there are envelopes 1 to 4; nothing was changed: "),
+            (0, *WHY): (9, "there is no envelope 0; "),
+            (1,): (2, "strike: it needs a reason, which the log keeps; nothing was changed: "),
+            (1, "--because", " "): (2, "strike: it needs a reason"),
+            (1, "--because", "a\u202eb"): (2, "--because: the text has the character U+202E, which no plain text has"),
+            (1, "--because", "a\x1b[1m"): (2, "--because: the text has the character U+001B"),
+            (1, "--because", "one line\nand one more"): (2, "--because: the text has the character U+000A"),
+        }
+        for words, (status, said) in refused.items():
+            self.assert_stops(self.election("strike", *words), before, status, said)
+
+    def test_one_that_undo_took_back(self) -> None:
+        self.told("undo")
+        self.assert_stops(
+            self.election("strike", 1, *WHY), before := self.last_act(), 9, f"envelope 1 is struck already, by act {before} at "
+        )
+
+    def test_after_the_close_and_after_reopen(self) -> None:
+        self.act("close", {"lines": 4, "checksum": "", "early": False})
+        before = self.last_act()
+        self.assert_stops(
+            self.election("strike", 1, *WHY), before, 9, "the vote was closed at ", ", and its ballots stay; nothing was changed: "
+        )
+        self.told("add", given=f"cleo {RANKS}\n")
+        self.act("reopen", {"because": "a bag was forgotten"})
+        self.assertIn("Struck envelope 2: ", self.told("strike", 2, *WHY))
+        output = self.told("strike", 5, *WHY)
+        self.assertIn(
+            f"Struck envelope 5 (late): `cleo {RANKS}`, because: it was pencil\nThe current ballot of cleo: none\n", output
+        )
+
+    def test_a_letter_is_set_aside(self) -> None:
+        with self.book.act("add") as act:
+            source = queries.keep_source(act, "inbox", b"letter")
+            letter = act.insert("letter", source=source, identity="1", known="{}")
+            new = [queries.NewEnvelope(b"cleo 1,2,3,4", "", source, letter)]
+            queries.add_envelopes(act, new, [self.elector("cleo")], is_late=False)
+            queries.decide(act, letter, queries.ENTERED)
+        self.told("strike", 5, *WHY)
+        self.assertEqual(self.book.rows("SELECT letter, state FROM letter_state WHERE act = ?", self.last_act()), [(1, "struck")])
+
+
+class AtATerminal(CalledTest):
+    def test_it_asks(self) -> None:
+        self.told("add", given=f"ada {RANKS}\nben {RANKS}\n")
+        before, terminal = self.last_act(), Terminal(self, "strike", "1", *WHY)
+        terminal.until(f"Strike envelope 1: `ada {RANKS}`? This cannot be undone. [y/n] ")
+        terminal.type("n\n")
+        output, status = terminal.end()
+        self.assertIn("strike: you did not say yes; nothing was changed: ", output)
+        self.assertEqual((status, self.last_act()), (9, before))
+        terminal = Terminal(self, "strike", "1", *WHY)
+        terminal.until("[y/n] ")
+        # another act changes nothing of it
+        self.told("desk", given=f"cleo {RANKS}\n")
+        terminal.type("y\n")
+        output, status = terminal.end()
+        self.assertNotIn("[y/n]", output)
+        self.assertEqual((status, self.lines()), (0, [f"ben {RANKS}", f"cleo {RANKS}"]))
+
+    def test_another_one_strikes_it_meanwhile(self) -> None:
+        self.told("add", given=f"ada {RANKS}\n")
+        terminal = Terminal(self, "strike", "1", *WHY)
+        terminal.until("[y/n] ")
+        self.told("strike", "1", *WHY)
+        terminal.type("y\n")
+        output, status = terminal.end()
+        self.assertIn("envelope 1 is struck already", output)
+        self.assertEqual(status, 9)
+        self.assertNotIn("[y/n]", Terminal(self, "strike", "9", "--yes", *WHY).end()[0])
+
+
+class NoBallots(CalledTest):
+    def test_none_has_come(self) -> None:
+        self.assert_fault(self.election("strike", 1, *WHY), 9, "there is no envelope 1; no ballot has come yet; ")
+
+
+class BeforeTheCall(CalledTest):
+    call_words = None
+
+    def test_it_is_refused(self) -> None:
+        for words in (("strike", 1, *WHY), ("undo",), ("show", "ada")):
+            self.assert_fault(self.election(*words), 9, "there is no call for votes yet; ")

@@ -1,0 +1,168 @@
+"""`undo`: the last act that entered lines is taken back, and nothing else."""
+
+from debvote_tools.book import queries
+
+from tests.support.called import HALL, LAKE, OTHER_RANKS, RANKS, CalledTest
+from tests.support.terminal import Terminal
+
+
+class Undo(CalledTest):
+    def test_one_after_the_other(self) -> None:
+        self.told("add", given=f"ada {RANKS}\nben {RANKS}\n")
+        self.told("add", given=f"ada {OTHER_RANKS}\ncleo {RANKS}\nx\n")
+        self.told("desk", given=f"dan {RANKS}\n")
+        first = self.first_act
+        output = self.told("undo")
+        self.assertRegex(
+            output,
+            rf"^Took back 1 line \(act {first + 2}: desk, [-\d]+ [:\d]+ UTC, envelope 6\)\.\n  dan: no ballot is left\nNext: ",
+        )
+        output = self.told("undo")
+        self.assertRegex(output, rf"^Took back 3 lines \(act {first + 1}: add of standard input, .* UTC, envelopes 3-5\)\.\n")
+        self.assertIn(f"\n  ada: {LAKE}, as before\n  cleo: no ballot is left\n", output)
+        self.assertEqual(self.lines(), [f"ada {RANKS}", f"ben {RANKS}"])
+        self.told("undo")
+        self.assertEqual(self.lines(), [])
+        self.assert_stops(self.election("undo"), self.last_act(), 9, "undo: there is nothing to take back; nothing was changed: ")
+        self.assertEqual(self.acts()[3:], [("undo", {"act": number}) for number in (first + 2, first + 1, first)])
+        # nothing is gone
+        self.assertEqual([envelope.struck for envelope in self.envelopes()], [first + 5] * 2 + [first + 4] * 3 + [first + 3])
+        self.book.demand_whole()
+
+    def test_and_then_it_goes_on(self) -> None:
+        self.told("add", given=f"ada {RANKS}\n")
+        self.write("monday", f"ben {RANKS}\ncleo {RANKS}\n")
+        self.told("add", "monday")
+        self.told("undo")
+        # it came not, and it gets new numbers
+        self.assertIn("4 counted  ben: ", self.told("add", "monday"))
+        self.told("undo")
+        self.assertIn("6 counted  dan: ", self.told("add", given=f"dan {RANKS}\n"))
+        # the one before, which is not taken back yet
+        self.told("undo")
+        self.assertIn("  ada: no ballot is left\n", self.told("undo"))
+        self.assertEqual(self.lines(), [])
+
+    def test_an_envelope_that_was_struck_already(self) -> None:
+        self.told("add", given=f"ada {RANKS}\nben {RANKS}\ncleo {RANKS}\n")
+        self.told("strike", 2, "--because", "a test")
+        self.assertIn("Took back 2 lines (act ", output := self.told("undo"))
+        self.assertIn("envelopes 1, 3).\n", output)
+        self.assertNotIn("ben", output)
+        self.assertEqual(
+            [envelope.struck for envelope in self.envelopes()], [self.first_act + 2, self.first_act + 1, self.first_act + 2]
+        )
+
+    def test_after_the_close_and_after_reopen(self) -> None:
+        self.told("add", given=f"ada {RANKS}\n")
+        self.act("close", {"lines": 1, "checksum": "", "early": False})
+        said = " UTC, and its ballots stay; nothing was changed: if they are wrong, see debvote-election reopen"
+        self.assert_stops(self.election("undo"), self.last_act(), 9, "the vote was closed at ", said)
+        self.told("add", given=f"ben {RANKS}\n")
+        self.act("reopen", {"because": "a bag was forgotten"})
+        # a late line has changed nothing that stands
+        self.assertRegex(self.told("undo"), r"^Took back 1 line \(.*, envelope 2\)\.\nNext: ")
+        self.assertEqual((self.lines(), self.late_lines()), ([f"ada {RANKS}"], []))
+
+    def test_lines_that_reopen_offered(self) -> None:
+        """An act that enters lines is known by its envelopes, whatever its name is."""
+        with self.book.act("offer") as act:
+            queries.add_envelopes(act, [queries.NewEnvelope(f"ada {RANKS}".encode())], [self.elector("ada")], is_late=False)
+        self.assertIn("Took back 1 line (act 4: offer, ".replace("4", str(self.first_act)), self.told("undo"))
+        self.assertEqual(self.lines(), [])
+
+    def test_letters_wait_as_taken_back(self) -> None:
+        with self.book.act("add") as act:
+            for name in ("ada", "ben"):
+                source = queries.keep_source(act, "inbox", b"letter")
+                letter = act.insert("letter", source=source, identity=name, known="{}")
+                act.insert("letter_state", letter=letter, state="entered")
+                line = f"{name} {RANKS}".encode()
+                queries.add_envelopes(act, [queries.NewEnvelope(line, "", source, letter)], [self.elector(name)], is_late=False)
+        self.assertIn("2 letters then wait again, as taken back: 1, 2\n", self.told("undo"))
+        states = "SELECT letter, state FROM letter_state WHERE act = ? ORDER BY letter"
+        self.assertEqual(self.book.rows(states, self.last_act()), [(1, "taken back"), (2, "taken back")])
+
+
+class AtATerminal(CalledTest):
+    def setUp(self) -> None:
+        super().setUp()
+        self.told("add", given=f"ada {RANKS}\n")
+        self.told("add", given=f"ada {OTHER_RANKS}\nben {RANKS}\nx\n")
+
+    def asked(self) -> Terminal:
+        """It shows what would stand, and asks."""
+        terminal = Terminal(self, "undo")
+        shown = terminal.until("? [y/n] ")
+        self.assertRegex(
+            shown, rf"^  ada: {LAKE}, as before\n  ben: no ballot would be left\nTake back 3 lines \(.*, envelopes 2-4\)\? "
+        )
+        return terminal
+
+    def test_a_no(self) -> None:
+        before, terminal = self.last_act(), self.asked()
+        terminal.type("n\n")
+        output, status = terminal.end()
+        self.assertIn("undo: you did not say yes; nothing was changed: ", output)
+        self.assertEqual((status, self.last_act()), (9, before))
+
+    def test_a_yes(self) -> None:
+        terminal = self.asked()
+        terminal.type("y\n")
+        output, status = terminal.end()
+        self.assertRegex(output, r"Took back 3 lines \(.*\)\.\nNext: ")
+        self.assertEqual((status, self.lines()), (0, [f"ada {RANKS}"]))
+
+    def test_without_a_question(self) -> None:
+        output, status = Terminal(self, "undo", "--yes").end()
+        self.assertNotIn("[y/n]", output)
+        self.assertIn("  ben: no ballot is left\n", output)
+        self.assertEqual((status, self.lines()), (0, [f"ada {RANKS}"]))
+
+    def test_what_was_shown_is_what_is_taken_back(self) -> None:
+        """Another act while it asks: it shows what would be taken back now, and asks anew."""
+        terminal = self.asked()
+        self.told("add", given=f"cleo {RANKS}\n")
+        before = self.last_act()
+        terminal.type("y\n")
+        shown = terminal.until("? [y/n] ")
+        self.assertIn("  cleo: no ballot would be left\nTake back 1 line (", shown)
+        self.assertEqual(self.last_act(), before)
+        # another undo takes this one, and the one before is asked about again
+        self.told("undo")
+        terminal.type("y\n")
+        self.assertIn("Take back 3 lines (", terminal.until("? [y/n] "))
+        terminal.type("y\n")
+        self.assertEqual((terminal.end()[1], self.lines()), (0, [f"ada {RANKS}"]))
+
+    def test_an_envelope_that_is_struck_meanwhile(self) -> None:
+        terminal = self.asked()
+        self.told("strike", 2, "--because", "a test")
+        terminal.type("y\n")
+        self.assertIn("Take back 2 lines (", terminal.until("? [y/n] "))
+        terminal.type("n\n")
+        terminal.end()
+        self.assertEqual(len(self.lines()), 3)
+
+    def test_an_act_that_changes_nothing_of_it(self) -> None:
+        terminal = self.asked()
+        self.act("extend", {"until": "2099-12-04T18:00:00+01:00"})
+        terminal.type("y\n")
+        output, status = terminal.end()
+        self.assertNotIn("[y/n]", output)
+        self.assertEqual((status, self.lines()), (0, [f"ada {RANKS}"]))
+
+    def test_a_close_meanwhile(self) -> None:
+        terminal = self.asked()
+        self.act("close", {"lines": 4, "checksum": "", "early": False})
+        terminal.type("y\n")
+        output, status = terminal.end()
+        self.assertIn("the vote was closed at ", output)
+        self.assertEqual((status, len(self.lines())), (9, 4))
+
+    def test_the_words_of_a_ballot_that_comes_back(self) -> None:
+        self.told("desk", given=f"ada {RANKS}\n")
+        terminal = Terminal(self, "undo")
+        self.assertIn(f"  ada: {HALL}, as before\n", terminal.until("? [y/n] "))
+        terminal.type("n\n")
+        terminal.end()

@@ -1,0 +1,205 @@
+"""`add`: what came before is ignored, whatever became of it, and what has changed since is told."""
+
+from tests.support.called import OTHER_RANKS, RANKS, CalledTest
+
+MONDAY = "Ada 1,2,4,3\nben 1, 2,4,3\n"
+TABLE = ("--csv", "--name=n", "--ranks=a,b,c,d")
+
+
+class Before(CalledTest):
+    def setUp(self) -> None:
+        super().setUp()
+        self.write("monday", MONDAY)
+        self.told("add", "monday")
+
+    def assert_ignored(self, count: int, new: int, *words: str, name: str = "more") -> str:
+        """So many lines are ignored, and so many are new; returns what is told."""
+        lines = "1 line is ignored, since it" if count == 1 else f"{count} lines are ignored, since they"
+        output = self.told("add", *words, name)
+        self.assertIn(f"{name}: {lines} came before; {new} {'is' if new == 1 else 'are'} new\n", output)
+        return output
+
+
+class AsItCame(Before):
+    def test_the_same_file(self) -> None:
+        before = self.last_act()
+        output = self.assert_ignored(2, 0, name="monday")
+        self.assertIn("There is nothing new, and nothing was added.\n", output)
+        self.assertNotIn("--again", output)
+        # then it is no act, and the file is not kept a second time
+        self.assertEqual((self.last_act(), len(self.sources())), (before, 1))
+
+    def test_copies_in_any_order_with_other_line_ends_and_repairs(self) -> None:
+        for copy in ("\ufeff" + MONDAY.replace("\n", "\r\n"), "ben 1,2,4,3\nada 1,2,4,3\n", "ada 1;2;4;3.\nben:1,2,4,3"):
+            self.write("more", copy)
+            self.assert_ignored(2, 0)
+        self.assertEqual(self.lines(), [f"ada {RANKS}", f"ben {RANKS}"])
+
+    def test_it_has_grown(self) -> None:
+        self.write("more", "cleo 1,2,4,3\n" + MONDAY + "dan 1,2,4,3\n")
+        output = self.assert_ignored(2, 2)
+        self.assertIn("3 counted  cleo: ", output)
+        self.assertIn("4 counted  dan: ", output)
+        self.assertEqual(self.lines()[2:], ["cleo 1,2,4,3", "dan 1,2,4,3"])
+        # the file is kept whole, and each envelope has its line in it
+        self.assertEqual(self.sources()[-1], ("more", self.read("more")))
+        self.assertEqual([envelope.place for envelope in self.envelopes()[2:]], [":1", ":4"])
+        self.assertEqual(self.acts()[-1][1], {"files": ["more"], "lines": 2, "passed_over": 2})
+
+    def test_the_same_line_more_often_than_before(self) -> None:
+        """Of three equal lines one came before: whoever goes back to a first ballot sends it again."""
+        self.write("more", f"ada {RANKS}\nada {OTHER_RANKS}\nada {RANKS}\n")
+        self.assert_ignored(1, 2)
+        self.assertEqual(self.lines()[2:], [f"ada {OTHER_RANKS}", f"ada {RANKS}"])
+        self.assert_ignored(3, 0)
+
+    def test_it_came_in_a_table_and_comes_as_lines(self) -> None:
+        self.write("form", "n,a,b,c,d\nada,1,2,4,3\ncleo,1,2,4,3\n")
+        self.assert_ignored(1, 1, *TABLE, name="form")
+        self.write("more", f"cleo {RANKS}\n")
+        self.assert_ignored(1, 0)
+
+    def test_several_files_count_as_they_go_in(self) -> None:
+        self.write("one", f"cleo {RANKS}\nada {RANKS}\n")
+        self.write("two", f"cleo {RANKS}\ndan {RANKS}\ndan {RANKS}\n")
+        output = self.told("add", "one", "two")
+        self.assertIn("one: 1 line is ignored, since it came before; 1 is new\n", output)
+        self.assertIn("two: 1 line is ignored, since it came before; 2 are new\n", output)
+        self.assertEqual(self.lines()[2:], [f"cleo {RANKS}", f"dan {RANKS}", f"dan {RANKS}"])
+
+    def test_what_came_at_a_desk_came_in_no_file(self) -> None:
+        self.told("desk", given=f"cleo {RANKS}\n")
+        self.write("more", f"cleo {RANKS}\n")
+        self.assertIn("4 replaced  cleo: ", self.told("add", "more"))
+
+    def test_refused_lines_are_known_by_their_text(self) -> None:
+        self.told("add", given="Zoe 1,2,4,3\n")
+        self.write("more", "Zoe 1,2,4,3\nzoe 1,2,4,3\nada 1,2,4,3\nben 1,2,4,3\n")
+        self.assert_ignored(3, 1)
+        self.assertEqual(self.lines()[2:], ["Zoe 1,2,4,3", "zoe 1,2,4,3"])
+
+    def test_late_lines(self) -> None:
+        self.act("close", {"lines": 2, "checksum": "", "early": False})
+        self.write("more", f"cleo {RANKS}\n")
+        self.told("add", "more")
+        self.assert_ignored(1, 0)
+        self.assertEqual(self.late_lines(), [f"cleo {RANKS}"])
+
+    def test_what_an_undo_took_back_came_not(self) -> None:
+        self.told("undo")
+        output = self.told("add", "monday")
+        self.assertNotIn("came before", output)
+        self.assertIn("3 counted  ada: ", output)
+        # nor do two files of which the later one was taken back
+        self.write("more", MONDAY + f"cleo {RANKS}\n")
+        self.assert_ignored(2, 1)
+        self.told("undo")
+        self.assert_ignored(2, 1)
+
+
+    def test_a_table_with_a_newer_row_that_came_before(self) -> None:
+        """A web form may show the newest row first: then the row below, which is new to the book, is the older one."""
+        self.write("form", "n,a,b,c,d\ncleo,1,2,4,3\n")
+        self.told("add", *TABLE, "form")
+        self.write("more", "n,a,b,c,d\ncleo,1,2,4,3\ncleo,2,1,4,3\ndan,1,2,4,3\n")
+        before = self.last_act()
+        for words in ((), ("--force",)):
+            said = "more: it has two different ballots of cleo (row 2 and row 3)"
+            self.assert_stops(self.election("add", *TABLE, *words, "more"), before, 9, said, "--oldest-first or --newest-first")
+        older = "more: the ballot of cleo in row 3 is older than that in row 2, which came before, and would replace it"
+        self.assert_stops(self.election("add", *TABLE, "--newest-first", "more"), before, 9, older)
+        self.assert_ignored(1, 2, *TABLE, "--oldest-first")
+        self.assertEqual(self.lines()[3:], [f"cleo {OTHER_RANKS}", f"dan {RANKS}"])
+        # by now both came before, in whatever order
+        self.assert_ignored(3, 0, *TABLE)
+
+
+class Since(Before):
+    def test_another_ballot_has_come(self) -> None:
+        self.told("desk", given=f"ada {OTHER_RANKS}\n")
+        output = self.assert_ignored(2, 0, name="monday")
+        self.assertIn(
+            f"\n  monday:1: `ada {RANKS}` came before, and ada has voted since (envelope 3); --again enters it again\n", output
+        )
+        self.assertNotIn("monday:2", output)
+        self.assertEqual(len(self.lines()), 3)
+        output = self.assert_ignored(1, 1, "--again", name="monday")
+        self.assertIn("4 replaced  ada: At the lake", output)
+        self.assertEqual(self.lines()[3:], [f"ada {RANKS}"])
+        # by now it stands, so that there is nothing to tell
+        self.assertNotIn("--again", self.assert_ignored(2, 0, "--again", name="monday"))
+
+    def test_a_line_that_is_taken_again_came_once(self) -> None:
+        """It is known by its new envelope: to take it again twice enters nothing, and the same line once more is a new one."""
+        self.write("more", f"cleo {RANKS}\ncleo {OTHER_RANKS}\n")
+        self.told("add", "more")
+        self.told("desk", given="cleo -,-,-,1\n")
+        self.assertIn("Added 2 lines (2 replaced).\n", self.told("add", "--again", "more"))
+        self.assertEqual(self.acts()[-1][1]["again"], [3, 4])
+        self.assertEqual(self.lines()[5:], [f"cleo {RANKS}", f"cleo {OTHER_RANKS}"])
+        self.assertNotIn("--again", self.assert_ignored(2, 0, "--again"))
+        self.write("more", f"cleo {RANKS}\ncleo {OTHER_RANKS}\ncleo {RANKS}\n")
+        self.assert_ignored(2, 1)
+        self.assertEqual(self.lines()[7:], [f"cleo {RANKS}"])
+        # what an `undo` took back is known by its old envelope again
+        self.told("undo")
+        self.told("undo")
+        self.assertIn("cleo has voted since (envelope 5)", self.assert_ignored(2, 1))
+
+    def test_a_later_row_of_the_same_file_is_nothing_since(self) -> None:
+        self.write("more", f"cleo {RANKS}\ncleo {OTHER_RANKS}\n")
+        self.told("add", "more")
+        self.assertNotIn("--again", self.assert_ignored(2, 0))
+        self.assertNotIn("--again", self.assert_ignored(2, 0, "--again"))
+        self.told("desk", given="cleo -,-,-,1\n")
+        output = self.assert_ignored(0 + 2, 0)
+        self.assertEqual(output.count("and cleo has voted since (envelope 5)"), 2)
+        # both go in again, in their order
+        self.told("add", "--again", "more")
+        self.assertEqual(self.lines()[-2:], [f"cleo {RANKS}", f"cleo {OTHER_RANKS}"])
+
+    def test_it_was_struck(self) -> None:
+        self.told("strike", 1, "--because", "a test")
+        output = self.assert_ignored(2, 0, name="monday")
+        self.assertIn("  monday:1: `ada 1,2,4,3` came before, and was struck (envelope 1); --again enters it again\n", output)
+        self.assertEqual(self.lines(), [f"ben {RANKS}"])
+        self.assertIn("3 counted  ada: ", self.assert_ignored(1, 1, "--again", name="monday"))
+        self.assertNotIn("struck", self.assert_ignored(2, 0, name="monday"))
+
+    def test_in_two_files_at_once_it_is_taken_once(self) -> None:
+        self.told("strike", 1, "--because", "a test")
+        self.write("copy", MONDAY)
+        self.told("add", "--again", "monday", "copy")
+        self.assertEqual(self.lines(), [f"ben {RANKS}", f"ada {RANKS}"])
+
+    def test_another_ballot_that_was_struck_is_nothing_since(self) -> None:
+        self.told("desk", given=f"ada {OTHER_RANKS}\n")
+        self.told("strike", 3, "--because", "a test")
+        self.assertNotIn("--again", self.assert_ignored(2, 0, name="monday"))
+
+    def test_a_late_ballot_is_nothing_since(self) -> None:
+        self.act("close", {"lines": 2, "checksum": "", "early": False})
+        self.told("desk", given=f"ada {OTHER_RANKS}\n")
+        self.assertNotIn("--again", self.assert_ignored(2, 0, name="monday"))
+
+    def test_it_was_late_and_the_vote_is_open_again(self) -> None:
+        """What was entered late although it came in time goes in as a new envelope."""
+        self.act("close", {"lines": 2, "checksum": "", "early": False})
+        self.write("more", f"cleo {RANKS}\n")
+        self.told("add", "more")
+        self.assertNotIn("--again", self.assert_ignored(1, 0))
+        self.act("reopen", {"because": "a bag was forgotten"})
+        said = f"  more:1: `cleo {RANKS}` came before, and was late (envelope 3); --again enters it again\n"
+        self.assertIn(said, self.assert_ignored(1, 0, "--came-before-close", "yes"))
+        self.assertIn("4 counted  cleo: ", self.told("add", "--again", "--came-before-close", "yes", "more"))
+        self.assertEqual((self.lines()[2:], self.late_lines()), ([f"cleo {RANKS}"], [f"cleo {RANKS}"]))
+        self.assertNotIn("--again", self.assert_ignored(1, 0, "--came-before-close", "yes"))
+
+    def test_of_many_the_first_are_told(self) -> None:
+        lines = "".join(f"cleo {number},1,1,1\n" for number in range(1, 31))
+        self.write("more", lines)
+        self.told("add", "more")
+        self.told("desk", given="cleo -,-,-,1\n")
+        output = self.assert_ignored(30, 0)
+        self.assertEqual(output.count("cleo has voted since"), 20)
+        self.assertIn("\n  and 10 more; --again enters them again\n", output)

@@ -1,0 +1,59 @@
+"""The sentences of the reasons: each reason has one for the secretary and one for electors, and becomes of some letter."""
+
+import datetime
+import re
+import unittest
+
+from debvote_tools.inbox.candidates import repaired
+from debvote_tools.inbox.letter import may_be_ballot
+from debvote_tools.inbox.reasons import Because, Reason, for_elector, for_secretary
+
+from tests.python.inbox import test_signatures
+from tests.python.inbox import test_table_of_letters
+from tests.support.letters import NAMES, at, label
+
+# values of each name that a reason may have
+VALUES: dict[str, str | int | datetime.datetime] = {
+    "length": 7, "limit": 8, "number": 3, "digest": 2, "options": 4, "called": at(9), "end": at(9), "close": at(9), "time": at(9), "arrived": at(9),
+    "what": "text", "charset": "x-none", "character": "U+000D", "element": "<s>", "sender": "a@x",
+    "elector": "ada", "listed": "b@x", "electors": "ada, ben", "mark": "0123456789abcdef", "key": "A" * 40,
+}  # fmt: skip
+
+
+def with_values(reason: Reason) -> Because:
+    """A reason with all values that its sentence names."""
+    names = re.findall(r"{(\w+)}", reason.value[0])
+    return reason(**{name: VALUES[name] for name in names})
+
+
+class Sentences(unittest.TestCase):
+    def test_each_reason_has_both(self) -> None:
+        self.assertEqual(len(Reason.__members__), len({reason.value[0] for reason in Reason}), "no two have one sentence")
+        for reason in Reason:
+            said = for_secretary(with_values(reason))
+            self.assertNotRegex(said, r"[{}]|^[A-Z]|\.$", reason)
+            self.assertRegex(for_elector(with_values(reason)), r"^The reason: [^{}]+\.$")
+
+    def test_what_electors_read_has_no_value_and_no_ballot(self) -> None:
+        for reason in Reason:
+            text = for_elector(with_values(reason))
+            for value in VALUES.values():
+                self.assertNotRegex(
+                    text, rf"(?<!\w){re.escape(str(value))}(?!\w)" if isinstance(value, str) and len(value) > 4 else "\x00"
+                )
+            self.assertNotIn("@", text)
+            self.assertFalse(may_be_ballot(repaired(text)) and any(name in text.split() for name in NAMES), text)
+
+    def test_how_values_are_shown(self) -> None:
+        self.assertEqual(
+            for_secretary(Reason.AFTER_THE_END(end=at(9))), "it arrived after the end of the vote, 2026-11-23 09:00:00 UTC"
+        )
+        said = for_secretary(Reason.OTHER_SENDER(sender="a\x1b[2J\u202e@x", listed="b@x", elector="ada"))
+        self.assertEqual(said, "it came from a\\u001B[2J\\u202E@x, but the list of members has b@x for ada")
+
+    def test_each_becomes_of_some_letter(self) -> None:
+        tables = [*(row.becomes for row in test_table_of_letters.TABLE), *test_signatures.BECOMES.values()]
+        found = {one.partition(": ")[2] for one in tables}
+        # these two are of letters beside others, and of a gpgv that hangs
+        found |= {"came before", "slow signature", "parted off"}
+        self.assertEqual({label(reason()) for reason in Reason} - found, set())

@@ -1,0 +1,218 @@
+"""What becomes of letters beside each other: their order, copies, and what acts decided before."""
+
+import unittest
+
+from debvote_tools.inbox.known import Ballot, Decision
+from debvote_tools.inbox.letter import ParsedLetter
+from debvote_tools.inbox.rules import JudgedLetter, Outcome
+
+from tests.support.letters import OTHER_RANKS, RANKS, alternatives, at, judged, letter, lines_in, outcome, outcomes, parsed
+
+BALLOT, OTHER = f"ada {RANKS}", f"ada {OTHER_RANKS}"
+
+
+def hour(of_day: int, second: int = 0) -> str:
+    return f"Mon, 23 Nov 2026 {of_day:02}:00:{second:02} +0000"
+
+
+def first(**how: object) -> bytes:
+    """The letter of which there are copies."""
+    return letter("ada", f"{BALLOT}\n", **{"time": hour(10), **how})  # type: ignore[arg-type]
+
+
+def entered(*letters: JudgedLetter) -> dict[str, object]:
+    """The circumstances when what goes in of these has gone in."""
+    going = [one for one in letters if one.outcome is Outcome.GOES_IN]
+    ballots: dict[str, list[Ballot]] = {}
+    for one in going:
+        assert one.time is not None
+        ballots.setdefault(one.electors[0], []).append(Ballot(one.time, one.ballots[0].ballot))
+    return {"ballots": ballots, "decisions": {one.parsed.digest: Decision.ENTERED for one in going}}
+
+
+class Order(unittest.TestCase):
+    def test_as_they_arrived(self) -> None:
+        later, elsewhere = letter("ada", OTHER, number=2, time=hour(12)), letter(
+            "ben", f"ben {RANKS}", time="Mon, 23 Nov 2026 12:30:00 +0100"
+        )
+        self.assertEqual(lines_in(later, elsewhere, first()), [BALLOT, f"ben {RANKS}", OTHER])
+
+    def test_without_a_time_they_come_last(self) -> None:
+        found = judged(letter("ada", BALLOT, time=None), letter("ben", f"ben {RANKS}", time=None), first(number=2))
+        self.assertEqual([one.parsed.where for one in found], ["letter 3", "letter 1", "letter 2"])
+
+    def test_two_of_one_second_that_differ_both_wait(self) -> None:
+        others = [letter("ben", f"ben {RANKS}", time=hour(10)), letter("ada", BALLOT, number=3, time=hour(9))]
+        both = [first(), letter("ada", OTHER, number=2, time=hour(10))]
+        for letters in (both, both[::-1]):
+            self.assertEqual(
+                sorted(outcomes(*letters, *others)), [f"in: {BALLOT}", f"in: ben {RANKS}", "waits: same time", "waits: same time"]
+            )
+        self.assertEqual(outcomes(first(), letter("ada", OTHER, number=2, time=hour(10, 1))), [f"in: {BALLOT}", f"in: {OTHER}"])
+
+    def test_two_of_one_second_that_are_the_same_go_in(self) -> None:
+        self.assertEqual(lines_in(first(), letter("ada", f"Hello\n{BALLOT}", number=2, time=hour(10))), [BALLOT, BALLOT])
+
+    def test_one_that_waits_takes_nobody_s_place(self) -> None:
+        self.assertEqual(
+            outcomes(first(), letter("ada", OTHER, number=2, time=hour(10), sender="x@y.example")),
+            [f"in: {BALLOT}", "waits: other sender"],
+        )
+
+    def test_an_older_letter_that_comes_after_a_newer_one(self) -> None:
+        newer = judged(letter("ada", OTHER, number=2, time=hour(12)))
+        self.assertEqual(outcomes(newer[0].parsed, first(), **entered(*newer)), ["waits: later ballot", "entered"])
+
+
+class Copies(unittest.TestCase):
+    def test_a_mailbox_that_is_saved_again(self) -> None:
+        """With other lines in its heads, and a new letter."""
+        letters = [
+            first(),
+            letter("ada", OTHER, number=2, time=hour(12)),
+            letter("ben", f"ben {RANKS}", time=hour(11)),
+            letter("ben", "ben", number=2),
+        ]
+        found = judged(*letters)
+        again = [b"X-Mozilla-Status: 0001\n" + data for data in letters]
+        new = letter("cleo", f"cleo {RANKS}", time=hour(13))
+        self.assertEqual(
+            sorted(outcomes(*(one.parsed for one in found), *again, new, **entered(*found))),
+            sorted(["entered"] * 3 + ["copy"] * 4 + ["waits: no ballot", f"in: cleo {RANKS}"]),
+        )
+
+    def test_the_same_bytes_twice(self) -> None:
+        self.assertEqual(outcomes(first(), first()), [f"in: {BALLOT}", "copy"])
+
+    def test_other_parts_that_differ_make_no_copy(self) -> None:
+        """Two letters wait for one reason; only one of them may be genuine, and the secretary sees both."""
+        parts = [
+            alternatives("ada", BALLOT, f"<p>{ballot}</p>", time=None, head=f"X: {number}\n")
+            for number, ballot in enumerate((BALLOT, OTHER, OTHER))
+        ]
+        self.assertEqual(outcomes(*parts), ["waits: no arrival", "waits: no arrival", "copy"])
+
+    def test_what_makes_no_other_letter(self) -> None:
+        changes = [
+            (b"\n", b"\r\n"), (f"{BALLOT}\n".encode(), f"{BALLOT}  \n\n\n".encode()), (b"To: ", b"X-Status: R\nTo: "),
+            (b"charset=utf-8", b"charset=us-ascii"),
+        ]  # fmt: skip
+        for before, after in changes:
+            self.assertEqual(outcomes(first(), first().replace(before, after)), [f"in: {BALLOT}", "copy"], after)
+        quoted = letter("ada", f"{BALLOT}\n\nFrom here on nothing\n")
+        self.assertEqual(outcomes(quoted, quoted.replace(b"\nFrom here", b"\n>From here")), [f"in: {BALLOT}", "copy"])
+
+    def test_what_makes_another_letter(self) -> None:
+        others = [
+            first(number=2),
+            letter("ada", f"Hi\n{BALLOT}\n"),
+            first(sender="x@y.example"),
+            first().replace(b"Message-ID", b"X-ID"),
+        ]
+        for data in others:
+            self.assertNotEqual(parsed(data).identity, parsed(first()).identity)
+        self.assertEqual(parsed(others[-1]).identity, parsed(others[-1] + b"\n").identity, "no Message-ID is as none")
+
+    def test_the_later_copy_waits_if_another_ballot_came_between(self) -> None:
+        other, again = letter("ada", OTHER, number=2, time=hour(11)), first(time=hour(12))
+        wanted = [f"in: {BALLOT}", f"in: {OTHER}", "waits: came before"]
+        self.assertEqual(outcomes(again, other, first()), wanted)
+        found = judged(first(), other)
+        self.assertEqual(
+            outcomes(*(one.parsed for one in found), again, **entered(*found)), ["entered", "entered", "waits: came before"]
+        )
+        self.assertEqual(outcomes(first(), again), [f"in: {BALLOT}", "copy"])
+        self.assertEqual(
+            outcomes(first(), letter("ben", f"ben {RANKS}", time=hour(11)), again), [f"in: {BALLOT}", f"in: ben {RANKS}", "copy"]
+        )
+
+    def test_a_copy_of_one_that_waits_for_a_ballot_beside_it(self) -> None:
+        """It is one letter, of the earliest arrival: a second delivery makes it no later one."""
+        again = first(time=hour(12))
+        later = {"ada": [Ballot(at(11), OTHER)]}
+        self.assertEqual(outcomes(first(), again, ballots=later), ["waits: later ballot", "waits: came before"])
+        self.assertEqual(outcomes(first(), b"X-Status: R\n" + first(), ballots=later), ["waits: later ballot", "copy"])
+        beside = letter("ada", OTHER, number=2, time=hour(10))
+        self.assertEqual(sorted(outcomes(first(), beside, again)), ["copy", "waits: same time", "waits: same time"])
+
+    def test_a_copy_is_no_other_ballot_of_its_second(self) -> None:
+        """A server delivers again what it has delivered, and a new letter."""
+        again, new = first(time=hour(12)), letter("ada", OTHER, number=2, time=hour(12))
+        self.assertEqual(outcomes(first(), again, new), [f"in: {BALLOT}", "copy", f"in: {OTHER}"])
+        found = judged(first())
+        self.assertEqual(outcomes(found[0].parsed, again, new, **entered(*found)), ["entered", "copy", f"in: {OTHER}"])
+
+    def test_a_later_copy_of_one_that_was_entered_or_set_aside_by_hand(self) -> None:
+        """Without a Message-ID an elector's third letter may be the first one once more, and is their last word."""
+        texts = {
+            "without a name": (f"{RANKS}\n", Decision.ENTERED),
+            "of several electors": (f"ben {RANKS}\n{BALLOT}\n", Decision.ENTERED),
+            "no greeting above": (f"My vote: 1\n{BALLOT}\n", Decision.SET_ASIDE),
+        }
+        for what, (text, decision) in texts.items():
+            with self.subTest(what=what):
+                kept, again = parsed(letter("ada", text, time=hour(10))), letter("ada", text, time=hour(12))
+                since = {"decisions": {kept.digest: decision}, "ballots": {"ada": [Ballot(at(11), OTHER)]}}
+                self.assertEqual(outcomes(kept, again, **since)[1:], ["waits: came before"])
+                self.assertEqual(outcomes(kept, again, **since | {"ballots": {}})[1:], ["copy"])
+
+    def test_a_letter_that_waits_hides_no_other(self) -> None:
+        """Copies that somebody else made, which came before the genuine letter or after it."""
+        forged = {
+            "one more line in the head": first().replace(b"To: ", b"Auto-Submitted: auto-replied\nTo: "),
+            "a head that is damaged": first().replace(b"To: ", b"no field\nTo: "),
+            "two lines From": first().replace(b"To: ", b"From: x@y.example\nTo: "),
+            "the mark of another vote": first().replace(b"To: ", b"Subject: [0123456789abcdef]\nTo: "),
+            "another HTML": alternatives("ada", f"{BALLOT}\n", f"<p>{OTHER}</p>"),
+        }
+        for what, copy in forged.items():
+            for copy_hour in (9, 10, 11):
+                with self.subTest(what=what, hour=copy_hour):
+                    copy = copy.replace(b"10:00:00", f"{copy_hour:02}:00:00".encode())
+                    self.assertEqual(lines_in(copy, first()), [BALLOT])
+                    self.assertEqual(lines_in(first(), copy), [BALLOT])
+                    # it waits, was set aside or put back when the genuine one comes
+                    waiting = parsed(copy)
+                    for decision in (None, Decision.SET_ASIDE, Decision.PUT_BACK):
+                        decisions = {} if decision is None else {waiting.digest: decision}
+                        self.assertEqual(lines_in(waiting, first(), decisions=decisions), [BALLOT], decision)
+
+    def test_a_second_delivery_after_the_end_that_is_read_first(self) -> None:
+        late = first(time=hour(13))
+        self.assertEqual(lines_in(late, first(), end=at(12)), [BALLOT])
+        found = judged(late, end=at(12))
+        self.assertEqual(outcomes(found[0].parsed, first(), end=at(12)), [f"in: {BALLOT}", "copy"])
+
+    def test_copies_that_wait_for_one_reason_are_told_once(self) -> None:
+        data = letter("ada", "when?", time=hour(10))
+        again = b"X-Status: R\n" + data
+        self.assertEqual(outcomes(data, again), ["waits: no ballot", "copy"])
+        for decision, becomes in ((Decision.SET_ASIDE, "set aside: set aside"), (Decision.PUT_BACK, "waits: put back")):
+            self.assertEqual(outcomes(data, again, decisions={parsed(data).digest: decision}), [becomes, "copy"])
+        # for another reason it is told
+        automatic = b"Auto-Submitted: auto-replied\n" + data
+        self.assertEqual(outcomes(data, automatic), ["waits: no ballot", "waits: automatic"])
+
+
+class Decisions(unittest.TestCase):
+    def decided(self, decision: Decision) -> list[str]:
+        """What becomes of a letter, and of it once more with another head."""
+        kept: ParsedLetter = parsed(first())
+        return outcomes(kept, b"X-Status: R\n" + first(), decisions={kept.digest: decision})
+
+    def test_what_an_act_decided_holds_for_copies(self) -> None:
+        wanted = {
+            Decision.ENTERED: "entered",
+            Decision.TAKEN_BACK: "waits: taken back",
+            Decision.PUT_BACK: "waits: put back",
+            Decision.SET_ASIDE: "set aside: set aside",
+            Decision.STRUCK: "set aside: struck",
+        }
+        for decision, becomes in wanted.items():
+            self.assertEqual(self.decided(decision), [becomes, "copy"])
+
+    def test_a_ballot_that_goes_in_counts_for_those_after_it(self) -> None:
+        found = judged(first(), letter("ada", "hello", number=2, time=hour(9)))
+        self.assertEqual(
+            [(outcome(one), one.has_voted_since) for one in found], [("waits: no ballot", True), (f"in: {BALLOT}", False)]
+        )

@@ -1,0 +1,399 @@
+"""What letters come in: by what is in it, and not by its name."""
+
+import collections
+import os
+import pathlib
+import random
+import tempfile
+import time
+import unittest
+import unittest.mock
+
+from debvote_tools.inbox.mailbox import MAX_LETTER, NotRead, Source, are_letters, letters_of_file, letters_of_folder, parts_of
+
+from tests.support.letters import NAMES, RANKS, answer, letter, mailbox, outcomes, parsed
+
+LINE = b"From somebody Mon Nov 23 10:00:00 2026\n"
+ADA, BEN = letter("ada", f"ada {RANKS}\n"), letter("ben", f"ben {RANKS}\n")
+
+
+def outcome_of(found: Source) -> list[str]:
+    return outcomes(*(parsed(raw.data, raw.where, is_parted_off=raw.is_parted_off) for raw in found.letters))
+
+
+class Files(unittest.TestCase):
+    def test_one_message(self) -> None:
+        for data in (ADA, b"\n\n" + ADA, b"\xef\xbb\xbf" + ADA, b"From ben\n" + ADA):
+            found = letters_of_file("x", data)
+            self.assertEqual([(raw.where, raw.data, raw.is_parted_off) for raw in found.letters], [("x", ADA, False)], data[:10])
+
+    def test_a_mailbox(self) -> None:
+        for line in (
+            LINE,
+            b"From - Mon Nov 23 10:00:00 2026\n",
+            b"From 17@xxx Mon Nov 23 10:00:00 +0000 2026\n",
+            b"From x Mon, 2 Nov 2026 9:00\n",
+        ):
+            box = mailbox(ADA, BEN).replace(LINE, line)
+            for data in (box, box.replace(b"\n", b"\r\n")):
+                found = letters_of_file("box", data)
+                self.assertEqual([raw.where for raw in found.letters], ["box, message 1", "box, message 2"])
+                self.assertEqual([raw.data.replace(b"\r", b"") for raw in found.letters], [ADA, BEN], line)
+                self.assertEqual(outcome_of(found), [f"in: ada {RANKS}", f"in: ben {RANKS}"])
+
+    def test_what_editors_put_before_a_mailbox(self) -> None:
+        """Else it is one letter, and all but its first ballot are text of it."""
+        box = mailbox(ADA, BEN)
+        for start in (b"\n", b"\r\n\r\n", b"\xef\xbb\xbf"):
+            self.assertEqual(outcome_of(letters_of_file("box", start + box)), [f"in: ada {RANKS}", f"in: ben {RANKS}"], start)
+
+    def test_a_mailbox_without_its_first_line(self) -> None:
+        coded = letter("ben", "YmVuIDEsMiw0LDMK\n", head="Content-Transfer-Encoding: base64\n")
+        box = mailbox(ADA, coded).removeprefix(LINE)
+        self.assertEqual(outcome_of(letters_of_file("box", box)), ["waits: parted off"])
+
+    def test_lines_without_a_date_hide_no_letter(self) -> None:
+        """The letter above waits, and says to look at the file: what is below its parts nobody would see."""
+        coded = letter("ben", "YmVuIDEsMiw0LDMK\n", head="Content-Transfer-Encoding: base64\n")
+        parts = letter("ada", f"--b\n\nada {RANKS}\n--b--\n", kind="multipart/mixed; boundary=b")
+        for line in (b"From ben\n", b"From - Mo Nov 23 10:00:00 2026\n", b"from ben\n", b">From - Mon Nov 23 10:00:00 2026\n"):
+            for above in (ADA, parts):
+                self.assertEqual(
+                    outcome_of(letters_of_file("box", LINE + above + b"\n" + line + coded)), ["waits: parted off"], line
+                )
+                self.assertEqual(outcome_of(letters_of_file("one", above + b"\n" + line + coded)), ["waits: parted off"], line)
+
+    def test_whatever_field_is_below_a_line_without_a_date(self) -> None:
+        """Thunderbird and others put fields of their own above all that the mail server wrote."""
+        coded = letter("ben", "YmVuIDEsMiw0LDMK\n", head="Content-Transfer-Encoding: base64\n")
+        line = b"From ben 2026-11-23T10:00:00\n"
+        for field in (
+            b"X-Mozilla-Status: 0001\n",
+            b"X-UID: 7\n",
+            b"Delivery-Date: x\n",
+            b"Status: RO\n",
+            b"To: vote\n",
+            b"Subject: x\n",
+        ):
+            below = b"\n" + line + field + coded
+            self.assertEqual(outcome_of(letters_of_file("box", LINE + ADA + below)), ["waits: parted off"], field)
+            self.assertEqual(outcome_of(letters_of_file("box", line + field + ADA)), [f"in: ada {RANKS}"], field)
+            self.assertEqual(outcome_of(letters_of_file("box", line + field + ADA + below)), ["waits: parted off"], field)
+
+    def test_a_mailbox_of_thunderbird(self) -> None:
+        """Today it writes lines without sender and date; older letters in it have lines with a date."""
+        status = b"X-Mozilla-Status: 0001\nX-Mozilla-Status2: 00000000\n"
+        for lines in (
+            (b"From \n", b"From \n"),
+            (b"From - \n", b"From -\n"),
+            (b"From - Mon Nov 23 10:00:00 2026\n", b"From \n"),
+            (b"From \n", LINE),
+        ):
+            box = lines[0] + status + ADA + b"\n" + lines[1] + status + BEN + b"\n"
+            for data in (box, box.replace(b"\n", b"\r\n")):
+                self.assertEqual(outcome_of(letters_of_file("box", data)), [f"in: ada {RANKS}", f"in: ben {RANKS}"], lines)
+        # without an empty line between, and as text of a letter that is not in a mailbox
+        self.assertEqual(
+            outcome_of(letters_of_file("box", b"From \n" + ADA + b"From \n" + BEN)), [f"in: ada {RANKS}", "waits: parted off"]
+        )
+        self.assertEqual(outcome_of(letters_of_file("x", ADA + b"\nFrom \n" + BEN)), ["waits: parted off"])
+
+    def test_letters_that_somebody_put_together(self) -> None:
+        """As `cat *.eml` does: of the second nobody would see anything."""
+        coded = letter("ben", "YmVuIDEsMiw0LDMK\n", head="Content-Transfer-Encoding: base64\n")
+        above = {
+            "plain text": ADA,
+            "parts": letter("ada", f"--b\n\nada {RANKS}\n--b--\n", kind="multipart/mixed; boundary=b"),
+            "HTML": letter("ada", f"<p>ada {RANKS}</p><br>\n", kind="text/html"),
+            "coded": letter("ada", "YWRhIDEsMiw0LDMK\n", head="Content-Transfer-Encoding: base64\n"),
+            "a PDF": letter("ada", "JVBERi0x\n", kind="application/pdf", head="Content-Transfer-Encoding: base64\n"),
+        }
+        for what, data in above.items():
+            for between in (b"", b"\n", b"Return-Path: <ben@club.example>\n"):
+                self.assertEqual(outcome_of(letters_of_file("x", data + between + coded)), ["waits: parted off"], what)
+        attached = letter("ada", f"--b\n\nada {RANKS}\n--b\nContent-Type: message/rfc822\n\n", kind="multipart/mixed; boundary=b")
+        found = letters_of_file("x", attached + letter("ben", "hello\n") + b"--b--\n")
+        self.assertEqual(outcome_of(found), [f"in: ada {RANKS}"])
+
+    def test_a_boundary_with_a_blank(self) -> None:
+        """Lotus Notes writes such."""
+        notes = "=_alternative 004A8E32C1256F5A_="
+        for kind in (f'multipart/alternative; boundary="{notes}"', f'multipart/alternative; boundary="{notes} "'):
+            parts = letter("ada", f"--{notes}\n\nada {RANKS}\n--{notes}--\n", kind=kind)
+            found = letters_of_file("box", mailbox(parts, BEN))
+            self.assertEqual(outcome_of(found), [f"in: ada {RANKS}", f"in: ben {RANKS}"])
+
+    def test_lines_that_part_nothing(self) -> None:
+        text = f"ada {RANKS}\n\nFrom Monday on\n\nFrom Monday on see\nhttps://x.example\n\n>From x Mon Nov 23 10:00:00 2026\n\nfrom x Mon Nov 23 10:00:00 2026\n\nFrom 10:00 on\n"
+        found = letters_of_file("box", mailbox(letter("ada", text), BEN))
+        self.assertEqual(len(found.letters), 2)
+
+    def test_what_may_be_text_of_the_letter_above(self) -> None:
+        carrier = letter("mallory", "hello\n")
+        length = f"Content-Length: {len(LINE) + len(BEN) + 8}\n".encode()
+        cases = {
+            "no empty line": LINE + carrier + LINE + BEN,
+            "within the length": LINE + length + carrier + b"\n" + LINE + BEN,
+            "within the length, in two lines": LINE + length.replace(b": ", b":\n ") + carrier + b"\n" + LINE + BEN,
+            "within parts whose boundary is in pieces": LINE
+            + letter("x", "--bc\n\nhi\n", kind="multipart/mixed; boundary*0=b; boundary*1=c")
+            + b"\n"
+            + LINE
+            + BEN,
+            "within the parts": LINE + letter("x", "--b\n\nhi\n", kind="multipart/mixed; boundary=b") + b"\n" + LINE + BEN,
+            "within the parts of the second of two": LINE
+            + letter("x", "--b--\n\n--c\n\nhi\n", kind="a/b; boundary=b; boundary=c")
+            + b"\n"
+            + LINE
+            + BEN,
+        }
+        for what, box in cases.items():
+            found = letters_of_file("box", box)
+            self.assertEqual([raw.is_parted_off for raw in found.letters], [False, True], what)
+            self.assertEqual(outcome_of(found)[1], "waits: parted off", what)
+        # each that is within the length, whatever those between say; and none after it
+        inner = b"Content-Length: 1\n" + BEN
+        body = b"hello\n\n" + LINE + inner + b"\n" + LINE + BEN
+        box = (
+            LINE
+            + f"Content-Length: {len(body)}\n".encode()
+            + letter("mallory", "").rstrip(b"\n")
+            + b"\n\n"
+            + body
+            + b"\n"
+            + LINE
+            + ADA
+        )
+        self.assertEqual([raw.is_parted_off for raw in letters_of_file("box", box).letters], [False, True, True, False])
+
+    def test_a_length_that_ends_elsewhere_parts_nothing_off(self) -> None:
+        """Any sender can write one. Else a stranger's letter would have all letters wait that come after it."""
+        carrier, body = letter("mallory", "hello\n"), len("hello\n")
+        exact = body + 1 + len(LINE) + len(BEN) + 1
+        for length in (exact - 2, exact + 1, exact + len(LINE), exact + 50, 10**9):
+            box = LINE + f"Content-Length: {length}\n".encode() + carrier + b"\n" + mailbox(BEN, ADA)
+            found = letters_of_file("box", box)
+            self.assertEqual([raw.is_parted_off for raw in found.letters], [False] * 3, length)
+            self.assertEqual(outcome_of(found)[1:], [f"in: ben {RANKS}", f"in: ada {RANKS}"], length)
+        # before a line without a date, too
+        for line, is_parted_off in ((LINE, True), (b"From \n", False)):
+            for empty in (0, 1):
+                head = f"Content-Length: {exact - empty - len(LINE) + len(line)}\n".encode()
+                box = LINE + head + (carrier + b"\n" + mailbox(BEN, ADA)).replace(LINE, line)
+                self.assertEqual([raw.is_parted_off for raw in letters_of_file("box", box).letters], [False, is_parted_off, False], box)
+        # its own text alone, and the end of the file
+        for length, is_parted_off in ((body, False), (exact, True), (exact + 1, True), (exact + 3, False)):
+            box = LINE + f"Content-Length: {length}\n".encode() + carrier + b"\n" + LINE + BEN
+            self.assertEqual([raw.is_parted_off for raw in letters_of_file("box", box).letters], [False, is_parted_off], length)
+
+    def test_parts_that_end_part_nothing_off(self) -> None:
+        for above in (
+            letter("x", "--b\n\nhi\n--b--\n", kind="multipart/mixed; boundary=b"),
+            # anybody can write so, and no letter after it would go in
+            letter("x", "hi\n", head="Subject: boundary=b\n"),
+        ):
+            box = LINE + above + b"\n" + LINE + BEN
+            self.assertEqual([raw.is_parted_off for raw in letters_of_file("box", box).letters], [False, False])
+
+    def test_a_long_letter_is_named_and_the_others_are_read(self) -> None:
+        long = letter("ada", "x" * MAX_LETTER)
+        found = letters_of_file("box", mailbox(long, BEN))
+        self.assertEqual([(one.where, one.why) for one in found.passed_over], [("box, message 1", NotRead.TOO_LONG)])
+        self.assertEqual([raw.data for raw in found.letters], [BEN])
+        self.assertEqual(letters_of_file("x", long).passed_over[0].why, NotRead.TOO_LONG)
+
+    def test_what_is_no_letter_is_named(self) -> None:
+        names = "__properties_version1.0".encode("utf-16-le")
+        cases = {
+            b"\xd0\xcf\x11\xe0rest" + names: NotRead.OUTLOOK_LETTER, b"!BDNrest": NotRead.OUTLOOK_MAILBOX, b"PK\x03\x04": NotRead.ZIP,
+            b"%PDF-1.7": NotRead.PDF, b"hello\n": NotRead.NO_LETTER, b"": NotRead.NO_LETTER,
+        }  # fmt: skip
+        for data, why in cases.items():
+            found = letters_of_file("x", data)
+            self.assertEqual(([(one.where, one.why) for one in found.passed_over], found.letters), ([("x", why)], []))
+            self.assertTrue(why.what and why.cure)
+
+    def test_a_file_of_lines_is_none(self) -> None:
+        for data in (
+            b"ada: 1,2\nben: 1,2\n",
+            b"From: ada 1\n",
+            b"From Monday on\n\nada 1,2\n",
+            b"",
+            b"To be or not: x\n",
+            LINE + b"ada 1,2\n",
+        ):
+            self.assertFalse(are_letters(data), data)
+
+    def test_many_lines_take_a_time_that_grows_with_their_number(self) -> None:
+        began = time.process_time()
+        for data in (
+            LINE * 100_000,
+            b"From Mon Mon Mon " * 50 * 5_000,
+            (b"From " + b"Mon " * 200 + b"\n") * 10_000,
+            mailbox(*[ADA] * 20_000),
+        ):
+            letters_of_file("box", LINE + b"From: x\n" + data)
+        # no second is promised, but a time that grows with the square of the length would be minutes
+        self.assertLess(time.process_time() - began, 60)
+
+
+class Conservation(unittest.TestCase):
+    """No byte of what somebody adds is lost: it is in a letter that is kept, is named as not read, or parts two letters."""
+
+    lines = (
+        LINE, b"From - Mon Nov 23 10:00:00 2026\n", b"From \n", b"From ben\n", b">From x Mon Nov 23 10:00:00 2026\n", b"from x\n", b"\n", b"\r\n", b"\r", b" \n",
+        b"\xef\xbb\xbf", b"Received: from a by b; Mon, 23 Nov 2026 10:00:00 +0000\n", b"Content-Length: 300\n", b"Content-Type: multipart/mixed; boundary=b\n", b"--b\n",
+        b"--b--\n", b"ben 2,1,4,3\n", b"X-Mozilla-Status: 0001\n", b"\0", b"\xff",
+    )  # fmt: skip
+
+    def changed(self, chance: random.Random) -> bytes:
+        """A mailbox in which some lines are others."""
+        names = chance.choices(NAMES, k=chance.randint(1, 4))
+        texts = [letter(name, f"{name} {RANKS}\n") for name in names]
+        lines = mailbox(*texts).splitlines(keepends=True)
+        for _ in range(chance.randint(0, 6)):
+            place = chance.randrange(len(lines) + 1)
+            lines[place : place + chance.randint(0, 1)] = [chance.choice(self.lines)]
+        data = b"".join(lines[chance.choice((0, 0, 0, 1)) :])
+        return (
+            data.replace(b"\n", b"\r\n") if chance.random() < 0.2 else data[: chance.choice((len(data), len(data), len(data) - 1))]
+        )
+
+    def test_the_parts_of_a_file_are_the_file(self) -> None:
+        chance = random.Random(3)
+        becomes = collections.Counter[str]()
+        for _ in range(800):
+            data = self.changed(chance)
+            parts = parts_of(data)
+            self.assertEqual(b"".join(above + one + below for above, one, below in parts), data)
+            # what is in no letter parts letters
+            for above, _, below in parts:
+                self.assertRegex(above, rb"\A(\xef\xbb\xbf)?[\r\n]*(From [^\n]*\n[\r\n]*)?\Z")
+                self.assertIn(below, (b"", b"\n", b"\r\n"))
+            found = letters_of_file("box", data)
+            if found.letters:
+                self.assertEqual([raw.data for raw in found.letters], [one for _, one, _ in parts])
+                self.assertEqual(found.passed_over, [])
+            else:
+                self.assertEqual([one.where for one in found.passed_over], ["box"])
+            outcomes = outcome_of(found)
+            self.assertEqual(len(outcomes), len(found.letters))
+            becomes.update(one.partition(": ")[0] for one in outcomes)
+        self.assertEqual(set(becomes), {"in", "waits", "copy"})
+        self.assertGreater(min(becomes["in"], becomes["waits"]), 300)
+
+    def test_any_bytes(self) -> None:
+        chance = random.Random(4)
+        for _ in range(2_000):
+            data = b"".join(chance.choices(self.lines, k=chance.randint(0, 12)))
+            self.assertEqual(b"".join(above + one + below for above, one, below in parts_of(data)), data)
+
+    def test_each_file_of_a_folder_is_a_letter_or_named(self) -> None:
+        chance = random.Random(5)
+        with tempfile.TemporaryDirectory(prefix="debvote-letters-") as name:
+            folder = pathlib.Path(name)
+            for number in range(200):
+                (folder / f"{number}.eml").write_bytes(self.changed(chance))
+            found = letters_of_folder(folder)
+            self.assertEqual(
+                sorted([raw.where for raw in found.letters] + [one.where for one in found.passed_over]),
+                sorted(map(str, folder.iterdir())),
+            )
+
+
+class Folders(unittest.TestCase):
+    def setUp(self) -> None:
+        self.folder = pathlib.Path(self.enterContext(tempfile.TemporaryDirectory(prefix="debvote-letters-")))
+
+    def write(self, name: str, data: bytes) -> None:
+        file = self.folder / name
+        file.parent.mkdir(parents=True, exist_ok=True)
+        file.write_bytes(data)
+
+    def found(self) -> tuple[list[str], dict[str, NotRead]]:
+        found = letters_of_folder(self.folder)
+        place = f"{self.folder}{os.sep}"
+        return [raw.where.removeprefix(place) for raw in found.letters], {
+            one.where.removeprefix(place): one.why for one in found.passed_over
+        }
+
+    def test_a_folder_of_messages(self) -> None:
+        for name, data in {
+            "b.eml": ADA,
+            "a.eml": BEN,
+            "list.txt": b"hello",
+            ".hidden.eml": ADA,
+            "more/c.eml": ADA,
+            "d.zip": b"PK\x03\x04",
+        }.items():
+            self.write(name, data)
+        os.mkfifo(self.folder / "pipe")
+        wanted = {
+            "list.txt": NotRead.NO_LETTER,
+            ".hidden.eml": NotRead.HIDDEN,
+            "more": NotRead.FOLDER,
+            "d.zip": NotRead.ZIP,
+            "pipe": NotRead.NO_LETTER,
+        }
+        self.assertEqual(self.found(), (["a.eml", "b.eml"], wanted))
+
+    def test_a_maildir(self) -> None:
+        for place in ("cur/2.host:2,S", "new/1.host", "tmp/3.host", ".Sent/cur/4.host", "cur/deep/5", "dovecot-uidlist"):
+            self.write(place, ADA if "host" in place else b"x")
+        wanted = {".Sent": NotRead.FOLDER, "cur/deep": NotRead.FOLDER, "dovecot-uidlist": NotRead.NO_LETTER}
+        self.assertEqual(self.found(), (["new/1.host", "cur/2.host:2,S"], wanted))
+
+    def test_a_letter_of_a_maildir_that_is_looked_at_meanwhile(self) -> None:
+        self.write("new/1.host", ADA)
+        self.write("cur/2.host:2,S", BEN)
+        iterdir = pathlib.Path.iterdir
+
+        def listed(folder: pathlib.Path) -> list[pathlib.Path]:
+            """What is in a folder; the first letter moves as soon as one of both is listed."""
+            found = list(iterdir(folder))
+            if folder.name in ("new", "cur") and (self.folder / "new/1.host").exists():
+                (self.folder / "new/1.host").rename(self.folder / "cur/1.host:2,S")
+            return found
+
+        with unittest.mock.patch.object(pathlib.Path, "iterdir", listed):
+            self.assertEqual(self.found(), (["cur/1.host:2,S", "cur/2.host:2,S"], {"new/1.host": NotRead.NO_LETTER}))
+
+    def test_a_file_of_a_folder_is_never_parted(self) -> None:
+        """Several letters may be in it, so it waits; a mailbox is named, or all but its first letter would be text of that."""
+        inner = letter("ada", f"ada {RANKS}\n\n{LINE.decode()}{BEN.decode()}")
+        self.write("a.eml", inner)
+        self.write("one.eml", LINE + ADA)
+        self.write("box", mailbox(ADA, BEN))
+        found = letters_of_folder(self.folder)
+        self.assertEqual([(raw.is_parted_off, raw.data) for raw in found.letters], [(True, inner), (False, ADA)])
+        self.assertEqual(sorted(outcome_of(found)), [f"in: ada {RANKS}", "waits: parted off"])
+        self.assertEqual(self.found()[1], {"box": NotRead.MAILBOX})
+
+    def test_a_folder_without_letters(self) -> None:
+        self.assertEqual(self.found(), ([], {}))
+
+
+class Answers(unittest.TestCase):
+    def test_ids(self) -> None:
+        """They are plain, or none: what is written into a letter that goes out has no line of its own."""
+        data = answer("ada", f"ada {RANKS}\n")
+        self.assertEqual(parsed(data).in_reply_to, "<call.ada@club.example>")
+        for value in (
+            "=?utf-8?q?=3Cx=0ABcc=3A_y=40z=3E?=",
+            "<x y@z>",
+            "<\xff\xfe@z>",
+            "<a@b> <c@d>",
+            "<a\n b@c>",
+            f"<{'x' * 300}@y>",
+            "x",
+            "",
+        ):
+            changed = data.replace(b"<call.ada@club.example>", value.encode("latin-1"))
+            self.assertEqual(parsed(changed).in_reply_to, "", value)
+            self.assertEqual(outcomes(changed), [f"in: ada {RANKS}"], value)
+
+    def test_heads_as_they_are_shown(self) -> None:
+        head = "Subject: =?utf-8?b?R3LDvMOfZQ==?= =?x-none?q?x?=\nSubject: \udcff\n"
+        found = parsed(letter("ada", "x", sender="=?utf-8?q?a=0ABcc:?= <ada@club.example>", head=head))
+        self.assertNotIn("\n", found.shown_sender + found.subject)
+        self.assertTrue(found.subject.startswith("Grüße"), found.subject)

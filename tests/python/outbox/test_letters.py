@@ -1,0 +1,888 @@
+"""`letters`: what goes to the electors as files, to whom, and that nothing of it reads as a ballot."""
+
+import hashlib
+import json
+import pathlib
+import re
+import shutil
+import stat
+import subprocess
+import sys
+
+from debvote_tools.inbox.lines import changed
+
+from tests.support import elections
+from tests.support.letters import letter
+from tests.support.outgoing import AT, OTHER_RANKS, RANKS, TITLE, OutTest, one_line, parsed
+
+LAKE = "At the lake, then In the town hall, then Further discussion, then Sell the house and meet there"
+FORM = f"The page of the vote, which writes the line of your ballot for you, and on which the result will be: {AT}"
+LINE = "Your line, with a rank in the place of each _. 1 is the best; equal ranks and - for no rank are allowed: "
+MARKS = r"\[([0-9a-f]{16})-([2-9a-hjkmnp-z]{10})\]"
+WHEN = f"{TITLE} Vote until: Friday, 4 December 2026, 18:00 (UTC)"
+OPTIONS = "Option 1: At the lake Option 2: In the town hall Option 3: Sell the house and meet there Option 4: Further discussion (the default option)"
+ELSEWHERE = "A letter in your name came from another address, and waits until the secretary has looked at it."
+
+
+class Call(OutTest):
+    def test_it_begins_with_title_end_form_and_the_own_line(self) -> None:
+        found = self.written("call")
+        self.assertEqual(sorted(found), elections.NAMES)
+        for name, message in found.items():
+            text = one_line(message)
+            [(mark, own)] = re.findall(MARKS, message["Subject"])
+            begin = f"Dear {name.title()}, {WHEN} {FORM}#{name}/{own} {LINE}{name} _,_,_,_ The ranks are those of these options, "
+            self.assertTrue(text.startswith(f"{begin}in this order: {OPTIONS} Send it as an answer to this letter, or to "), text)
+            self.assertIn(f"whose subject ends with [{mark}-{own}]", text)
+            self.assertIn(f"until the result: {hashlib.sha256(self.read('call/poll.toml')).hexdigest()} After the vote", text)
+            self.assertLess(message.get_content().index(AT), 300)
+            self.assertEqual([other for other in elections.NAMES if f"{other} _" in text], [name])
+            # one page
+            self.assertLess(len(message.get_content().splitlines()), 50)
+
+    def test_the_letter_to_all_has_gaps_and_the_mark_of_the_poll(self) -> None:
+        text = " ".join(self.read("call/call.txt").decode().split())
+        self.assertTrue(text.startswith(f"{WHEN} {FORM} {LINE}NAME _,_,_,_ Write your name on the roll in the place of NAME. The ranks"), text)
+        self.assertRegex(text, r"Send it to vote@club\.example in a letter whose subject ends with \[[0-9a-f]{16}\]\.")
+        self.assertNotIn("answer to this letter", text)
+
+    def test_head_and_modes(self) -> None:
+        found = self.written("call")
+        mark = re.search(r"\[([0-9a-f]{16})\]", self.read("call/call.txt").decode())
+        assert mark is not None
+        ids, own_marks = set(), dict(self.book().rows("SELECT name, mark FROM elector JOIN elector_state USING (elector) WHERE mark <> ''"))
+        self.assertEqual(len(set(own_marks.values())), 9)
+        for name, message in found.items():
+            self.assertEqual(message["To"], f"{name}@club.example")
+            self.assertEqual(message["Subject"], f"Vote: {TITLE} [{mark[1]}-{own_marks[name]}]")
+            self.assertEqual(
+                (message["From"], message["Auto-Submitted"], message["X-Unsent"]), ("vote@club.example", "auto-generated", "1")
+            )
+            self.assertEqual((message["In-Reply-To"], message["Reply-To"], message["Cc"], message["Bcc"]), (None,) * 4)
+            self.assertRegex(message["Message-ID"], r"^<[0-9a-f]{32}@club\.example>$")
+            ids.add(message["Message-ID"])
+        self.assertEqual(len(ids), 9)
+        for path in [*self.files("call"), *self.files("call")[0].parents[:3]]:
+            mode = stat.S_IMODE(path.stat().st_mode)
+            self.assertEqual(mode, 0o700 if path.is_dir() else 0o600, path)
+
+    def test_again_it_makes_the_same_files_and_no_act(self) -> None:
+        self.written("call")
+        before = {file: file.read_bytes() for file in self.files("call")}
+        last = self.book().last_number()
+        for file in before:
+            file.unlink()
+        self.set_clock("2026-11-24T11:00:00+00:00")
+        self.written("call")
+        self.assertEqual({file: file.read_bytes() for file in self.files("call")}, before)
+        self.assertEqual(self.book().last_number(), last)
+
+    def test_an_answer_to_it_goes_in(self) -> None:
+        """Who knows the own mark of an elector and the Message-ID of a letter to them may put a quotation above the ballot, and nobody else."""
+        found = self.written("call")
+        quoted = "\n".join(f"> {line}" for line in found["ada"].get_content().splitlines()[:12])
+        [own] = self.book().rows("SELECT mark FROM elector JOIN elector_state USING (elector) WHERE name = 'ada' AND mark <> ''")
+        for name, other in (("ada", "ada"), ("ben", "ada")):
+            head = f"In-Reply-To: {found[other]['Message-ID']}\nSubject: Re: Vote [{elections.ANY_MARK}-{own[0]}]\n"
+            text = f"On 23 November 2026 you wrote:\n{quoted}\n\n{name} {RANKS}\n"
+            self.add_letters(letter(name, text, head=head, time="Mon, 23 Nov 2026 09:59:00 +0000", number=name))
+        self.assertIn("ada", self.debvote_standing())
+        self.assertNotIn("ben", self.debvote_standing())
+
+    def debvote_standing(self) -> str:
+        self.done("export", "out")
+        text = (self.folder / "out" / "ballots.txt").read_text()
+        for file in (self.folder / "out").rglob("*"):
+            if file.is_file():
+                file.unlink()
+        self.run_program("rm", "-r", "out")
+        return text
+
+    def test_after_an_extension_those_who_have_the_call_get_its_letter(self) -> None:
+        self.written("call")
+        # whose address was wrong has no call yet
+        self.write("members.csv", elections.members_of(elections.NAMES).replace("ada@club", "ada@new"))
+        self.done("roll", "--yes")
+        self.done("call", "--until", "2026-12-06 12:00", "--zone", "UTC")
+        found = self.written("call")
+        texts = {name: one_line(message) for name, message in found.items()}
+        self.assertRegex(found["ben"]["Subject"], rf"^Vote ends later: {TITLE} {MARKS}$")
+        self.assertRegex(found["ada"]["Subject"], rf"^Vote: {TITLE} ")
+        self.assertNotIn("You have more time", texts.pop("ada"))
+        for name, text in texts.items():
+            self.assertTrue(text.startswith(f"Dear {name.title()}, You have more time to vote."), text)
+            when = "Vote until: Sunday, 6 December 2026, 12:00 (UTC) The time was extended. The call said at first: Friday, 4 December"
+            self.assertIn(f"{TITLE} {when} 2026, 18:00 (UTC) {FORM}#{name}/", text)
+            self.assertIn(f"{LINE}{name} _,_,_,_", text)
+        self.done("call", "--until", "2026-12-08 12:00", "--zone", "UTC")
+        self.assertIn("Vote until: Tuesday, 8 December 2026, 12:00 (UTC)", self.texts("call")["ben"])
+
+    def test_who_has_the_call_that_holds(self) -> None:
+        """One that was taken back is none; one that went out after an extension is one."""
+        self.written("call")
+        self.done("call", "--take-back")
+        self.done("call", *self.call_words)
+        for day, is_whole in ((6, True), (8, False)):
+            self.done("call", "--until", f"2026-12-{day:02} 12:00", "--zone", "UTC")
+            for text in self.texts("call").values():
+                self.assertEqual(("After the vote all" in text, "You have more time to vote." in text), (is_whole, not is_whole))
+
+    def test_after_the_end_nobody_is_invited(self) -> None:
+        self.set_clock("2026-12-04T18:00:01+00:00")
+        for kind in ("call", "reminders"):
+            self.assert_fault(self.election("letters", kind), 9, "the vote is over")
+        self.done("close")
+        for kind in ("call", "reminders"):
+            self.assert_fault(self.election("letters", kind), 9, "the vote is over")
+        self.assertEqual((self.rows("call"), self.rows("reminders")), ([], []))
+
+
+class Refused(OutTest):
+    call_words = None
+
+    def test_before_the_call(self) -> None:
+        for kind in ("call", "receipts", "reminders", "closed", "result"):
+            self.assertEqual(self.election("letters", kind, "--from", "vote@club.example").status, 9)
+
+    def test_a_call_without_addresses(self) -> None:
+        self.done("call")
+        self.assert_fault(self.election("letters", "call"), 2, "--from: the call names no address")
+        found = self.written("call", "--from", "vote@other.example")
+        text = one_line(found["ada"])
+        begin = f"Dear Ada, {TITLE} You can vote until the time that the secretary announces. {LINE}ada _,_,_,_ "
+        self.assertTrue(text.startswith(begin), text)
+        self.assertIn("Option 3: Sell the house and meet there (majority ratio 3)", text)
+        # there is no page that has the rest
+        self.assertRegex(text, r"Send your ballot as the secretary announces\. .* WHAT DECIDES .* WHAT WILL BE PUBLIC ")
+        self.assertEqual(found["ada"]["From"], "vote@other.example")
+        self.assertIn(f"{LINE}ada _,_,_,_", self.texts("reminders", "--from", "v@x.example")["ada"])
+
+    def test_of_several_addresses_the_first_that_each_server_takes(self) -> None:
+        self.write("members.csv", elections.members_of(elections.NAMES).replace("ada@club", "ädä@club.example home@ada"))
+        self.done("roll")
+        self.done("call", "--to", "vote@club.example")
+        self.assertEqual(self.written("call")["ada"]["To"], "home@ada.example")
+
+    def test_an_address_of_before_the_call_gets_no_receipt(self) -> None:
+        self.write("members.csv", elections.members_of(elections.NAMES).replace("ada@club", "ada@new"))
+        self.done("roll")
+        self.done("call", "--to", "vote@club.example")
+        self.add_lines(f"ada {RANKS}")
+        self.assertEqual([message["To"] for message in self.written("receipts").values()], ["ada@new.example"])
+
+
+class OwnWords(OutTest):
+    """What the secretary writes begins each letter that asks for a ballot, and a name of the society is in From."""
+
+    call_words = None
+    letter = f"Dear friends,\n\npaper goes into the box in the hall.\nIf you are unsure write ada {RANKS} and sign.\n\nYours, Eve\n"
+
+    def setUp(self) -> None:
+        super().setUp()
+        self.write("letter.txt", self.letter)
+        self.set_clock("2026-11-20T09:00:00+00:00")
+        self.done("call", "--to", "Wahlleitung T\u00fcV <vote@club.example>", "--at", AT, "--until", "2026-12-04 18:00", "--zone", "UTC")
+        self.set_clock("2026-11-23T10:00:00+00:00")
+
+    def test_each_begins_so(self) -> None:
+        found = {kind: self.written(kind) for kind in ("call", "reminders")}
+        self.write("letter.txt", "It ends later.\n")
+        self.done("call", "--until", "2026-12-06 18:00", "--zone", "UTC")
+        found["extension"] = self.written("call")
+        self.add_lines("ada 1,2")
+        found["receipts"] = self.written("receipts")
+        first = self.letter.replace("If you are unsure write ada", "|If you are unsure write\n|ada")
+        begins = {"call": first, "reminders": first, "extension": "Dear Ada,\n\nIt ends later.\n", "receipts": "Dear Ada,\n"}
+        for kind, letters in found.items():
+            message = letters["ada"]
+            self.assertTrue(message.get_content().startswith(begins[kind]), message.get_content())
+            self.assertEqual(message["From"], "Wahlleitung T\u00fcV <vote@club.example>")
+            self.assertEqual((message["To"], message["Reply-To"]), ("ada@club.example", None))
+
+    def test_an_answer_that_quotes_all_of_it_without_marks_goes_in(self) -> None:
+        """No line of ours reads as a ballot, also where the secretary's own words have one."""
+        for name, message in self.written("call").items():
+            head = f"In-Reply-To: {message['Message-ID']}\nSubject: Re: {message['Subject']}\n"
+            text = f"{name} {RANKS}\n\nOn Monday the secretary wrote:\n{message.get_content()}"
+            self.add_letters(letter(name, text, head=head, number=name, time="Mon, 23 Nov 2026 09:59:00 +0000"))
+        self.assertEqual(json.loads(self.done("status", "--json").output)["voters"], 9)
+
+
+class CodesOnRoll(OutTest):
+    poll = elections.POLL + "secret = true\n"
+    call_words = None
+
+    def test_nobody_knows_whose_a_code_is(self) -> None:
+        self.done("codes", "--on-roll")
+        self.done("call", "--to", "vote@club.example")
+        for kind in ("call", "receipts", "reminders"):
+            self.assert_fault(self.election("letters", kind), 9, "codes are on the roll", "call/call.txt")
+        # so the close goes on to no letters
+        self.assertTrue(self.done("close").output.endswith(" before you count anything.\nNext: debvote-election count\n"))
+
+
+class Paper(OutTest):
+    names = ["ada", "ben"]
+
+    def made(self) -> object:  # type: ignore[override]
+        original = elections.members_of
+        elections.members_of = lambda names: 'who,mail\n"Ada <script>alert(1)</script> & Söhne",\nBen,ben@club.example\nEve,\n'
+        try:
+            return super().made()
+        finally:
+            elections.members_of = original
+
+    def test_who_has_no_address_gets_a_page(self) -> None:
+        ended = self.done("letters", "call")
+        name = re.search(r"Without an address: (\S+), eve\. Print (letters/call/\d+/to-print\.html)\.\n", ended.output)
+        assert name is not None, ended
+        self.assertIn("Wrote 1 letter: ", ended.output)
+        page = self.read(name[2]).decode()
+        self.assertIn("<bdi>Ada &lt;script&gt;alert(1)&lt;/script&gt; &amp; Söhne</bdi>", page)
+        self.assertNotIn("<script>alert", page)
+        # each is for the person above it
+        letters = [part.partition("</section>")[0] for part in page.split('<section class="letter">')[1:]]
+        self.assertEqual([re.findall(r"(\S+) _,_,_,_", part) for part in letters], [[name[1]], ["eve"]])
+        self.assertEqual(["&lt;script&gt;" in part for part in letters], [True, False])
+        self.assertIn("<bdi>Eve</bdi>", letters[1])
+        self.assertEqual([state for _, state in self.rows("call")], ["written"] * 3)
+        # who asks for it once more gets the same
+        self.done("letters", "call")
+        self.assertEqual(self.read(name[2]).decode(), page)
+
+
+class Names(OutTest):
+    names = ["ada-2", "ada"]
+
+    def test_no_letter_takes_the_place_of_another(self) -> None:
+        """Two letters to ada, at her old address and her new one, beside one to ada-2."""
+        self.write("members.csv", elections.members_of(self.names).replace(",ada@club", ",ada@new"))
+        self.done("roll", "--yes")
+        self.add_lines("ada 1", f"ada-2 {RANKS}")
+        wanted = ["ada-2@club.example", "ada@club.example", "ada@new.example"]
+        found = self.written("receipts").values()
+        self.assertEqual(sorted(message["To"] for message in found), wanted)
+        # the old address does not learn the own mark, neither in the subject nor in the text, which has the right line
+        said = {message["To"]: (bool(re.search(MARKS, message["Subject"])), f"{AT}#ada/" in one_line(message)) for message in found}
+        wanted_marks = {"ada-2@club.example": (True, False), "ada@club.example": (False, False), "ada@new.example": (True, True)}
+        self.assertEqual(said, wanted_marks)
+        self.assertTrue(all("ada _,_,_,_" in one_line(message) for message in found if "ada@" in message["To"]))
+
+
+class Receipts(OutTest):
+    def test_each_has_its_own_reply(self) -> None:
+        """A line that counts, one that is replaced, one that is refused, one that is struck, one that is taken back, and a late one."""
+        self.add_lines(f"ada {RANKS}", f"ben {RANKS}", f"ben {OTHER_RANKS}", "cleo 1,2", f"dan {RANKS}")
+        self.done("strike", 5, "--because", "it was a mistake")
+        self.add_lines(f"eve {RANKS}")
+        self.done("undo")
+        texts = self.texts("receipts")
+        self.assertEqual(sorted(texts), ["ada", "ben", "cleo", "dan", "eve"])
+        self.assertIn("has arrived. It counts unless you send a later one.", texts["ada"])
+        self.assertIn(f"It was read as: (ada {RANKS}) In words: {LAKE}. If you have not sent this", texts["ada"])
+        self.assertRegex(
+            texts["ben"], r"has arrived\. A later ballot of yours counts instead\. .* It counts unless you send a later one"
+        )
+        self.assertIn(f"It was read as: (ben {OTHER_RANKS}) In words: In the town hall, then", texts["ben"])
+        self.assertIn(
+            "It is not a valid ballot of this vote, so it does not count. It has 2 ranks, and the vote has 4 options.",
+            texts["cleo"],
+        )
+        self.assertIn("was entered, and the secretary has struck it. It does not count.", texts["dan"])
+        self.assertIn(
+            "was entered, and the secretary has taken it back. It does not count unless it is entered again.", texts["eve"]
+        )
+        # a receipt that refuses says why, then where the form is and how a right line looks; another has neither
+        begin = f"and the vote has 4 options. You can send a right line now, and need not wait. {WHEN} {FORM}#cleo/"
+        self.assertIn(begin, texts["cleo"])
+        self.assertIn(f"{LINE}cleo _,_,_,_", texts["cleo"])
+        for name in ("ada", "ben", "dan", "eve"):
+            self.assertNotIn("_,_", texts[name])
+        for name, text in texts.items():
+            self.assertNotRegex(text, r"(?i)envelope|number \d")
+            self.assertFalse([other for other in elections.NAMES if other != name and re.search(rf"\b{other}\b", text)], text)
+        self.assertEqual(self.texts("receipts"), {})
+
+    def test_a_folder_that_is_removed_is_made_again(self) -> None:
+        """With the same bytes, as long as what they say holds; a receipt of a ballot that is struck since says so."""
+        place = self.folder / "letters" / "receipts"
+
+        def there() -> dict[pathlib.Path, bytes]:
+            return {file: file.read_bytes() for file in place.rglob("*.eml")}
+
+        self.add_lines(f"ada {RANKS}", f"ben {RANKS}")
+        self.done("letters", "receipts")
+        self.add_lines(f"cleo {RANKS}")
+        self.done("letters", "receipts")
+        before, rows = there(), self.rows("receipts")
+        [ada, ben, cleo] = sorted(before, key=lambda file: file.name)
+        self.assertEqual([ada.stem, ben.stem, cleo.stem], ["ada", "ben", "cleo"])
+        shutil.rmtree(place)
+        output = self.done("letters", "receipts").output
+        self.assertEqual((there(), self.rows("receipts")), (before, rows))
+        for file, said in ((ada, "2 earlier letters"), (cleo, "1 earlier letter")):
+            self.assertIn(f"Wrote {said}, since the folder was not there: letters/receipts/{file.parent.name}\n", output)
+        # a file that was taken out may have been sent
+        ada.unlink()
+        self.assertEqual(self.done("letters", "receipts").output, "There is no letter to send.\n")
+        self.assertFalse(ada.exists())
+        self.done("strike", 2, "--because", "not his")
+        shutil.rmtree(place)
+        self.done("letters", "receipts")
+        self.assertIn("the secretary has struck it", one_line(parsed(there()[ben])))
+        self.assertEqual([there()[ada], there()[cleo]], [before[ada], before[cleo]])
+
+    def test_late_and_after_the_close(self) -> None:
+        self.add_lines(f"ada {RANKS}")
+        self.done("close", "--early")
+        self.add_lines(f"ben {RANKS}", "cleo 1,2")
+        texts = self.texts("receipts")
+        self.assertIn("has arrived, and it counts. It was read as", texts["ada"])
+        self.assertIn("It was entered after the close, so it is late and does not count. It was read as: (ben", texts["ben"])
+        self.assertIn("so it is late and does not count.", texts["cleo"])
+        for text in texts.values():
+            self.assertNotRegex(text, r"_,_|unless you|You can send")
+
+    def test_a_ballot_that_is_struck_later_is_told(self) -> None:
+        self.add_lines(f"ada {RANKS}", f"ben {RANKS}")
+        self.assertEqual(sorted(self.texts("receipts")), ["ada", "ben"])
+        self.done("strike", 1, "--because", "not hers")
+        texts = self.texts("receipts")
+        self.assertEqual(list(texts), ["ada"])
+        self.assertIn("the secretary has struck it", texts["ada"])
+
+    def test_a_ballot_that_counts_is_told_again_beside_what_does_not(self) -> None:
+        """A letter without a ballot, a line that is refused, a ballot that is taken back, and after the close one that is late."""
+        self.add_lines(*(f"{name} {RANKS}" for name in ("ada", "ben", "cleo", "dan")))
+        first = self.texts("receipts")
+        self.add_letters(letter("ada", "Thank you, all is right.\n"))
+        self.add_lines("ben 1,2")
+        self.add_lines(f"cleo {OTHER_RANKS}")
+        self.done("undo", "--yes")
+        found = self.texts("receipts")
+        self.done("held", 1, "--set-aside")
+        self.done("close", "--early")
+        self.add_lines(f"dan {OTHER_RANKS}")
+        found |= self.texts("receipts")
+        self.assertEqual(sorted(found), ["ada", "ben", "cleo", "dan"])
+        said = {"ada": "No ballot from it is entered yet", "ben": "has 2 ranks", "cleo": "taken it back", "dan": "it is late"}
+        for name, text in found.items():
+            self.assertNotIn(said[name], first[name])
+            counts = "and it counts." if name == "dan" else "It counts unless you send a later one."
+            self.assertRegex(text, rf"{re.escape(counts)} It was read as: \({name} {RANKS}\).* {said[name]}")
+
+    def test_one_refuses_if_what_came_last_was_refused(self) -> None:
+        self.add_lines("ada 1,2", f"ada {RANKS}", f"ben {RANKS}", "ben 1,2")
+        texts = self.texts("receipts")
+        self.assertIn("It has 2 ranks", texts["ada"])
+        self.assertNotIn("_,_", texts["ada"])
+        self.assertIn("You can send a right line now", texts["ben"])
+
+    def test_a_letter_of_which_one_ballot_is_entered(self) -> None:
+        """It waits for the other elector, who is told."""
+        self.add_letters(letter("ada", f"ada {RANKS}\nben {OTHER_RANKS}\n"))
+        self.done("held", 1, "--enter", 1)
+        texts = self.texts("receipts")
+        self.assertEqual(sorted(texts), ["ada", "ben"])
+        self.assertIn("It counts unless you send a later one.", texts["ada"])
+        self.assertIn(ELSEWHERE, texts["ben"])
+        shown = {name: "letter 1, from " in self.done("show", name).output for name in ("ada", "ben", "cleo")}
+        self.assertEqual(shown, {"ada": True, "ben": True, "cleo": False})
+
+    def test_letters_that_are_in_no_receipt_are_named(self) -> None:
+        """Letters of a couple and of a stranger. Not a ballot in an elector's name, who is told, and not what a program wrote."""
+        self.write("members.csv", elections.members_of(elections.NAMES).replace("ben@club", "ada@club"))
+        self.done("roll", "--yes")
+        self.add_letters(letter("ada", f"Benjamin Lind {RANKS}\n"), letter("x", "Who are you?\n"))
+        self.add_letters(
+            letter("x", f"eve {RANKS}\n"), letter("x", "away\n", head="Auto-Submitted: auto-replied\n"), letter("cleo", "Thank you.\n")
+        )
+        said = "No receipt is about these letters that wait, since no elector alone has the sender's address: 1, 2\n"
+        output = self.done("letters", "receipts").output
+        self.assertTrue(output.startswith(said), output)
+        self.assertEqual([file.stem for file in self.files("receipts")], ["cleo", "eve"])
+        self.assertEqual(self.done("letters", "receipts").output, f"{said}5 letters wait until you have looked at them: debvote-election held\nThere is no letter to send.\n")
+        held = self.done("held").output.replace("\n        ", "\n")
+        self.assertIn("no ballot found\nother words: Who are you?\n", held)
+        self.assertIn(f"no ballot found\nother words: Benjamin Lind {RANKS}\nsame address: ada, ben\n", held)
+        self.done("held", 1, 2, "--set-aside")
+        waits = "3 letters wait until you have looked at them: debvote-election held\n"
+        self.assertEqual(self.done("letters", "receipts").output, f"{waits}There is no letter to send.\n")
+
+    def test_undo_names_those_whose_receipts_no_longer_hold(self) -> None:
+        self.add_lines(f"ada {RANKS}")
+        self.add_lines(f"ben {RANKS}", f"cleo {RANKS}")
+        self.assertEqual(sorted(self.texts("receipts")), ["ada", "ben", "cleo"])
+        self.add_lines(f"ben {OTHER_RANKS}", f"dan {RANKS}")
+        self.assertNotIn("receipt", self.done("undo", "--yes").output)
+        self.assertIn("\nThese electors have receipts that are no longer true: ben, cleo\n", self.done("undo", "--yes").output)
+
+    def test_letters(self) -> None:
+        self.add_letters(
+            letter("ada", f"Ada: {RANKS}.\n"),
+            letter("ben", "ben 1,2\n"),
+            letter("cleo", f"dan {RANKS}\n"),
+            letter("eve", f"eve {RANKS}\n", sender="stranger@x.example"),
+            letter("fay", "away\n", head="Auto-Submitted: auto-replied\n"),
+            letter("gus", "I want the lake.\n"),
+            letter("hal", "Hello\nI vote hal 1,2,3,4, of course\n"),
+            # the call to her that came back
+            letter("ida", "Undelivered.\n\n  ida _,_,_,_\n", sender="mailer-daemon@x.example"),
+        )
+        texts = self.texts("receipts")
+        self.assertEqual(sorted(texts), ["ada", "ben", "cleo", "dan", "eve", "gus", "hal"])
+        self.assertIn(f"(ada {RANKS})", texts["ada"])
+        # who wrote a ballot in another's name is told, too, with nothing of the other
+        self.assertIn("The reason: the list of members has another address for the name on the ballot.", texts["cleo"])
+        self.assertNotRegex(texts["cleo"], rf"dan|{RANKS}")
+        waits = "has arrived. No ballot from it is entered yet: the secretary has to look at it first. The reason: "
+        self.assertIn(
+            f"{waits}no line of it is a ballot of this vote. Line 1 of its text is near to a ballot. It has 2 ranks,", texts["ben"]
+        )
+        self.assertIn(ELSEWHERE, texts["dan"])
+        self.assertIn(ELSEWHERE, texts["eve"])
+        self.assertNotIn("stranger", texts["eve"] + texts["dan"])
+        self.assertIn(f"{waits}no line of it is a ballot of this vote. You can send", texts["gus"])
+        said = "Line 2 of its text is near to a ballot. It has a ballot within other words; the ballot has to be there alone."
+        self.assertIn(said, texts["hal"])
+        self.assertEqual(self.texts("receipts"), {})
+        # one that waited and is entered now
+        self.done("held", 3, "--enter", 1)
+        texts = self.texts("receipts")
+        self.assertEqual(list(texts), ["dan"])
+        self.assertIn(f"It counts unless you send a later one. It was read as: (dan {RANKS})", texts["dan"])
+
+    def test_a_ballot_that_the_secretary_typed_for_a_letter(self) -> None:
+        """It is told as the letter, with its time, and how it was read; one that was entered as it stood is told without that."""
+        self.add_letters(letter("ada", "I want the lake, then the town hall.\n"), letter("ben", f"Hello 1\nben {RANKS}\n"))
+        self.assertIn("No ballot from it is entered yet", self.texts("receipts")["ada"])
+        self.done("held", 1, "--as", f"ada {RANKS}")
+        self.done("held", 2, "--enter", 2)
+        texts = self.texts("receipts")
+        said = "10:00 (UTC) has arrived. It counts unless you send a later one."
+        self.assertIn(f"{said} The secretary typed it, by a letter that came. It was read as: (ada {RANKS}) In words: {LAKE}.", texts["ada"])
+        self.assertIn(f"{said} It was read as: (ben {RANKS})", texts["ben"])
+        self.assertNotIn("No ballot from it", texts["ada"])
+
+    def test_a_copy_is_the_letter_that_it_copies(self) -> None:
+        first = letter("ada", f"ada {RANKS}\n")
+        self.add_letters(
+            first,
+            first.replace(b"Received: from a", b"Received: from c"),
+            letter("ben", "hi\n"),
+            b"X-Y: z\n" + letter("ben", "hi\n"),
+        )
+        texts = self.texts("receipts")
+        self.assertEqual({name: text.count("has arrived") for name, text in texts.items()}, {"ada": 1, "ben": 1})
+
+    def test_an_address_that_is_written_in_capitals(self) -> None:
+        self.add_letters(letter("ada", "hi\n", sender="ADA@Club.Example"))
+        self.assertIn("Your letter of", self.texts("receipts")["ada"])
+
+    def test_one_that_was_set_aside_before_the_receipt(self) -> None:
+        self.add_letters(letter("ada", "hello\n"), letter("ben", f"ben {RANKS}\n", sender="x@x.example"))
+        self.done("held", 1, 2, "--set-aside")
+        texts = self.texts("receipts")
+        self.assertIn("No ballot from it was entered. The reason: the secretary has looked at it, and set it aside.", texts["ada"])
+        self.assertIn("A letter in your name came from another address. The secretary has set it aside.", texts["ben"])
+
+    def test_one_for_each_elector_and_run(self) -> None:
+        self.add_letters(
+            letter("ada", f"ada {RANKS}\n", number=1, time="Mon, 23 Nov 2026 08:00:00 +0000"),
+            letter("ada", f"ada {OTHER_RANKS}\n", number=2, time="Mon, 23 Nov 2026 09:00:00 +0000"),
+            letter("ada", "thanks\n", number=3, time="Mon, 23 Nov 2026 09:30:00 +0000"),
+        )
+        [text] = self.texts("receipts").values()
+        places = [
+            text.index(part)
+            for part in ("08:00 (UTC) has arrived. A later", "09:00 (UTC) has arrived. It counts", "09:30 (UTC) has arrived. No")
+        ]
+        self.assertEqual(places, sorted(places))
+
+    def test_the_next_one_goes_to_the_old_address_too(self) -> None:
+        self.write("members.csv", elections.members_of(elections.NAMES).replace("ada@club", "ada@new"))
+        self.done("roll", "--yes")
+        self.add_lines(f"ada {RANKS}", f"ben {RANKS}")
+        found = self.written("receipts")
+        self.assertEqual(
+            sorted(message["To"] for message in found.values()), ["ada@club.example", "ada@new.example", "ben@club.example"]
+        )
+        shown = self.done("show", "ada").output
+        for address in ("ada@club.example", "ada@new.example"):
+            self.assertIn(f"  receipt, 2026-11-23 10:00:00 UTC, to {address}: written\n", shown)
+        self.add_lines(f"ada {OTHER_RANKS}")
+        self.assertEqual([message["To"] for message in self.written("receipts").values()], ["ada@new.example"])
+
+    def test_heads_that_came_add_no_line(self) -> None:
+        evil = (
+            "<a@b>\n Bcc: everybody@x.example",
+            "=?utf-8?q?=3Ca=40b=3E=0D=0ABcc=3A_all=40x.example?=",
+            "<\xff\xfe@b>",
+            "<" + "a" * 5000 + "@b>",
+            "",
+        )
+        letters = [
+            letter(
+                "ada",
+                "no ballot\n",
+                number=f"{number}@x>\nX-Old: <{number}",
+                head=f"References: {text}\nSubject: {text}\nReply-To: {text}\n",
+                sender=f'"=?utf-8?q?Ada=0ABcc:_x=40y.example?=" <ada@club.example>' if number % 2 else "ada@club.example",
+            )
+            for number, text in enumerate(evil)
+        ]
+        self.add_letters(*letters)
+        [message] = self.written("receipts").values()
+        self.assertEqual(message["To"], "ada@club.example")
+        names = [name for name, _ in message.raw_items()]
+        self.assertEqual(
+            names,
+            [
+                "From",
+                "To",
+                "Subject",
+                "Date",
+                "Message-ID",
+                "X-Unsent",
+                "Auto-Submitted",
+                "MIME-Version",
+                "Content-Type",
+                "Content-Transfer-Encoding",
+            ],
+        )
+
+
+class ReceiptsElsewhere(OutTest):
+    call_words = ("--to", "vote@club.example", "--until", "2026-12-04 18:00", "--zone", "Europe/Berlin")
+
+    def test_times_are_in_the_zone_of_the_end(self) -> None:
+        self.add_lines(f"ada {RANKS}")
+        # on a busy machine some seconds later
+        said = r"Your ballot of Monday, 23 November 2026, 11:00(:\d\d)? \(UTC\+01:00\) has arrived\."
+        self.assertRegex(self.texts("receipts")["ada"], said)
+
+
+class FullDisk(OutTest):
+    """A disk that is full at any write: receipts are noted if their files are there, and the next run writes the others."""
+
+    names = ["ada", "ben", "cleo"]
+
+    def setUp(self) -> None:
+        super().setUp()
+        if shutil.which("strace") is None:
+            self.skipTest("strace is not installed")
+
+    def full_at(self, call: str, count: int) -> elections.Ended:
+        """Writes receipts on a disk that is full at one of these system calls."""
+        words = ["strace", "-f", "-o", "/dev/null", "-e", f"inject={call}:error=ENOSPC:when={count}"]
+        env = elections.environment() | self.clock | {"XDG_STATE_HOME": str(self.state)}
+        words += [sys.executable, str(elections.ELECTION), "letters", "receipts"]
+        ended = subprocess.run(words, cwd=self.folder, env=env, capture_output=True, timeout=elections.SECONDS)
+        return elections.Ended(ended.stdout.decode(), ended.stderr.decode(), ended.returncode)
+
+    def test_it_loses_no_receipt(self) -> None:
+        failures = 0
+        for call, counts in (
+            ("write", range(1, 7)),
+            ("pwrite64", range(2, 20, 4)),
+            ("mkdir", range(1, 4)),
+            ("rename", range(1, 3)),
+        ):
+            for count in counts:
+                with self.subTest(call=call, count=count):
+                    number = len(self.book().acts())
+                    for name in self.names:
+                        self.add_lines(f"{name} {1 + number % 90},{1 + number // 90},-,1")
+                    before = len(self.rows("receipts"))
+                    ended = self.full_at(call, count)
+                    failures += ended.status != 0
+                    noted = [name for name, _ in self.rows("receipts")[before:]]
+                    there = [file.stem for file in self.files("receipts")]
+                    self.assertIn(noted, ([], self.names))
+                    if noted:
+                        self.assertEqual(there, self.names)
+                    else:
+                        self.assertNotEqual(ended.status, 0)
+                        self.assertEqual(sorted(self.texts("receipts")), self.names)
+                    left = [file.name for file in (self.folder / "letters" / "receipts").iterdir() if not file.name.isdigit()]
+                    self.assertLessEqual(len(left), 2)
+        self.assertGreater(failures, 8)
+
+
+class Reminders(OutTest):
+    def test_to_whom(self) -> None:
+        self.add_lines(f"ada {RANKS}", "ben 1,2")
+        self.add_letters(letter("cleo", "I want the lake\n"), letter("dan", f"dan {RANKS}\n", sender="x@x.example"))
+        texts = self.texts("reminders")
+        self.assertEqual(sorted(texts), [name for name in elections.NAMES if name != "ada"])
+        begin = f"Dear Ben, No ballot of yours that counts has come yet. {WHEN} {FORM}#ben/"
+        self.assertTrue(texts["ben"].startswith(begin), texts["ben"])
+        self.assertIn(f"{LINE}ben _,_,_,_", texts["ben"])
+        # whose letter waits is told so, and not reminded
+        self.assertIn("No ballot from it is entered yet: the secretary has to look at it first.", texts["cleo"])
+        self.assertNotRegex(texts["cleo"], r"_,_|https|Vote until")
+        # a stranger's letter silences nobody
+        self.assertIn(ELSEWHERE, texts["dan"])
+        self.assertIn("dan _,_,_,_", texts["dan"])
+
+    def test_an_own_letter_that_waits_behind_one_of_a_stranger(self) -> None:
+        self.add_letters(
+            letter("ada", f"ada {RANKS}\n", sender="x@x.example", time="Mon, 23 Nov 2026 08:00:00 +0000"),
+            letter("ada", "I want the lake\n", number=2, time="Mon, 23 Nov 2026 09:00:00 +0000"),
+        )
+        text = self.texts("reminders")["ada"]
+        self.assertIn(f"{ELSEWHERE} Your letter of Monday, 23 November 2026, 09:00 (UTC) has arrived.", text)
+        self.assertNotRegex(text, r"_,_|https|Vote until")
+
+    def test_the_end_after_two_extensions(self) -> None:
+        for day, words in ((6, "Sunday, 6 December"), (8, "Tuesday, 8 December")):
+            self.done("call", "--until", f"2026-12-{day:02} 18:00", "--zone", "UTC")
+            self.assertIn(f"Vote until: {words} 2026, 18:00 (UTC)", self.texts("reminders")["ada"])
+            self.set_clock(f"2026-12-{day - 1:02}T10:00:00+00:00")
+            self.add_letters(letter("ben", "hi\n", number=day, time=f"Fri, {day - 1:02} Dec 2026 09:00:00 +0000"))
+            receipt = self.texts("receipts")["ben"]
+            self.assertNotIn("after the end", receipt)
+            self.set_clock("2026-11-23T10:00:00+00:00")
+
+
+class NoBallots(OutTest):
+    """No line of what goes out reads as a ballot, however it is wrapped."""
+
+    # names and texts that try to
+    poll = elections.POLL.replace("At the lake", "ada 1").replace("Where we meet in spring", "ben 1 2 3 4")
+
+    def test_no_line_is_a_ballot(self) -> None:
+        (self.folder / "texts").mkdir()
+        found = dict(self.written("call"))
+        self.add_lines(f"ada {RANKS}", "ben 1,2", f"cleo {RANKS}", f"cleo {OTHER_RANKS}")
+        self.add_letters(letter("dan", f"I vote dan {RANKS} today\n"), letter("eve", f"fay {RANKS}\ngus {RANKS}\n"))
+        kinds = {"call": found, "receipts": self.written("receipts"), "reminders": self.written("reminders")}
+        self.done("close", "--early", "--force", "--because", "cleo 1,2,3,4")
+        kinds["closed"] = self.written("closed")
+        self.done(
+            "publish",
+            "--casting",
+            "ada 1",
+            "--cast-by",
+            "ada 1,2,3,4",
+            "--cast-on",
+            "2026-11-23",
+            "--force",
+            "--because",
+            "ben 1,2,3,4",
+        )
+        kinds["result"] = self.written("result")
+        lines = set()
+        for kind, letters in kinds.items():
+            self.assertTrue(letters, kind)
+            for message in letters.values():
+                text = message.get_content()
+                lines |= {line.encode() for line in text.splitlines()} | {" ".join(text.split()).encode()}
+                # by words, from each word on, as long as a line of a mail program
+                words = text.split()
+                for start in range(len(words)):
+                    lines |= {" ".join(words[start : start + count]).encode() for count in (2, 3, 4)}
+        self.assertGreater(len(lines), 1000)
+        ballots = [changed(line) for line in lines]
+        self.write("lines", b"".join(line.replace(b"\n", b" ") + b"\n" for line in ballots if line.strip()))
+        steps = self.debvote("steps", "--poll", "call/poll.toml", "--ballots", "lines")
+        replies = {line.partition(" ")[2] for line in steps.output.splitlines()}
+        self.assertLessEqual(replies, {"bad shape", "bad rank count", "bad not on roll"})
+        # a ballot among them is seen
+        self.write("lines", self.read("lines") + f"ada {RANKS}\n".encode())
+        self.assertIn("counted", self.debvote("steps", "--poll", "call/poll.toml", "--ballots", "lines").output)
+
+
+class Closed(OutTest):
+    def test_it_has_the_checksum(self) -> None:
+        self.add_lines(f"ada {RANKS}")
+        self.assert_fault(self.election("letters", "closed"), 9, "the vote is not closed")
+        self.done("close", "--early")
+        text = self.read("letters/closed.txt").decode()
+        found = self.written("closed")
+        self.assertEqual(sorted(found), elections.NAMES)
+        for message in found.values():
+            self.assertIn(text, message.get_content())
+            self.assertRegex(message["Subject"], rf"^Vote closed: Where we meet in spring {MARKS}$")
+
+    def test_after_a_second_close_all_get_its_letter(self) -> None:
+        self.add_lines(f"ada {RANKS}")
+        self.done("close", "--early")
+        first = self.texts("closed")
+        self.done("reopen", "--because", "a bag was forgotten")
+        for kind, said in (("closed", "the vote is not closed"), ("call", "nobody is asked to vote"), ("reminders", "nobody is asked to vote")):
+            self.assert_fault(self.election("letters", kind), 9, said)
+        self.write("lines", f"ben {RANKS}\n")
+        self.done("add", "--came-before-close", "yes", "lines")
+        self.done("close", "--early")
+        second = self.texts("closed")
+        self.assertEqual((sorted(first), sorted(second)), (elections.NAMES, elections.NAMES))
+        for name in elections.NAMES:
+            self.assertIn("1 line came in time.", first[name])
+            self.assertIn("2 lines came in time.", second[name])
+            self.assertIn(" ".join(self.read("letters/closed.txt").decode().split()), second[name])
+
+
+class Result(OutTest):
+    def published(self, *words: object) -> None:
+        self.add_lines(f"ada {RANKS}", f"ben {RANKS}")
+        self.done("close", "--early")
+        self.done("publish", *words)
+
+    def test_an_open_vote(self) -> None:
+        self.assert_fault(self.election("letters", "result"), 9, "nothing is published")
+        self.published()
+        texts = self.texts("result")
+        self.assertEqual(sorted(texts), elections.NAMES)
+        begin = f"{TITLE} Winner: Option 1: At the lake. It beats each option that was not dropped: "
+        numbers = "Option 2: In the town hall by 2 to 0 and Option 4: Further discussion by 2 to 0."
+        facts = "2 of 9 voted, quorum 2 reached, 0 lines of 2 refused. The result is published at: "
+        own = f"Your own ballot, in words: {AT}#ada "
+        self.assertIn(f"Dear Ada, {begin}{numbers} {facts}{AT} {own}What is doubtful", texts["ada"])
+        self.assertEqual(
+            f"Dear Ada, {' '.join(self.read('letters/result.txt').decode().split())}", texts["ada"].replace(own, "")
+        )
+        self.assertIn(f"{AT}#ben", texts["ben"])
+        self.assertIn(f"{AT} The result has no ballot of yours that counts.", texts["cleo"])
+        self.assertNotIn("#", texts["cleo"])
+        for name in ("SHA256SUMS", "index.html"):
+            checksum = hashlib.sha256(self.read(f"result/{name}")).hexdigest()
+            for text in texts.values():
+                self.assertIn(f"{checksum} {name}", text)
+        self.assertIn("sha256sum SHA256SUMS index.html && sha256sum -c --ignore-missing SHA256SUMS", texts["ada"])
+        self.assertIn("open the index.html that you downloaded and compared, and read that file", texts["ada"])
+        # each act that the page tells
+        self.assertIn("That was before the time until which one could vote.", texts["ada"])
+
+    def test_of_the_last_publication(self) -> None:
+        self.add_lines(f"ada {RANKS}", f"ben {OTHER_RANKS}")
+        self.done("strike", 2, "--because", "a mistake of 'ours' & <yours>")
+        self.add_lines("ben 2,1,-,3")
+        self.done("close", "--early")
+        self.assertEqual(self.election("publish").status, 1)
+        text = self.texts("result")["ada"]
+        tied = "Option 1: At the lake and Option 2: In the town hall are tied. The casting vote has to choose one of them."
+        self.assertIn(f"No option has won yet: {tied}", text)
+        words = ["--cast-by", "the chair", "--cast-on", "2026-11-23"]
+        self.done("publish", "--casting", "In the town hall", *words)
+        text = self.texts("result")["ada"]
+        self.assertIn("Winner: Option 2: In the town hall by casting vote", text)
+        self.assertIn('The secretary says that the casting vote was that of "the chair", given on 23 November 2026.', text)
+        self.assertIn(
+            "The secretary struck envelope 2: its line does not count. The reason, in the secretary's words: (a mistake of 'ours' & <yours>)",
+            text,
+        )
+
+    def test_none_of_a_vote_that_is_open_again(self) -> None:
+        self.published()
+        self.done("reopen", "--because", "a bag was forgotten")
+        self.assert_fault(self.election("letters", "result"), 9, "nothing is published")
+
+    def test_doubts(self) -> None:
+        self.write("lines", f"ada {RANKS}\nben 1\ncleo 1\n")
+        self.done("add", "--yes", "--force", "lines")
+        self.done("close", "--early")
+        self.done("publish", "--force", "--because", "they were asked")
+        text = self.texts("result")["ada"]
+        self.assertIn(
+            "What is doubtful about this result: - More than half of the lines of the ballot file are refused: 2 of 3.", text
+        )
+        self.assertIn("Why it was published all the same, in the secretary's words: (they were asked)", text)
+
+
+class ResultAt(OutTest):
+    call_words = ("--to", "vote@club.example")
+
+    def test_the_address_is_an_act(self) -> None:
+        self.add_lines(f"ada {RANKS}")
+        self.done("close")
+        self.done("publish")
+        self.assert_fault(self.election("letters", "result"), 2, "--at: the letter must say where the result is published")
+        self.assert_fault(self.election("letters", "result", "--at", "ftp://x"), 2, "it must be the address of a page")
+        self.assertIn("https://x.example/r/#ada", self.texts("result", "--at", "https://x.example/r/")["ada"])
+        acts = [(act.name, act.detail) for act in self.book().acts()]
+        self.assertEqual(acts.count(("announce", {"at": "https://x.example/r/"})), 1)
+        self.texts("result", "--at", "https://x.example/r/")
+        self.assertEqual(len(self.book().acts()), len(acts))
+        self.assertIn("https://x.example/r/#ada", self.texts("result")["ada"])
+        self.assertIn("https://x.example/s/#ada", self.texts("result", "--at", "https://x.example/s/")["ada"])
+
+
+class Family(OutTest):
+    def test_who_is_told_of_a_letter_with_two_ballots(self) -> None:
+        """Of the ballot that was entered its elector is told once, and the other one that the letter waits."""
+        self.write("members.csv", elections.members_of(elections.NAMES).replace("ben@", "ada@"))
+        self.done("roll", "--yes")
+        self.add_letters(letter("ada", f"ada {RANKS}\nben {OTHER_RANKS}\n"))
+        self.done("held", 1, "--enter", 1)
+        texts = self.texts("receipts")
+        self.assertEqual(texts["ada"].count("has arrived"), 1, texts["ada"])
+        self.assertIn("It counts unless you send a later one.", texts["ada"])
+        self.assertIn("No ballot from it is entered yet", texts["ben"])
+
+
+class Secret(OutTest):
+    poll = elections.POLL + "secret = true\n"
+
+    def codes(self) -> dict[str, str]:
+        return dict(self.book().rows("SELECT name, code FROM elector JOIN elector_state USING (elector) WHERE code <> ''"))
+
+    def test_each_letter_of_the_call_has_the_code_of_its_own_elector(self) -> None:
+        codes = self.codes()
+        for name, message in self.written("call").items():
+            text = message.get_content()
+            self.assertEqual([other for other, code in codes.items() if code in text], [name])
+        # folders that others may read are closed again
+        folders = self.files("call")[0].parents[:3]
+        for folder in folders:
+            folder.chmod(0o755)
+        self.written("call")
+        self.assertEqual({stat.S_IMODE(folder.stat().st_mode) for folder in folders}, {0o700})
+        self.assertEqual({stat.S_IMODE(file.stat().st_mode) for file in self.files("call")}, {0o600})
+        # that there is more time is told without the code
+        self.done("call", "--until", "2026-12-06 12:00", "--zone", "UTC")
+        for message in self.written("call").values():
+            self.assertFalse([code for code in codes.values() if code in message.get_content()])
+
+    def test_an_answer_to_the_call_goes_in(self) -> None:
+        """The mark in its subject is that of the poll that everybody sees, with the own one. The link has no name."""
+        found = self.written("call")["ada"]
+        mark = hashlib.sha256((self.folder / "call" / "poll.toml").read_bytes()).hexdigest()[:16]
+        self.assertEqual([mark], [mark for mark, _ in re.findall(MARKS, found["Subject"])])
+        self.assertRegex(one_line(found), rf"the result will be: {AT} {LINE}ada _,_,_,_ ")
+        head = f"In-Reply-To: {found['Message-ID']}\nSubject: Re: {found['Subject']}\n"
+        self.add_letters(letter("ada", f"ada {RANKS}\n", head=head, time="Mon, 23 Nov 2026 09:59:00 +0000"))
+        self.assertEqual(json.loads(self.done("status", "--json").output)["valid"], 1)
+
+    def test_a_doubt_tells_no_number_of_lines(self) -> None:
+        for line in (f"ada {RANKS}", "ben 1", "cleo 1"):
+            self.add_lines(line)
+        self.done("close", "--early")
+        self.done("publish", "--yes", "--force", "--because", "they were asked")
+        for text in self.texts("result").values():
+            self.assertIn("- More than half of the lines that came are refused. - The vote was closed on ", text)
+            self.assertNotIn("2 of 3", text)
+
+    def test_nothing_else_has_codes_or_ranks(self) -> None:
+        codes = self.codes()
+        self.add_lines(f"ada {RANKS}", "ben 1,2")
+        self.add_letters(letter("cleo", f"{codes['cleo']} {RANKS}\n"), letter("dan", f"dan {RANKS}\n{codes['dan']}\n"))
+        found = [*self.written("receipts").values(), *self.written("reminders").values()]
+        self.done("call", "--until", "2026-12-06 12:00", "--zone", "UTC")
+        self.done("close", "--early", "--force", "--because", "x")
+        found += self.written("closed").values()
+        aliases = [alias for alias, in self.book().rows("SELECT alias FROM elector_state WHERE alias <> ''")]
+        self.done("publish", "--yes")
+        private = self.run_program("sh", "-c", "cd out && sha256sum *").output if self.done("export", "out") else ""
+        results = self.texts("result")
+        self.assertIn("find it with your name, ada, and your code, under", results["ada"])
+        self.assertNotIn("#", results["ada"])
+        self.assertIn("cat seal.txt ballots.txt | sha256sum", results["ada"])
+        self.assertIn("learns what you type into it, with or without a network", " ".join(results["ada"].split()))
+        texts = [one_line(message) for message in found] + list(results.values())
+        for text in texts:
+            self.assertFalse([code for code in [*codes.values(), *aliases] if code in text])
+            self.assertNotRegex(text, r"[a-z]+ \d,\d,\d,\d")
+            self.assertNotIn("In words", text)
+            for checksum in re.findall(r"(?m)^([0-9a-f]{64})", private):
+                self.assertNotIn(checksum, text)

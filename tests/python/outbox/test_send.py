@@ -1,0 +1,667 @@
+"""`letters --send`: each letter goes out once, whatever happens between, and what a server refuses, or what comes back, is told."""
+
+import base64
+import contextlib
+import datetime
+import json
+import os
+import shutil
+import socket
+import ssl
+import subprocess
+import sys
+import tempfile
+import time
+import unittest
+import unittest.mock
+
+from debvote_tools.book.sent import REFUSED, TAKEN, SentLetter
+from debvote_tools.cli.console import count_of
+from debvote_tools.cli.faults import Fault
+from debvote_tools.outbox import smtp
+
+from tests.support import elections, terminal
+from tests.support.letters import letter
+from tests.support.outgoing import OTHER_RANKS, RANKS, MailServer, PlainServer, SendTest, one_line, parsed
+
+ALL = [f"{name}@club.example" for name in elections.NAMES]
+
+
+class Sending(SendTest):
+    def test_each_gets_one_letter_and_a_second_run_sends_none(self) -> None:
+        ended = self.send("call")
+        self.assertEqual((ended.status, ended.faults), (0, ""), ended)
+        self.assertIn("Sent 9 of 9 letters.\n", ended.output)
+        self.assertEqual(self.server.addresses(), ALL)
+        for taken in self.server.taken:
+            message = parsed(taken.data)
+            self.assertEqual(message["To"], taken.to)
+            self.assertNotIn("X-Unsent", message)
+            self.assertIn(f" {taken.to.partition('@')[0]} _,_,_,_ ", one_line(message))
+            # each line ends as in letters
+            self.assertEqual(taken.data.count(b"\n"), taken.data.count(b"\r\n"))
+        again = self.send("call")
+        self.assertEqual(again.status, 0)
+        self.assertIn("There is no letter to send: the server has taken all that are due.\n", again.output)
+        self.assertEqual(len(self.server.taken), 9)
+
+    def test_each_is_noted_before_the_next_begins(self) -> None:
+        noted: list[tuple[str, int, list[tuple[str, str]]]] = []
+
+        def note(step: str, number: int) -> bool:
+            noted.append((step, number, self.rows("call")[9:]))
+            return False
+
+        self.server.at = note
+        self.send("call")
+        for step, number, rows in noted:
+            self.assertEqual(rows, [(name, "taken") for name in elections.NAMES[:number]], (step, number))
+        self.assertEqual(len(noted), 27)
+        self.assertEqual(self.rows("call")[-1], ("ida", "taken"))
+
+    def test_refused_for_good_or_for_now(self) -> None:
+        self.server.rcpt_answers = {"ada@club.example": "550 5.1.1 no such\x1b user", "ben@club.example": "451 4.7.1 greylisted"}
+        self.server.data_answers = {"cleo@club.example": "554 spam", "dan@club.example": "452 full"}
+        ended = self.send("call")
+        self.assertEqual(ended.status, 9, ended)
+        self.assertIn("Sent 5 of 9 letters.\n", ended.output)
+        self.assertIn("Refused: ada, ada@club.example: 550 5.1.1 no such", ended.output)
+        self.assertIn("Refused: cleo, cleo@club.example: 554 spam\n", ended.output)
+        self.assertIn("Refused: ben, ben@club.example: 451 4.7.1 greylisted\n", ended.output)
+        self.assertIn("Refused: dan, dan@club.example: 452 full\n", ended.output)
+        self.assertIn("Next: in a quarter of an hour, or with corrected addresses, try again: debvote-election letters call", ended.output)
+        self.assertNotIn("\x1b", ended.output)
+        for name, said in {"ada": "refused (550 5.1.1 no such", "ben": "refused (451 4.7.1 greylisted)\n", "eve": "taken\n"}.items():
+            self.assertIn(f"UTC, to {name}@club.example: {said}", self.done("show", name).output)
+        self.assertEqual(self.server.addresses(), ALL[4:])
+        # each run tries them again
+        self.server.rcpt_answers = {"ada@club.example": "550 5.1.1 no such user"}
+        self.server.data_answers = {}
+        ended = self.send("call")
+        self.assertEqual(ended.status, 9, ended)
+        self.assertIn("Sent 3 of 4 letters.\n", ended.output)
+        self.assertEqual(self.server.addresses(), [*ALL[4:], *ALL[1:4]])
+        # what is written as files now is the letter that no server has taken
+        self.assertEqual(list(self.written("call")), ["ada"])
+        # a new address is another try, with a new own mark
+        marks = [message["Subject"][-11:] for message in [self.written("call")["ada"]]]
+        self.write("members.csv", elections.members_of(elections.NAMES).replace("ada@club", "ada@new"))
+        self.done("roll", "--yes")
+        self.assertEqual(self.send("call").status, 0)
+        self.assertEqual(self.server.addresses()[8:], ["ada@new.example"])
+        self.assertEqual(len(marks), 1)
+        self.assertIn("There is no letter to send: the server has taken all that are due.\n", self.send("call").output)
+
+    def not_reached(self) -> dict[str, str]:
+        """Whom `status` names, in both of its forms, with the reason."""
+        found, said = json.loads(self.done("status", "--json").output)["not_reached"], self.done("status").output
+        for reason in {*found.values()}:
+            names = [name for name, why in found.items() if why == reason]
+            self.assertIn(f"Not reached by the call: {reason} ({len(names)}):\n  {' '.join(names)}\n", said)
+        self.assertEqual("Not reached" in said, bool(found))
+        return found
+
+    def test_who_was_refused_is_named_until_a_letter_is_taken(self) -> None:
+        """By each later run, of whatever letters, and by `status`. Else nobody sees that somebody was never asked to vote."""
+        self.assertEqual(self.not_reached(), {})
+        named = "Not reached by the call: ada (refused: 550 5.1.1 no such user)\n"
+        self.server.rcpt_answers = {"ada@club.example": "550 5.1.1 no such user"}
+        self.assertIn("Refused: ada, ada@club.example: 550 5.1.1 no such user\n", self.send("call").output)
+        self.add_lines(f"ben {RANKS}")
+        for ended in (self.send("receipts"), self.send("call"), self.done("letters", "receipts")):
+            self.assertIn(named, ended.output)
+            self.assertEqual(self.not_reached(), {"ada": "refused"})
+        self.server.rcpt_answers = {}
+        self.assertNotIn("Not reached", self.send("reminders").output)
+        self.assertEqual(self.not_reached(), {})
+
+    def test_who_got_no_letter_is_named(self) -> None:
+        """One whose address changed since, and those whom a run that was cut off did not come to; not who gets it printed."""
+        self.write("members.csv", elections.members_of(elections.NAMES).replace("gus@club.example", ""))
+        self.done("roll", "--yes")
+        self.assertEqual(self.not_reached(), {})
+        self.server.at = lambda step, number: (step, number) == ("data", 6)
+        self.assertEqual(json.loads(self.done("status", "--json").output)["printed"], [])
+        self.assertEqual(self.send("call").status, 7)
+        self.server.at = lambda step, number: False
+        self.assertEqual(self.not_reached(), {"hal": "no letter", "ida": "no letter"})
+        self.assertEqual(json.loads(self.done("status", "--json").output)["printed"], ["gus"])
+        self.assertIn("Get the call printed (1):\n  gus\n", self.done("status").output)
+        ended = self.send("call")
+        self.assertIn("Without an address: gus. Print letters/call/", ended.output)
+        self.assertNotIn("Not reached", ended.output)
+        self.write("members.csv", elections.members_of(elections.NAMES).replace("ada@club", "ada@new"))
+        self.done("roll", "--yes")
+        self.assertEqual(self.not_reached(), {"ada": "no letter", "gus": "no letter"})
+        self.assertIn("Not reached by the call: ada (no letter), gus (no letter)\n", self.done("letters", "receipts").output)
+        self.send("call")
+        self.assertEqual(self.not_reached(), {})
+
+    def test_letters_that_are_files_reach_those_to_whom_they_are_written(self) -> None:
+        self.written("call")
+        self.assertEqual(self.not_reached(), {})
+
+    def came_back(self, name: str, what: str, sender: str = "mailer-daemon@mail.example") -> None:
+        """A mail server reports that a letter to an elector did not arrive."""
+        sent = {taken.to: taken.data.decode().replace("\r\n", "\n") for taken in self.server.taken}[f"{name}@club.example"]
+        message = parsed(sent.encode())
+        head, body = sent.partition("\n\n")[0], message.get_content()
+        link = next(line for line in body.splitlines() if "#" in line).strip()
+        inner = {
+            "whole": ("message/rfc822", sent),
+            "head": ("text/rfc822-headers", f"{head}\n"),
+            "text": ("text/plain", f"Subject: {message['Subject']}\n"),
+            "link": ("text/plain", link),
+            "encoded": ('text/plain; charset="utf-8"\nContent-Transfer-Encoding: base64', base64.b64encode(head.encode()).decode()),
+            "nothing": ("text/plain", f"ada _,_,_,_ could not be delivered to {name}@club.example"),
+        }[what]
+        parts = ("text/plain", "I'm sorry to have to inform you that your message could not be delivered."), inner
+        text = "".join(f"--b\nContent-Type: {kind}\n\n{part}\n" for kind, part in parts)
+        kind = 'multipart/report; report-type=delivery-status; boundary="b"'
+        self.add_letters(letter(name, f"{text}--b--\n", sender=sender, kind=kind, number=f"{what}{len(self.server.taken)}"))
+
+    def test_what_is_no_letter_that_came_back(self) -> None:
+        """A program answers for somebody who is away; a delivery is late, or done."""
+        self.assertEqual(self.send("call").status, 0)
+        [subject] = [parsed(taken.data)["Subject"] for taken in self.server.taken if taken.to == "ada@club.example"]
+        away = {"head": f"Auto-Submitted: auto-replied\nReturn-Path: <>\nSubject: Re: {subject}\n", "sender": "ada.private@mail.example"}
+        self.add_letters(letter("ada", "I am away.", number="away", **away))
+        for action, wanted in (("delayed", {}), ("delivered", {}), ("failed", {"ada": "came back"})):
+            report = f"--b\nContent-Type: message/delivery-status\n\nReporting-MTA: dns; x\n\nAction: {action}\n"
+            text = f"{report}--b\nContent-Type: text/rfc822-headers\n\nSubject: {subject}\n--b--\n"
+            kind = 'multipart/report; report-type=delivery-status; boundary="b"'
+            self.add_letters(letter("ada", text, sender="mailer-daemon@mail.example", kind=kind, number=action))
+            self.assertEqual(self.not_reached(), wanted, action)
+
+    def test_whose_letter_came_back_is_named_and_gets_it_again(self) -> None:
+        for what in ("whole", "head", "text", "link", "encoded"):
+            with self.subTest(what):
+                self.set_clock("2026-11-23T10:00:00+00:00")
+                self.server.taken.clear()
+                self.done("call", "--until", f"2026-12-{5 + len(self.rows('call')) // 11:02} 18:00", "--zone", "UTC")
+                self.assertEqual(self.send("call").status, 0)
+                self.came_back("ada", what)
+                self.assertEqual(self.not_reached(), {"ada": "came back"})
+                self.assertIn("Not reached by the call: ada (came back)\n", self.done("letters", "receipts").output)
+                first = parsed(self.server.taken[0].data)
+                ended = self.send("call")
+                self.assertIn("Sent 1 of 1 letter.\n", ended.output)
+                self.assertNotIn("Not reached", ended.output)
+                again = parsed(self.server.taken[-1].data)
+                self.assertEqual((again["To"], again["Message-ID"]), ("ada@club.example", first["Message-ID"]))
+                self.assertEqual(self.not_reached(), {})
+
+    def test_what_is_no_letter_that_came_back(self) -> None:
+        """Of a stranger without the own mark, an answer of a person, and one that a program writes at the elector's address."""
+        self.send("call")
+        self.came_back("ada", "nothing")
+        self.came_back("ben", "text", sender="ben@club.example")
+        self.assertEqual(self.not_reached(), {})
+        self.assertIn("There is no letter to send", self.send("call").output)
+
+    def test_an_old_address_that_refuses_is_no_fault(self) -> None:
+        self.write("members.csv", elections.members_of(elections.NAMES).replace("ada@club", "ada@new"))
+        self.done("roll", "--yes")
+        self.add_lines(f"ada {RANKS}")
+        for address, is_named in (("ada@club.example", False), ("ada@new.example", True)):
+            self.server.rcpt_answers = {address: "550 no"}
+            ended = self.send("receipts")
+            self.assertIn(f"Refused: ada, {address}: 550 no\n", ended.output)
+            self.assertEqual((ended.status, "try again" in ended.output), (9, True) if is_named else (0, False))
+            # nor is it tried again
+            self.assertEqual("There is no letter to send" in self.send("receipts").output, not is_named)
+            self.add_lines(f"ada {OTHER_RANKS}")
+
+    def test_no_other_answer_than_that_it_was_taken_is_one(self) -> None:
+        """After the letter, and not before it; what is no answer of a mail server is none. Nobody else would learn that it is lost."""
+        self.server.stop()
+        for answers in ({"letter": "354 go on"}, {"letter": "yes"}, {"letter": "-99 x"}, {"data": "250 OK"}, {"data": "200 OK"}, {"to": "354 x"}, {"letter": "600 x"}):
+            with self.subTest(answers), PlainServer(answers) as server:
+                tried = list(smtp.send_all([outgoing()], "vote@club.example", smtp.Server("127.0.0.1", server.port, False), lambda letter: None))
+                self.assertEqual([letter.state for letter in tried], [REFUSED], answers)
+        for answer, state in (("200 OK", TAKEN), ("250-OK\r\n250 yes", TAKEN), ("299 OK", TAKEN), ("400 x", REFUSED), ("599 x", REFUSED)):
+            with self.subTest(answer), PlainServer({"letter": answer}) as server:
+                tried = list(smtp.send_all([outgoing()], "vote@club.example", smtp.Server("127.0.0.1", server.port, False), lambda letter: None))
+                self.assertEqual([letter.state for letter in tried], [state], answer)
+
+    def test_a_receipt_that_was_refused_for_now_goes_to_a_new_address(self) -> None:
+        """So servers answer of a domain that has no mail server."""
+        self.add_lines(f"ada {RANKS}", f"ben {RANKS}")
+        self.server.rcpt_answers = {"ada@club.example": "450 4.1.2 domain not found"}
+        for _ in range(2):
+            self.assertIn("Refused: ada, ada@club.example", self.send("receipts").output)
+        self.write("members.csv", elections.members_of(elections.NAMES).replace("ada@club", "ada@new"))
+        self.done("roll", "--yes")
+        self.assertIn("Sent 1 of 2 letters.", self.send("receipts").output)
+        self.assertEqual(self.server.addresses(), ["ben@club.example", "ada@new.example"])
+        # the old address gets it, too, as soon as it can
+        self.server.rcpt_answers = {}
+        self.assertIn("Sent 1 of 1 letter.", self.send("receipts").output)
+        self.assertEqual(self.server.addresses()[2:], ["ada@club.example"])
+        self.assertIn("There is no letter to send", self.send("receipts").output)
+
+    def test_a_receipt_that_is_a_file_goes_to_a_new_address(self) -> None:
+        self.add_lines(f"ada {RANKS}")
+        self.done("letters", "receipts")
+        self.write("members.csv", elections.members_of(elections.NAMES).replace("ada@club", "ada@new"))
+        self.done("roll", "--yes")
+        for _ in range(2):
+            self.assertEqual(self.send("receipts").status, 0)
+            self.assertEqual(sorted(self.server.addresses()), ["ada@club.example", "ada@new.example"])
+
+    def test_a_receipt_on_paper_is_printed_once(self) -> None:
+        """Ada has no address any longer."""
+        self.write("members.csv", elections.members_of(elections.NAMES).replace("ada@club.example", ""))
+        self.done("roll", "--yes")
+        self.add_lines(f"ada {RANKS}", f"ben {RANKS}")
+        place = self.folder / "letters" / "receipts"
+        self.assertIn("Without an address: ada. Print letters/receipts/", self.send("receipts").output)
+        [page] = place.rglob("to-print.html")
+        data, rows = page.read_bytes(), self.rows("receipts")
+        for _ in range(2):
+            said = "There is no letter to send: the server has taken all that are due.\n"
+            self.assertEqual(self.send("receipts").output, said)
+        self.assertEqual((list(place.rglob("*.html")), self.rows("receipts")), ([page], rows))
+        # a page that is lost is made again
+        shutil.rmtree(place)
+        self.assertIn(f"Print {page.relative_to(self.folder)}.\n", self.send("receipts").output)
+        self.assertEqual((page.read_bytes(), self.rows("receipts")), (data, rows))
+        # the address that she had before gets the first, too
+        self.assertEqual(sorted(self.server.addresses()), ["ada@club.example", "ben@club.example"])
+        # what comes of her later is on a new page
+        self.add_lines(f"ada {OTHER_RANKS}")
+        self.assertIn("Without an address: ada. Print letters/receipts/", self.send("receipts").output)
+        self.assertEqual(len(list(place.rglob("*.html"))), 2)
+
+    def test_files_to_a_new_address_and_to_the_old_one_are_sent_once_each(self) -> None:
+        self.write("members.csv", elections.members_of(elections.NAMES).replace("ada@club", "ada@new"))
+        self.done("roll", "--yes")
+        self.add_lines(f"ada {RANKS}")
+        self.done("letters", "receipts")
+        for _ in range(2):
+            self.assertEqual(self.send("receipts").status, 0)
+            self.assertEqual(sorted(self.server.addresses()), ["ada@club.example", "ada@new.example"])
+
+    def test_after_an_extension_who_has_no_call_gets_it_whole(self) -> None:
+        self.server.rcpt_answers = {"ben@club.example": "451 later", "cleo@club.example": "550 no"}
+        self.assertEqual(self.send("call").status, 9)
+        self.done("call", "--until", "2026-12-06 12:00", "--zone", "UTC")
+        self.server.rcpt_answers = {}
+        self.server.taken.clear()
+        self.assertEqual(self.send("call").status, 0)
+        texts = {taken.to.partition("@")[0]: one_line(parsed(taken.data)) for taken in self.server.taken}
+        self.assertEqual(list(texts), elections.NAMES)
+        whole = [name for name, text in texts.items() if "After the vote all" in text and "You have more time" not in text]
+        self.assertEqual(whole, ["ben", "cleo"])
+        for text in texts.values():
+            self.assertIn("Vote until: Sunday, 6 December 2026, 12:00 (UTC)", text)
+
+    def test_after_a_second_close_its_letter_goes_out_too(self) -> None:
+        for count in (1, 2):
+            self.done("close", "--early")
+            self.assertEqual(self.send("closed").status, 0)
+            self.assertEqual(self.server.addresses(), ALL * count)
+            self.assertIn("There is no letter to send", self.send("closed").output)
+            self.done("reopen", "--because", "a bag was forgotten")
+
+    def test_a_refused_sender_stops_and_costs_nobody_their_letter(self) -> None:
+        self.server.mail_answer = "553 not yours"
+        ended = self.send("call")
+        self.assert_fault(ended, 7, "it takes no letters now: 553 not yours", "0 of 9 letters taken in this run")
+        self.server.mail_answer = "250 OK"
+        self.assertEqual(self.send("call").status, 0)
+        self.assertEqual(sorted(self.server.addresses()), ALL)
+
+    def test_a_connection_that_is_lost_between_letters_is_made_anew(self) -> None:
+        cut: set[int] = set()
+
+        def once(step: str, number: int) -> bool:
+            is_new = step in ("mail", "rcpt") and number in (2, 5) and number not in cut
+            cut.update([number] if is_new else [])
+            return is_new
+
+        self.server.at = once
+        ended = self.send("call")
+        self.assertEqual((ended.status, len(cut)), (0, 2), ended)
+        self.assertEqual(self.server.addresses(), ALL)
+
+    def test_a_connection_that_is_lost_in_a_letter(self) -> None:
+        self.server.at = lambda step, number: (step, number) == ("data", 3)
+        ended = self.send("call")
+        self.assert_fault(ended, 7, "lost during the letter to dan@club.example", "3 of 9 letters taken in this run")
+        self.server.at = lambda step, number: False
+        ended = self.send("call")
+        self.assertEqual(ended.status, 0, ended)
+        self.assertIn("Sent 6 of 6 letters.\n", ended.output)
+        self.assertEqual(self.server.addresses(), ALL)
+        self.assertIn("There is no letter to send", self.send("call").output)
+
+    def test_a_server_that_is_not_there_or_lets_nobody_in(self) -> None:
+        self.server.stop()
+        ended = self.send("call")
+        self.assert_fault(ended, 7, f"127.0.0.1:{self.server.port}", "no connection")
+        self.server = self.mail_server(authenticator=lambda *words: self.server.authenticated(*words), auth_require_tls=False)
+        self.write("password", "wrong\n")
+        ended = self.send("call", "--user", "vote", "--password-file", "password")
+        self.assert_fault(ended, 7, "it refuses user or password: 535")
+        self.assertNotIn("wrong", ended.output + ended.faults)
+        self.write("password", "right\r\n")
+        self.assertEqual(self.send("call", "--user", "vote", "--password-file", "password").status, 0)
+        self.assertEqual(self.server.logins[-1], (b"vote", b"right"))
+        self.assertEqual(self.server.addresses(), ALL)
+
+    def test_words_that_do_not_go_together(self) -> None:
+        for words, part in (
+            (["call", "--send"], "no server is named"),
+            (["call", "--server", "x.example"], "only with --send"),
+            (["call", "--user", "x"], "only with --send"),
+            (["call", "--password-file", "p"], "only with --send"),
+            (["call", "--yes"], "only with reminders"),
+            (["call", "--send", "--server", "x.example", "--password-file", "p"], "only with --user"),
+            (["call", "--send", "--server", "x y"], "it is not the name of a server"),
+            (["call", "--send", "--server", "x.example:99999"], "it is not the name of a server"),
+            (["call", "--send", "--server", self.server.name, "--user", "u"], "the password of u can't be asked here"),
+            (["call", "--send", "--server", self.server.name, "--user", "u", "--password-file", "none"], "No such file"),
+            (["call", "--from", "two@x.example, b@x.example"], "it must be one mail address"),
+            (["call", "--at", "https://x.example"], "only with result"),
+        ):
+            with self.subTest(words=words):
+                self.assert_fault(self.election("letters", *words), 2, part)
+        self.assertEqual((self.rows("call"), self.server.taken), ([], []))
+
+    def test_another_sender(self) -> None:
+        self.assertEqual(self.send("call", "--from", "ada.secretary@mail.example").status, 0)
+        message = parsed(self.server.taken[0].data)
+        self.assertEqual((message["From"], message["Reply-To"]), ("ada.secretary@mail.example", "vote@club.example"))
+
+    def test_what_was_written_as_files_can_be_sent(self) -> None:
+        written = self.written("receipts")
+        self.assertEqual(written, {})
+        self.add_lines("ada 1,2,4,3", "ben 2,1,4,3")
+        ids = {name: message["Message-ID"] for name, message in self.written("receipts").items()}
+        self.assertEqual(sorted(ids), ["ada", "ben"])
+        self.assertEqual(self.send("receipts").status, 0)
+        sent = {parsed(one.data)["To"]: parsed(one.data)["Message-ID"] for one in self.server.taken}
+        self.assertEqual(sent, {f"{name}@club.example": message_id for name, message_id in ids.items()})
+        self.assertIn("There is no letter to send", self.send("receipts").output)
+
+    def test_a_receipt_that_was_refused_goes_to_a_new_address(self) -> None:
+        self.add_lines("ada 1,2,4,3", "ben 1,2,4,3")
+        self.server.rcpt_answers = {"ada@club.example": "550 no such user", "ben@club.example": "451 later"}
+        self.assertEqual(self.send("receipts").status, 9)
+        del self.server.rcpt_answers["ben@club.example"]
+        for tried in (2, 1):
+            self.assertIn(f"Sent {tried - 1} of {count_of(tried, 'letter')}.", self.send("receipts").output)
+        self.write("members.csv", elections.members_of(elections.NAMES).replace("ada@club", "ada@new"))
+        self.done("roll", "--yes")
+        ended = self.send("receipts")
+        # the old address, which refused it for good, is not tried again
+        self.assertEqual((ended.status, ended.output), (0, "Sent 1 of 1 letter.\n"))
+        self.assertEqual(self.server.addresses(), ["ben@club.example", "ada@new.example"])
+        self.assertIn("It was read as: (ada 1,2,4,3)", one_line(parsed(self.server.taken[1].data)))
+        self.assertIn("There is no letter to send", self.send("receipts").output)
+
+    def test_a_receipt_that_is_outdated_before_it_is_taken(self) -> None:
+        """It would tell of nothing: the letter that it is about is a ballot now."""
+        self.add_letters(letter("cleo", f"dan {RANKS}\n"))
+        self.server.rcpt_answers = {"dan@club.example": "451 later"}
+        self.assertEqual(self.send("receipts").status, 9)
+        self.done("held", 1, "--enter", 1)
+        self.server.rcpt_answers = {}
+        self.assertEqual(self.send("receipts").status, 0)
+        [taken] = [taken for taken in self.server.taken if taken.to == "dan@club.example"]
+        self.assertIn(f"It was read as: (dan {RANKS})", one_line(parsed(taken.data)))
+
+
+class Remembered(SendTest):
+    """Server and user of the last letters are used when --send is given without them; the password is never kept."""
+
+    def test_the_server_of_the_last_letters(self) -> None:
+        self.assert_fault(self.election("letters", "call", "--send"), 2, "--send: no server is named", "give --server HOST[:PORT]")
+        self.assertIn("or by debvote-election letters call --send --server HOST\n", self.done("letters", "call").output)
+        self.send("call")
+        ended = self.election("letters", "reminders", "--send")
+        self.assertEqual(ended.status, 0, ended)
+        self.assertTrue(ended.output.startswith(f"To the server of the last letters: {self.server.name}\n"), ended.output)
+        self.assertEqual(self.server.addresses(), ALL * 2)
+        # a file does not need it
+        self.add_lines(f"ada {RANKS}")
+        ended = self.done("letters", "receipts")
+        self.assertNotIn(self.server.name, ended.output)
+        self.assertIn("or by debvote-election letters receipts --send\n", ended.output)
+        # one that is named takes its place
+        other = self.mail_server()
+        self.assertEqual(self.election("letters", "receipts", "--send", "--server", other.name).status, 0)
+        self.add_lines(f"ben {RANKS}")
+        self.assertIn(other.name, self.election("letters", "receipts", "--send").output)
+        self.assertEqual(other.addresses(), ["ada@club.example", "ben@club.example"])
+
+    def test_the_user_but_not_the_password(self) -> None:
+        self.server = self.mail_server(authenticator=lambda *words: self.server.authenticated(*words), auth_require_tls=False)
+        self.write("password", "right\n")
+        words = ("--user", "vote", "--password-file", "password")
+        self.assertEqual(self.send("call", *words).status, 0)
+        details = [act.detail for act in self.book().acts() if act.name == "letter sent"]
+        self.assertEqual(details, [{"kind": "call", "server": self.server.name, "user": "vote"}] * 9)
+        ended = self.election("letters", "reminders", "--send")
+        self.assert_fault(ended, 2, "the password of vote can't be asked here")
+        self.assertEqual(ended.output, f"To the server of the last letters: {self.server.name}, user vote\n")
+        ended = self.election("letters", "reminders", "--send", "--password-file", "password")
+        self.assertEqual((ended.status, len(self.server.logins), len(self.server.taken)), (0, 2, 18), ended)
+        # a server that is named has the user that is named
+        plain = self.mail_server()
+        self.assertEqual(self.election("letters", "reminders", "--send", "--server", plain.name).status, 0)
+        self.assertEqual(plain.logins, [])
+
+    def test_a_copy_that_was_moved_sends_no_letters(self) -> None:
+        self.send("call")
+        moved = ("--moved", "--because", "a rehearsal")
+        self.assert_fault(self.election("letters", "reminders", "--send", *moved), 2, "no server is named", "act 14 (moved) was done")
+        self.assertEqual(self.server.addresses(), ALL)
+        self.assertIn("--server HOST\n", self.done("letters", "reminders").output)
+        self.assertEqual(self.send("reminders").status, 0)
+
+    def test_a_server_that_is_gone(self) -> None:
+        self.send("call")
+        self.server.stop()
+        ended = self.election("letters", "reminders", "--send")
+        self.assert_fault(ended, 7, f"{self.server.name}: no connection", "the server of the last letters: if it is gone, name another with --server")
+        self.server = self.mail_server()
+        self.assertEqual(self.send("reminders").status, 0)
+        self.assertEqual(self.server.addresses(), ALL)
+
+
+class Endless(unittest.TestCase):
+    """A server that answers now and then, and never to the end."""
+
+    def test_a_conversation_has_an_end(self) -> None:
+        drops = "250-x\r\n" * 3
+
+        class Dropping(PlainServer):
+            def converse(self, connection: socket.socket) -> None:
+                with connection, contextlib.suppress(OSError):
+                    for line in ("220 here\r\n", "250 here\r\n", *begin):
+                        connection.sendall(line.encode())
+                    while True:
+                        connection.sendall(drops.encode())
+                        time.sleep(0.05)
+
+        for begin, said in (([], "no end after 1.5 seconds"), (["250 OK\r\n", "250 OK\r\n", "354 go\r\n"], "lost during the letter to ada@club.example: ")):
+            with self.subTest(said), unittest.mock.patch.object(smtp, "WHOLE", 1.5), Dropping({}) as server:
+                began = time.monotonic()
+                with self.assertRaises(Fault) as caught:
+                    list(smtp.send_all([outgoing()], "vote@club.example", smtp.Server("127.0.0.1", server.port, False), lambda letter: None))
+                self.assertIn(said, str(caught.exception.reason))
+                self.assertLess(time.monotonic() - began, 20)
+
+
+class Killed(SendTest):
+    """A run is killed at each step of each letter."""
+
+    names = ["ada", "ben", "cleo"]
+
+    def test_none_is_lost_and_only_that_of_the_kill_may_go_out_twice(self) -> None:
+        kills = 0
+        for step in ("mail", "rcpt", "data"):
+            for number in range(3):
+                with self.subTest(step=step, number=number):
+                    self.server.taken.clear()
+                    self.done("call", "--until", f"2026-12-{5 + kills:02} 18:00", "--zone", "UTC")
+                    self.assertEqual(self.send_until_killed("call", step, number), -9)
+                    kills += 1
+                    ended = self.send("call")
+                    self.assertEqual(ended.status, 0, ended)
+                    addresses = [f"{name}@club.example" for name in self.names]
+                    twice = [addresses[number]] if step == "data" else []
+                    self.assertEqual(sorted(self.server.addresses()), sorted([*addresses, *twice]))
+                    ids = {parsed(taken.data)["Message-ID"] for taken in self.server.taken}
+                    self.assertEqual(len(ids), 3)
+                    self.assertIn("There is no letter to send", self.send("call").output)
+        self.assertEqual(kills, 9)
+
+
+class AtOnce(SendTest):
+    def test_two_runs_at_once_send_each_letter_once(self) -> None:
+        env = elections.environment() | self.clock | {"XDG_STATE_HOME": str(self.state)}
+        words = [sys.executable, elections.ELECTION, "letters", "call", "--send", "--server", self.server.name]
+        runs = [subprocess.Popen(words, cwd=self.folder, env=env, stdout=subprocess.PIPE, text=True) for _ in range(3)]
+        outputs = [run.communicate(timeout=elections.SECONDS)[0] for run in runs]
+        self.assertEqual([run.returncode for run in runs], [0, 0, 0])
+        self.assertEqual(sum("Sent 9 of 9 letters." in output for output in outputs), 1, outputs)
+        self.assertEqual(self.server.addresses(), ALL)
+
+
+class Reminders(SendTest):
+    def test_a_run_that_was_cut_off_goes_on_and_else_each_is_a_new_one(self) -> None:
+        self.server.rcpt_answers = {"ben@club.example": "451 later", "dan@club.example": "451 later"}
+        self.assertEqual(self.send("reminders").status, 9)
+        self.assertEqual(len(self.server.taken), 7)
+        self.server.rcpt_answers = {}
+        # who has voted meanwhile is not reminded
+        self.add_lines("dan 1,2,4,3")
+        self.assertEqual(self.send("reminders").status, 0)
+        self.assertEqual(self.server.addresses()[7:], ["ben@club.example"])
+        self.assertEqual(self.send("reminders").status, 0)
+        self.assertEqual(sorted(self.server.addresses()[8:]), sorted(set(ALL) - {"dan@club.example"}))
+
+    def test_a_letter_that_no_server_can_take_holds_up_no_new_run(self) -> None:
+        """One to be printed, or to an address that was wrong, or that the server postpones for days."""
+        members = elections.members_of(elections.NAMES)
+        self.write("members.csv", members.replace("gus@club.example", ""))
+        self.done("roll", "--yes")
+        self.assertEqual(self.send("reminders").status, 0)
+        self.assertEqual(self.send("reminders").status, 0)
+        self.assertEqual(len(self.server.taken), 16)
+        self.server.rcpt_answers = {"ben@club.example": "450 4.1.2 domain not found"}
+        self.assertIn("Sent 7 of 8 letters.", self.send("reminders").output)
+        self.assertIn("Sent 0 of 1 letter.", self.send("reminders").output)
+        self.set_clock("2026-11-24T11:00:00+00:00")
+        self.assertIn("Sent 7 of 8 letters.", self.send("reminders").output)
+        self.write("members.csv", members.replace("gus@club.example", "").replace("ben@club", "ben@new"))
+        self.done("roll", "--yes")
+        self.assertIn("Sent 8 of 8 letters.", self.send("reminders").output)
+
+    def test_a_letter_on_paper_holds_up_no_later_run(self) -> None:
+        self.write("members.csv", elections.members_of(elections.NAMES).replace("ada@club.example", ""))
+        self.done("roll", "--yes")
+        for count in (8, 16):
+            self.assertEqual(self.send("reminders").status, 0)
+            self.assertEqual(len(self.server.taken), count)
+
+    def test_nor_does_one_to_an_address_that_its_elector_no_longer_has(self) -> None:
+        self.server.rcpt_answers = {"ben@club.example": "451 later", "dan@club.example": "451 later"}
+        self.assertEqual(self.send("reminders").status, 9)
+        self.write("members.csv", elections.members_of(elections.NAMES).replace("ben@club", "ben@new"))
+        self.done("roll", "--yes")
+        self.server.rcpt_answers = {}
+        self.assertEqual(self.send("reminders").status, 0)
+        self.assertEqual(self.server.addresses()[7:], ["dan@club.example"])
+        self.assertEqual(self.send("reminders").status, 0)
+        self.assertEqual(self.server.addresses()[8:], ["ada@club.example", "ben@new.example", *ALL[2:]])
+
+
+class AtTerminal(SendTest):
+    def test_the_password_is_asked_and_a_bar_is_shown(self) -> None:
+        self.server = self.mail_server(authenticator=lambda *words: self.server.authenticated(*words), auth_require_tls=False)
+        desk = terminal.Terminal(self, "letters", "call", "--send", "--server", self.server.name, "--user", "vote")
+        self.assertIn("The password of vote on 127.0.0.1: ", desk.until("127.0.0.1: "))
+        desk.type("right\n")
+        shown, status = desk.end()
+        self.assertEqual(status, 0, shown)
+        self.assertNotIn("right", shown)
+        self.assertIn("[" + "." * 40 + "] 0 of 9", shown)
+        self.assertIn("[" + "#" * 22 + "." * 18 + "] 5 of 9", shown)
+        self.assertIn("[" + "#" * 40 + "] 9 of 9", shown)
+        self.assertIn("Sent 9 of 9 letters.", shown)
+
+
+class RemindedSoon(SendTest):
+    def test_reminders_within_a_day_ask_at_a_terminal(self) -> None:
+        self.assertEqual(self.send("reminders").status, 0)
+        words = ("letters", "reminders", "--send", "--server", self.server.name)
+        desk = terminal.Terminal(self, *words)
+        self.assertIn("Reminders were written at 2026-11-23 10:00:00 UTC. Remind again? [y/n] ", desk.until("[y/n] "))
+        desk.type("n\n")
+        shown, status = desk.end()
+        self.assertEqual((status, len(self.server.taken)), (0, 9))
+        self.assertIn("Nobody was reminded.", shown)
+        shown, status = terminal.Terminal(self, *words, "--yes").end()
+        self.assertEqual((status, len(self.server.taken)), (0, 18), shown)
+        desk = terminal.Terminal(self, *words)
+        desk.until("[y/n] ")
+        desk.type("y\n")
+        self.assertEqual((desk.end()[1], len(self.server.taken)), (0, 27))
+        # on a busy machine the last reminders are some seconds younger
+        self.set_clock("2026-11-24T11:00:00+00:00")
+        self.assertEqual((terminal.Terminal(self, *words).end()[1], len(self.server.taken)), (0, 36))
+
+
+class Encrypted(unittest.TestCase):
+    """To all but a loopback the connection is encrypted, and the server has to show who it is."""
+
+    def test_which_servers_are_near(self) -> None:
+        for text, host, port, is_encrypted in (
+            ("localhost", "localhost", 25, False),
+            ("127.0.0.1:2525", "127.0.0.1", 2525, False),
+            ("[::1]:26", "::1", 26, False),
+            ("mail.example.org", "mail.example.org", 587, True),
+            ("mail.example.org:465", "mail.example.org", 465, True),
+            ("localhost.example.org:25", "localhost.example.org", 25, True),
+            ("10.0.0.1:25", "10.0.0.1", 25, True),
+        ):
+            self.assertEqual(smtp.server_of(text), smtp.Server(host, port, is_encrypted))
+
+    def test_a_server_that_offers_no_encryption_gets_nothing(self) -> None:
+        server = MailServer()
+        self.addCleanup(server.stop)
+        with self.assertRaises(Fault) as caught:
+            list(smtp.send_all([], "vote@club.example", smtp.Server("127.0.0.1", server.port, True), lambda letter: None))
+        self.assertIn("STARTTLS", str(caught.exception.reason))
+        self.assertEqual(server.steps, [])
+
+    def test_a_certificate_that_nobody_vouches_for_is_refused_and_a_good_one_is_taken(self) -> None:
+        with tempfile.TemporaryDirectory() as place:
+            key, certificate = f"{place}/key", f"{place}/certificate"
+            words = ["openssl", "req", "-x509", "-newkey", "rsa:2048", "-nodes", "-keyout", key, "-out", certificate, "-days", "2"]
+            words += ["-subj", "/CN=localhost", "-addext", "subjectAltName=DNS:localhost"]
+            subprocess.run(words, check=True, capture_output=True)
+            context = ssl.SSLContext(ssl.PROTOCOL_TLS_SERVER)
+            context.load_cert_chain(certificate, key)
+            server = MailServer(tls_context=context)
+            self.addCleanup(server.stop)
+            near = smtp.Server("localhost", server.port, is_encrypted=True)
+            with self.assertRaises(Fault) as caught:
+                list(smtp.send_all([outgoing()], "vote@club.example", near, lambda letter: None))
+            self.assertIn("certificate", str(caught.exception.reason).lower())
+            self.assertEqual((server.steps, server.taken), ([], []))
+            with unittest.mock.patch.dict(os.environ, {"SSL_CERT_FILE": certificate}):
+                [tried] = smtp.send_all([outgoing()], "vote@club.example", near, lambda letter: None)
+            self.assertEqual((tried.state, server.addresses()), (TAKEN, ["ada@club.example"]))
+            self.assertTrue(server.was_encrypted)
+
+
+def outgoing() -> tuple[SentLetter, bytes]:
+    """A letter to Ada."""
+    time = datetime.datetime(2026, 11, 23, tzinfo=datetime.UTC)
+    letter = SentLetter(1, "call", 1, "ada@club.example", "<1@club.example>", time, ())
+    return letter, b"From: vote@club.example\n\n.\nFrom me\n"

@@ -1,0 +1,348 @@
+"""What letters say, and their bytes: each outcome in each language, names and titles that try to do harm, and lines that read as ballots."""
+
+import dataclasses
+import datetime
+import pathlib
+import re
+import subprocess
+import tempfile
+import types
+import unittest
+
+from debvote_tools.book.queries import Elector, Envelope
+from debvote_tools.book.sent import SentLetter
+from debvote_tools.inbox.letter import Near
+from debvote_tools.inbox.of_electors import Became, Came
+from debvote_tools.inbox.reasons import Reason, for_elector
+from debvote_tools.inbox.rules import Outcome
+from debvote_tools.outbox.files import message, rows_to_print
+from debvote_tools.outbox.words import PACKAGE, SUBJECTS, Composer
+from debvote_tools.poll.call import CallData, is_mail_address
+from debvote_tools.poll.sealed import SealedPoll
+from debvote_tools.text.ballots import without_ballots
+from debvote_tools.text.language import LANGUAGES, language_of
+from debvote_tools.text.rendering import one_line as on_one_line, render_page, resources
+
+from tests.support.at_browser import BROWSER
+from tests.support.outgoing import one_line, parsed
+
+TIME = datetime.datetime(2026, 11, 23, 10, tzinfo=datetime.UTC)
+POLL = SealedPoll("Spring", ("Lake", "Hall"), (1, 1), "None", 1, ("ada", "ben"))
+ADA = Elector(1, "ada", 1, "Ada L.", ("ada@club.example",), mark="abcdefghjk")
+GUS = ADA._replace(name="gus", who="Gus G.", addresses=())
+TOO_LONG = (
+    "The texts about the options are too long for this letter: they are on the page of the vote. "
+    "The secretary gives them on paper to whoever asks."
+)
+TOO_LONG_WITHOUT_PAGE = "The texts about the options are too long for this letter. The secretary gives them to whoever asks."
+LETTER = SentLetter(1, "call", 1, "ada@club.example", "<1@club.example>", TIME, ())
+
+
+def vote(code: str = "en", *, is_over: bool = False, **how: object) -> Composer:
+    data = CallData(language_of(code), POLL, 1, to="vote@club.example", at="https://club.example/vote/")
+    return Composer(dataclasses.replace(data, **how), is_over, typed_acts={2})  # type: ignore[arg-type]
+
+
+def all_that_came() -> list[Came]:
+    """Something of each kind, with each fault that a line may have."""
+    near = (
+        Near(1, "ada 1,2", False, "bad rank count: 2 ranks, the poll has 3 options"),
+        Near(2, "bob 1,2,3", True, "bad not on roll: bob is not on the roll"),
+        Near(3, "ada 1;2;x", False, 'bad shape: column 9: "x"'),
+        Near(4, "ada one", False, "bad shape: it is odd"),
+        Near(5, "ada 1,2,3", False, None),
+        Near(6, "ada 1,2,3", True, None),
+    )
+    def envelope(number: int, became: Became, answer: str | None = None) -> Came:
+        line = b"ada 1,2,3" if answer is None else b"ada 1"
+        return Came(TIME, became, Envelope(number, number, 1, line, None, 1, "", TIME, False, None), answer)
+
+    ballots = [envelope(number, became) for number, became in enumerate(Became) if became is not Became.REFUSED]
+    refused = ["bad rank count: 1 ranks, the poll has 3 options", 'bad shape: column 2: "!"']
+    letter = types.SimpleNamespace(reason=Reason.NO_BALLOT(), near=near)
+    letters = [
+        Came(TIME, outcome, letter=letter, is_own=is_own)  # type: ignore[arg-type]
+        for outcome in (Outcome.WAITS, Outcome.SET_ASIDE)
+        for is_own in (True, False)
+    ]
+    return [*ballots, *(envelope(9, Became.REFUSED, answer) for answer in refused), *letters]
+
+
+WAITS = next(one for one in all_that_came() if one.became is Outcome.WAITS and one.is_own)
+
+
+def texts(now: Composer) -> list[str]:
+    """A letter of each kind."""
+    return [
+        now.call_letter(ADA, is_extension=False),
+        now.call_letter(ADA._replace(code="c0de"), is_extension=False),
+        now.call_letter(ADA, is_extension=True),
+        now.reminder(ADA, [WAITS]),
+        now.reminder(ADA, []),
+        now.receipt(ADA, all_that_came()),
+        now.text("closed", ADA, letter="CLOSED\n"),
+        *(now.text("result", ADA, letter="RESULT\n", has_ballot=has_ballot) for has_ballot in (True, False)),
+    ]
+
+
+class Texts(unittest.TestCase):
+    def test_each_language_says_all_in_its_own_words(self) -> None:
+        english = {line for text in texts(vote()) for line in text.splitlines() if len(line.split()) > 4}
+        for code in LANGUAGES:
+            for now in (vote(code), vote(code, has_aliases=True), vote(code, is_over=True), vote(code, is_signed=True)):
+                for text in texts(now):
+                    self.assertNotRegex(text, r"[{}]")
+                    self.assertNotIn("\n\n\n", text)
+                    same = english & set(text.splitlines())
+                    commands = {line for line in same if "python3" in line or "sha256sum" in line}
+                    self.assertEqual(same - commands if code != "en" else set(), set(), code)
+
+    def test_a_secret_vote_repeats_no_ranks(self) -> None:
+        self.assertIn("(ada 1,2,3)", vote().receipt(ADA, all_that_came()))
+        self.assertNotRegex(vote(has_aliases=True).receipt(ADA, all_that_came()), r"\d,\d|In words|Lake, then")
+
+    def test_each_kind_has_its_own_subject(self) -> None:
+        for code in LANGUAGES:
+            subjects = [vote(code).subject(kind) for kind in SUBJECTS] + [vote(code).subject("call", is_extension=True)]
+            self.assertEqual(len(set(subjects)), 6, subjects)
+            for subject in subjects:
+                self.assertTrue(subject.endswith(": Spring"), subject)
+
+    def test_a_signed_vote_asks_for_a_signature(self) -> None:
+        text = " ".join(vote(is_signed=True).reminder(ADA, []).split())
+        self.assertIn("has to be signed with OpenPGP", text)
+        self.assertNotIn("send the line alone", text)
+        self.assertNotIn("OpenPGP", vote().reminder(ADA, []))
+
+    def test_after_the_end_nobody_is_asked_to_send_anything(self) -> None:
+        for code in LANGUAGES:
+            for reason in (Reason.TOO_LONG(), Reason.NOT_FIRST(), Reason.NO_BALLOT()):
+                came = WAITS._replace(letter=types.SimpleNamespace(reason=reason, near=()))  # type: ignore[arg-type]
+                open_text, over = (" ".join(vote(code, is_over=is_over).receipt(ADA, [came]).split()) for is_over in (False, True))
+                said = " ".join(language_of(code).say(for_elector(reason)).split())
+                self.assertIn(f" {said} ", open_text)
+                self.assertIn(f" {said.partition('. ')[0].rstrip('.')}. ", over)
+                if ". " in said:
+                    self.assertNotIn(said.partition(". ")[2], over)
+                self.assertNotIn("_,_", over)
+
+    def test_of_a_result(self) -> None:
+        """The letter for all, and within it, behind the winner, the own ballot and where the result is."""
+        rest = "THE FILES OF THE RESULT\n\nDownload them.\n"
+        place = "The result is published at:\n  https://club.example/vote/\n"
+        for letter in ("RESULT\n", f"RESULT\n\n{rest}", f"RESULT\n\n{place}\nDOUBTS\n\n{rest}"):
+            texts = [now.text("result", ADA, letter=letter, has_ballot=True) for now in (vote(), vote(has_aliases=True))]
+            end = letter.removeprefix("RESULT\n").removeprefix(f"\n{place}")
+            for text in texts:
+                self.assertTrue(text.startswith(f"Dear Ada L.,\n\nRESULT\n\n{place}\nYour "), text)
+                self.assertTrue(text.endswith(end), text)
+            self.assertIn("Your own ballot, in words:\n  https://club.example/vote/#ada\n", texts[0])
+            self.assertNotIn("#", texts[1])
+            self.assertIn("find it with your name, ada, and your code", " ".join(texts[1].split()))
+            self.assertIn("The result has no ballot of yours", vote().text("result", ADA, letter=letter, has_ballot=False))
+
+
+class CallLetter(unittest.TestCase):
+    """The call, an extension, a reminder and a receipt that refuses have the same block."""
+
+    letter = "Dear friends,\n\npaper ballots go to the box in the hall.\nWrite ada 1,2,3 or so.\n  ben 3,2,1\n\nYours, Eve\n"
+
+    def asking(self, now: Composer, elector: Elector = ADA) -> list[str]:
+        letters = [now.call_letter(elector, is_extension=False), now.call_letter(elector, is_extension=True)]
+        return [*letters, now.reminder(elector, []), now.receipt(elector, [WAITS])]
+
+    def test_all_have_one_block(self) -> None:
+        for code in LANGUAGES:
+            for text in self.asking(vote(code)):
+                lines = text.splitlines()
+                self.assertIn("https://club.example/vote/#ada/abcdefghjk", text)
+                [line] = [number for number, one in enumerate(lines) if one == "  ada _,_,_"]
+                self.assertRegex(" ".join(lines[line - 2 : line]), r"\b1 .*; .* - ")
+                default = language_of(code).say("the default option")
+                names = [one for one in lines[line:] if one.startswith("  ") and one.endswith(("Lake", "Hall", f"None ({default})"))]
+                self.assertEqual(len(names), 3)
+                self.assertIn(f"[{POLL.mark}-abcdefghjk]", text)
+                self.assertEqual(lines.count(f"  {POLL.checksum}"), 1)
+                # one page
+                self.assertLess(len(lines), 60)
+                self.assertLessEqual(max(map(len, lines)), 72)
+
+    def test_in_a_secret_vote_the_link_has_no_name(self) -> None:
+        for text in self.asking(vote(has_aliases=True), ADA._replace(code="c0de" * 8)):
+            self.assertIn("https://club.example/vote/\n", text)
+            self.assertNotRegex(text, r"#|each with its elector's name")
+        self.assertNotIn("http", "".join(self.asking(vote(at=None))))
+
+    def test_the_words_of_the_secretary_come_first_and_it_is_said_once_whose_they_are(self) -> None:
+        for code in LANGUAGES:
+            now = dataclasses.replace(vote(code, letter_text=self.letter), electors=(ADA, ADA._replace(name="ben")))
+            *first, refusing = self.asking(now)
+            for text in first:
+                begin = "Dear friends,\n\npaper ballots go to the box in the hall.\n|Write\n|ada 1,2,3 or so.\n  |ben 3,2,1\n\nYours, Eve\n\n"
+                self.assertTrue(text.startswith(begin), text)
+                said = now.call.language.say(
+                    "The words above are those of whoever sends this letter. "
+                    "The program debvote wrote the rest, and has not checked them."
+                )
+                self.assertEqual(" ".join(text.split()).count(said), 1)
+            self.assertNotIn("Dear friends", refusing)
+        # a letter that does not remind does not begin so
+        self.assertNotIn("friends", now.reminder(ADA, [WAITS]))
+
+    def test_with_marked_it_says_to_answer_or_to_use_the_link(self) -> None:
+        for text in self.asking(vote(is_marked=True)):
+            self.assertIn("Open the link in your letter, or answer that letter: then the subject has your own mark", " ".join(text.split()))
+        self.assertNotIn("own mark", "".join(self.asking(vote())))
+
+    def test_without_a_page_the_texts_follow(self) -> None:
+        poll = dataclasses.replace(POLL, explanations=("A lake.\nada 1,2,3\n", "", ""))
+        for letter in ("", self.letter):
+            now = vote(poll=poll, at=None, letter_text=letter)
+            text = dataclasses.replace(now, electors=(ADA,)).call_letter(ADA, is_extension=False)
+            self.assertIn("\n\nOption 1: Lake\n\nA lake.\n|ada 1,2,3\n\nWHAT DECIDES\n", text)
+            self.assertEqual(text.count("checked"), 1)
+            self.assertEqual("The words above, and the texts" in text, bool(letter))
+            self.assertNotIn("A lake", now.call_letter(ADA, is_extension=True))
+        self.assertNotIn("A lake", vote(poll=poll).call_letter(ADA, is_extension=False))
+
+
+@unittest.skipUnless(BROWSER, "chromium is not installed")
+class Printed(unittest.TestCase):
+    def test_a_letter_has_at_most_two_sides(self) -> None:
+        """With twelve options, no page, a secret code, and 600 characters of the secretary's own."""
+        names = tuple(f"A rather long name of an option, as societies have them, number {number}" for number in range(1, 12))
+        poll = dataclasses.replace(POLL, options=names, ratios=(1,) * 11)
+        for code in LANGUAGES:
+            words = "Paper ballots go into the box in the hall of our house.\n" * 11
+            now = vote(code, poll=poll, at=None, has_aliases=True, letter_text=words)
+            text = now.call_letter(ADA._replace(code="c0de" * 8), is_extension=False)
+            self.assertGreater(len(text.splitlines()), 70)
+            self.check_sides(now, text)
+
+    def test_who_has_no_address_gets_the_texts_on_paper_or_reads_where_they_are(self) -> None:
+        """As many as two sides have; and all else that others read on the page."""
+        for code in LANGUAGES:
+            for number, at in ((1, vote().call.at), (8, None), (9, vote().call.at), (70, vote().call.at), (70, None)):
+                poll = dataclasses.replace(POLL, explanations=("A lake, and a meadow with room for forty tents.\n\n" * number, "", ""))
+                now = vote(code, poll=poll, at=at, letter_text="Dear friends,\n\npaper goes into the box in the hall.\n")
+                text, by_mail = (now.call_letter(elector, is_extension=False) for elector in (GUS, ADA))
+                self.assertEqual(text.count("forty tents"), number if number < 70 else 0)
+                self.assertEqual(by_mail.count("forty tents"), 0 if at else number)
+                said = now.call.language.say(TOO_LONG if at else TOO_LONG_WITHOUT_PAGE).split()
+                self.assertEqual(" ".join(text.split()).count(" ".join(said)), int(number == 70))
+                for head in ("What decides", "What will be public"):
+                    self.assertIn(now.call.language.say(head).upper(), text)
+                self.assertEqual(f"{at}#{GUS.name}/{GUS.mark}" in text, at is not None)
+                self.check_sides(now, text)
+
+    def check_sides(self, now: Composer, text: str) -> None:
+        """Three letters have at most six sides, each with a place for the rank of each option."""
+        letters = [("Ada", rows_to_print(text, now.call))] * 3
+        style = resources(PACKAGE, "letter.css")
+        page = render_page(PACKAGE, "print.html", now.call.language, style=style, title="Spring", letters=letters)
+        self.assertEqual(page.count(b'<span class="rank"></span>  Op'), 3 * len(now.call.poll.names))
+        with tempfile.TemporaryDirectory() as folder:
+            place = pathlib.Path(folder)
+            (place / "page.html").write_bytes(page)
+            words = [BROWSER, "--headless", "--no-sandbox", "--disable-gpu", f"--user-data-dir={folder}/of-browser"]
+            words += [f"--print-to-pdf={folder}/page.pdf", f"{folder}/page.html"]
+            subprocess.run(words, check=True, capture_output=True)
+            sides = re.findall(rb"/Type\s*/Page\b", (place / "page.pdf").read_bytes())
+        self.assertLessEqual(len(sides), 6, text)
+
+
+class NoBallot(unittest.TestCase):
+    def guarded(self, line: str, options: int = 3) -> str:
+        text = without_ballots(f"x\n{line}\ny", options, lambda word: word.lower() in ("ada", "ben-2", "maier"))
+        self.assertTrue(text.startswith("x\n") and text.endswith("\ny"), text)
+        return text[2:-2]
+
+    def test_lines_that_read_as_ballots_get_a_bar(self) -> None:
+        for line in (
+            "ada 1,2,3",
+            "  Ada: 1, 2, 3.",
+            "\u201cada 1,-,3\u201d",
+            "*ada* 1;2;3",
+            "ada *1,2,3*",
+            "ada:1,2,3",
+            "ben-2 1,2,\u2013",
+            "ada\u00a01 , 2 , 3",
+            "ada -,\u2013,1",
+            "ada 1,2,3 ,4",
+        ):
+            blanks = line[: len(line) - len(line.lstrip())]
+            self.assertEqual(self.guarded(line), f"{blanks}|{line.strip()}")
+
+    def test_and_those_that_would_if_they_were_broken_at_a_blank(self) -> None:
+        self.assertEqual(self.guarded("  paper: ada 1,2,3 or so"), "  |paper:\n  |ada 1,2,3 or so")
+        self.assertEqual(self.guarded("Zo\u00eb Maier 1,2,3"), "|Zo\u00eb\n|Maier 1,2,3")
+        self.assertEqual(self.guarded("ada 1,2,3 ben-2 3,2,1"), "|ada 1,2,3\n|ben-2 3,2,1")
+
+    def test_others_stay(self) -> None:
+        for line in ("ada 1,2", "ada _,_,_", "(ada 1,2,3)", "ada, ben, cleo", "3 of 4, 5 of 6, 7 of 8", "Euro 1,2,3", "ada 100,2,3"):
+            self.assertEqual(self.guarded(line), line)
+        self.assertEqual(self.guarded("The fee is 12,50 Euro", 2), "The fee is 12,50 Euro")
+
+
+class Bytes(unittest.TestCase):
+    def message(self, text: str, subject: str = "Vote: Fr\u00fchling", sender_name: str = "") -> bytes:
+        due = types.SimpleNamespace(sender="vote@club.example", sender_name=sender_name)
+        due.composer = types.SimpleNamespace(call=types.SimpleNamespace(to=None))
+        due.text, due.subject = lambda letter: text, lambda letter: (subject, "[0123456789abcdef-abcdefghjk]")
+        return message(due, LETTER, is_draft=False)  # type: ignore[arg-type]
+
+    def test_texts_come_through_as_they_are(self) -> None:
+        for text in (
+            "a\n",
+            "\u00e4\n",
+            "From me\n>From you\n.\n",
+            "x" * 2000 + "\n",
+            "\u00e4 " * 500 + "\n",
+            "a\n\nFrom \u00fc\n",
+            " \n\t\n",
+            "=20\n",
+        ):
+            data = self.message(text)
+            self.assertEqual(parsed(data).get_content(), text)
+            self.assertTrue(data.isascii())
+            body = data.partition(b"\n\n")[2]
+            self.assertNotRegex(body, rb"(?m)^>*From |^\.$")
+            self.assertLess(max(map(len, data.split(b"\n"))), 998)
+
+    def test_a_subject_has_one_field_and_its_mark(self) -> None:
+        for title in ("a\nBcc: x@y.example", "\u00fc" * 200, "x" * 200, "a\r\n\r\nbody", "\u202e", "\ud800"):
+            found = parsed(self.message("text\n", subject=f"Vote: {on_one_line(title)}"))
+            self.assertTrue(found["Subject"].endswith(" [0123456789abcdef-abcdefghjk]"), found["Subject"])
+            self.assertEqual([name for name, _ in found.raw_items()].count("Subject"), 1)
+            self.assertIsNone(found["Bcc"])
+            self.assertEqual(found.get_content(), "text\n")
+
+    def test_the_sender_has_the_name_of_the_society(self) -> None:
+        for name in ("", "Wahlleitung TSV", "B\u00fcro; Verein, e.V. <x@y.example>", "a\nBcc: x@y.example", '"\\'):
+            found = parsed(self.message("text\n", sender_name=name))
+            [address] = found["From"].addresses
+            self.assertEqual((address.display_name, address.addr_spec), (on_one_line(name), "vote@club.example"))
+            self.assertEqual((found["To"], found["Bcc"]), ("ada@club.example", None))
+
+    def test_addresses(self) -> None:
+        for text in ("a@b.example", "a.b+c@d-e.example"):
+            self.assertTrue(is_mail_address(text))
+        for text in (
+            "",
+            "a",
+            "a@b\nBcc: c@d",
+            "a@b, c@d",
+            "<a@b>",
+            "a b@c.example",
+            "\u00e4@b.example",
+            "a@b@c",
+            "-a@b",
+            "a@b.example\n",
+        ):
+            self.assertFalse(is_mail_address(text), text)
+
+    def test_a_name_is_one_line(self) -> None:
+        elector = ADA._replace(who="Ada\r\nBcc: x@y.example\n\nada 1,2,3\u2028" + "x" * 500)
+        text = vote().text("closed", elector, letter="CLOSED\n")
+        self.assertEqual(len(text.split("\n\n")), 2)
+        self.assertEqual(one_line(parsed(self.message(text)))[:9], "Dear Ada ")

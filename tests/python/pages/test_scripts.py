@@ -1,0 +1,320 @@
+"""The scripts of a page in a browser: finding one's own ballot, and counting again; also on pages that somebody has changed."""
+
+import base64
+import dataclasses
+import hashlib
+import hmac
+import json
+import pathlib
+import re
+import unittest
+
+from debvote_tools.result import command_line, folder
+from debvote_tools.result.facts import SecretVote
+
+from tests.support import at_browser, publishing
+from tests.support.publishing import FILES, plain_room, publish
+
+NEEDS_BROWSER = unittest.skipUnless(at_browser.BROWSER, "chromium is not installed")
+
+# names that people read, and recasts, a refused line and an elector who did not vote
+POLL = publishing.PLAIN_POLL + 'shown_title = "Größe"\nshown_options = ["72 Euro", "<i>B</i> & \\"C\\"", "N"]\n'
+BALLOTS = "ada 1,2,3\nben -,1,1\nada 2,1,-\nzoe 1,2,3\ncleo -,-,-\n"
+LAST_BALLOT = '<li id="cleo"><b>cleo</b> <code>-,-,-</code>: nothing is preferred</li>\n'
+LETTER_OTHER = "None of these is the checksum that you typed."
+
+
+def alias_of(code, name):
+    return hmac.new(code.encode(), name.encode(), "sha256").hexdigest()[:32]
+
+
+class Page(at_browser.Window):
+    """A page, with what a reader does on it."""
+
+    def __init__(self):
+        super().__init__(800, 900)
+
+    def find(self, name, code=None):
+        """What the page says after a name, and a code, were typed."""
+        self.ask(f"document.getElementById('Name').value = {json.dumps(name)}")
+        if code is not None:
+            self.ask(f"document.getElementById('Code').value = {json.dumps(code)}")
+        self.ask("document.getElementById('Answer').replaceChildren(); document.getElementById('Show').click()")
+        self.until("document.getElementById('Answer').textContent !== ''")
+        return self.found()
+
+    def found(self):
+        """Each paragraph and each step of the lists, which are numbered."""
+        return self.ask("[...document.querySelectorAll('#Answer p, #Answer li')].map((node) => node.textContent)")
+
+    def count_again(self, letter="", files=None):
+        """What the page says after a press of the button, or of that for files from the disk."""
+        chosen = {name: base64.b64encode(data).decode() for name, data in (files or {}).items()}
+        self.ask(f"""(() => {{
+          document.getElementById("Again-letter").value = {json.dumps(letter)};
+          const chosen = new DataTransfer();
+          for (const [name, data] of Object.entries({json.dumps(chosen)})) {{
+            chosen.items.add(new File([Uint8Array.from(atob(data), (sign) => sign.charCodeAt(0))], name));
+          }}
+          document.getElementById("Again-files").files = chosen.files;
+          document.getElementById("Again-answer").replaceChildren();
+          document.getElementById("{'Again-chosen' if files else 'Again-button'}").click();
+        }})()""")
+        self.until("document.getElementById('Again-progress').hidden && document.getElementById('Again-answer').textContent !== ''")
+        return self.ask("[...document.querySelectorAll('#Again-answer p')].map((node) => node.textContent)")
+
+
+class ScriptsTest(publishing.PublishTest):
+    """A vote that is not secret, and one that is, each on its page."""
+
+    code = "0123456789abcdef" * 2
+
+    @classmethod
+    def setUpClass(cls):
+        super().setUpClass()
+        cls.room = plain_room(cls.scratch / "open", POLL, BALLOTS)
+        cls.told = publish(cls.room, *FILES, "result")
+        roll = [alias_of(cls.code, name) for name in ("ada", "zoe-muller", "ben", "cleo")]
+        poll = re.sub(r"roll = .*", f"roll = {json.dumps(sorted(roll))}", publishing.PLAIN_POLL) + "secret = true\n"
+        ballots = sorted(f"{alias} {ranks}\n" for alias, ranks in zip(roll, ["1,2,3", "2,1,-", "1,1,1"]))
+        cls.secret = plain_room(cls.scratch / "secret", poll, "".join(ballots))
+        cls.told_in_secret = publish(cls.secret, *FILES, "result")
+        cls.window = cls.enterClassContext(Page()) if at_browser.BROWSER else None
+
+    def page_of(self, window, change=None, room=None):
+        """Opens the page, or what a change makes of it."""
+        text = ((room or self.room) / "result" / "index.html").read_text()
+        changed = text if change is None else change(text)
+        self.assertEqual(changed != text, change is not None)
+        # a changed page would not run, since its policy names its scripts
+        file = pathlib.Path(self.scratch) / "page.html"
+        file.write_text(changed)
+        window.open(file)
+
+    def published(self, room, name, **changes):
+        """A room with the result of the files of another one, with what an election adds to them."""
+        programs = publishing.PROGRAM.parent
+        files = {"poll": str(room / "poll.toml"), "ballots": str(room / "ballots")}
+        given = command_line.Arguments(**files, casting=None, desks=1, language="en", target="result")
+        two = command_line.facts_of(given, programs)
+        made_room = plain_room(self.scratch / name)
+        with folder.made(dataclasses.replace(two, **changes), made_room / "result", programs) as made:
+            made.take_place(made_room / "result")
+        return made_room
+
+    def test_the_folders_are_made(self):
+        self.expect("open", self.told, ("Winner: 2 B\nverified\n", "", 0))
+        self.expect("secret", self.told_in_secret[1:], ("", 1))
+
+    @NEEDS_BROWSER
+    def test_finding_a_ballot(self):
+        window = self.window
+        self.page_of(window)
+        ballot = ['Option 2: <i>B</i> & "C"', "Option 1: 72 Euro", "Not ranked: Option 3: N", "The line: ada 2,1,-"]
+        for name in ("ada", " Ada ", "ÁDA"):
+            self.expect(name, window.find(name), ["This ballot counts for ada:", *ballot])
+        equal = ['equally Option 2: <i>B</i> & "C" and Option 3: N', "Not ranked: Option 1: 72 Euro", "The line: ben -,1,1"]
+        self.expect("equal ranks", window.find("ben")[1:], equal)
+        self.expect("hyphens alone", window.find("cleo")[1:], ["nothing is preferred", "The line: cleo -,-,-"])
+        no = "No elector has the name a-d-a. Type it as it is on the roll."
+        self.expect("without its hyphens", window.find("a-d-a"), [no, "On the roll: ada"])
+        window.ask("document.querySelector('#Answer button').click()")
+        window.until("document.getElementById('Answer').textContent.startsWith('This ballot counts for ada:')")
+        self.expect("no ballot", window.find("dan"), ["dan is on the roll, and no ballot counts for this name."])
+        self.expect("nobody", window.find("Zoë"), ["No elector has the name zoë. Type it as it is on the roll."])
+        self.expect("a place of the page", window.find("Votes"), ["No elector has the name votes. Type it as it is on the roll."])
+        self.expect("nothing typed", window.find(" "), ["Type your name."])
+        # a browser that opens the page at a name shows the ballot, too, and not its place in the list
+        window.tell("Page.navigate", url="about:blank")
+        window.until("location.href === 'about:blank'")
+        window.open(self.room / "result" / "index.html", "#ben")
+        window.until("document.getElementById('Answer').textContent.includes('ben')")
+        window.until("Math.abs(document.getElementById('Find-your-ballot').getBoundingClientRect().top) < 80")
+        self.expect("the list is folded", window.ask("document.getElementById('ben').closest('details').open"), False)
+        for address, name in (("ben", "ben"), ("ada/23456789ab", "ada")):
+            window.ask(f"location.hash = '#{address}'")
+            window.until(f"document.getElementById('Answer').textContent.includes('{name}')")
+            self.expect(f"the address {address} names an elector", window.found()[0], f"This ballot counts for {name}:")
+            window.until("document.querySelectorAll('.folded[open]').length === 0")
+            top = window.ask("document.getElementById('Find-your-ballot').getBoundingClientRect().top")
+            self.expect(f"{address}: it is shown at once", -1 <= top < 900, True)
+        others = ["This page shows other ballots than its files have. Tell the other electors."]
+        for what, change in [
+            ("other ranks", lambda text: text.replace("<code>2,1,-</code>", "<code>1,2,-</code>")),
+            ("no entry", lambda text: text.replace('<li id="ada">', '<li id="eva">')),
+        ]:
+            self.page_of(window, change)
+            self.expect(what, window.find("ada"), others)
+
+    @NEEDS_BROWSER
+    def test_electors_with_names_of_things_of_the_page(self):
+        roll = ["find", "code", "show", "answer", "votes", "name", "result", "again", "poll-file", "ballots", "graph0"]
+        poll = re.sub("roll = .*", f"roll = {json.dumps(roll)}", publishing.PLAIN_POLL)
+        room = plain_room(self.scratch / "names", poll, "".join(f"{name} 1,2,3\n" for name in roll[:-1]))
+        self.expect("it is published", publish(room, *FILES, "result"), ("Winner: 1 A\nverified\n", "", 0))
+        window = self.window
+        self.page_of(window, room=room)
+        for name in roll[:-1]:
+            self.expect(name, window.find(name), [f"This ballot counts for {name}:", "Option 1: A", "Option 2: B", "Option 3: N", f"The line: {name} 1,2,3"])
+        self.expect("no ballot", window.find(roll[-1]), [f"{roll[-1]} is on the roll, and no ballot counts for this name."])
+        self.expect("counted again", window.count_again()[0].startswith("The same, line for line"), True)
+
+    @NEEDS_BROWSER
+    def test_finding_a_ballot_of_a_secret_vote(self):
+        window = self.window
+        self.page_of(window, room=self.secret)
+        alias = alias_of(self.code, "zoe-muller")
+        wanted = ["Option 2: B", "Option 1: A", "Not ranked: Option 3: N", f"The line: {alias} 2,1,-"]
+        for name in ("zoe-muller", "Zoë Müller", "  ZOE  MÜLLER "):
+            self.expect(name, window.find(name, f" {self.code[:16].upper()} {self.code[16:]}")[1:], wanted)
+        none = window.find("cleo", self.code)
+        self.expect("no ballot", none, [f"Your alias is {alias_of(self.code, 'cleo')}. It is on the roll, and no ballot counts under it."])
+        other = f"No elector of this vote has the alias {alias_of('f' * 32, 'ada')}. Type name and code as they are in your letter or on your slip."
+        self.expect("another code", window.find("ada", "f" * 32), [other])
+        short = "A code has 32 digits, 0 to 9 and a to f. Type yours as it was given to you."
+        self.expect("a short code", window.find("ada", "f" * 31), [short])
+        line = f"{alias} 2,1,-\n"
+        for what, before, after, said in [
+            ("a line twice", line, line * 2, "replaced"),
+            ("a line that does not count", line, f"{line}x\n", "bad shape"),
+            ("a line of nobody", line, f"{line}{'0' * 32} 1,2,3\n", "bad not on roll"),
+            ("a last envelope", "]\nsecret = true", "]\nlast_envelope = 3\nsecret = true", "last_envelope"),
+        ]:
+            self.page_of(window, lambda text, before=before, after=after: text.replace(before, after), room=self.secret)
+            odd = window.find("ada", self.code)[0]
+            self.expect(f"{what}: {odd}", (odd.startswith("This is not how a secret vote is published: "), said in odd), (True, True))
+
+    @NEEDS_BROWSER
+    def test_finding_a_ballot_by_its_code(self):
+        """Where codes are on the roll, half a code is not called the code of nobody."""
+        by_code = self.published(self.secret, "codes", has_codes=True)
+        code = alias_of(self.code, "zoe-muller")
+        window = self.window
+        self.page_of(window, room=by_code)
+        self.expect("in groups", window.find(f"{code[:16].upper()} {code[16:]}")[1:], ["Option 2: B", "Option 1: A", "Not ranked: Option 3: N", f"The line: {code} 2,1,-"])
+        short = "A code has 32 digits, 0 to 9 and a to f. Type yours as it was given to you."
+        self.expect("half of it", window.find(code[:16]), [short])
+        self.expect("no ballot", window.find(alias_of(self.code, "cleo")), ["The code is on the roll, and no ballot counts under it."])
+        self.expect("nobody's", window.find("f" * 32), ["No elector has this code. Type it as it is on your slip."])
+
+    @NEEDS_BROWSER
+    def test_the_checksum_of_the_close(self):
+        """In a secret vote it covers the random line, too."""
+        folder, seal = self.secret / "result", "5" * 32
+        secret = SecretVote(codes=frozenset(), seal=seal, sheet_text=(folder / "sheet.txt").read_text(), late=0)
+        room = self.published(self.secret, "sealed", secret=secret)
+        window = self.window
+        self.page_of(window, room=room)
+        sealed = hashlib.sha256(f"{seal}\n".encode() + (folder / "ballots.txt").read_bytes()).hexdigest()
+        rows = [row for row in window.count_again(sealed) if "as the letter of the close has to have it" in row]
+        said = f"Yours is the same. The checksum of seal.txt and the ballots, as the letter of the close has to have it, is {sealed}."
+        self.expect("sealed", rows, [f"{said} This page names it too."])
+
+    @NEEDS_BROWSER
+    def test_what_is_typed(self):
+        """Enter shows the ballot, and an answer goes when another name is typed; of two with one real name both are shown."""
+        room = self.published(self.room, "real names", real_names={"ada": "Zoë", "ben": "Zoë", "dan": "Dan"})
+        window = self.window
+        self.page_of(window, room=room)
+        found = window.find("zoe")
+        counts = [said for said in found if said.startswith("This ballot counts")]
+        self.expect("one real name", counts, ["This ballot counts for ada:", "This ballot counts for ben:"])
+        window.ask("document.getElementById('Name').focus()")
+        window.press("1")
+        window.until("document.getElementById('Answer').textContent === ''")
+        self.expect("what is typed now", window.ask("document.getElementById('Name').value"), "zoe1")
+        window.press("Enter")
+        window.until("document.getElementById('Answer').textContent !== ''")
+        self.expect("by Enter", window.found(), ["No elector has the name zoe1. Type it as it is on the roll."])
+
+    @NEEDS_BROWSER
+    def test_folded_parts(self):
+        """A link, or the address of the page, opens the folded part that it leads to; on paper all are open, without a script too."""
+        window = self.window
+        self.page_of(window)
+        unfolded = "[...document.querySelectorAll('.folded[open] h3')].map((node) => node.id)"
+        self.expect("all are folded", window.ask(unfolded), [])
+        window.ask("""document.querySelector('a[href="#Who-voted"]').click()""")
+        self.expect("by a link", window.ask(unfolded), ["Who-voted"])
+        window.ask("document.querySelector('.folded[open]').open = false")
+        window.ask("""document.querySelector('a[href="#Who-voted"]').click()""")
+        self.expect("by the same link again", window.ask(unfolded), ["Who-voted"])
+        for address, part in (("Votes", "Votes"), ("How-to-verify", "How-to-verify"), ("%", None)):
+            window.ask(f"location.hash = '#{address}'")
+            window.until(f"{json.dumps(part)} === null || {unfolded}.includes({json.dumps(part)})")
+        with Page() as window:
+            window.for_paper()
+            self.page_of(window)
+            seen = window.ask("[...document.querySelectorAll('.folded')].map((part) => part.children[1].getBoundingClientRect().height > 0)")
+            self.expect("on paper", (seen, window.ask(unfolded)), ([True] * 9, []))
+            # browsers print no grounds: paper has the ink on the paper
+            won = window.ask("(({ backgroundColor, color }) => [backgroundColor, color === getComputedStyle(document.body).color])(getComputedStyle(document.querySelector('.chip.won')))")
+            self.expect("the chip of the winner on paper", won, ["rgba(0, 0, 0, 0)", True])
+
+    @NEEDS_BROWSER
+    def test_counting_again(self):
+        folder = self.room / "result"
+        sums = {name: hashlib.sha256((folder / name).read_bytes()).hexdigest() for name in ("poll.toml", "ballots.txt", "index.html")}
+        window = self.window
+        self.page_of(window)
+        rows = window.count_again()
+        lines = (folder / "sheet.txt").read_text().count("\n")
+        self.expect("the sheet", rows[0], f"The same, line for line: this count comes to the published sheet, in all its {lines} lines.")
+        self.expect("the page", rows[2].startswith("This page shows what its files come to: "), True)
+        for typed in (sums["poll.toml"], f"{sums['poll.toml'].upper()}  poll.toml", f"\\{sums['poll.toml']} *a\\nb", f" {sums['ballots.txt']}\n"):
+            said = " ".join(window.count_again(typed))
+            self.expect(f"typed {typed}", ("Yours is the same." in said, LETTER_OTHER in said), (True, False))
+        self.expect("that of another file", LETTER_OTHER in window.count_again(sums["index.html"])[3], True)
+        for name in ("index.html", "SHA256SUMS"):
+            data = (folder / name).read_bytes()
+            said = f"The checksum of {name} is {hashlib.sha256(data).hexdigest()}."
+            self.expect(f"{name} alone", window.count_again(files={name: data}), [said])
+            self.expect(f"{name}, typed", window.count_again(hashlib.sha256(data).hexdigest(), {name: data}), [f"Yours is the same. {said}"])
+            other = window.count_again(hashlib.sha256(data).hexdigest(), {name: data + b"x"})
+            self.expect(f"{name}, changed", LETTER_OTHER in other[0], True)
+        sum_of_poll = sums["poll.toml"]
+        for typed, number in ((sum_of_poll[:63], 63), (f"{sum_of_poll[:16]} {sum_of_poll[16:20]}", 20), (f"{sum_of_poll}0", 65), ("?", 0)):
+            part = f"A checksum has 64 digits, 0 to 9 and a to f, and you have typed {number}."
+            self.expect(f"typed {typed}", window.count_again(typed)[3], part)
+
+    @NEEDS_BROWSER
+    def test_counting_again_on_changed_pages(self):
+        changes = {
+            "the result": ('<h2 id="Result"><b data-option="2"><bdi>&lt;i&gt;B', '<h2 id="Result"><b data-option="2"><bdi>&lt;i&gt;C'),
+            "the names of title and options  ": ('<span class="unseen">: </span><b><bdi>72', '<span class="unseen">: </span><b><bdi>73'),
+            "the names of title and options": ('<h1 dir="auto">Größe', '<h1 dir="auto">Grösse'),
+            "the names of title and options ": ("(plain name, on the result sheet: A)", "(plain name, on the result sheet: B)"),
+            "the table of votes": ("<td>0</td>", "<td>1</td>"),
+            "the ballot of ben": ('<li id="ben"><b>ben</b> <code>-,1,1', '<li id="ben"><b>ben</b> <code>-,1,2'),
+            "the ballot of bem": ('<li id="ben">', '<li id="bem">'),
+            "the ballots, which are not as many": (LAST_BALLOT, ""),
+            "the ballot of ada": ("</bdi>; then Option 1: <bdi>72 Euro</bdi>; not", "</bdi>; then Option 1: <bdi>73 Euro</bdi>; not"),
+        }
+        window = self.window
+        for what, (before, after) in changes.items():
+            self.page_of(window, lambda text, before=before, after=after: text.replace(before, after, 1))
+            said = [row for row in window.count_again() if row.startswith("This page does not show what its files come to: ")]
+            self.expect(f"changed: {what}", [what.strip() in row for row in said], [True])
+
+    @NEEDS_BROWSER
+    def test_files_from_the_disk(self):
+        folder = self.room / "result"
+        files = {name: (folder / name).read_bytes() for name in ("poll.toml", "ballots.txt", "sheet.txt")}
+        window = self.window
+        self.page_of(window)
+        self.expect("the same", window.count_again(files=files)[0].startswith("The same, line for line"), True)
+        cut = window.count_again(files=files | {"sheet.txt": files["sheet.txt"].removesuffix(b"\n")})[0]
+        feeds = (
+            "There it is: Winner: 2 B (without a line feed at its end). By this count it is: Winner: 2 B (with a line feed at its end)."
+        )
+        self.expect(f"no line feed at the end: {cut}", feeds in cut, True)
+        others = window.count_again(files=files | {"ballots.txt": files["ballots.txt"] + b"dan 1,2,3\n"})
+        told = "If the files are as they were published, tell the other electors."
+        shown = [(row.endswith(told), row.startswith("This page")) for row in others if row.startswith(("Not the same", "This page"))]
+        self.expect(f"other ballots: {others}", shown, [(True, False)])
+        named = {row.split()[4]: row.endswith("This page names it too.") for row in others if row.startswith("The checksum of the ")}
+        self.expect("what the page names", named, {"poll,": True, "ballots,": False})
+        two = window.count_again(files=files | {"poll-2.toml": files["poll.toml"]})
+        self.expect("two polls", two, ["Choose poll.toml and ballots.txt, one file of each and under these names; you may add sheet.txt."])
+        toml = window.count_again(files=files | {"poll.toml": b"# a comment\n" + files["poll.toml"]})[0]
+        self.expect(f"another form of TOML: {toml}", "not in plain form, as the poll.toml of a result is" in toml, True)

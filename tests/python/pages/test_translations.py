@@ -1,0 +1,116 @@
+"""The files of translations: each sentence of the code is in each of them, whole, with its places, and nothing else is."""
+
+import datetime
+import gettext
+import io
+import re
+import shutil
+import subprocess
+import unittest
+
+from debvote_tools.result.page import share
+from debvote_tools.text.language import LANGUAGES, catalog_of, language_of
+from debvote_tools.text.times import time_in_words
+
+from tests.support import languages, sentences
+
+MSGFMT = shutil.which("msgfmt")
+TAG = re.compile(r"<[^>]*>")
+
+
+class Translations(languages.LanguageTest):
+    def setUp(self) -> None:
+        super().setUp()
+        self.said = sentences.in_code()
+        self.texts = {code: (sentences.LOCALE / f"{code}.po").read_text(encoding="utf-8") for code in languages.LANGUAGES}
+        self.entries = {code: sentences.entries_in(text) for code, text in self.texts.items()}
+
+    def test_each_language_has_its_file(self) -> None:
+        self.assertEqual(sorted(LANGUAGES), sorted(["en", *languages.LANGUAGES]))
+        self.assertEqual(sorted(file.stem for file in sentences.LOCALE.glob("*.po")), sorted(languages.LANGUAGES))
+        self.assertGreater(len(self.said), 500)
+
+    def test_no_sentence_lacks_a_translation_and_none_is_left_over(self) -> None:
+        for code, entries in self.entries.items():
+            with self.subTest(language=code):
+                found = [entry.texts for entry in entries[1:]]
+                self.assertEqual(len(found), len(set(found)), "twice")
+                self.assertEqual(sorted(self.said.keys() - set(found)), [], "not translated")
+                self.assertEqual(sorted(set(found) - self.said.keys()), [], "not in the code")
+                for entry in entries[1:]:
+                    self.assertTrue(all(entry.forms), entry.texts)
+                    self.assertFalse(entry.is_fuzzy or entry.is_obsolete, entry.texts)
+
+    def test_each_translation_has_the_places_and_the_tags_of_its_sentence(self) -> None:
+        for code, entries in self.entries.items():
+            for entry in entries[1:]:
+                with self.subTest(language=code, text=entry.texts[0]):
+                    self.assertEqual(len(entry.forms), len(entry.texts))
+                    for form in entry.forms:
+                        self.assertEqual(sentences.places_in(form), sentences.places_in(entry.texts[-1]))
+                        self.assertEqual(sorted(TAG.findall(form)), sorted(TAG.findall(entry.texts[-1])))
+                        self.assertEqual(form.count("{"), len(re.findall(r"\{\w+\}", form)))
+                        self.assertEqual(form.strip(), form)
+                        # it may come to stand in an attribute
+                        self.assertNotIn('"', TAG.sub("", form))
+
+    def test_what_puts_parts_behind_each_other_has_its_places_at_its_ends(self) -> None:
+        both = {("{entries} and {last}",), ("{before}: {after}",), ("{before}; {after}",)}
+        both |= {("{before}, then {step}",), ("{before}; then {step}",)}
+        for code, entries in self.entries.items():
+            found = {entry.texts: entry.forms[0] for entry in entries if entry.texts in both}
+            self.assertEqual(found.keys(), both)
+            for (text,), form in found.items():
+                first, second = re.findall(r"\{\w+\}", text)
+                self.assertTrue(form.startswith(first) and form.endswith(second), f"{code}: {form}")
+
+    def test_a_sentence_ends_as_its_translation_does(self) -> None:
+        ends = re.compile(r"([.:?])(?:</\w+>)?$")
+        for code, entries in self.entries.items():
+            for entry in entries[1:]:
+                wanted = ends.search(entry.texts[0])
+                if wanted and wanted[1] in ":?":
+                    with self.subTest(language=code, text=entry.texts[0]):
+                        found = ends.search(entry.forms[0])
+                        self.assertEqual(found and found[1], wanted[1])
+
+    def test_french_signs_stand_behind_a_space_that_does_not_break(self) -> None:
+        for entry in self.entries["fr"][1:]:
+            for form in entry.forms:
+                with self.subTest(text=entry.texts[0]):
+                    self.assertIsNone(
+                        re.search(r"[^\u00a0:/][;?!\u00bb]|\u00ab[^\u00a0]| :|\w: ", TAG.sub("", form).replace("https:", "")), form
+                    )
+
+    @unittest.skipUnless(MSGFMT, "msgfmt is not installed")
+    def test_msgfmt_takes_each_file_and_makes_of_it_what_is_read_here(self) -> None:
+        for code in languages.LANGUAGES:
+            with self.subTest(language=code):
+                made, file = self.scratch / f"{code}.mo", sentences.LOCALE / f"{code}.po"
+                ended = subprocess.run([MSGFMT, "--check", "-o", made, file], capture_output=True, text=True)
+                self.assertEqual((ended.returncode, ended.stdout, ended.stderr), (0, "", ""))
+                by_msgfmt, here = gettext.GNUTranslations(io.BytesIO(made.read_bytes())), catalog_of(file.read_bytes())
+                # but for the head, which is no sentence
+                self.assertEqual({**by_msgfmt._catalog, "": ""}, {**here._catalog, "": ""})
+                self.assertEqual([by_msgfmt.plural(n) for n in range(200)], [here.plural(n) for n in range(200)])
+
+    def test_sentences_with_numbers_and_places(self) -> None:
+        for code, wanted in (("en", ("1 file", "3 files")), ("de", ("1 Datei", "3 Dateien"))):
+            said = [language_of(code).say_number("{number} file", "{number} files", number) for number in (1, 3)]
+            self.assertEqual(tuple(said), wanted)
+        self.assertEqual(language_of("de").say("The line: {line}", line="{x}"), "Die Zeile: {x}")
+        self.assertEqual(language_of("fr").between("{before}; {after}"), "\u00a0; ")
+
+    def test_numbers_and_dates(self) -> None:
+        first = datetime.datetime(2027, 1, 1, 8, 5, 0, tzinfo=datetime.UTC)
+        later = datetime.datetime(2026, 12, 4, 18, 0, 30, tzinfo=datetime.timezone(datetime.timedelta(hours=1)))
+        wanted = {
+            "en": ("Friday, 1 January 2027, 08:05 (UTC)", "Friday, 4 December 2026, 18:00:30 (UTC+01:00)", "33.3 %"),
+            "de": ("Freitag, 1. Januar 2027, 08:05 (UTC)", "Freitag, 4. Dezember 2026, 18:00:30 (UTC+01:00)", "33,3 %"),
+            "fr": ("vendredi 1er janvier 2027, 08:05 (UTC)", "vendredi 4 d\u00e9cembre 2026, 18:00:30 (UTC+01:00)", "33,3 %"),
+            "es": ("viernes, 1 de enero de 2027, 08:05 (UTC)", "viernes, 4 de diciembre de 2026, 18:00:30 (UTC+01:00)", "33,3 %"),
+        }
+        for code, texts in wanted.items():
+            language = language_of(code)
+            self.assertEqual((time_in_words(first, language), time_in_words(later, language), share(1, 3, language)), texts)
+            self.assertEqual(share(1, 2, language), "50 %")

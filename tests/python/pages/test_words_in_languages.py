@@ -1,0 +1,227 @@
+"""Pages and letters in a language hold no word of ours in another one: in a language whose words are all marked, nothing is unmarked
+but what is no word of ours, as the names of options and electors, the commands, and what debvote itself says."""
+
+import email
+import email.policy
+import html
+import pathlib
+import re
+
+from tests.support import languages
+from tests.support.languages import BALLOTS, BEGIN, END_MARK, MARKED, POLL
+
+# what of a page is in no language: its style and script, what is typed and what it answers, what others say, and pictures
+UNSAID = re.compile(r"<(style|script|svg|pre|code|bdi)\b[^>]*>.*?</\1>", re.DOTALL)
+# the attributes that are read to somebody, or that a script says
+SAID = re.compile(r'\s(?:aria-label|title|alt|placeholder|data-words)="([^"]*)"')
+
+# what no sentence of ours has: the words of the elections of these tests, names of files, and what debvote says of a line
+NAMES = sorted([*re.findall('"([A-Z][^"]*)"', POLL), "Wohin?", languages.REASON], key=len, reverse=True)
+DATA = re.compile(
+    "|".join(
+        [
+            *(r"\s+".join(map(re.escape, name.split())) for name in NAMES),
+            r"[\w-]+\.(?:toml|txt|csv|json|js|py|svg|html|md)\b", "SHA256SUMS", r"\be\d\d\b", r"\b(?:[0-9a-f]{4} ?){4,16}\b",
+            r"Person\s+\d\d", r"\d+Q", re.escape(languages.TO), re.escape(languages.AT) + r"(?:#\w+)?(?:/\w{10})?",
+            r"\[[0-9a-f]{16}-\w{10}\]",
+            r"\bUTC(?:[+-]\d\d:\d\d)?", r"(?:bad shape|bad rank count|bad not on roll|late): .*", r"\b\d+\b",
+            f"[^\\w\\s{BEGIN}{END_MARK}]+", r"\b_\b", r"\b(?:NAME|CODE)\b",
+        ]
+    )
+)  # fmt: skip
+# the commands in a letter
+COMMANDS = re.compile(r"(?m)^  (?:python3|sha256sum|cat) .*$")
+
+
+def unmarked(text: str) -> list[str]:
+    """The words of a text that are neither marked nor in no language."""
+    return DATA.sub(" ", MARKED.sub(" ", COMMANDS.sub("", text))).split()
+
+
+def unsaid(page: str) -> list[str]:
+    """What of a page is read and is unmarked."""
+    said = [html.unescape(found) for found in SAID.findall(page)]
+    body = UNSAID.sub(" ", page[page.index("<title>") :])
+    texts = [html.unescape(text) for text in re.split(r"<[^>]*>", body)]
+    return [word for text in [" ".join(texts), *map(words_of, said)] for word in unmarked(text)]
+
+
+def words_of(said: str) -> str:
+    """The sentences of a script, or an attribute as it is."""
+    if not said.startswith("{"):
+        return said
+    return "\n".join(re.sub(r"\{\w+\}", " ", found) for found in re.findall(r'": "((?:[^"\\]|\\.)*)"', said)).replace("\\n", " ")
+
+
+class Marked(languages.LanguageTest):
+    """A test in a language whose words are all marked."""
+
+    @classmethod
+    def setUpClass(cls) -> None:
+        super().setUpClass()
+        cls.enterClassContext(languages.marked_german())
+
+    def check_page(self, file: pathlib.Path) -> str:
+        page = file.read_text(encoding="utf-8")
+        with self.subTest(page=str(file.relative_to(self.scratch))):
+            self.assertIn('<html lang="de">', page)
+            self.assertIn(BEGIN, page)
+            self.assertEqual(unsaid(page), [])
+        return page
+
+    def check_letter(self, text: str, name: str) -> None:
+        with self.subTest(letter=name):
+            self.assertIn(BEGIN, text)
+            self.assertEqual(unmarked(text), [])
+
+    def check_files(self, place: pathlib.Path, *files: str) -> None:
+        """These pages and letters of an election."""
+        for name in files:
+            if name.endswith(".html"):
+                self.check_page(place / name)
+            else:
+                self.check_letter((place / name).read_text(encoding="utf-8"), name)
+
+    def check_messages(self, place: pathlib.Path, kinds: set[str]) -> None:
+        """The messages that go out, each with its subject."""
+        files = sorted(place.glob("letters/*/*/*.eml"))
+        self.assertEqual({file.parent.parent.name for file in files}, kinds)
+        for file in files:
+            message = email.message_from_bytes(file.read_bytes(), policy=email.policy.default)
+            body = message.get_body()
+            assert body is not None
+            self.check_letter(f"{message['Subject']}\n{body.get_content()}", str(file.relative_to(place)))
+
+
+ALL_KINDS = {"call", "receipts", "reminders", "closed", "result"}
+
+
+class MarkedElections(Marked):
+    """Elections from their beginning to their end."""
+
+    def test_the_test_finds_a_word(self) -> None:
+        self.assertEqual(unmarked(f"{BEGIN}What{END_MARK} 12 At the lake, e01 {BEGIN}.{END_MARK}"), [])
+        self.assertEqual(unmarked(f"{BEGIN}What{END_MARK} 12 lines"), ["lines"])
+        self.assertEqual(unsaid('<title></title><p aria-label="Bars"><code>x</code></p>'), ["Bars"])
+        self.assertEqual(unsaid(f"<title>{BEGIN}x{END_MARK}</title><p>has <b>1</b></p>"), ["has"])
+
+    def test_an_open_vote(self) -> None:
+        place = self.held("open", "de")
+        self.check_files(place, "call/index.html", "call/call.txt", "letters/extension.txt", "letters/closed.txt")
+        self.check_files(place, "result/index.html", "letters/result.txt", "result/closed.txt")
+        self.check_messages(place, ALL_KINDS)
+
+    def test_a_secret_vote(self) -> None:
+        place = self.held("secret", "de", is_secret=True)
+        self.check_files(
+            place, "call/index.html", "call/call.txt", "private/slips.html", "letters/extension.txt", "letters/closed.txt"
+        )
+        self.check_files(place, "result/index.html", "letters/result.txt", "result/closed.txt")
+        self.check_messages(place, ALL_KINDS)
+
+    def test_codes_on_the_roll(self) -> None:
+        place = self.called("codes", "de", codes=("--on-roll",))
+        self.check_files(place, "call/index.html", "call/call.txt", "private/slips.html")
+
+    def test_a_call_that_says_little(self) -> None:
+        place = self.begun("little", "de", poll=POLL.replace("quorum = 1", "quorum = 0\nwording = 'more_than'"))
+        self.election("little", "call")
+        self.check_files(place, "call/index.html", "call/call.txt")
+
+    def test_letters_on_paper(self) -> None:
+        place = self.begun("paper", "de")
+        (place / "members.csv").write_text((place / "members.csv").read_text().replace("e01@example.org", ""))
+        self.election("paper", "roll")
+        self.election("paper", "call")
+        self.election("paper", "letters", "call", "--from", languages.TO)
+        (page,) = place.rglob("letters/*/*/*.html")
+        self.assertNotEqual(MARKED.findall(page.read_text(encoding="utf-8")), [])
+
+
+class MarkedPublications(Marked):
+    """What debvote-publish makes of two files."""
+
+    def publish(self, name: str, poll: str, ballots: str, *words: object, status: int = 0) -> pathlib.Path:
+        for file, text in {"poll.toml": poll, "ballots": ballots}.items():
+            (self.scratch / f"{name}-{file}").write_text(text)
+        given = ["--poll", f"{name}-poll.toml", "--ballots", f"{name}-ballots", "--language", "de"]
+        self.run_program("debvote-publish", *given, *words, name, status=status)
+        return self.scratch / name
+
+    def test_elections_of_all_kinds(self) -> None:
+        poll = POLL + f"roll = {languages.ELECTORS}\n".replace("'", '"')
+        equal = poll.replace("[1, 1, 3]", "[1, 1, 1]").replace("quorum = 1", "quorum = 0")
+        cycle = "".join(f"e0{n} {ranks}\n" for n, ranks in enumerate(["1,2,3,4", "2,3,1,4", "3,1,2,4"] * 3, start=1))
+        tie = "e01 1,2,3,4\ne02 2,1,3,4\ne03 1,2,-,4\ne04 2,1,-,4\n"
+        for name, given, ballots, words, status in (
+            ("cycle", equal, cycle, (), 1),
+            ("tie", equal, tie, (), 1),
+            ("cast", equal, tie, ("--casting=At the lake",), 0),
+            ("nobody", poll, "", (), 0),
+            ("dropped", poll, "e01 4,4,4,1\ne02 2,2,2,1\ne03 1,4,4,2\n", (), 0),
+            ("windows", poll, "e01 1,2,3,4\r\ne02 1,2,3,4\r\n", (), 0),
+            ("long", poll, f"e01 1,2,3,4\n{'x' * 150}\n\n\n", (), 0),
+            ("late", "last_envelope = 2\n" + poll, BALLOTS, (), 1),
+            ("one", equal, "e01 1,2,3,4\n", (), 0),
+        ):
+            self.check_files(self.publish(name, given, ballots, *words, status=status), "index.html", "letter.txt")
+
+    def test_many_options(self) -> None:
+        options = ", ".join(f'"Option {number}"' for number in range(1, 15))
+        poll = f'title = "Wohin?"\noptions = [{options}]\nratios = {[1] * 14}\ndefault = "Further discussion"\nquorum = 0\nroll = ["e01"]\n'
+        for name, ranks, status in (("many", range(1, 16), 0), ("all-equal", [1] * 14 + [2], 1)):
+            folder = self.publish(name, poll, f"e01 {','.join(map(str, ranks))}\n", status=status)
+            page = (folder / "index.html").read_text(encoding="utf-8").replace("Option ", "")
+            self.assertEqual(unsaid(page), [])
+
+
+class MarkedDecisions(Marked):
+    """What the page and the letter of the result tell of what the secretary decided."""
+
+    def test_casting_votes(self) -> None:
+        place = self.begun("cast", "de", poll=POLL.replace("[1, 1, 3]", "[1, 1, 1]").replace("quorum = 1", "quorum = 0"))
+        self.election("cast", "call", "--to", languages.TO, "--at", languages.AT)
+        self.election("cast", "add", "--yes", given="e01 1,2,3,4\ne02 2,1,3,4\n")
+        self.election("cast", "close")
+        given = ("--cast-by", "Person 01", "--cast-on", "2026-11-05")
+        for option, words, status in (
+            (None, (), 1),
+            ("At the lake", given, 0),
+            ("In the town hall", (*given, "--force", "--because", languages.REASON), 0),
+        ):
+            casting = () if option is None else ("--casting", option)
+            self.election("cast", "publish", *casting, *words, status=status)
+            self.check_files(place, "result/index.html", "letters/result.txt")
+            self.election("cast", "letters", "result")
+        self.assertIn('class="doubts"', (place / "result" / "index.html").read_text(encoding="utf-8"))
+        self.check_messages(place, {"result"})
+
+    def test_doubts(self) -> None:
+        refused = "e01 1,2,3,4\n" + "bad\n" * 3
+        for name, codes, ballots, is_closed in (
+            ("refused", None, refused, True),
+            ("refused-in-secret", (), refused, True),
+            ("nobody", None, "bad\n", True),
+            ("open", None, refused, False),
+        ):
+            place = self.called(name, "de", codes=codes)
+            self.election(name, "add", "--yes", "--force", given=ballots)
+            if is_closed:
+                self.election(name, "close", "--early")
+            self.election(name, "publish", "--force", "--because", languages.REASON, "--yes")
+            self.assertIn('class="doubts"', self.check_page(place / "result" / "index.html"))
+            if is_closed:
+                self.election(name, "letters", "result")
+                self.check_messages(place, {"result"})
+
+    def test_what_was_done(self) -> None:
+        place = self.called("done", "de")
+        self.election("done", "call", "--take-back", "--because", languages.REASON)
+        self.election("done", "call", "--to", languages.TO)
+        (place / "members.csv").write_text((place / "members.csv").read_text().replace("e01@", "other@"))
+        self.election("done", "roll", "--yes")
+        (self.scratch / "state").rename(self.scratch / "other-state")
+        self.election("done", "add", "--yes", "--moved", "--because", languages.REASON, given="e01 1,2,3,4\n")
+        self.election("done", "close")
+        self.election("done", "publish")
+        self.check_page(place / "result" / "index.html")

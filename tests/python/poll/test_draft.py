@@ -1,0 +1,264 @@
+"""The poll as the secretary writes it: what is wrong with it is found at once, and how it is sealed, as debvote reads it."""
+
+import pathlib
+import re
+import shutil
+import subprocess
+import tempfile
+import tomllib
+import unittest
+
+from debvote_tools.cli.faults import Fault, Status
+from debvote_tools.poll.draft import NEW_POLL, DraftPoll, draft_in, faults_when_sealed, sealed_form
+from debvote_tools.poll.sealed import SealedPoll, read_plain
+
+from tests.support import elections
+
+GERMAN = """title = "Wo wir uns im Frühling treffen"
+options = ["Am See", "Über der Brücke", "李"]
+ratios = [1, 1, 3]
+default = "Weiter diskutieren"
+quorum = 1
+"""
+PLAIN = GERMAN.replace("ü", "u").replace("Ü", "U").replace("李", "Li")
+ROLL = ["ada", "ben", "zoe-mueller"]
+
+
+def seal(draft: DraftPoll, roll: list[str], language: str, **said: str) -> SealedPoll:
+    """The sealed poll of a draft in which debvote finds nothing wrong."""
+    return read_plain(sealed_form(draft, roll, language, **said))
+
+
+class DraftTest(unittest.TestCase):
+    maxDiff = None
+
+    def setUp(self) -> None:
+        self.folder = pathlib.Path(tempfile.mkdtemp(prefix="debvote-draft-"))
+        self.addCleanup(shutil.rmtree, self.folder)
+        self.write("poll.toml", GERMAN)
+
+    def write(self, name: str, content: str | bytes) -> None:
+        (self.folder / name).write_bytes(content if isinstance(content, bytes) else content.encode())
+
+    def draft(self, poll: str | bytes | None = None, texts: dict[str, str | bytes] | None = None) -> DraftPoll:
+        """The draft of a poll, and of texts by the names of their files."""
+        if poll is not None:
+            self.write("poll.toml", poll)
+        shutil.rmtree(self.folder / "texts", ignore_errors=True)
+        if texts is not None:
+            (self.folder / "texts").mkdir()
+            for name, text in texts.items():
+                self.write(f"texts/{name}", text)
+        return draft_in(self.folder)
+
+    def assert_faults(self, faults: object, *wanted: tuple[str, ...]) -> None:
+        """Each fault has these parts, and tells what to do next."""
+        found = [str(fault.words) for fault in faults]
+        self.assertEqual(len(found), len(wanted), found)
+        for words, parts in zip(found, wanted):
+            for part in parts:
+                self.assertIn(part, words)
+
+    def explained(self, draft: DraftPoll, roll: list[str] = ROLL) -> str:
+        """What debvote says of the poll as it would be sealed."""
+        words = [elections.PROGRAM, "explain", "--poll", "/dev/stdin"]
+        return subprocess.run(words, input=sealed_form(draft, roll, "de"), stdout=subprocess.PIPE).stdout.decode()
+
+
+class Sealed(DraftTest):
+    def test_in_any_language(self) -> None:
+        poll = seal(self.draft(), ROLL, "de")
+        self.assertEqual(poll.title, "Wo wir uns im Fruehling treffen")
+        self.assertEqual(poll.plain_names, ("Am See", "Ueber der Bruecke", "Option 3", "Weiter diskutieren"))
+        self.assertEqual(poll.shown_title, "Wo wir uns im Frühling treffen")
+        self.assertEqual(poll.shown_options, ("Am See", "Über der Brücke", "李", "Weiter diskutieren"))
+        self.assertEqual((poll.ratios, poll.quorum, poll.roll, poll.secret), ((1, 1, 3), 1, tuple(ROLL), False))
+        self.assertEqual((poll.wording, poll.deadline, poll.address, poll.explanations), (None, None, None, ()))
+        self.assertIn("poll ok: 4 options, 3 electors", self.explained(self.draft()))
+
+    def test_what_is_plain_is_not_shown_twice(self) -> None:
+        sealed = sealed_form(self.draft(PLAIN + 'wording = "more_than"\n'), ["ada"], "en")
+        self.assertEqual(sealed.decode(), PLAIN + 'wording = "more_than"\nroll = ["ada"]\n')
+
+    def test_the_title_alone_or_an_option_alone(self) -> None:
+        poll = seal(self.draft(PLAIN.replace("Fruhling", "Frühling")), ROLL, "de")
+        self.assertEqual((poll.shown_title is None, poll.shown_options), (False, ()))
+        poll = seal(self.draft(PLAIN.replace("diskutieren", "schwätzen")), ROLL, "de")
+        self.assertEqual((poll.shown_title, poll.default, poll.shown_options[3]), (None, "Weiter schwaetzen", "Weiter schwätzen"))
+
+    def test_all_that_may_be_set(self) -> None:
+        draft = self.draft("\ufeff" + GERMAN + 'wording = "at_least"\nsecret = true\n', {"2.txt": "Schön.\n"})
+        sealed = sealed_form(draft, ROLL, "de", deadline="2026-12-04T18:00:00+01:00", address="vote@x")
+        poll = seal(draft, ROLL, "de", deadline="2026-12-04T18:00:00+01:00", address="vote@x")
+        self.assertEqual(poll.as_bytes(), sealed)
+        self.assertEqual((poll.deadline, poll.address, poll.secret), ("2026-12-04T18:00:00+01:00", "vote@x", True))
+        self.assertEqual((poll.wording, poll.explanations), ("at_least", ("", "Schön.\n", "")))
+        keys = [line.split(" = ")[0] for line in sealed.decode().splitlines()]
+        wanted = "title options ratios default quorum wording roll deadline address secret shown_title shown_options explanations"
+        self.assertEqual(keys, wanted.split())
+        self.assertEqual(seal(self.draft(GERMAN + "secret = false\n"), ROLL, "de").secret, False)
+
+    def test_blanks_around_a_name_do_not_count(self) -> None:
+        poll = seal(self.draft(GERMAN.replace('"Am See"', '" Am See\u00a0"')), ROLL, "de")
+        self.assertEqual((poll.options[0], poll.shown_options[0]), ("Am See", "Am See"))
+
+
+class Explained(DraftTest):
+    """What debvote itself says of the sealed form: it has what is wrong as it was written."""
+
+    def assert_explained(self, poll: str, *wanted: str) -> None:
+        draft = self.draft(poll)
+        self.assertEqual(draft.faults, [])
+        found = self.explained(draft)
+        for part in wanted:
+            self.assertIn(f"poll: {part}", found)
+        self.assertEqual(len(found.splitlines()), len(wanted), found)
+
+    def test_what_is_missing_or_empty(self) -> None:
+        self.assert_explained(PLAIN.replace("quorum", "# quorum"), "key quorum: it is missing")
+        self.assert_explained(PLAIN.replace("title", "# title"), "key title: it is missing")
+        self.assert_explained(PLAIN.replace('"Am See"', '""').replace('"Wo wir uns im Fruhling treffen"', '""'), "title: ", "name of option 1: ")
+        self.assert_explained("", *(f"key {key}: it is missing" for key in ("title", "options", "ratios", "default", "quorum")))
+
+    def test_values_of_a_wrong_type(self) -> None:
+        types = {"title": "3", "options": '["a", 1]', "ratios": '"x"', "default": "[]", "quorum": "1.5", "wording": "false", "options ": "true"}
+        for key, value in types.items():
+            lines = [line for line in PLAIN.splitlines() if not line.startswith(f"{key.strip()} = ")]
+            with self.subTest(key=key):
+                draft = self.draft("\n".join([*lines, f"{key} = {value}"]))
+                self.assertEqual(draft.faults, [])
+                self.assertIn(f"poll: key {key.strip()}: ", self.explained(draft))
+
+    def test_numbers_out_of_range(self) -> None:
+        self.assert_explained(PLAIN.replace("quorum = 1", "quorum = 11"), "quorum: ")
+        self.assert_explained(PLAIN.replace("[1, 1, 3]", "[1, 3]"), "ratios: 2 found; ")
+
+    def test_a_roll_that_is_empty(self) -> None:
+        self.assertIn("poll: size of roll: ", self.explained(self.draft(), []))
+
+
+class Faults(DraftTest):
+    def test_other_keys(self) -> None:
+        extra = 'deadline = "x"\naddress = "x"\nroll = []\nlast_envelope = 1\nqorum = 2\nnotes = ""\nexplanations = []\n[more]\nwording = 1\n'
+        draft = self.draft(GERMAN + extra)
+        wanted = [
+            ("poll.toml: the key `deadline` is not written here", "call --until", "then run debvote-election check"),
+            ("`address`", "call --to"),
+            ("`roll`", "members.csv"),
+            ("`last_envelope`", "close"),
+            ("`explanations`", "texts/1.txt"),
+            ("`more` has a value of a wrong kind",),
+        ]
+        self.assert_faults(draft.faults, *wanted)
+        self.assertEqual({fault.status for fault in draft.faults}, {Status.BAD_POLL})
+        # of the others debvote speaks
+        self.assertEqual(self.explained(draft).splitlines(), ["poll: key notes is not read", "poll: key qorum is not read", "poll ok: 4 options, 3 electors"])
+        self.assertNotIn(b"deadline", sealed_form(draft, ROLL, "de"))
+
+    def test_keys_that_no_poll_has(self) -> None:
+        draft = self.draft(GERMAN.replace("quorum", "qorum") + '"a \\" =\u00e4" = [1]\n')
+        self.assertEqual(draft.faults, [])
+        found = self.explained(draft)
+        for part in ("poll: key quorum: it is missing", "poll: key qorum is not read; did you mean quorum?", "poll: key a \" ="):
+            self.assertIn(part, found)
+
+    def test_values_that_no_poll_has(self) -> None:
+        for key, value in {"quorum": "2026-01-01", "title": "{a = 1}", "ratios": "[nan]", "quorum ": "9223372036854775808"}.items():
+            lines = [line for line in GERMAN.splitlines() if not line.startswith(f"{key.strip()} = ")]
+            draft = self.draft("\n".join([*lines, f"{key} = {value}"]))
+            self.assert_faults(draft.faults, (f"`{key.strip()}` has a value of a wrong kind",))
+            self.assertIn(f"poll: key {key.strip()}: it is missing", self.explained(draft))
+        for value in ("1", '"true"', "[]"):
+            draft = self.draft(GERMAN + f"secret = {value}\n")
+            self.assert_faults(draft.faults, ("`secret` is neither true nor false", "secret = true"))
+            self.assertNotIn(b"secret", sealed_form(draft, ROLL, "de"))
+
+    def test_bad_toml(self) -> None:
+        for poll, why in {
+            "title = \n": "line 1",
+            b"a = 1\nb = '\xff'\n": "'utf-8' codec can't decode",
+            "a = " + "[" * 9000: "recursion",
+            "a = {b = 1,\n}": "line 1",
+        }.items():
+            with self.assertRaises(Fault) as caught:
+                self.draft(poll)
+            self.assertEqual(caught.exception.status, Status.BAD_POLL)
+            self.assertIn(why, str(caught.exception.words))
+            self.assertIn("poll.toml: it can't be read as TOML 1.0: ", str(caught.exception.words))
+
+    def test_a_poll_that_is_not_there_or_too_long(self) -> None:
+        for poll, why in {GERMAN + "#" * 1_048_576: "longer than 1048576 bytes", None: "No such file or directory; write it"}.items():
+            (self.folder / "poll.toml").unlink()
+            with self.assertRaisesRegex(Fault, f"poll.toml: .*{why}"):
+                self.draft(poll)
+
+
+class Texts(DraftTest):
+    def test_texts(self) -> None:
+        draft = self.draft(texts={"3.txt": "\ufeffC\r\n\n\tx\n", "1.txt": "ä: \u05d0\n", ".1.txt.swp": "", "1.txt~": "", "#1.txt#": ""})
+        self.assertEqual((draft.faults, dict(draft.texts)), ([], {1: "ä: \u05d0\n", 3: "C\n\n\tx\n"}))
+        self.assertEqual(seal(draft, ROLL, "de").explanations, ("ä: \u05d0\n", "", "C\n\n\tx\n"))
+
+    def test_all_that_is_no_text(self) -> None:
+        texts = {"0.txt": "x", "01.txt": "x", "1.md": "x", "1.txt": "\n \n", "2.txt": b"a\n\xff", "3.txt": "a\n\nb\u202e", "4.txt": "the default"}
+        wanted = [
+            *(("/0.txt: it is not the text of an option", "1.txt to 3.txt"), ("/01.txt: it is not the text",), ("/1.md: it is not the text",)),
+            *(("/1.txt: it is empty",), ("/2.txt:2: it is not in UTF-8",), ("/3.txt:3: ", "U+202E"), ("/4.txt: it is not the text",)),
+        ]
+        self.assert_faults(self.draft(texts=texts).faults, *wanted)
+
+    def test_characters(self) -> None:
+        for odd in ("\x0b", "\r", "\x85", "\u2028", "\u2067", "\ue000", "\x00"):
+            self.assert_faults(self.draft(texts={"1.txt": f"a\nb{odd}c"}).faults, (f"/1.txt:2: it has the character U+{ord(odd):04X}",))
+
+    def test_their_size_together(self) -> None:
+        half = "x" * 262_144
+        self.assertEqual(self.draft(texts={"1.txt": half, "2.txt": half}).faults, [])
+        self.assert_faults(self.draft(texts={"1.txt": half, "2.txt": half, "3.txt": "y"}).faults, ("texts: the texts have 524289 bytes",))
+        self.assert_faults(self.draft(texts={"1.txt": "x" * 524_289}).faults, ("/1.txt: it is longer than 524288 bytes",))
+
+    def test_a_file_for_the_folder(self) -> None:
+        self.write("texts", "x")
+        self.assert_faults(draft_in(self.folder).faults, ("texts: Not a directory",))
+
+
+class Confusing(DraftTest):
+    def faults(self, poll: str = GERMAN) -> list[object]:
+        draft = self.draft(poll)
+        self.assertEqual(draft.faults, [])
+        return faults_when_sealed(draft, "de")
+
+    def test_nothing_is_wrong(self) -> None:
+        self.assertEqual(self.faults(), [])
+        # a line that reads as a ballot is parted off where it goes out
+        self.assertEqual(self.faults(GERMAN.replace("Am See", "ben 1,2,3,4")), [])
+
+    def test_names_of_options_and_of_the_title(self) -> None:
+        poll = GERMAN.replace('"李"', '"ueber der BRUCKE", "UBER DER BRÜCKE"').replace("treffen", "\\u202e").replace("Weiter", "x" * 200)
+        wanted = [
+            ("poll.toml: the title, ", "U+202E", "then run debvote-election check"),
+            ("option 5, ", "characters; at most 200 are allowed"),
+            ("option 4, `UBER DER BRÜCKE`: it looks like option 2, `Über der Brücke`",),
+        ]
+        self.assert_faults(self.faults(poll), *wanted)
+
+
+class NewPoll(DraftTest):
+    def test_it_is_filled_in_by_its_own_examples(self) -> None:
+        text = NEW_POLL.read_text()
+        self.assertEqual(tomllib.loads(text), {"title": "", "options": [], "ratios": [], "default": ""})
+        self.assertLess(max(map(len, text.splitlines())), 111)
+        self.assertEqual(self.draft(text).faults, [])
+        examples = re.findall(r"(?m)^#     (\w+)( = .*)$", text)
+        self.assertEqual([key for key, _ in examples], ["options", "ratios", "default", "title", "options", "ratios", "default"])
+        for options, given in ((4, [("title", ' = "Frühling"'), *examples[:3]]), (2, examples[3:])):
+            filled = text
+            for key, value in given:
+                filled = re.sub(rf"(?m)^{key} = .*$", key + value, filled)
+            for line in ("quorum = 1", 'wording = "more_than"', "secret = true"):
+                self.assertEqual(filled.count(f"\n# {line}\n"), 1)
+                filled = filled.replace(f"\n# {line}\n", f"\n{line}\n")
+            draft = self.draft(filled)
+            self.assertEqual(draft.faults, [])
+            self.assertIn(f"poll ok: {options} options, 3 electors", self.explained(draft))
+            self.assertEqual(seal(draft, ROLL, "en").secret, True)

@@ -1,0 +1,175 @@
+"""Plain names, made from names in any language, and the names that people can't read or tell apart."""
+
+import re
+import unittest
+
+from debvote_tools.poll import plain_names
+from debvote_tools.poll.plain_names import (
+    alike,
+    bad_options,
+    bad_title,
+    elector_name,
+    made_different,
+    plain_options,
+    plain_title,
+    similar_names,
+)
+
+
+OPTION = re.compile(r"[!-~]([ -~]{0,38}[!-~])?")
+
+
+class Options(unittest.TestCase):
+    def test_what_is_plain_stays(self) -> None:
+        for names in (["At the lake", "b  b", "!", "No.", "x" * 40], ["b", "b", "B"], ["Vote", "Option 1"], ["", "a"]):
+            self.assertEqual(plain_options(names, "de"), names)
+
+    def test_by_the_language(self) -> None:
+        names = ["Über die Brücke", "Café à Nîmes", "Straße", "Zoe\u0308", "ﬁnn Ａ²", "¿Sí?"]
+        self.assertEqual(plain_options(names, "de"), ["Ueber die Bruecke", "Cafe a Nimes", "Strasse", "Zoe", "finn A2", "Si?"])
+        self.assertEqual(plain_options(names, "en")[:3], ["Uber die Brucke", "Cafe a Nimes", "Strasse"])
+        self.assertEqual(plain_options(["o\u0308l", "O\u0308de"], "de"), ["oel", "Oede"])
+
+    def test_capitals(self) -> None:
+        names = ["ÄRZTE", "Ärzte", "GRÖ", "Ö", "GROẞ", "ŁÓDŹ", "ÆON", "Æon", "Œuvre", "Þing", "Øl"]
+        wanted = ["AERZTE", "Aerzte", "GROE", "Oe", "GROSS", "LODZ", "AEON", "Aeon", "Oeuvre", "Thing", "Ol"]
+        self.assertEqual([plain_options([name], "de")[0] for name in names], wanted)
+
+    def test_punctuation(self) -> None:
+        found = plain_options(["„Ja“ – 5 €…", "L’été\u00a0: «oui»", "a → b", "½ × 3"], "fr")
+        self.assertEqual(found, ['"Ja" - 5 EUR...', "L'ete : \"oui\"", "a b", "1/2 x 3"])
+
+    def test_where_nothing_is_left(self) -> None:
+        self.assertEqual(plain_options(["Ja", "李", "—", "Да 2"], "en"), ["Ja", "Option 2", "Option 3", "2"])
+        self.assertEqual(plain_options(["李", "Option 1", "王"], "en"), ["Option 1 2", "Option 1", "Option 3"])
+
+    def test_long_names_are_cut(self) -> None:
+        self.assertEqual(plain_options(["x" * 41], "en"), ["x" * 40])
+        self.assertEqual(plain_options(["x" * 39 + " y"], "en"), ["x" * 39])
+        # what is cut off is made different, where another has the rest
+        self.assertEqual(plain_options(["x" * 41, "x" * 42, "x" * 40], "en"), ["x" * 38 + " 2", "x" * 38 + " 3", "x" * 40])
+
+    def test_who_would_get_one_name_gets_a_number(self) -> None:
+        self.assertEqual(plain_options(["Café", "Cafè", "Tee"], "fr"), ["Cafe 1", "Cafe 2", "Tee"])
+        self.assertEqual(plain_options(["Café", "Cafe"], "fr"), ["Cafe 2", "Cafe"])
+        self.assertEqual(plain_options(["Über", "ueber", "UEBER 2"], "de"), ["Ueber 3", "ueber", "UEBER 2"])
+
+    def test_they_are_always_what_debvote_takes(self) -> None:
+        odd = ["é" * 60, "ß" * 30, " a", "b ", "\u200b", "c\u0301" * 41, "\u2028", "a" * 39 + "é b", "İ" * 41, "́", "€" * 14]
+        found = plain_options([*odd, *odd], "de")
+        self.assertEqual([name for name in found if not OPTION.fullmatch(name)], [])
+        self.assertEqual(len({alike(name) for name in found}), len(found))
+
+
+class Titles(unittest.TestCase):
+    def test_titles(self) -> None:
+        for title, plain in {
+            "Where we meet": "Where we meet",
+            "Wahl des Präsidiums": "Wahl des Praesidiums",
+            "投票": "Vote",
+            "": "",
+            "y" * 81: "y" * 80,
+            "é" * 80: "e" * 80,
+            "2027年": "2027",
+            "a  b": "a  b",
+            "?": "?",
+        }.items():
+            self.assertEqual(plain_title(title, "de"), plain)
+
+
+class Electors(unittest.TestCase):
+    def test_accents_capitals_and_what_is_not_allowed(self) -> None:
+        for who, name in {
+            "Zoë Müller": "zoe-muller", "ÅSA ÖSTERBERG": "asa-osterberg", "Łukasz Møller": "lukasz-moller", "Groß Weiß": "gross-weiss",
+            "O'Brien Anna": "o-brien-anna", "José  Ñuñez-Peña": "jose-nunez-pena", "Đỗ Ánh": "do-anh", "J. R. Smith": "j-r-smith",
+            "İpek Işık": "ipek-isik", "Þór Æsir": "thor-aesir", "ﬁnn Ａｄａ": "finn-ada", "-x_y-": "x-y", "Zoe\u0308": "zoe",
+            "3rd": "3rd", "李 Li": "li", "李": "", "...": "", ",": "",
+        }.items():  # fmt: skip
+            self.assertEqual(elector_name(who, "en"), name, who)
+            self.assertEqual(plain_names.is_elector_name(name), bool(name))
+        self.assertEqual(elector_name("ZOË Müller-Groß", "de"), "zoe-mueller-gross")
+
+    def test_the_family_name_comes_last(self) -> None:
+        for who, name in {
+            "Meier, Anna": "anna-meier", "Meier, Dr. Anna": "anna-meier", "Meier,": "meier", "Anna Meier, PhD": "anna-meier",
+            "Li Ming, 李": "li-ming", "King, Martin Luther, Jr.": "king-martin-luther-jr", "Martin Luther King, Jr.": "martin-luther-king-jr",
+        }.items():  # fmt: skip
+            self.assertEqual(elector_name(who, "en"), name, who)
+
+    def test_titles_are_left_out(self) -> None:
+        for title in ("Dr.", "Dr", "DR.", "Dr.-Ing.", "Prof. Dr. med. dent.", "Univ.-Prof. Mag.", "Dipl.-Ing. (FH)", "Dipl. Ing.", "Dr. h. c. mult.", "Mag.a", "Dr.in"):
+            self.assertEqual(elector_name(f"{title} Anna Weiß", "de"), "anna-weiss", title)
+        for title in ("PhD", "Ph.D.", "M. Sc., MBA", "LL.M.", "B.Sc."):
+            self.assertEqual(elector_name(f"Anna Weiß, {title}", "de"), "anna-weiss", title)
+        for title in ("Frau", "Herr", "Herrn", "Frau Prof. Dr.", "Mr.", "Mr", "Mrs.", "Ms", "Mme", "MME", "Sr.", "Sra.", "Sra"):
+            self.assertEqual(elector_name(f"{title} Anna Weiß", "de"), "anna-weiss", title)
+            self.assertEqual(elector_name(f"Weiß, {title} Anna", "de"), "anna-weiss", title)
+        for who, name in {"Anna Herr": "anna-herr", "Herr, Anna": "anna-herr", "Frauke Mrsic": "frauke-mrsic", "Weiß, Sr.": "weiss-sr", "Frau": "frau"}.items():
+            self.assertEqual(elector_name(who, "de"), name, who)
+        for who, name in {"Phil Mag": "phil-mag", "Dr. Chr. Ing": "chr-ing", "Drago Profe": "drago-profe", "Dr.": "dr", "Prof. 李": "prof"}.items():
+            self.assertEqual(elector_name(who, "en"), name, who)
+
+    def test_similar_names(self) -> None:
+        for names, wanted in {
+            "anna-meier anna-maier meier-anna": [("anna-meier", "anna-maier"), ("anna-meier", "meier-anna")],
+            "jan ben jana jan-1 jan-2": [("jan", "jana")],
+            "c.a-b x-y b-a-c": [("c.a-b", "b-a-c")],
+            "ann-1 ann-2 anne-lee anna-loo ann.": [("ann-1", "ann.")],
+        }.items():  # fmt: skip
+            self.assertEqual(list(similar_names(names.split())), wanted)
+        self.assertEqual(list(similar_names(f"elector-{number}" for number in range(10_000))), [])
+
+    def test_what_a_roll_allows(self) -> None:
+        for name in ("a", "0.-", "a" * 32):
+            self.assertTrue(plain_names.is_elector_name(name))
+        for name in ("", "A", "a b", "ä", "a_b", "a" * 33, "a\n"):
+            self.assertFalse(plain_names.is_elector_name(name))
+
+    def test_numbers(self) -> None:
+        self.assertEqual(made_different(["a", "a", "b"], ["a-1"], 32, "-"), ["a-2", "a-3", "b"])
+        self.assertEqual(made_different(["a", "a"], ["a"], 32, "-"), ["a-2", "a-3"])
+        self.assertEqual(made_different(["b" * 32] * 10, [], 32, "-")[8:], ["b" * 30 + "-9", "b" * 29 + "-10"])
+
+
+class Refused(unittest.TestCase):
+    def assert_bad(self, names: list[str], *wanted: tuple[int, str]) -> None:
+        """Which options are refused, each with a part of the reason."""
+        found = bad_options(names, plain_options(names, "de"))
+        self.assertEqual([bad.number for bad in found], [number for number, _ in wanted], found)
+        for bad, (number, reason) in zip(found, wanted):
+            self.assertIn(reason, bad.reason)
+            self.assertEqual(bad.name, names[number - 1])
+
+    def test_names_that_look_alike(self) -> None:
+        for first, second in (
+            ("Am See", "am  SEE"),
+            ("Café", "Cafe"),
+            ("Straße", "STRASSE"),
+            ("Am See", "Am\u00a0See\u200b"),
+            ("李", "李\ufe00"),
+            ("a", "а\u0301".replace("а", "a")),
+            ("ｘ", "X"),
+        ):
+            self.assert_bad([first, "other", second], (3, f"looks like option 1, `{first}`"))
+
+    def test_names_that_do_not(self) -> None:
+        self.assert_bad(["Am See", "Am Fee", "かき", "がき", "राम", "रोम", "Über", "Ueber", "1", "2", "!", "?"])
+
+    def test_of_two_equal_plain_names_debvote_speaks(self) -> None:
+        self.assert_bad(["a", "a", ""])
+        self.assert_bad(["a", "A"], (2, "looks like option 1"))
+
+    def test_the_plain_name_of_another(self) -> None:
+        self.assertEqual(plain_options(["Ü", "Ue", "Ue\u0301 2"], "de"), ["Ue 2", "Ue", "Ue 2 1"])
+        self.assert_bad(["Ü", "Ue", "Ue\u0301 2"], (3, "looks like the plain name of option 1, `Ü`"))
+
+    def test_characters_and_length(self) -> None:
+        for odd in ("\u202e", "\u2066", "\x1b", "\n", "\u2028", "\x7f", "\ue000", "\ufff9"):
+            self.assert_bad(["x", f"a{odd}b"], (2, f"the character U+{ord(odd):04X}"))
+            self.assertEqual(len(bad_title(f"a{odd}b")), 1)
+        self.assert_bad(["ä" * 200, "b" * 201], (2, "it has 201 characters; at most 200 are allowed"))
+        self.assert_bad(["\u200b\u3164", "\u200c", "x"], (1, "no visible character"), (2, "no visible character"))
+        self.assertEqual([bad.number for bad in bad_title("c" * 201)], [0])
+        self.assertEqual(bad_title("c" * 200), [])
+        # a subject of the last vote that was copied: each answer would wait as one about that vote
+        self.assertEqual([len(bad_title(f"Budget [{mark}]")) for mark in ("0123456789abcdef", "01234567", "2026")], [1, 0, 0])

@@ -1,0 +1,266 @@
+"""Secret votes by their parts: codes and aliases, what is published under aliases, the seal of the close, the slips and the table."""
+
+import csv
+import dataclasses
+import datetime
+import hashlib
+import html
+import io
+import pathlib
+import re
+import shutil
+import subprocess
+import tempfile
+import unittest
+import unittest.mock
+from collections.abc import Sequence
+
+from debvote_tools.book.queries import Elector
+from debvote_tools.inbox.lines import has_code
+from debvote_tools.poll.call import CallData
+from debvote_tools.poll.sealed import SealedPoll, read_plain
+from debvote_tools.poll.secret import BY_OPENSSL, BY_PYTHON, NUMBER, alias_of, aliased_ballots, aliased_poll, codes_csv, new_code, seal_line, sealed_checksum, slips
+from debvote_tools.text.language import LANGUAGES, language_of
+
+from tests.support.at_browser import BROWSER, Window
+
+ROLL = ("ada", "ben", "cleo", "dan")
+CODES = {name: f"{number:x}" * 32 for number, name in enumerate(ROLL, start=10)}
+ALIASES = {name: alias_of(code, name) for name, code in CODES.items()}
+POLL = SealedPoll(
+    title="Where we meet",
+    options=("At the lake", "72 Euro"),
+    ratios=(1, 3),
+    default="None of the above",
+    quorum=1,
+    roll=ROLL,
+    deadline="2026-12-04T18:00:00+01:00",
+    secret=True,
+    explanations=("Nice", ""),
+)
+UNTIL = datetime.datetime(2026, 12, 4, 18, tzinfo=datetime.timezone(datetime.timedelta(hours=1)))
+CALL = CallData(language_of("en"), POLL, 0, UNTIL, "v@example.org", has_aliases=True)
+
+
+def elector(name: str, who: str, mail: str, code: str, alias: str) -> Elector:
+    return Elector(1, name, 1, who, (mail,) if mail else (), code=code, alias=alias)
+
+
+ELECTORS = [elector(name, f"{name.title()} L.", "", CODES[name], ALIASES[name]) for name in ROLL]
+WITH_CODES = dataclasses.replace(CALL, has_aliases=False, has_codes_on_roll=True)
+CODES_ON_ROLL = [elector(code, "", "", "", "") for code in CODES.values()]
+
+
+def run(*words: str, given: str = "", folder: pathlib.Path | None = None) -> str:
+    """What a command answers that has to end well."""
+    return subprocess.run(words, input=given, capture_output=True, text=True, check=True, cwd=folder).stdout
+
+
+class Codes(unittest.TestCase):
+    def test_the_alias_is_the_one_that_an_elector_finds(self) -> None:
+        for name, code in CODES.items():
+            command = BY_OPENSSL.replace("NAME", name).replace("CODE", code)
+            self.assertEqual(run("sh", "-c", command), ALIASES[name] + "\n")
+            spaced = " ".join(re.findall("....", code))
+            self.assertEqual(run("sh", "-c", BY_PYTHON, given=f"{spaced}\n{name}\n"), f"Code: Name: {ALIASES[name]}\n")
+        self.assertNotEqual(alias_of(CODES["ada"], "ben"), ALIASES["ada"])
+
+    def test_whatever_lies_in_the_folder_the_alias_is_found(self) -> None:
+        with tempfile.TemporaryDirectory(prefix="debvote-alias-") as name:
+            folder = pathlib.Path(name)
+            for file in ("hmac.py", "hashlib.py", "sitecustomize.py", "codecs.py", "openssl.cnf", "printf", "cut"):
+                (folder / file).write_text("import os; os._exit(1)\n")
+            command = BY_OPENSSL.replace("NAME", "ada").replace("CODE", CODES["ada"])
+            self.assertEqual(run("sh", "-c", command, folder=folder), ALIASES["ada"] + "\n")
+            found = run("sh", "-c", BY_PYTHON, given=f"{CODES['ada']}\nada\n", folder=folder)
+            self.assertEqual(found, f"Code: Name: {ALIASES['ada']}\n")
+
+    def test_codes_are_sixteen_bytes_of_the_generator_that_nobody_can_guess(self) -> None:
+        with unittest.mock.patch("secrets.token_hex", return_value="c" * 32) as drawn:
+            self.assertEqual(new_code("ada"), "c" * 32)
+        drawn.assert_called_once_with(16)
+        codes = [new_code() for _ in range(50)]
+        self.assertEqual(len({code[start : start + 8] for code in codes for start in range(0, 32, 8)}), 200)
+        self.assertTrue(all(re.fullmatch("[0-9a-f]{32}", code) for code in codes))
+
+    def test_no_code_and_no_alias_can_be_taken_for_a_number(self) -> None:
+        good = "a" * 32
+        for bad in ("1" * 32, "1234e567" + "0" * 24):
+            with unittest.mock.patch("secrets.token_hex", side_effect=[bad, good]):
+                self.assertEqual(new_code("ada"), good)
+        with unittest.mock.patch("debvote_tools.poll.secret.alias_of", side_effect=["2" * 32, "12e" + "4" * 29, "b" * 32]) as made:
+            code = new_code("ada")
+        self.assertEqual([call.args[1] for call in made.call_args_list], ["ada"] * 3)
+        self.assertEqual(made.call_args.args[0], code)
+        self.assertFalse(NUMBER.fullmatch("12a4"))
+
+    def test_what_looks_like_a_code(self) -> None:
+        for code in ("0123456789abcdef" * 2, "0123 4567 89AB CDEF " * 2, "a" * 16 + "-" + "B" * 16, ALIASES["ada"]):
+            for text in (code, f"my code is {code}.", f"ada 1,2,3 {code}", f"{code} 1,2,3"):
+                self.assertTrue(has_code(text), text)
+        for other in ("", "ada", "a" * 31, "a" * 33, "g" * 32, "\u0661" * 32, "a  " * 32):
+            self.assertFalse(has_code(other), other)
+
+
+class Published(unittest.TestCase):
+    """What is published under aliases."""
+
+    def test_the_poll_has_aliases_in_an_order_that_tells_no_name(self) -> None:
+        poll = aliased_poll(POLL, ALIASES | {"eve": "0" * 32})
+        self.assertEqual(poll.roll, tuple(sorted(ALIASES.values())))
+        self.assertNotEqual(list(poll.roll), list(ALIASES.values()))
+        self.assertEqual(dataclasses.replace(poll, roll=ROLL), POLL)
+        self.assertEqual(read_plain(poll.as_bytes()), poll)
+        self.assertEqual([text for text in (*ROLL, *CODES.values()) if text in poll.as_bytes().decode()], [])
+        with self.assertRaises(KeyError):
+            aliased_poll(POLL, {"ada": ALIASES["ada"]})
+
+    def test_the_ballots_are_in_normal_form_and_in_the_order_of_aliases(self) -> None:
+        standing = {"ada": "17,33,99", "dan": "2,-,2", "ben": "-,-,-", "cleo": "3,1,2"}
+        wanted = {"ada": "1,2,3", "dan": "1,-,1", "ben": "-,-,-", "cleo": "3,1,2"}
+        lines = aliased_ballots(standing, ALIASES).decode().splitlines(keepends=True)
+        self.assertEqual(lines, sorted(f"{ALIASES[name]} {ranks}\n" for name, ranks in wanted.items()))
+        # ranks are numbers, and no texts
+        self.assertEqual(aliased_ballots({"ada": "2,10,9", "ben": "99,9,10"}, dict(zip(ROLL, "abcd"))), b"a 1,3,2\nb 3,1,2\n")
+        # whoever has no ballot has no line, and each line is of its own elector
+        self.assertEqual(aliased_ballots({"ben": "2,1,3"}, ALIASES), f"{ALIASES['ben']} 2,1,3\n".encode())
+        self.assertEqual(aliased_ballots({}, ALIASES), b"")
+
+    def test_the_seal(self) -> None:
+        with unittest.mock.patch("secrets.token_hex", return_value="c" * 32) as drawn:
+            self.assertEqual(seal_line(), "c" * 32)
+        drawn.assert_called_once_with(16)
+        seals = {seal_line() for _ in range(20)}
+        self.assertEqual(len(seals), 20)
+        self.assertTrue(all(re.fullmatch("[0-9a-f]{32}", seal) for seal in seals))
+        ballots, seal = aliased_ballots({"ben": "2,1,3", "ada": "1,2,3"}, ALIASES), seals.pop()
+        self.assertEqual(sealed_checksum(seal, ballots), hashlib.sha256(f"{seal}\n".encode() + ballots).hexdigest())
+        # as a reader types it
+        with tempfile.TemporaryDirectory(prefix="debvote-seal-") as name:
+            folder = pathlib.Path(name)
+            (folder / "seal.txt").write_text(f"{seal}\n")
+            (folder / "ballots.txt").write_bytes(ballots)
+            answer = run("sh", "-c", f"cd {folder} && cat seal.txt ballots.txt | sha256sum")
+        self.assertEqual(answer, f"{sealed_checksum(seal, ballots)}  -\n")
+        self.assertNotEqual(sealed_checksum(seals.pop(), ballots), sealed_checksum(seal, ballots))
+
+
+class Slips(unittest.TestCase):
+    def each(self, call: CallData, electors: Sequence[Elector] = ELECTORS) -> list[str]:
+        """The slips as they are read, each blank as one space."""
+        page = slips(call, electors).decode()
+        self.assertEqual(slips(call, electors), page.encode())
+        parts = page.split('<section class="slip">')[1:]
+        return [" ".join(html.unescape(re.sub("<[^>]*>", "", part.partition("</section>")[0])).split()) for part in parts]
+
+    def test_each_has_what_is_of_its_elector_and_nothing_of_another(self) -> None:
+        for row, text in zip(ELECTORS, self.each(CALL), strict=True):
+            for part in (f"{row.who} Where we meet Name{row.name} Code{row.code} ", f"{row.name} _,_,_"):
+                self.assertIn(part, text)
+            words = [word for other in ELECTORS if other != row for word in (other.name, other.who, other.code)]
+            self.assertEqual([word for word in words if re.search(rf"\b{re.escape(word)}\b", text)], [])
+            self.assertEqual([alias for alias in ALIASES.values() if alias in text], [])
+
+    def test_what_all_have(self) -> None:
+        said = "Vote untilFriday, 4 December 2026, 18:00 (UTC+01:00) Send your ballot tov@example.org "
+        options = "_,_,_ 1 is the best, - is last. Equal ranks are allowed. 1 At the lake 2 72 Euro 3 None of the above "
+        for row, text in zip(ELECTORS, self.each(CALL), strict=True):
+            for part in (said, f"A rank for each _{row.name} {options}", "The code is no part of your ballot", "whoever sees it can see how you voted."):
+                self.assertIn(part, text)
+        for text in self.each(dataclasses.replace(CALL, at="https://example.org/vote/")):
+            self.assertIn(f"{said}At the end of the subject{CALL.mark} The page of the votehttps://example.org/vote/ ", text)
+        for text in self.each(dataclasses.replace(CALL, until=None, to=None)):
+            self.assertIn("Vote untilas the call for votes says Send your ballot toas the call for votes says", text)
+        shown = dataclasses.replace(POLL, shown_title="Wohin?", shown_options=("Am See", "72 \u20ac", "Keine"))
+        for text in self.each(dataclasses.replace(CALL, poll=shown)):
+            self.assertIn("1 Am See 2 72 \u20ac 3 Keine", text)
+            self.assertIn("L. Wohin? Name", text)
+
+    def test_with_codes_on_the_roll_nobody_has_a_name(self) -> None:
+        for code, text in zip(CODES.values(), self.each(WITH_CODES, CODES_ON_ROLL), strict=True):
+            self.assertIn(f"Where we meet Code{code} Vote until", text)
+            self.assertIn(f"{code} _,_,_", text)
+            self.assertIn("under Find your ballot, type the code into a copy of the page", text)
+            self.assertNotRegex(text, r"(?i)\bname\b|alias|hmac")
+            self.assertEqual([other for other in CODES.values() if other in text], [code])
+        self.assertIn("let each elector draw one", slips(WITH_CODES, CODES_ON_ROLL).decode())
+        # a slip without a real name has the name on the roll in its place
+        bare = elector("ada", "", "", CODES["ada"], "")
+        self.assertTrue(self.each(CALL, [bare])[0].startswith("ada Where we meet Nameada Code"))
+
+    def test_hostile_texts_are_texts(self) -> None:
+        texts = ["<script>alert(1)</script>", '" onload="x', "\u05d0\u05d1 & {title} %s </bdi></section>"]
+        poll = dataclasses.replace(POLL, shown_title=texts[0], shown_options=tuple(texts))
+        for code in LANGUAGES:
+            call = dataclasses.replace(CALL, language=language_of(code), poll=poll)
+            page = slips(call, [elector(name, who, "", CODES[name], "") for name, who in zip(ROLL, texts)]).decode()
+            self.assertIn(f'<html lang="{code}">', page)
+            self.assertNotRegex(page, r"<script| onload=\"x|%s </bdi></section>")
+            self.assertEqual(page.count("<section"), 3)
+            for who in texts:
+                self.assertIn(f"<h2><bdi>{html.escape(who).replace('&quot;', '&#34;')}</bdi></h2>", page)
+            if shutil.which("tidy"):
+                ended = subprocess.run(["tidy", "-q", "-e"], input=page.encode(), capture_output=True)
+                self.assertEqual((ended.stderr.decode(), ended.returncode), ("", 0))
+
+    @unittest.skipUnless(BROWSER, "chromium is not installed")
+    def test_they_fit_a_narrow_window_and_no_slip_is_printed_over_two_pages(self) -> None:
+        with tempfile.TemporaryDirectory(prefix="debvote-slips-") as folder, Window(390, 800) as window:
+            for code in LANGUAGES:
+                for call, electors in ((CALL, ELECTORS), (WITH_CODES, CODES_ON_ROLL)):
+                    file = pathlib.Path(folder) / f"{code}-{call.has_codes_on_roll}.html"
+                    file.write_bytes(slips(dataclasses.replace(call, language=language_of(code)), electors))
+                    window.open(file)
+                    self.assertEqual(window.ask("document.documentElement.scrollWidth"), 390)
+            style = "getComputedStyle(document.querySelector('.slip'))"
+            # eight on a side of A4, with margins of 5 mm, in words of nine points at least
+            window.for_paper()
+            window.resize(756, 1000)
+            for code in LANGUAGES:
+                call = dataclasses.replace(CALL, at="https://example.org/vote/", language=language_of(code), has_lapsed_codes=True)
+                file = pathlib.Path(folder) / f"{code}-paper.html"
+                file.write_bytes(slips(call, ELECTORS))
+                window.open(file)
+                heights = window.ask("[...document.querySelectorAll('.slip')].map((slip) => slip.getBoundingClientRect().height)")
+                self.assertLessEqual(max(heights) * 4, 287 / 25.4 * 96, (code, heights))
+                sizes = "[...document.querySelectorAll('.slip *')].map((node) => parseFloat(getComputedStyle(node).fontSize))"
+                self.assertGreaterEqual(min(window.ask(sizes)), 12, code)
+                places = window.ask("[...document.querySelectorAll('.slip')].map((slip) => slip.getBoundingClientRect().top)")
+                self.assertEqual(places[0], places[1])
+            self.assertEqual(window.ask(f"{style}.breakInside"), "avoid")
+            # the code is one word where it is copied
+            copied = "(() => { getSelection().selectAllChildren(document.querySelector('.code')); return String(getSelection()); })()"
+            self.assertEqual(window.ask(copied), CODES["ada"])
+
+
+class Table(unittest.TestCase):
+    """The table of codes."""
+
+    def cells(self, row: Elector) -> list[str]:
+        head, cells = csv.reader(io.StringIO(codes_csv([row]).decode(), newline=""))
+        self.assertEqual(head, ["name", "who", "mail", "code", "alias"])
+        return cells
+
+    def test_each_elector_has_a_row(self) -> None:
+        rows = [elector(name, f'{name.title()} "\u00c9", jr.', "", CODES[name], ALIASES[name]) for name in ROLL]
+        found = list(csv.DictReader(io.StringIO(codes_csv(iter(rows)).decode())))
+        wanted = [{"name": row.name, "who": row.who, "mail": "", "code": row.code, "alias": row.alias} for row in rows]
+        self.assertEqual(found, wanted)
+        self.assertEqual(codes_csv([]), b"name,who,mail,code,alias\n")
+
+    def test_a_spreadsheet_runs_no_cell(self) -> None:
+        for cell in ("=1+1", "@SUM(A1)", "+cmd|'/c calc'!A0", "-2+3", "\t=1", "\u200b\ufeff=1", "\uff1dHYPERLINK(1)", "\uff0b1+a", "\uff20x", "  =x"):
+            with self.subTest(cell=cell):
+                found = self.cells(elector("ada", cell, f"a{cell}", CODES["ada"], ALIASES["ada"]))
+                # behind a tab a cell may begin, for a spreadsheet that splits there
+                self.assertTrue(found[1].startswith("'"), found)
+                self.assertEqual(found[1].replace("'", ""), cell.replace("'", ""))
+        for cell, wanted in {
+            "Ada;=1": "Ada;'=1", "Ada,@x": "Ada,'@x", "Ada|=1": "Ada|'=1", "Ada\t-x": "Ada\t'-x", "=1;=2": "'=1;'=2", "Ada\n=1": "Ada =1",
+            "Ada\r\n;=1": "Ada ;'=1", "=": "'=", "-x;1": "'-x;1",
+        }.items():  # fmt: skip
+            self.assertEqual(self.cells(elector("ada", cell, "", "", ""))[1], wanted)
+
+    def test_what_is_harmless_stays(self) -> None:
+        for cell in ("Ada", "+49 (0) 30 / 12-34", "-", "a=b", "a@b.org", "O'Neil", "a-b", "\u00c9ve", "+49 30;+49 40"):
+            self.assertEqual(self.cells(elector("ada", cell, "", "", ""))[1], cell)

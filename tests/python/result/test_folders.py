@@ -1,0 +1,134 @@
+"""The folders and the pages of examples, of cases, and of an election whose names are made to hurt a page.
+
+In each folder the files must be what the program writes, with their sums; reading.py and result_checks.py say what must stand on the page.
+"""
+
+import hashlib
+import json
+import tomllib
+
+from tests.support import examples, looks, publishing, reading, result_checks
+
+# the files of a folder, but for picture, sums and letter
+FILES = {"poll.toml", "ballots.txt", "sheet.txt", "standing.txt", "result.json", "votes.csv", "recount.py", "index.html"}
+FILES |= {"READING-A-SHEET.md", "recount.js"}
+
+
+def try_folder(expect, name, poll, ballots, more, folder):
+    """The files of a folder: the inputs, what the program writes of them, and their checksums."""
+    files = ["--poll", poll, "--ballots", ballots]
+    sheet, _, wanted = publishing.run([publishing.PROGRAM, "count", *files, *more])
+    output, faults, status = publishing.publish_files(poll, ballots, folder, "--desks", "3", *more)
+    doubts = [line for line in faults.splitlines() if not line.endswith("; the result page says so") and publishing.HAS_PICTURES]
+    expect(f"{name}: its status", (status, doubts), (wanted, []))
+    if not folder.exists():
+        return False
+    verified = publishing.run([publishing.PROGRAM, "verify", *files, "--sheet", folder / "sheet.txt"])[0]
+    expect(f"{name}: what is said", output, sheet.splitlines()[-1] + "\n" + verified)
+    texts = [(folder / file).read_bytes() for file in ("ballots.txt", "sheet.txt", "standing.txt")]
+    standing = publishing.run([publishing.PROGRAM, "standing", *files])[0]
+    expect(f"{name}: its files", texts, [ballots.read_bytes(), sheet.encode(), standing.encode()])
+    expect(f"{name}: its poll", *(in_plain_form(file.read_bytes()) for file in (folder / "poll.toml", poll)))
+    expect(f"{name}: its poll is in plain form", (folder / "poll.toml").read_bytes(), plain_bytes(poll.read_bytes()))
+    guide = (folder / "READING-A-SHEET.md").read_bytes()
+    expect(f"{name}: its guide", guide, (publishing.ROOT / "docs" / "READING-A-SHEET.md").read_bytes())
+    found = {file.name: hashlib.sha256(file.read_bytes()).hexdigest() for file in folder.iterdir()}
+    # the letter has the checksum of the checksums
+    letter = (folder / "letter.txt").read_text()
+    expect(f"{name}: its letter", [f"{found[file]}  {file}\n" in letter for file in ("SHA256SUMS", "index.html")], [True, True])
+    del found["SHA256SUMS"], found["letter.txt"]
+    sums = dict(reversed(line.split("  ")) for line in (folder / "SHA256SUMS").read_text().splitlines())
+    expect(f"{name}: its sums", sums, found)
+    pictures = {"picture.svg"} if publishing.HAS_PICTURES else set()
+    expect(f"{name}: its names", set(found), FILES | pictures)
+    modes = {file.stat().st_mode & 0o777 for file in folder.iterdir()}
+    expect(f"{name}: it can be read by all", (folder.stat().st_mode & 0o777, modes), (0o755, {0o644}))
+    return True
+
+
+# the keys of a poll in plain form, in their order
+KEYS = "title options ratios default quorum wording roll last_envelope deadline address secret shown_title shown_options explanations"
+
+
+def in_plain_form(poll_bytes):
+    """What a poll says, without keys that a sealed poll does not have."""
+    document = tomllib.loads(poll_bytes.decode("utf-8-sig"))
+    return {key: document[key] for key in KEYS.split() if key in document}
+
+
+def plain_bytes(poll_bytes):
+    """The poll in plain form."""
+    lines = (f"{key} = {json.dumps(value, ensure_ascii=False)}\n" for key, value in in_plain_form(poll_bytes).items())
+    return "".join(lines).replace("\x7f", "\\u007f").encode()
+
+
+def try_recasts_and_a_last_envelope(expect, scratch):
+    """The words for electors who voted again, and for a poll that has a last envelope."""
+    room = scratch / "recasts"
+    room.mkdir()
+    for ends, ballots, last, said in [
+        ("plain", "ada 1,2,3\n", "", ""),
+        ("one", "ada 1,2,3\nada 2,1,3\n", "last_envelope = 2\n", "1 voter has 2 valid lines: electors who voted again "),
+        ("late", "ada 1,2,3\nben 2,1,3\nada 2,1,3\nben 1,2,3\n", "last_envelope = 3\n", "2 voters have 3 valid lines: electors who"),
+    ]:
+        (room / "poll.toml").write_text(publishing.PLAIN_POLL + last)
+        (room / "ballots").write_text(ballots)
+        found = publishing.publish_files(room / "poll.toml", room / "ballots", room / ends)
+        expect(f"{ends}: its status", found[2], 0)
+        reading.try_page(expect, ends, room / ends)
+        page = (room / ends / "index.html").read_text()
+        expect(f"{ends}: its words", (said in page, "voted again" in page), (True, bool(said)))
+        given = hashlib.sha256((room / "poll.toml").read_bytes()).hexdigest()
+        plain = hashlib.sha256((room / ends / "poll.toml").read_bytes()).hexdigest()
+        named = [f"has the checksum (SHA-256) <code>{given}</code>" in page, f"have this checksum, the poll's? <code>{plain}</code>" in page]
+        expect(f"{ends}: the checksums of the poll", named, [given != plain, True])
+
+
+class FoldersTest(publishing.PublishTest):
+    @classmethod
+    def setUpClass(cls):
+        super().setUpClass()
+        cls.facts = []
+        published = publishing.side_by_side(cls.publish, examples.elections(cls.scratch))
+        cls.castings = {folder: casting for folder, casting in published if folder.exists()}
+        cls.folders = list(cls.castings)
+
+    @classmethod
+    def publish(cls, election):
+        """Publishes an election, notes what is to be said of its files, and returns its folder and what the casting vote is for."""
+        name, poll, ballots, more = election
+        try_folder(lambda *fact: cls.facts.append(fact), name, poll, ballots, more, cls.scratch / name)
+        return cls.scratch / name, more[-1].removeprefix("--casting=") if more else None
+
+    def test_files(self):
+        self.assertGreater(len(self.folders), len(examples.CASES))
+        for fact in self.facts:
+            self.expect(*fact)
+
+    def test_pages(self):
+        for folder in self.folders:
+            reading.try_page(self.expect, folder.name, folder)
+
+    def test_parts_of_pages(self):
+        for folder, casting in self.castings.items():
+            result_checks.try_published(self.expect, folder.name, folder, casting)
+
+    def test_recasts_and_a_last_envelope(self):
+        try_recasts_and_a_last_envelope(self.expect, self.scratch)
+
+    @looks.NEEDS_TIDY
+    def test_tidy(self):
+        looks.try_tidy(self.expect, self.folders)
+
+    @looks.NEEDS_BROWSER
+    def test_browser(self):
+        looks.try_pages(self.expect, self.folders, self.scratch)
+
+    @looks.NEEDS_BROWSER
+    def test_bars(self):
+        looks.try_bars(self.expect, self.folders, self.scratch)
+
+    @looks.NEEDS_BROWSER
+    @looks.NEEDS_PICTURES
+    def test_pictures(self):
+        looks.try_pictures(self.expect, self.folders, self.scratch, {True, False})

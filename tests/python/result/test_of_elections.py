@@ -1,0 +1,959 @@
+"""What debvote-election publishes of its book: the files, what was done, doubts, casting votes, secret votes, and the same bytes again."""
+
+import contextlib
+import datetime
+import email.utils
+import hashlib
+import json
+import os
+import pathlib
+import re
+import shutil
+import subprocess
+import signal
+import sqlite3
+import sys
+import tomllib
+import unittest.mock
+from time import sleep
+
+from debvote_tools import files
+from debvote_tools.book import queries
+from debvote_tools.book.book import open_book
+from debvote_tools.book.election import Election
+from debvote_tools.cli import command_line
+from debvote_tools.commands import publish as command
+from debvote_tools.inbox.letter import as_json, parse
+from debvote_tools.inbox.mailbox import RawLetter
+from debvote_tools.result.facts import Act
+from debvote_tools.result.folder import Made
+from debvote_tools.text.language import ENGLISH
+from debvote_tools.text.rendering import templates_of
+
+from tests.support import page_parts as pages, publishing, reading
+
+ELECTION = publishing.ROOT / "bin" / "debvote-election"
+
+POLL = """title = "Wo wir uns treffen: Größe"
+options = ["72 Euro", "Größe"]
+ratios = [1, 1]
+default = "Nichts davon"
+quorum = 0
+"""
+MEMBERS = "who,mail,name\nAda <Lovelace>,ada@x.example,\nZoë Müller,zoe@x.example,\nCleo,cleo@x.example,cleo\nDan,,dan\n"
+TIE = "ada-lovelace 1,2,3\nzoe-mueller 2,1,3\n"
+NOTHING_DONE = "nothing was published"
+TEXT = "Who certifies this: <b>Anna</b>.\n"
+
+
+def hostile_name(folder):
+    """The plain name of the first option of a called election."""
+    return tomllib.loads((folder / "call" / "poll.toml").read_text())["options"][0]
+
+
+class OfElections(publishing.PublishTest):
+    """An election in a folder of its own for each test."""
+
+    poll = POLL
+
+    def setUp(self):
+        super().setUp()
+        self.folder = self.scratch / self.id().rpartition(".")[2]
+        self.state = self.scratch / "state"
+        self.say("new", str(self.folder), "--language", "de", cwd=self.scratch)
+        (self.folder / "poll.toml").write_text(self.poll)
+        (self.folder / "members.csv").write_text(MEMBERS)
+        self.say("roll")
+        if "secret" in self.poll:
+            self.say("codes")
+
+    def run_words(self, *words, cwd=None, path=publishing.PATH, **how):
+        environment = {**os.environ, "PATH": path, "XDG_STATE_HOME": str(self.state)}
+        ended = publishing.forks.run(
+            [sys.executable, str(ELECTION), *words],
+            capture_output=True,
+            text=True,
+            timeout=publishing.SECONDS,
+            cwd=cwd or self.folder,
+            env=environment,
+            **how,
+        )
+        return ended.stdout, ended.stderr, ended.returncode
+
+    def state_of_this(self):
+        """This process finds the programs, and its notes of books."""
+        return unittest.mock.patch.dict(os.environ, {"XDG_STATE_HOME": str(self.state), "PATH": publishing.PATH})
+
+    def say(self, *words, status=0, **how):
+        """Runs a command, which has to end so, and returns what it printed."""
+        output, faults, found = self.run_words(*words, **how)
+        self.assertEqual(found, status, (words, output, faults))
+        return output
+
+    def stops(self, *words, said=(), status=9, folder="result"):
+        """Runs a command that has to stop with these words; it makes no folder and no act."""
+        acts, before = len(self.acts()), (self.folder / folder).exists()
+        output, faults, found = self.run_words(*words)
+        self.expect(f"{words}: {faults}", (output, [text for text in said if text not in faults], found), ("", [], status))
+        self.expect(f"{words}: nothing is made", (len(self.acts()), (self.folder / folder).exists()), (acts, before))
+
+    def replace(self, *words, **how):
+        """Publishes where an earlier result is, which has to be taken away."""
+        shutil.rmtree(self.folder / "result")
+        return self.say("publish", *words, **how)
+
+    def add(self, lines, words=(), **how):
+        (self.folder / "lines").write_text(lines)
+        return self.say("add", "lines", *words, **how)
+
+    def reopened_with(self, lines, words=()):
+        """Opens the vote for lines that had come before the close, and closes it again."""
+        self.say("reopen", "--because", "lost letters", "--in-time")
+        self.add(lines, words=("--came-before-close", "yes"))
+        self.say("close", *words)
+
+    def starts(self, *words, most):
+        """Runs a command, which may start debvote only so often."""
+        program = self.folder / "counting"
+        program.mkdir(exist_ok=True)
+        starts = program / "starts"
+        starts.write_text("")
+        (program / "debvote").write_text(f'#!/bin/sh\necho $1 >> {starts}\nexec {publishing.PROGRAM} "$@"\n')
+        (program / "debvote").chmod(0o755)
+        output, faults, status = self.run_words(*words, path=os.pathsep.join([str(program), publishing.PATH]))
+        self.expect(f"{words}: {output} {faults}", status in (0, 1), True)
+        found = starts.read_text().split()
+        self.expect(f"{words}: {found}", 1 <= len(found) + (words[0] == "close") <= most + (words[0] == "close"), True)
+
+    def add_letters(self):
+        """Letters that were added and wait, of which debvote has to say which lines may be ballots."""
+        now = email.utils.format_datetime(datetime.datetime.now(datetime.UTC))
+        for number, name in enumerate(["zoe-mueller", "cleo"]):
+            text = f"Received: by mx; {now}\nFrom: x@x.example\nSubject: x\n\n{name} 1,2,3\n"
+            (self.folder / f"{number}.eml").write_text(text)
+            self.say("add", f"{number}.eml")
+
+    def in_child(self, patch, *words):
+        """Runs a command in a child with this patch, and returns the status of the child."""
+        child = os.fork()
+        if child == 0:
+            try:
+                os.chdir(self.folder)
+                for output in (1, 2):
+                    os.dup2(os.open(os.devnull, os.O_WRONLY), output)
+                with self.state_of_this(), patch:
+                    os._exit(command_line.main(publishing.PROGRAM.parent, list(words)))
+            finally:
+                os._exit(70)
+        return os.waitstatus_to_exitcode(os.waitpid(child, 0)[1])
+
+    def acts(self):
+        book = open_book(self.folder / "election.db")
+        with contextlib.closing(book.connection):
+            return book.acts()
+
+    def sections(self, folder="result"):
+        return pages.sections_of((self.folder / folder / "index.html").read_text())
+
+    def doubts(self):
+        return pages.doubts_of((self.folder / "result" / "index.html").read_text())
+
+    def files(self, folder="result"):
+        return {file.name: file.read_bytes() for file in (self.folder / folder).iterdir()}
+
+    def checksums_of_letters(self, files, ballots):
+        """The checksums of the page are those of the letters, each in its place."""
+        answers = re.findall(r"<pre><code>([0-9a-f]{64})  (\S+)</code></pre>", files["index.html"].decode())
+        shown = {name: checksum for checksum, name in answers}
+        closed = re.findall(r"(?m)^  ([0-9a-f]{64})$", files["closed.txt"].decode())
+        called = re.findall(r"\b[0-9a-f]{64}\b", (self.folder / "call" / "call.txt").read_text())
+        named = re.findall(r"(?m)^  ([0-9a-f]{64})  (\S+)$", self.letter())
+        wanted = [(hashlib.sha256(files[name]).hexdigest(), name) for name in ("SHA256SUMS", "index.html")]
+        self.expect("the letter of the result", named, wanted)
+        self.expect("the letter of the call", set(called), {shown["poll.toml"]})
+        self.expect("the letter of the close", closed[:2], [shown["poll.toml"], shown[ballots]])
+
+    def letter(self):
+        """The letter of the result for all."""
+        return (self.folder / "letters" / "result.txt").read_text()
+
+    def whole(self, folder="result"):
+        """The folder is what its checksums say, and can be read by all."""
+        files = self.files(folder)
+        sums = dict(reversed(line.split("  ")) for line in files.pop("SHA256SUMS").decode().splitlines())
+        self.expect("checksums", sums, {name: hashlib.sha256(data).hexdigest() for name, data in files.items()})
+        modes = {file.stat().st_mode & 0o777 for file in (self.folder / folder).iterdir()}
+        self.expect("modes", ((self.folder / folder).stat().st_mode & 0o777, modes), (0o755, {0o644}))
+
+
+class OfOpenVotes(OfElections):
+    def test_the_files(self):
+        self.say("call", "--names")
+        self.add("ada-lovelace 1,2,3\nno-one 1,2,3\nzoe-mueller 1,-,3\ncleo 2,1,3\n")
+        self.say("strike", "3", "--because", "Zoë has sent it <b>twice</b>")
+        self.say("close")
+        self.add("dan 3,2,1\n")
+        (self.folder / "about").write_text(TEXT)
+        said = self.say("publish", "--about", "about", "--language", "en", status=1)
+        self.expect("what is said", said.splitlines()[:3], ["Tie: 1 2", "verified", "Made the folder result."])
+        self.whole()
+        self.say("export", "exported")
+        files = self.files()
+        names = {"poll.toml", "ballots.txt", "late.txt", "sheet.txt", "standing.txt", "result.json", "votes.csv", "recount.py"}
+        names |= {"recount.js", "closed.txt", "READING-A-SHEET.md", "SHA256SUMS", "index.html"}
+        self.expect("the files", set(files), names | ({"picture.svg"} if publishing.HAS_PICTURES else set()))
+        for name, source in [
+            ("poll.toml", "call/poll.toml"),
+            ("poll.toml", "exported/poll.toml"),
+            ("ballots.txt", "exported/ballots.txt"),
+            ("late.txt", "exported/late.txt"),
+            ("closed.txt", "letters/closed.txt"),
+        ]:
+            self.expect(f"{name} is {source}", files[name], (self.folder / source).read_bytes())
+        self.expect("the lines in time that are not struck", files["ballots.txt"], b"ada-lovelace 1,2,3\nno-one 1,2,3\ncleo 2,1,3\n")
+        self.expect("late lines", files["late.txt"], b"dan 3,2,1\n")
+        label = json.loads(files["result.json"])["options"][1]
+        self.expect("names as data", (label["name"], label["label"]), ("Groesse", "Größe"))
+        sections = self.sections()
+        voted = [item.text() for item in sections["Who-voted"].all("li")]
+        self.expect("real names", voted, ["ada-lovelace Ada <Lovelace>", "cleo Cleo", "zoe-mueller Zoë Müller", "dan Dan"])
+        refused = [item.text() for item in sections["Refused-lines"].all("li")]
+        self.expect("refused and late lines", (len(refused), refused[-1]), (2, "line 1: dan 3,2,1"))
+        self.expect("about", TEXT.strip() in sections["About-this-vote"].text(), True)
+        done = [item.text().partition("): ")[2] for item in sections["What-was-done"].all("li")]
+        struck = "The secretary struck envelope 3: its line does not count. The reason, in the secretary's words: Zoë has sent it <b>twice</b>"
+        self.expect("what was done", done[:2], ["The call was made; it named no time until which one could vote.", struck])
+        tie = "No option has won yet: Option 1: 72 Euro and Option 2: Größe are tied. The casting vote has to choose one of them. "
+        tie += "Option 1: 72 Euro against Option 2: Größe: 1 to 1."
+        self.expect("the letter has the numbers of a tie", tie in self.letter().replace("\n", " "), True)
+        checksum = hashlib.sha256(files["ballots.txt"]).hexdigest()
+        self.expect("the close", done[2:], [f"The vote was closed. Lines in time: 3. Checksum: {checksum}."])
+        self.checksums_of_letters(files, "ballots.txt")
+        last = self.acts()[-1]
+        self.expect("the act", (last.name, last.detail["checksums"]["ballots.txt"]), ("publish", checksum))
+
+    def test_the_same_bytes_again(self):
+        self.say("call", "--until", "2099-12-04 18:00", "--zone", "Europe/Berlin")
+        self.add("ada-lovelace 1,2,3\n")
+        self.say("close", "--early")
+        (self.folder / "about").write_text(TEXT)
+        self.say("publish", "--about", "about")
+        files, acts = self.files(), len(self.acts())
+        (self.folder / "about").unlink()
+        umask = os.umask(0o077)
+        try:
+            said = self.say("publish")
+        finally:
+            os.umask(umask)
+        self.expect("no act", (len(self.acts()), "Made the folder result, as it was published before; " in said), (acts, True))
+        self.whole()
+        shutil.rmtree(self.folder / "result")
+        said = self.say("publish", "elsewhere")
+        self.expect("no late lines", files["late.txt"], b"")
+        self.expect("a new folder", "Made the folder elsewhere, as it was published before; " in said, True)
+        self.expect("the same bytes", (self.files("elsewhere") == files, (self.folder / "result").exists()), (True, False))
+        self.expect("still no act", len(self.acts()), acts)
+        self.say("publish", "--language", "fr")
+        self.expect("other words are an act", (len(self.acts()), self.files() == files), (acts + 1, False))
+        self.expect("nothing is left beside it", [name for name in os.listdir(self.folder) if name.startswith(".")], [])
+        self.expect("real names are not published", "Lovelace" in (self.folder / "elsewhere" / "index.html").read_text(), False)
+
+    def test_another_folder_stays(self):
+        self.say("call")
+        self.add("ada-lovelace 1,2,3\n")
+        self.say("close")
+        (self.folder / "result").mkdir()
+        self.say("publish")
+        (self.folder / "result" / "notes").write_text("mine")
+        self.stops("publish", "--language", "en", said=["result: it exists already, and is not what this election has published last", "as result-2"], status=2)
+        (self.folder / "mine").mkdir()
+        (self.folder / "mine" / "a").write_text("b")
+        self.stops("publish", "mine", said=["mine: it exists already"], status=2, folder="mine")
+        self.stops("publish", "members.csv", said=["members.csv: it exists already"], status=2)
+
+    def test_no_other_result_is_replaced(self):
+        """Neither that of another election, nor an earlier one of this, nor one that somebody has changed."""
+        self.say("call")
+        self.add("ada-lovelace 1,2,3\n")
+        self.say("close")
+        self.say("publish")
+        (self.folder / "result" / "picture.svg").unlink(missing_ok=True)
+        self.say("publish", "--language", "en")
+        other = self.scratch / "another election"
+        shutil.copytree(self.folder / "result", other)
+        self.reopened_with("cleo 1,2,3\n")
+        said = "it exists already, and is not what this election has published last, since its last close; nothing was published"
+        for words in ((), ("--force", "--because", "x"), ("result",), (str(other),)):
+            self.stops("publish", *words, said=[said, "another election-2" if str(other) in words else "name another folder, as result-2:"], status=2)
+        self.say("publish", "result-2")
+        files = self.files("result-2")
+        self.stops("publish", "result-2/../result", said=["as result-2/../result-3"], status=2)
+        self.say("publish", "--language", "fr", "result-2")
+        self.expect("it takes the place of the last one", self.files("result-2") == files, False)
+        # as it was before, and with one file more, one other or one that is no file
+        shutil.rmtree(self.folder / "result-2")
+        (self.folder / "result-2").mkdir()
+        for name, data in files.items():
+            (self.folder / "result-2" / name).write_bytes(data)
+        self.stops("publish", "result-2", said=[said], status=2, folder="result-2")
+        for change in ("index.html", "mine"):
+            shutil.rmtree(self.folder / "result-2")
+            self.say("publish", "result-2")
+            (self.folder / "result-2" / change).write_text("mine")
+            self.stops("publish", "result-2", said=[said], status=2, folder="result-2")
+        self.expect("what somebody wrote is there", (self.folder / "result-2" / "mine").read_text(), "mine")
+
+    def test_made_again_otherwise(self):
+        """What was published is not made otherwise in silence; it can be published once more, with its letter."""
+        self.say("call", "--at", "https://x.example/")
+        self.add(TIE)
+        self.say("close")
+        self.say("publish", "--casting", "72 Euro", "--cast-by", "Anna", "--cast-on", "2026-11-20")
+        files, letter, acts = self.files(), self.letter(), len(self.acts())
+        (self.folder / "members.csv").write_text(MEMBERS.replace("zoe@x", "zoe@y"))
+        self.say("roll", "--yes")
+        self.stops("publish", said=[f"the result would differ from the one that was published (act {acts})", "--force"])
+        self.expect("nothing was made", (self.files() == files, self.letter()), (True, letter))
+        self.say("publish", "--force")
+        last = self.acts()[-1]
+        self.expect("one of its own", (last.name, last.number, last.detail["casting"]), ("publish", acts + 2, "72 Euro"))
+        self.checksums_of_letters(self.files(), "ballots.txt")
+        self.expect("with its letter", self.letter() == letter, False)
+        said = self.say("publish")
+        self.expect("and again", ("as it was published before" in said, len(self.acts())), (True, acts + 2))
+
+    def test_the_letter_binds_each_file(self):
+        """Whatever file somebody changes, the command of the letter shows it."""
+        self.say("call")
+        self.add("ada-lovelace 1,2,3\n")
+        self.say("close")
+        self.add("dan 3,2,1\n")
+        self.say("publish", "--language", "en")
+        [command] = re.findall(r"(?m)^  (sha256sum .*)$", self.letter())
+        wanted = re.findall(r"(?m)^  ([0-9a-f]{64}  \S+)$", self.letter())
+
+        def shown(name=None):
+            place = self.folder / "downloaded"
+            shutil.copytree(self.folder / "result", place)
+            if name is not None:
+                data = (place / name).read_bytes()
+                (place / name).write_bytes(data.replace(b"3", b"4", 1) if b"3" in data else data + b"\n")
+            ended = subprocess.run(["sh", "-c", command], cwd=place, capture_output=True, text=True)
+            shutil.rmtree(place)
+            lines = ended.stdout.splitlines()
+            return lines[:2] != wanted or ended.returncode != 0 or not all(line.endswith(": OK") for line in lines[2:])
+
+        self.expect("as it was published", shown(), False)
+        names = sorted(self.files())
+        self.expect("each that is changed", [name for name in names if not shown(name)], [])
+        self.expect("how many", len(names), 14 if publishing.HAS_PICTURES else 13)
+
+    def test_closed_early(self):
+        self.say("call", "--until", "2099-12-04 18:00", "--zone", "Europe/Berlin", "--at", "https://x.example/")
+        self.add("ada-lovelace 1,2,3\n")
+        self.say("close", "--early")
+        self.reopened_with("zoe-mueller 1,2,3\n", words=("--early",))
+        self.say("publish", "--language", "en")
+        end = "one should have been able to vote until Friday, 4 December 2099, 18:00 (UTC+01:00)."
+        [doubt] = self.doubts()
+        self.expect(f"the doubt: {doubt}", doubt.startswith("The vote was closed on ") and doubt.endswith(f"before its announced end: {end}"), True)
+        self.expect("the letter of the result", doubt in " ".join(self.letter().split()), True)
+        self.say("publish", "--language", "de")
+        self.say("letters", "result", "--from", "vote@x.example")
+        letters = [email.message_from_bytes(file.read_bytes()) for file in (self.folder / "letters" / "result").rglob("*.eml")]
+        texts = [" ".join(letter.get_payload(decode=True).decode().split()) for letter in letters]
+        until = "Freitag, 4. Dezember 2099, 18:00 (UTC+01:00)"
+        for text in (*texts, (self.folder / "letters" / "closed.txt").read_text()):
+            self.expect(f"until when: {text}", until in " ".join(text.split()), True)
+        self.expect("letters", len(texts), 3)
+
+    def test_each_late_letter_is_a_doubt(self):
+        """Also two of the same minute."""
+        self.say("call")
+        self.add("ada-lovelace 1,2,3\n")
+        self.say("close")
+        book = open_book(self.folder / "election.db")
+        with self.state_of_this(), contextlib.closing(book.connection), book.act("add") as act:
+            time = book.acts()[-1].time.replace(second=0)
+            for line in (b"zoe-mueller 1,2,3", b"cleo 1,2,3"):
+                data = b"Received: by mx; %s\nFrom: x@x.example\n\n%s\n" % (email.utils.format_datetime(time).encode(), line)
+                letter = queries.keep_letter(act, "letter.eml", data, "", as_json(parse(RawLetter("letter.eml", data))))
+                queries.decide(act, letter, "entered")
+                queries.add_envelopes(act, [queries.NewEnvelope(line, letter=letter, time=time)], [None], is_late=True)
+        self.say("publish", "--force", "--because", "so be it")
+        self.expect("doubts", len(self.doubts()), 2)
+
+    def test_doubts_are_told_at_once(self):
+        self.say("call")
+        self.add("no-one 1,2,3\n")
+        told = ["no elector has a ballot that counts", "more than half of the lines are refused, 1 of 1", "the vote is not closed"]
+        self.stops("publish", said=[*told, "--force --because"])
+        self.stops("publish", "--force", said=told)
+        self.say("publish", "--force", "--because", "A <test>.\n\nNo more.", "--language", "en")
+        nobody = "No elector has a ballot that counts: nobody's vote has decided this."
+        refused = "More than half of the lines of the ballot file are refused: 1 of 1."
+        self.expect("doubts", self.doubts(), [nobody, refused, "The vote was not closed when this page was made: more ballots may come in."])
+        page = pages.tree_of((self.folder / "result" / "index.html").read_text())
+        given = [text.text() for text in next(page.all("div", "given")).all("p")]
+        self.expect("the reason", given[1:], ["A <test>.", "No more."])
+        self.expect("it is in the act", [doubt["kind"] for doubt in self.acts()[-1].detail["doubts"]], ["no ballot", "mostly refused", "not closed"])
+        self.add("ada-lovelace 1,2,3\n")
+        self.say("close")
+        self.replace("--force", "--because", "nothing", "--language", "en")
+        self.expect("half of the lines are refused", json.loads(self.files()["result.json"])["refused"], 1)
+        self.expect("force where nothing stops", (self.doubts(), "nothing" in self.sections()["Result"].text()), ([], False))
+
+    def test_each_act_is_told(self):
+        """Each kind of act is told on the page, and all but what is plain in the letters of the result."""
+        self.say("call")
+        self.say("call", "--take-back")
+        self.say("call", "--until", "2099-12-04 18:00", "--zone", "Europe/Berlin", "--at", "https://x.example/")
+        self.add("ada-lovelace 1,2,3\n")
+        checksum = hashlib.sha256(b"ada-lovelace 1,2,3\n").hexdigest()
+        plain = {"lines": 1, "checksum": checksum, "early": False, "waiting": 0, "after_end": 0}
+        book = open_book(self.folder / "election.db")
+        with self.state_of_this(), contextlib.closing(book.connection):
+            for name, detail in [
+                ("addresses", {"electors": 1}),
+                ("addresses", {"electors": 2}),
+                ("extend", {"keyring": "a checksum"}),
+                ("moved", {"noted": {"act": 7}, "there": {"act": 5}, "because": "an old copy"}),
+                ("close", plain),
+                ("reopen", {"because": "a look"}),
+                ("close", plain | {"early": True, "waiting": 2, "after_end": 1, "because": "in a hurry"}),
+            ]:
+                with book.act(name, detail):
+                    pass
+        self.say("publish", "--language", "en")
+        because = " The reason, in the secretary's words:"
+        end = "one could vote until Friday, 4 December 2099, 18:00 (UTC+01:00)."
+        closed = f"The vote was closed. Lines in time: 1. Checksum: {checksum}."
+        between = "Since the close before this one, lines that came in: 0; lines that were struck: 0."
+        quiet = ["The call was made; it named no time until which one could vote.", "This call was taken back, before any ballot had come."]
+        quiet += [f"The call was made; {end}", "The secretary took newer keys of the electors.", closed]
+        told = [
+            "1 elector got another address or key.",
+            "2 electors got other addresses or keys.",
+            "The secretary went on with a book of this election in which act 5 was the last, though this computer had noted act 7 of it."
+            f"{because} an old copy",
+            f"The vote was opened again, for what had come before the first close.{because} a look",
+            f"{closed} That was before the time until which one could vote. 2 letters that had arrived in time were left waiting. "
+            f"1 letter that had arrived after the end did not go in. {between}{because} in a hurry",
+        ]
+        done = [item.text().partition("): ")[2] for item in self.sections()["What-was-done"].all("li")]
+        self.expect("on the page", done, [*quiet[:3], *told[:2], quiet[3], told[2], quiet[4], *told[3:]])
+        self.say("publish", "--language", "de")
+        self.say("letters", "result", "--from", "vote@x.example")
+        letters = [email.message_from_bytes(file.read_bytes()) for file in (self.folder / "letters" / "result").rglob("*.eml")]
+        text = letters[0].get_payload(decode=True).decode().partition("WAS GESCHEHEN IST\n\n")[2]
+        acts = re.findall(r"(?m)^- ((?:.+\n)+(?:  .+\n)*)", text)
+        self.expect("in the letters", (len(letters), len(acts)), (3, len(told)))
+        close = " ".join(acts[-1].split())
+        words = ("2 rechtzeitig eingetroffene Schreiben", "1 Schreiben, das nach dem Ende", "(in a hurry)")
+        self.expect(f"the close: {close}", [word in close for word in words], [True] * 3)
+
+    def test_what_the_letter_tells_of_what_was_done(self):
+        """All but what is plain: also that the clock went back."""
+        time = datetime.datetime(2026, 12, 4, tzinfo=datetime.UTC)
+        plain = {"called", "called until", "taken back", "keyring"}
+        places = {"until": time, "before": time, "number": 1, "envelope": 1, "noted": 1, "there": 1}
+        told = templates_of("debvote_tools.result", ENGLISH, is_page=False).get_template("told.jinja").module
+        kinds = {*told.DONE, "roll changed"}
+        self.expect("how many kinds", (len(kinds), plain <= kinds), (13, True))
+        for done in kinds:
+            act = Act(time, done, places)
+            self.expect(done, act.is_quiet, done in plain)
+            self.expect(f"{done}, in words", told.dated(act).startswith("Friday, 4 December 2026, 00:00 (UTC): "), True)
+
+    def test_what_was_done_after_the_close(self):
+        self.say("call", "--until", "2099-12-04 18:00", "--zone", "Europe/Berlin")
+        self.say("call", "--until", "2099-12-05 18:00", "--zone", "Europe/Berlin")
+        self.add("ada-lovelace 1,2,3\n")
+        self.say("close", "--early")
+        self.add("zoe-mueller 1,2,3\ncleo 1,2,3\n")
+        self.say("reopen", "--because", "Zoë's letter lay in the <hall>", "--in-time", "2", "3")
+        self.say("strike", "1", "--because", "wrong hand")
+        self.say("close", "--early")
+        self.say("publish", "--language", "en")
+        done = [item.text().partition("): ")[2] for item in self.sections()["What-was-done"].all("li")]
+        sums = [act.detail["checksum"] for act in self.acts() if act.name == "close"]
+        early = "That was before the time until which one could vote."
+        because = "The reason, in the secretary's words:"
+        wanted = [
+            "The call was made; one could vote until Friday, 4 December 2099, 18:00 (UTC+01:00).",
+            "The time was extended: one could vote until Saturday, 5 December 2099, 18:00 (UTC+01:00).",
+            f"The vote was closed. Lines in time: 1. Checksum: {sums[0]}. {early}",
+            f"The vote was opened again, for what had come before the first close. {because} Zoë's letter lay in the <hall>",
+            f"The secretary struck envelope 1: its line does not count. {because} wrong hand",
+            f"The vote was closed. Lines in time: 2. Checksum: {sums[1]}. {early} Since the close before this one, lines that came in: 2; lines that were struck: 1.",
+        ]
+        self.expect("what was done", done, wanted)
+        self.expect("the late ones stay late", (self.folder / "result" / "late.txt").read_bytes(), b"zoe-mueller 1,2,3\ncleo 1,2,3\n")
+        self.expect("the times are in one zone", self.sections()["What-was-done"].text().count("(UTC+01:00): "), 6)
+
+    def test_a_moved_book(self):
+        self.say("call")
+        self.add("ada-lovelace 1,2,3\n")
+        self.say("close")
+        self.state = self.scratch / "other computer"
+        self.stops("publish", said=["this computer has never seen this election"])
+        self.say("publish", "--moved", "--because", "a new <laptop>", "--language", "en")
+        done = self.sections()["What-was-done"].text()
+        self.expect("moved", ("that did not know it yet. The reason, in the secretary's words: a new <laptop>" in done), True)
+        with self.changed_book() as connection:
+            last = connection.execute("SELECT max(act) FROM act").fetchone()[0]
+            connection.execute("UPDATE act SET detail = '{}' WHERE act = ?", (last - 2,))
+        self.stops("publish", said=["does not match its digest"])
+
+    @contextlib.contextmanager
+    def changed_book(self):
+        """The book, in which another program changes what it likes; its triggers are there again afterwards."""
+        with contextlib.closing(sqlite3.connect(self.folder / "election.db")) as connection:
+            triggers = connection.execute("SELECT name, sql FROM sqlite_master WHERE type = 'trigger'").fetchall()
+            for name, _ in triggers:
+                connection.execute(f"DROP TRIGGER {name}")
+            yield connection
+            for _, sql in triggers:
+                connection.execute(sql)
+            connection.commit()
+
+    def test_late_letters(self):
+        self.say("call")
+        self.add("ada-lovelace 1,2,3\n")
+        self.say("close")
+        book = open_book(self.folder / "election.db")
+        close = book.last_act().time
+        with self.state_of_this(), contextlib.closing(book.connection), book.act("add") as act:
+            # the last one arrives between the first close and the second
+            lines = [(-60, b"zoe-mueller 1,2,3"), (60, b"cleo 1,2,3"), (0, b"dan 2,1,3"), (1, b"ada-lovelace 3,2,1")]
+            for seconds, line in lines:
+                time = close + datetime.timedelta(seconds=seconds)
+                data = b"Received: by mx; %s\nFrom: x@x.example\n\n%s\n" % (email.utils.format_datetime(time).encode(), line)
+                known = as_json(parse(RawLetter("letter.eml", data)))
+                letter = queries.keep_letter(act, "letter.eml", data, "", known)
+                queries.decide(act, letter, "entered")
+                queries.add_envelopes(act, [queries.NewEnvelope(line, letter=letter, time=time)], [None], is_late=True)
+        self.stops("publish", said=["the ballot of letter 1 is late", "the ballot of letter 3 is late"])
+        self.say("publish", "--force", "--because", "so be it", "--language", "en")
+        self.expect("doubts", [text.partition("before")[0].partition("on ")[0] for text in self.doubts()], ["A letter arrived "] * 2)
+        self.say("reopen", "--because", "they were in time", "--in-time", "2", "4")
+        sleep(max(0, (close + datetime.timedelta(seconds=1) - datetime.datetime.now(datetime.UTC)).total_seconds()))
+        self.say("close")
+        self.expect("the close after that letter", self.acts()[-1].time > close, True)
+        self.replace("--language", "en")
+        self.expect("entered in time", (self.doubts(), (self.folder / "result" / "late.txt").read_text().count("\n")), ([], 4))
+
+    def test_what_comes_after_the_end(self):
+        """Lines and ballots of a desk are told that came after the end; not those that were struck, nor letters, which wait."""
+        clock = self.folder / "clock"
+        where = {"PYTHONPATH": str(publishing.ROOT / "tests" / "clock"), "DEBVOTE_CLOCK": str(clock)}
+        clock.write_text("2027-03-01T10:00:00+00:00")
+        letter = "Received: by mx; Mon, 1 Mar 2027 12:30:00 +0000\nFrom: cleo@x.example\n\ncleo 3,2,1\n"
+        with unittest.mock.patch.dict(os.environ, where):
+            self.say("call", "--until", "2027-03-01 12:00", "--zone", "UTC")
+            self.add("ada-lovelace 1,2,3\n")
+            clock.write_text("2027-03-01T13:00:00+00:00")
+            self.add("zoe-mueller 1,2,3\ncleo 1,2,3\ndan 1,2,3\n")
+            (self.folder / "letter.eml").write_text(letter)
+            self.say("add", "letter.eml")
+            self.say("held", "1", "--enter", "1", "--force")
+            self.say("strike", "3", "--because", "on paper")
+            clock.write_text("2027-03-01T12:50:00+00:00")
+            self.say("close")
+            clock.write_text("2027-03-01T14:00:00+00:00")
+            self.say("reopen", "--because", "a lost letter", "--in-time")
+            self.add("dan 1,3,2\n", words=("--came-before-close", "yes"))
+            self.say("close")
+            (self.folder / "letter.eml").write_text(letter.replace("12:30", "12:40").replace("cleo 3", "zoe-mueller 3"))
+            self.say("add", "letter.eml")
+            self.say("held", "2", "--enter", "1", "--force")
+            # a late one that arrived after the end is no doubt
+            self.say("publish", "--language", "en")
+        told = "2 ballots came after the end, and count, since the vote was not closed yet."
+        done = self.sections()["What-was-done"].text()
+        self.expect("what came after the end, and before the first close", told in done, True)
+        later = "Monday, 1 March 2027, 13:00 (UTC)"
+        back = f"12:50 (UTC): The clock of the secretary's computer went back: the act before has a later time, {later}."
+        self.expect("a clock that went back", back in done, True)
+
+    def test_words_of_a_publication_end_with_its_close(self):
+        """Without words the last publication is made again; after another close it is a new one, without a casting vote."""
+        self.say("call")
+        self.add(TIE)
+        self.say("close")
+        self.say("publish", "--casting", "72 Euro", "--cast-by", "Anna", "--cast-on", "2026-11-20")
+        self.add("cleo 1,2,3\n")
+        self.say("reopen", "--because", "a lost letter", "--in-time", "3")
+        self.say("strike", "1", "--because", "twice")
+        self.say("close")
+        self.expect("a tie again", self.replace(status=1).splitlines()[0], "Tie: 1 2")
+
+    def test_bad_texts(self):
+        self.say("call")
+        self.add("ada-lovelace 1,2,3\n")
+        self.say("close")
+        for data, said in [
+            (b"Anna\nM\xfcller\n", "about:2: it is not in UTF-8"),
+            (b"A\n\x1b[1m", "about:2: it has the character U+001B, which no plain text has"),
+            ("\u202eA".encode(), "about:1: it has the character U+202E"),
+            (b" \n", "about: it is empty"),
+            (b"x" * 65_537, "about: it is longer than 65536 bytes"),
+        ]:
+            (self.folder / "about").write_bytes(data)
+            self.stops("publish", "--about", "about", said=[said], status=2)
+        self.stops("publish", "--about", "none", said=["none: No such file or directory"], status=2)
+        for text, said in [("a\u202eb", "the text has the character U+202E"), ("x" * 2001, "the text has 2001 characters; at most 2000 are allowed")]:
+            self.stops("publish", "--force", "--because", text, said=[f"--because: {said}"], status=2)
+        (self.folder / "about").write_bytes(b"\xef\xbb\xbfOne\r\n\r\n\xd7\x93 <i>two</i>\r\n")
+        self.say("publish", "--about", "about", "--language", "en")
+        about = [text.text() for text in self.sections()["About-this-vote"].all("p", "about")]
+        self.expect("the paragraphs of a text", about, ["One", "\u05d3 <i>two</i>"])
+
+    def test_casting_votes(self):
+        self.say("call")
+        self.add(TIE)
+        self.say("close")
+        self.expect("a tie", self.say("publish", status=1).splitlines()[0], "Tie: 1 2")
+        cast = ("--cast-by", "Anna <b>", "--cast-on", "2026-11-20")
+        for words, said, status in [
+            (("--casting", "72 Euro"), "it was given; nothing was published: say it with --cast-by", 2),
+            (("--casting", "72 Euro", "--cast-by", "A", "--cast-on", "2999-01-01"), "2999-01-01 is in the future", 2),
+            (("--casting", "72 Euro", "--cast-by", "A", "--cast-on", "1.1.2026"), "`1.1.2026` is not a day", 2),
+            (("--casting", "72 Euro", "--cast-by", 'A "b', "--cast-on", "2026-01-01"), "without quotation marks", 2),
+            (cast, "give --casting too", 2),
+            (("--casting", "Größe", *cast), "no option has this name", 8),
+            (("--casting", "Nichts davon", *cast), "no casting vote can choose Nichts davon, which is not left; left are 1 72 Euro", 8),
+        ]:
+            self.stops("publish", *words, said=[said], status=status)
+        self.say("publish", "--casting", "72 Euro", *cast, "--language", "en")
+        said = 'The secretary says that the casting vote was that of "Anna <b>", given on 20 November 2026. No count can show this.'
+        self.expect("on the page", said in self.sections()["Result"].text(), True)
+        self.expect("in the letter", said in self.letter().replace("\n", " "), True)
+        said = "Winner: Option 1: 72 Euro by casting vote"
+        self.expect("so does the letter say who has won", said in self.letter(), True)
+        numbers = f"{said}. These options were left: Option 1: 72 Euro and Option 2: Größe."
+        self.expect("with what decides it", numbers in self.letter().replace("\n", " "), True)
+        self.stops("publish", "--casting", "Groesse", *cast, said=["an earlier publication has a casting vote for 72 Euro"])
+        self.reopened_with("cleo 1,2,3\n")
+        self.replace("--casting", "72 Euro", *cast, "--language", "en")
+        texts = (self.sections()["Result"].text(), self.letter())
+        self.expect("one that decides nothing is not told", ["casting vote" in text for text in texts], [False, False])
+        self.reopened_with("dan 2,1,3\n")
+        self.replace("--casting", "Groesse", *cast, "--force", "--because", "She had meant this", "--language", "en")
+        earlier = ["An earlier result of this vote was published with another casting vote, for 72 Euro."]
+        self.expect("another casting vote", self.doubts(), earlier)
+        letter = self.letter()
+        self.expect("the letter says whom it chose", "Winner: Option 2: Größe by casting vote" in letter, True)
+        files = self.files()
+        self.say("publish")
+        self.expect("and again", self.files() == files, True)
+
+    def test_a_kill_between_act_and_folder(self):
+        self.say("call")
+        self.add("ada-lovelace 1,2,3\n")
+        self.say("close")
+        election = Election(self.folder, publishing.PROGRAM.parent)
+        given = {field: None for owner in command.Arguments.__mro__ for field in vars(owner).get("__annotations__", {})}
+        arguments = command.Arguments(**given | {"language": "en"})
+        killed = unittest.mock.patch.object(Made, "take_place", side_effect=KeyboardInterrupt)
+        with self.state_of_this(), killed, self.assertRaises(KeyboardInterrupt):
+            command.run(election, arguments)
+        election.book.connection.close()
+        acts = self.acts()
+        self.expect("the book knows it, and no folder is there", (acts[-1].name, (self.folder / "result").exists()), ("publish", False))
+        self.say("publish")
+        sums = {name: hashlib.sha256((self.folder / "result" / name).read_bytes()).hexdigest() for name in acts[-1].detail["checksums"]}
+        self.expect("the same folder, and no act", (sums, len(self.acts())), (acts[-1].detail["checksums"], len(acts)))
+
+    def left(self):
+        return [name for name in os.listdir(self.folder) if name.startswith(".")]
+
+    def test_a_publication_that_is_killed_after_its_act(self):
+        """Made again it comes back in its place, whatever a kill has left there, and nothing else is left."""
+        self.say("call")
+        self.add("ada-lovelace 1,2,3\n")
+        self.say("close")
+        self.say("publish")
+        rename, moved = pathlib.Path.rename, []
+
+        def kill(*_):
+            os.kill(os.getpid(), signal.SIGKILL)
+
+        def kill_between(file, target):
+            moved.append(kill() if moved else rename(file, target))
+
+        for language, patch, is_there, left in [
+            ("en", unittest.mock.patch.object(Made, "take_place", kill), True, 1),
+            ("fr", unittest.mock.patch.object(pathlib.Path, "rename", kill_between), False, 2),
+        ]:
+            before, acts = self.files(), len(self.acts())
+            self.expect(f"{language}: killed", self.in_child(patch, "publish", "--language", language), -signal.SIGKILL)
+            self.expect(f"{language}: what is left", ((self.folder / "result").exists(), len(self.left())), (is_there, left))
+            self.say("publish")
+            sums = {name: hashlib.sha256(data).hexdigest() for name, data in self.files().items()}
+            last = self.acts()[-1].detail["checksums"]
+            self.expect(f"{language}: it came back", ({name: sums[name] for name in last}, len(self.acts())), (last, acts + 1))
+            self.expect(f"{language}: it is the new one", (self.files() == before, self.left()), (False, []))
+        # a run that lasts keeps its folder
+        lasting = self.folder / ".debvote-result-lasting"
+        lasting.mkdir()
+        (lasting / "poll.toml").touch()
+        with files.locked(lasting, is_directory=True):
+            self.say("publish")
+        self.expect("that of a run that lasts", self.left(), [lasting.name])
+
+    def test_a_folder_that_can_not_take_its_place(self):
+        """The one that was there comes back; once it can, the new one takes its place."""
+        self.say("call")
+        self.add("ada-lovelace 1,2,3\n")
+        self.say("close")
+        self.say("publish")
+        before, rename, moved = self.files(), pathlib.Path.rename, []
+
+        def fail_second(file, target):
+            moved.append(file)
+            if len(moved) == 2:
+                raise OSError(28, "No space left on device", str(file))
+            return rename(file, target)
+
+        patch = unittest.mock.patch.object(pathlib.Path, "rename", fail_second)
+        self.expect("it fails", self.in_child(patch, "publish", "--language", "en"), 7)
+        self.expect("the old one is back", self.files() == before, True)
+        self.say("publish")
+        self.expect("the new one", (self.files() == before, self.left()), (False, []))
+
+    def test_a_folder_that_is_counted_otherwise_takes_no_place(self):
+        self.say("call")
+        self.add("ada-lovelace 1,2,3\nzoe-mueller 1,2,3\n")
+        self.say("close")
+        self.say("publish")
+        files, acts = self.files(), len(self.acts())
+        program = self.folder / "bin"
+        program.mkdir()
+        for task, answer in [("verify", 'echo "differs at line 1"; exit 9'), ("standing", 'echo "ada-lovelace 3,2,1"')]:
+            (program / "debvote").write_text(f'#!/bin/sh\ncase $1 in {task}) {answer} ;; *) exec {publishing.PROGRAM} "$@" ;; esac\n')
+            (program / "debvote").chmod(0o755)
+            path = os.pathsep.join([str(program), publishing.PATH])
+            output, faults, status = self.run_words("publish", "--language", "es", path=path)
+            self.expect(f"{task}: {faults}", (status, NOTHING_DONE in faults), (9, True))
+            self.expect(f"{task}: nothing was changed", (self.files() == files, len(self.acts())), (True, acts))
+        self.starts("publish", "--language", "es", most=8)
+
+    def test_how_often_debvote_is_started(self):
+        self.say("call")
+        self.add("ada-lovelace 1,2,3\nno-one 1,2,3\n")
+        self.add_letters()
+        self.starts("count", most=3)
+        self.starts("close", "--force", "--because", "no ballots", most=3)
+        self.starts("count", most=3)
+        self.starts("publish", most=8)
+        self.starts("publish", most=8)
+
+    def test_hostile_texts(self):
+        """Each text of a person stands as text on the page, whatever is in it, and in the letters."""
+        hostile = "</p></b><script>alert(1)</script> & <img src=x onerror=alert(1)>{{ say }}{% endblock %}"
+        (self.folder / "poll.toml").write_text(f"title = '{hostile}'\noptions = ['{hostile} 1', '{hostile} 2']\nratios = [1, 1]\ndefault = 'N'\nquorum = 0\n")
+        (self.folder / "members.csv").write_text(f'who,mail,name\n"{hostile}",ada@x.example,ada\nB,b@x.example,b\n{hostile} c,,c\n')
+        (self.folder / "texts").mkdir()
+        (self.folder / "texts" / "1.txt").write_text(f"text {hostile}")
+        self.say("roll")
+        self.say("call", "--names")
+        (self.folder / "lines").write_text("ada 1,2,3\nb 2,1,3\nada 2,1,3\n" + "".join(f"ada {number} {hostile}\n" for number in range(4)))
+        self.say("add", "lines", "--force")
+        self.say("strike", "3", "--because", f"strike {hostile}")
+        self.say("close")
+        self.add(f"c {hostile}\n")
+        self.say("reopen", "--because", f"reopen {hostile}")
+        self.say("close")
+        (self.folder / "about").write_text(f"about {hostile}")
+        cast = ("--casting", hostile_name(self.folder), "--cast-by", f"by {hostile}", "--cast-on", "2026-11-20")
+        self.say("publish", *cast, "--about", "about", "--force", "--because", f"force {hostile}", "--language", "en")
+        reading.try_page(self.expect, "hostile", self.folder / "result")
+        seen = ["Result", "Why", "Find-your-ballot", "Check-it", "About-this-vote"]
+        self.expect("the text about the vote stands above what is folded", list(self.sections())[: len(seen)], seen)
+        page = pages.tree_of((self.folder / "result" / "index.html").read_text())
+        shown = " ".join(part.text() for part in page.all("main"))
+        for text in (f"{hostile} 1", *(f"{word} {hostile}" for word in ("text", "strike", "reopen", "about", "by", "force"))):
+            self.expect(text, text in shown, True)
+        self.expect("real names", [hostile in name.text() for name in page.all("li") if name.text().startswith("ada </p>")], [True])
+        refused = [line.text() for line in self.sections()["Refused-lines"].all("li")]
+        about = [" ".join(text.text().split()) for text in self.sections()["Options"].all("div", "given")]
+        whose = f"About Option 1: {hostile} 1, in the words of those who publish this page. The program has not checked them:"
+        self.expect("the text about an option", [text.startswith(whose) and text.endswith(f"text {hostile}") for text in about], [True])
+        self.expect("a refused line", [hostile[:50] in line for line in refused][:1], [True])
+
+    def test_count(self):
+        self.say("call")
+        self.add(TIE)
+        sheet, said, status = self.run_words("count")
+        self.expect("a sheet alone", (sheet.startswith("Poll: Wo wir uns treffen: Groesse\n"), sheet.endswith("Tie: 1 2\n"), status), (True, True, 1))
+        cast = "--cast-by WHO --cast-on DATE"
+        first = f"debvote-election publish --casting '72 Euro' {cast} or debvote-election publish --casting Groesse {cast}"
+        over = "this is not the result yet: when the vote is over, run debvote-election close; now"
+        choose = f"it is a tie between '72 Euro', Groesse; the holder of the casting vote chooses one of them: {first}"
+        self.expect("what comes next", said, f"Next: {over} {choose}\n")
+        self.say("close")
+        output, said, status = self.run_words("count", "--casting", "Groesse")
+        self.expect("a casting vote", (output.splitlines()[-1], status), ("Winner: 2 Groesse by casting vote", 0))
+        self.expect("and then", said, f"Next: debvote-election publish --casting Groesse {cast}\n")
+        self.expect("an option that is not left", self.run_words("count", "--casting", "Nichts davon")[2], 8)
+        self.stops("count", "--casting", "x", said=["no option has this name", "'72 Euro', Groesse, 'Nichts davon'"], status=8)
+
+
+class OfSecretVotes(OfElections):
+    poll = POLL + "secret = true\n"
+
+    def called(self):
+        self.say("call")
+        self.add("ada-lovelace 3,2,9\nzoe-mueller 2,1,3\nada-lovelace 17,33,99\nno-one 1,2,3\ncleo 1,2,x\n")
+
+    def secrets(self):
+        book = open_book(self.folder / "election.db")
+        with contextlib.closing(book.connection):
+            return queries.electors(book)
+
+    def test_nothing_before_the_close(self):
+        self.called()
+        for words in (("count",), ("publish",), ("publish", "--force", "--because", "x", "--yes")):
+            self.stops(*words, said=["the vote is secret, and can be counted only after the close"])
+
+    def test_the_files(self):
+        self.called()
+        self.say("strike", "1", "--because", "private reason")
+        self.say("close")
+        self.add("dan 3,2,1\n")
+        self.say("publish", "--language", "en", status=1)
+        self.whole()
+        files, electors = self.files(), self.secrets()
+        aliases = {elector.name: elector.alias for elector in electors}
+        ballots = sorted([f"{aliases['ada-lovelace']} 1,2,3\n", f"{aliases['zoe-mueller']} 2,1,3\n"])
+        self.expect("the poll of the call", files["poll.toml"], (self.folder / "call" / "poll.toml").read_bytes())
+        self.expect("ballots in normal form, under aliases", files["ballots.txt"], "".join(ballots).encode())
+        self.expect("no late lines", ("late.txt" in files, "closed.txt" in files), (False, True))
+        sealed = hashlib.sha256(files["seal.txt"] + files["ballots.txt"]).hexdigest()
+        self.expect("what the close has sealed", sealed in files["closed.txt"].decode(), True)
+        self.checksums_of_letters(files, "-")
+        for name, data in files.items():
+            text = data.decode("utf-8", "replace").lower()
+            words = [elector.code for elector in electors] + ["lovelace", "müller", "zoe-mueller", "no-one", "1,2,x", "17,33", "private reason"]
+            # an example, which the guide and the page have
+            words = [word for word in words if not (word == "17,33" and name in ("index.html", "READING-A-SHEET.md"))]
+            self.expect(f"{name} tells nothing", [word for word in words if word.lower() in text], [])
+        private = self.run_words("count")[0]
+        public = files["sheet.txt"].decode()
+        self.expect("the sheet from Voters on", public.partition("\nVoters")[2], private.partition("\nVoters")[2])
+        sections = self.sections()
+        self.expect("numbers alone", "3 lines that came were refused: 2 as invalid, and 1 because" in sections["Refused-lines"].text(), True)
+        struck = "The secretary struck an envelope: its line does not count."
+        self.expect("a strike without number and reason", [struck in item.text() for item in sections["What-was-done"].all("li")].count(True), 1)
+        self.expect("who voted is not told", "Who-voted" in sections, False)
+
+    def test_doubts_about_what_came(self):
+        """The doubts are about the lines that came, and not about those that are published."""
+        self.say("call")
+        self.add("ada-lovelace 1,2,3\nno-one 1,2,3\ncleo 1,2\n", words=("--force",))
+        self.say("close")
+        self.stops("publish", said=["more than half of the lines are refused, 2 of 3"])
+        self.say("publish", "--force", "--because", "so be it", "--yes", "--language", "en")
+        self.expect("without numbers", self.doubts(), ["More than half of the lines that came are refused."])
+
+    def test_texts_are_asked_for(self):
+        self.called()
+        self.say("close")
+        (self.folder / "about").write_text(TEXT)
+        self.stops("publish", "--about", "about", said=["these texts may tell who voted what", "--yes"])
+        self.say("publish", "--about", "about", "--yes", status=1)
+        files, acts = self.files(), len(self.acts())
+        self.say("publish", status=1)
+        self.expect("the same again is not asked for", (self.files() == files, len(self.acts())), (True, acts))
+        self.state = self.scratch / "other computer of a secret vote"
+        output, faults, status = self.run_words("publish", "--moved", "--because", "of <Ada>")
+        self.expect(f"a reason of --moved: {output} {faults}", ("these texts may tell" in faults, faults.count("  of <Ada>\n"), status), (True, 1, 9))
+        self.expect("is an act, and no publication", [act.name for act in self.acts()[acts:]], ["moved"])
+        self.say("publish", "--force", "--yes", status=1)
+        digest = hashlib.sha256(b"of <Ada>").hexdigest()
+        self.expect("the act keeps what was agreed to", self.acts()[-1].detail["agreed"], [digest])
+        self.say("publish", "--language", "fr", status=1)
+        code = self.secrets()[0].code
+        (self.folder / "about").write_text(f"x {code}\n")
+        self.stops("publish", "--about", "about", "--yes", said=["index.html would have the code of an elector in it"])
+
+    def test_texts_of_options_are_asked_for_before_the_call(self):
+        """There they become public; later they are not asked about again."""
+        (self.folder / "texts").mkdir()
+        (self.folder / "texts" / "1.txt").write_text("Zoë is for it.\n")
+        acts = len(self.acts())
+        output, faults, status = self.run_words("call")
+        shown = "texts/1.txt:\n  Zoë is for it.\n"
+        self.expect(f"it stops: {output} {faults}", (faults.startswith(shown), "--yes" in faults, status), (True, True, 9))
+        self.expect("nothing is made", (len(self.acts()), (self.folder / "call").exists()), (acts, False))
+        code = self.secrets()[0].code
+        (self.folder / "texts" / "2.txt").write_text(f"x {code}\n")
+        self.expect("a code", " would have the code of an elector in it" in self.run_words("call", "--yes")[1], True)
+        (self.folder / "texts" / "2.txt").unlink()
+        self.say("call", "--yes")
+        self.expect("the act", self.acts()[-1].detail["agreed"], [hashlib.sha256("Zoë is for it.\n".encode()).hexdigest()])
+        (self.folder / "letter.txt").write_text("Zoë counts.\n")
+        faults = self.run_words("call")[1]
+        self.expect(f"so does letter.txt: {faults}", (faults.startswith("letter.txt:\n  Zoë counts.\n"), "--yes" in faults), (True, True))
+        self.say("call", "--yes")
+        self.say("call")
+        self.say("call", "--take-back")
+        self.say("codes")
+        self.say("call")
+        self.add("ada-lovelace 3,2,9\n")
+        self.say("close")
+        self.say("publish")
+
+    def test_how_often_debvote_is_started(self):
+        self.called()
+        self.add_letters()
+        self.starts("close", "--force", "--because", "no ballots", most=3)
+        self.starts("count", most=3)
+        self.starts("publish", "--yes", most=8)
+        self.add("cleo 1,2,3\n")
+        self.say("reopen", "--because", "Cleo's letter", "--in-time", "6")
+        self.starts("close", "--force", "--because", "no ballots", most=3)
+        self.starts("publish", "result-2", "--yes", most=8)
+
+    def test_a_text_of_an_option_that_nobody_was_asked_about(self):
+        """A call that did not ask leaves the question to the publication."""
+        (self.folder / "texts").mkdir()
+        (self.folder / "texts" / "1.txt").write_text("Zoë is for it.\n")
+        unasked = unittest.mock.patch("debvote_tools.commands.call.agreed_texts", return_value=[])
+        self.expect("called", self.in_child(unasked, "call"), 0)
+        self.add("ada-lovelace 3,2,9\n")
+        self.say("close")
+        self.stops("publish", said=["texts/1.txt:\n  Zoë is for it.\n", "these texts may tell who voted what"])
+        self.say("publish", "--yes")
+
+    def test_two_results_that_can_be_compared(self):
+        self.called()
+        self.say("close")
+        self.say("publish", status=1)
+        # that of Zoë has the same order, which is published as it was
+        self.add("cleo 1,2,3\nzoe-mueller 5,4,6\ndan 1,2,3\n")
+        self.say("reopen", "--because", "Cleo's letter", "--in-time", "6", "7", "8")
+        self.say("close")
+        said = "a comparison with the earlier result shows how these voted: cleo, dan"
+        self.stops("publish", "result-2", said=[said], folder="result-2")
+        self.say("publish", "--yes", "result-2")
+        self.expect("cleo and dan count", len((self.folder / "result-2" / "ballots.txt").read_text().splitlines()), 4)
+        self.checksums_of_letters(self.files("result-2"), "-")
+        self.expect("the reason stays in the log", "Cleo" in (self.folder / "result-2" / "index.html").read_text(), False)
+
+    def test_a_sheet_that_is_not_that_of_the_votes(self):
+        self.called()
+        self.say("close")
+        program = self.folder / "bin"
+        program.mkdir()
+        # answers for the private files that are not theirs
+        for task, change, said in [
+            ("standing", "s/2,1,3/1,2,3/", "the ballots have the checksum"),
+            ("count", "s/Voters: 2/Voters: 3/", "the sheet under aliases differs from the sheet of the votes as they came"),
+        ]:
+            other = f'case "$*" in "{task} "*/dev/stdin*) {publishing.PROGRAM} "$@" | sed "{change}" ;; *) exec {publishing.PROGRAM} "$@" ;; esac'
+            (program / "debvote").write_text(f"#!/bin/sh\n{other}\n")
+            (program / "debvote").chmod(0o755)
+            output, faults, status = self.run_words("publish", path=os.pathsep.join([str(program), publishing.PATH]))
+            self.expect(f"{task}: {faults}", (said in faults, status, (self.folder / "result").exists()), (True, 9, False))

@@ -1,0 +1,112 @@
+"""What debvote-publish refuses, and that a run that fails leaves nothing."""
+
+import os
+import shutil
+import signal
+import subprocess
+import sys
+import time
+
+from tests.support import publishing
+
+
+def try_refusals(expect, scratch):
+    """What is refused leaves no folder, and nothing beside it."""
+    example = publishing.EXAMPLES / "plain_win"
+    poll, ballots = example / "poll.toml", example / "ballots"
+    room = scratch / "refusals"
+    (room / "full").mkdir(parents=True)
+    (room / "full" / "file").touch()
+    bad_poll, many = scratch / "bad.toml", scratch / "many"
+    bad_poll.write_text("title = 1\n")
+    many.write_bytes(b"\n" * 100_001)
+    for name, words, wanted in [
+        ("a folder that is not empty", (poll, ballots, room / "full"), 2),
+        ("a file in place of a folder", (poll, ballots, room / "full" / "file"), 2),
+        ("a folder in a folder that is not there", (poll, ballots, room / "none" / "result"), 7),
+        ("a poll that is refused", (bad_poll, ballots, room / "result"), 3),
+        ("no poll", (room / "none", ballots, room / "result"), 3),
+        ("no ballots", (poll, room / "none", room / "result"), 4),
+        ("too many ballots", (poll, many, room / "result"), 4),
+        ("a casting vote for no option", (poll, ballots, room / "result", "--casting", "Zed"), 8),
+        ("a casting vote for an option that is not left", (poll, ballots, room / "result", "--casting", "B"), 8),
+        ("a word that went", (poll, ballots, room / "result", "--even-so"), 2),
+        ("desks that are none", (poll, ballots, room / "result", "--desks", "9"), 2),
+    ]:
+        output, faults, status = publishing.publish_files(*words)
+        expect(f"{name}: its status", (output, status, bool(faults)), ("", wanted, True))
+        expect(f"{name}: what is left", sorted(os.listdir(room)), ["full"])
+    with open("/dev/full", "w") as full:
+        words = [sys.executable, publishing.PUBLISH, "--poll", poll, "--ballots", ballots, room / "result"]
+        where = {**os.environ, "PATH": publishing.PATH}
+        ended = subprocess.run(words, stdout=full, stderr=subprocess.PIPE, text=True, timeout=publishing.SECONDS, env=where)
+    said = ended.stderr.splitlines()[-1:]
+    words = f"debvote-publish: the output failed; the folder {room / 'result'} was made nevertheless: look at its page index.html"
+    expect("a full disk for what is said", (ended.returncode, said), (7, [words]))
+    shutil.rmtree(room / "result")
+    nowhere = publishing.publish_files(poll, ballots, room / "result", path="/nowhere")
+    expect("no program", (nowhere[2], os.listdir(room)), (127, ["full"]))
+    try_stand_ins(expect, poll, ballots, room, scratch)
+
+
+def stand_in(folder, text):
+    """A folder with a program debvote of this text, and nothing of Graphviz."""
+    folder.mkdir()
+    (folder / "debvote").write_text(f"#!/bin/sh\n{text}\n")
+    (folder / "debvote").chmod(0o755)
+    return str(folder)
+
+
+def try_stand_ins(expect, poll, ballots, room, scratch):
+    """Other programs in place of debvote, no Graphviz, and a run that is asked to end."""
+    words = [sys.executable, publishing.PUBLISH, "--poll", poll, "--ballots", ballots]
+    as_it_is = f'*) exec {publishing.PROGRAM} "$@" ;; esac'
+    differs = stand_in(scratch / "differs", f'case $1 in verify) echo "differs at line 1"; exit 9 ;; {as_it_is}')
+    found = publishing.run([*words, room / "result"], path=differs)
+    expect("a sheet that is not verified", (found[2], os.listdir(room)), (9, ["full"]))
+    killed = stand_in(scratch / "killed", f'case $1 in count) echo "Poll: half"; kill -KILL $$ ;; {as_it_is}')
+    found = publishing.run([*words, room / "result"], path=killed)
+    expect("a count that is killed", (found[2], os.listdir(room)), (128 + signal.SIGKILL, ["full"]))
+    other = stand_in(scratch / "other", f'case $1 in count) echo "Result: 1" ;; verify) echo verified ;; {as_it_is}')
+    found = publishing.run([*words, room / "result"], path=other)
+    expect("a sheet of another format", (found[2], os.listdir(room)), (10, ["full"]))
+    plain = stand_in(scratch / "plain", f'exec {publishing.PROGRAM} "$@"')
+    found = publishing.run([*words, room / "result"], path=plain)
+    is_told = "Graphviz" in found[1] and "There is no picture" in (room / "result" / "index.html").read_text()
+    expect("no Graphviz", (found[2], is_told, (room / "result" / "picture.svg").exists()), (0, True, False))
+    slow = stand_in(scratch / "slow", f'case "$*" in *ballots.txt*) exec /bin/sleep 60 ;; {as_it_is}')
+    started = subprocess.Popen(list(map(str, [*words, room / "late"])), env={"PATH": slow}, start_new_session=True)
+    while len(os.listdir(room)) < 3 and started.poll() is None:
+        time.sleep(0.05)
+    started.terminate()
+    status = started.wait(publishing.SECONDS)
+    expect("a run that is asked to end", (status, sorted(os.listdir(room))), (128 + signal.SIGTERM, ["full", "result"]))
+
+
+def try_empty_folder(expect, scratch):
+    """A folder that is there and empty is taken, by any name; and an input may come from /dev/stdin."""
+    example = publishing.EXAMPLES / "plain_win"
+    (scratch / "empty").mkdir()
+    (scratch / "link").symlink_to("empty")
+    with open(example / "ballots") as ballots:
+        found = publishing.publish_files(example / "poll.toml", "/dev/stdin", scratch / "link", stdin=ballots)
+    expect("an empty folder by a link", (found[2], (scratch / "empty" / "index.html").exists()), (0, True))
+
+
+class RefusedTest(publishing.PublishTest):
+    def test_what_is_refused(self):
+        try_refusals(self.expect, self.scratch)
+
+    def test_an_empty_folder(self):
+        try_empty_folder(self.expect, self.scratch)
+
+    def test_numbers_that_no_float_holds(self):
+        """The second count takes and refuses the same ones as debvote."""
+        (self.scratch / "none").touch()
+        for number, is_taken in {"1e309": False, "-0.1e999": False, "[{a = 1_0e400}]": False, "1e308": True, "1e-400": True, "-inf": True}.items():
+            poll = self.scratch / "numbers.toml"
+            poll.write_text(f"{publishing.PLAIN_POLL}note = {number}\n")
+            words = ["count", "--poll", poll, "--ballots", self.scratch / "none"]
+            found = [publishing.run([*program, *words])[1:] for program in ([publishing.PROGRAM], [sys.executable, "-I", publishing.ROOT / "tests" / "reference.py"])]
+            wanted = ("", 0) if is_taken else ("debvote: poll refused: syntax\n", 3)
+            self.expect(number, found, [wanted] * 2)

@@ -1,0 +1,204 @@
+"""What the tests of elections share: a folder for each test, and the programs, which run as a user runs them."""
+
+import os
+import pathlib
+import re
+import shutil
+import subprocess
+import sys
+import tempfile
+import unittest
+from collections.abc import Sequence
+from dataclasses import dataclass
+
+from debvote_tools.book.book import open_book
+from debvote_tools.book.machine_note import Note
+
+from tests.support import forks
+from tests.support.program import PROGRAM, ROOT
+
+ELECTION = ROOT / "bin" / "debvote-election"
+PUBLISH = ROOT / "bin" / "debvote-publish"
+
+# a run that has not ended after this time hangs: far more than any takes on a busy machine
+SECONDS = 600
+
+# the output of a run if Graphviz is not installed
+HAS_PICTURES = shutil.which("dot") is not None
+NO_PICTURE = "Note: no picture: Graphviz (its program dot) is not installed\n"
+
+# the mark in the letters that tests write, in place of which they get that of the election
+ANY_MARK = "1ac5041b936c7fc1"
+
+# four options and nine electors, of whom nobody has voted
+POLL = """title = "Where we meet in spring"
+options = ["At the lake", "In the town hall", "Sell the house and meet there"]
+ratios = [1, 1, 3]
+default = "Further discussion"
+quorum = 1
+"""
+NAMES = ["ada", "ben", "cleo", "dan", "eve", "fay", "gus", "hal", "ida"]
+
+
+def members_of(names: Sequence[str]) -> str:
+    """A list of members; each has an address made of their name."""
+    return "who,mail\n" + "".join(f"{name.title()},{name}@club.example\n" for name in names)
+
+
+@dataclass(frozen=True)
+class Ended:
+    """What a run wrote on standard output and on standard error, and its exit status."""
+
+    output: str
+    faults: str
+    status: int
+
+
+def environment() -> dict[str, str]:
+    """The environment of a user who has the programs in the PATH."""
+    path = os.pathsep.join([str(PROGRAM.parent), os.environ["PATH"]])
+    return {**os.environ, "PATH": path, "PYTHONDONTWRITEBYTECODE": "1"}
+
+
+def clock_of(file: pathlib.Path) -> dict[str, str]:
+    """The environment in which programs find the time of a file."""
+    return {"PYTHONPATH": str(ROOT / "tests" / "clock"), "DEBVOTE_CLOCK": str(file)}
+
+
+# new elections, by what they begin with: each is made once in a process
+TEMPLATES: dict[object, pathlib.Path] = {}
+
+
+def note_book(folder: pathlib.Path, state: pathlib.Path) -> None:
+    """Makes this machine know the book of a copied election."""
+    book = open_book(folder / "election.db")
+    last = book.last_act()
+    before = os.environ.get("XDG_STATE_HOME")
+    os.environ["XDG_STATE_HOME"] = str(state)
+    try:
+        book.note().put(Note(last.number, last.digest))
+    finally:
+        os.environ.pop("XDG_STATE_HOME")
+        if before is not None:
+            os.environ["XDG_STATE_HOME"] = before
+    book.connection.close()
+
+
+class ElectionTest(unittest.TestCase):
+    """A test with its own folder, in which an election is called, with the poll above and no ballots."""
+
+    poll = POLL
+    names = NAMES
+    # the arguments of `new` and of the call; without the latter the election is not called
+    new_words: Sequence[str] = ()
+    call_words: Sequence[str] | None = ("--to", "vote@club.example")
+    maxDiff = None
+
+    def setUp(self) -> None:
+        self.scratch = pathlib.Path(tempfile.mkdtemp(prefix="debvote-election-"))
+        self.addCleanup(shutil.rmtree, self.scratch, ignore_errors=True)
+        self.state = self.scratch / "state"
+        self.clock: dict[str, str] = {}
+        self.folder = self.scratch / "election"
+        self.begin()
+
+    def begin(self) -> None:
+        """Makes the election, up to its call."""
+        key = (self.poll, tuple(self.names), tuple(self.new_words), self.call_words)
+        if key not in TEMPLATES:
+            TEMPLATES[key] = self.made()
+            type(self).addClassCleanup(shutil.rmtree, TEMPLATES[key].parent, ignore_errors=True)
+            type(self).addClassCleanup(TEMPLATES.pop, key)
+        shutil.copytree(TEMPLATES[key], self.folder)
+        note_book(self.folder, self.state)
+
+    def made(self) -> pathlib.Path:
+        """A new election, which the tests of this process copy."""
+        place = pathlib.Path(tempfile.mkdtemp(prefix="debvote-template-"))
+        self.done("new", *self.new_words, str(place / "election"), cwd=place)
+        (place / "election" / "poll.toml").write_text(self.poll)
+        (place / "election" / "members.csv").write_text(members_of(self.names))
+        self.done("roll", cwd=place / "election")
+        if self.call_words is not None:
+            if "secret = true" in self.poll:
+                self.done("codes", cwd=place / "election")
+            self.done("call", *self.call_words, cwd=place / "election")
+        return place / "election"
+
+    def done(self, *words: object, **how: object) -> Ended:
+        """Runs debvote-election, which has to do what it is asked for."""
+        ended = self.election(*words, **how)
+        self.assertEqual(ended.status, 0, ended)
+        return ended
+
+    def run_program(self, *words: object, given: bytes | str | None = None, **how: object) -> Ended:
+        """Runs a program with these arguments in the folder of the election, with these bytes as its standard input.
+
+        Its output about a picture that can't be drawn on this machine is left out.
+        """
+        data = given.encode() if isinstance(given, str) else given
+        where = {"stdin": subprocess.DEVNULL} if data is None else {"input": data}
+        env = environment() | self.clock | {"XDG_STATE_HOME": str(self.state)}
+        settings = {"cwd": self.folder, "env": env, "timeout": SECONDS, **where, **how}
+        ended = forks.run([str(word) for word in words], capture_output=True, **settings)
+        faults = ended.stderr.decode("utf-8", "replace")
+        faults = faults if HAS_PICTURES else faults.replace(NO_PICTURE, "")
+        return Ended(ended.stdout.decode("utf-8", "replace"), faults, ended.returncode)
+
+    def set_clock(self, time: str) -> None:
+        """From now on the programs find this time, which has its offset."""
+        file = self.scratch / "clock"
+        file.write_text(time)
+        self.clock = clock_of(file)
+
+    def election(self, *words: object, **how: object) -> Ended:
+        """Runs debvote-election in the folder of the election."""
+        return self.run_program(sys.executable, ELECTION, *words, **how)
+
+    def without_rights(self, *words: object, **how: object) -> Ended:
+        """Runs debvote-election as a user whom a mode stops: root becomes nobody."""
+        nobody = ["setpriv", "--reuid=65534", "--regid=65534", "--clear-groups"] if os.geteuid() == 0 else []
+        if nobody and shutil.which("setpriv") is None:
+            self.skipTest("setpriv is not installed, and root may read and write everywhere")
+        self.scratch.chmod(0o755)
+        for command in ([PROGRAM, "--version"], [sys.executable, ELECTION, "--help"]):
+            tried = self.run_program(*nobody, *command)
+            said = f"{command[0]} can't be run by everybody, and this test runs it as nobody: chmod o+rX what leads there"
+            self.assertEqual(tried.status, 0, f"{said}; {tried.faults}")
+        return self.run_program(*nobody, sys.executable, ELECTION, *words, **how)
+
+    def close_folder(self) -> None:
+        """From now on nobody may write into the folder of the election, as long as the test runs."""
+        self.addCleanup(self.folder.chmod, 0o755)
+        self.folder.chmod(0o555)
+
+    def debvote(self, *words: object, **how: object) -> Ended:
+        """Runs debvote in the folder of the election."""
+        return self.run_program(PROGRAM, *words, **how)
+
+    def write(self, name: str, content: bytes | str) -> pathlib.Path:
+        """Writes a file into the folder of the election."""
+        file = self.folder / name
+        file.write_bytes(content.encode() if isinstance(content, str) else content)
+        return file
+
+    def of_this_vote(self, letter: bytes) -> bytes:
+        """A letter with the mark of this election."""
+        found = re.search(rb"\[([0-9a-f]{16})\]", self.read("call/call.txt")) if ANY_MARK.encode() in letter else None
+        return letter.replace(ANY_MARK.encode(), found[1]) if found else letter
+
+    def read(self, name: str) -> bytes:
+        """The bytes of a file of the election."""
+        return (self.folder / name).read_bytes()
+
+    def contents(self) -> dict[str, bytes]:
+        """All files of the folder, by name: to see that a refused run has changed nothing."""
+        files = (file for file in self.folder.rglob("*") if file.is_file())
+        return {str(file.relative_to(self.folder)): file.read_bytes() for file in files}
+
+    def assert_fault(self, ended: Ended, status: int, *parts: str) -> None:
+        """The run ended with this status and one line on standard error, which has these parts."""
+        self.assertEqual(ended.status, status, ended)
+        self.assertEqual(len(ended.faults.splitlines()), 1, ended.faults)
+        for part in parts:
+            self.assertIn(part, ended.faults)

@@ -1,0 +1,154 @@
+"""What the tests of languages share: elections in a language, and a language in which each of our words is marked."""
+
+import contextlib
+import email.utils
+import os
+import pathlib
+import re
+import shutil
+import sys
+import tempfile
+import unittest
+from collections.abc import Iterator
+
+from debvote_tools.text.language import catalog_of, language_of
+
+from tests.support import forks, sentences
+from tests.support.program import PROGRAM, ROOT
+
+LANGUAGES = ("de", "es", "fr")
+
+# a run that has not ended after this time hangs: far more than any takes on a busy machine
+SECONDS = 600
+
+# four options, one with a long name, and twelve electors
+POLL = """title = "Where we meet in spring"
+options = ["At the lake", "In the town hall", "Sell the house and look for another one"]
+ratios = [1, 1, 3]
+default = "Further discussion"
+quorum = 1
+"""
+ELECTORS = [f"e{number:02}" for number in range(1, 13)]
+BALLOTS = """e01 1,2,3,4
+e02 2,1,4,3
+e03 1,1,-,2
+e04 3,1,4,2
+e05 1,2,-,3
+e06 4,3,1,2
+bad
+e07 1,3,2,4
+e01 2,1,3,4
+zz 1,2
+e08 -,-,-,1
+"""
+# letters of electors: one goes in, the others wait
+LETTERS = {"e09": "e09 1,2,3,4", "e10": "I vote for the lake", "e11": "e10 1,2,3,4\ne10 2,1,3,4", "e12": "e12 1,2,3"}
+AT, TO = "https://example.org/", "vote@example.org"
+FIRST_END, END, REASON = "2031-12-01 18:00", "2031-12-03 18:00:30", "Nobody has answered"
+
+# each of our words is between these characters in the language of `marked_german`
+BEGIN, END_MARK = "\u27e6", "\u27e7"
+MARKED = re.compile(f"{BEGIN}[^{BEGIN}{END_MARK}]*{END_MARK}")
+
+
+def marked(text: str) -> str:
+    """A sentence with everything marked except its places and its tags."""
+    parts = re.split(r"(\{\w+\}|<[^>]*>)", text)
+    return "".join(part if place % 2 or not part else f"{BEGIN}{part}{END_MARK}" for place, part in enumerate(parts))
+
+
+@contextlib.contextmanager
+def marked_german() -> Iterator[None]:
+    """In this process, and in the runs that are forks of it, German is a language with all words marked."""
+    if os.environ.get("DEBVOTE_FORKS") == "0":
+        raise unittest.SkipTest("the language with marked words is in forks of the test alone")
+    head = (sentences.LOCALE / "de.po").read_text(encoding="utf-8").split("\n\n")[0]
+    entries = [sentences.as_po(texts, tuple(map(marked, texts))) for texts in sentences.in_code()]
+    catalog = catalog_of("\n".join([f"{head}\n", *entries]).encode())
+    german = vars(language_of("de").catalog)
+    before = dict(german)
+    german.update(vars(catalog))
+    yield
+    german.clear()
+    german.update(before)
+
+
+class LanguageTest(unittest.TestCase):
+    """A test with its own folder."""
+
+    maxDiff = None
+
+    def setUp(self) -> None:
+        self.scratch = pathlib.Path(tempfile.mkdtemp(prefix="debvote-languages-"))
+        self.addCleanup(shutil.rmtree, self.scratch, ignore_errors=True)
+
+    def run_program(self, program: str, *words: object, given: str = "", status: int = 0) -> str:
+        """The output of a program, which has to end with this status."""
+        path = os.pathsep.join([str(PROGRAM.parent), os.environ["PATH"]])
+        state = str(self.scratch / "state")
+        ended = forks.run(
+            [sys.executable, str(ROOT / "bin" / program), *map(str, words)],
+            cwd=self.scratch,
+            input=given,
+            capture_output=True,
+            text=True,
+            timeout=SECONDS,
+            env={**os.environ, "PATH": path, "XDG_STATE_HOME": state, "PYTHONDONTWRITEBYTECODE": "1"},
+        )
+        self.assertEqual(ended.returncode, status, ended)
+        return ended.stdout + ended.stderr
+
+    def election(self, folder: str, *words: object, given: str = "", status: int = 0) -> str:
+        return self.run_program("debvote-election", "--folder", folder, *words, given=given, status=status)
+
+    def begun(self, folder: str, language: str, *, poll: str = POLL, codes: tuple[str, ...] | None = None) -> pathlib.Path:
+        """An election in a language, with its roll; with arguments for `codes` it is secret."""
+        self.run_program("debvote-election", "new", "--language", language, folder)
+        place = self.scratch / folder
+        (place / "poll.toml").write_text(poll if codes is None else f"secret = true\n{poll}")
+        rows = [f"Person {name[1:]},{name}@example.org,{name}\n" for name in ELECTORS]
+        (place / "members.csv").write_text("".join(["who,mail,name\n", *rows]))
+        self.election(folder, "roll")
+        if codes is not None:
+            self.election(folder, "codes", *codes)
+        return place
+
+    def called(self, folder: str, language: str, *, codes: tuple[str, ...] | None = None) -> pathlib.Path:
+        """A called election in a language, with all that a call may have."""
+        place = self.begun(folder, language, codes=codes)
+        names = ("--names",) if codes is None else ()
+        self.election(folder, "call", "--until", FIRST_END, "--zone", "Europe/Berlin", "--to", TO, "--at", AT, "--form", *names)
+        return place
+
+    def held(self, folder: str, language: str, *, is_secret: bool = False) -> pathlib.Path:
+        """An election in a language, from its beginning to its publication, with everything that pages and letters can say."""
+        place = self.called(folder, language, codes=() if is_secret else None)
+        self.election(folder, "letters", "call")
+        self.election(folder, "call", "--until", END, "--zone", "Europe/Berlin")
+        self.election(folder, "letters", "call")
+        self.election(folder, "add", "--yes", given=BALLOTS)
+        self.election(folder, "add", "--yes", *self.letters(place))
+        self.election(folder, "strike", 5, "--because", REASON)
+        self.election(folder, "letters", "reminders")
+        self.election(folder, "letters", "receipts")
+        self.election(folder, "close", "--early", "--force", "--because", REASON)
+        self.election(folder, "reopen", "--because", REASON)
+        self.election(folder, "add", "--yes", "--came-before-close", "yes", given="e12 2,1,3,4\n")
+        self.election(folder, "close", "--early", "--force", "--because", REASON)
+        self.election(folder, "letters", "closed")
+        self.election(folder, "add", "--yes", given="e05 1,2,3,4\n")
+        self.election(folder, "publish", "--yes")
+        self.election(folder, "letters", "result")
+        return place
+
+    def letters(self, place: pathlib.Path) -> list[pathlib.Path]:
+        """Files with the letters of electors, which have arrived now."""
+        files = []
+        [mark] = set(re.findall(r"\[[0-9a-f]{16}\]", (place / "call" / "call.txt").read_text()))
+        for name, text in LETTERS.items():
+            files.append(self.scratch / f"{name}.eml")
+            files[-1].write_text(
+                f"From: {name}@example.org\nTo: {TO}\nSubject: {mark}\nMessage-ID: <{name}@x>\n"
+                f"Received: from a by b; {email.utils.formatdate()}\nDate: {email.utils.formatdate()}\n\n{text}\n"
+            )
+        return files

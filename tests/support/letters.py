@@ -1,0 +1,214 @@
+"""What the tests of letters that come share: letters, what is known when they are judged, and debvote, which is asked about lines."""
+
+import dataclasses
+import datetime
+import os
+import re
+import subprocess
+from collections.abc import Collection, Mapping, Sequence
+
+from debvote_tools.book.queries import Elector
+from debvote_tools.debvote import findings_in
+from debvote_tools.inbox.candidates import read_all
+from debvote_tools.inbox.known import Ballot, Known, Names
+from debvote_tools.inbox.letter import ParsedLetter, as_json, from_json, parse
+from debvote_tools.inbox.mailbox import RawLetter
+from debvote_tools.inbox.reasons import Because
+from debvote_tools.inbox.rules import JudgedLetter, Outcome, judge_all
+
+from tests.support.program import PROGRAM, ROOT
+
+SAMPLES = ROOT / "tests" / "letters"
+NAMES = ("ada", "ben", "cleo", "dan", "eve", "fay", "gus", "hal", "ida")
+POLL = f"""title = "Where we meet in spring"
+options = ["At the lake", "In the town hall", "Sell the house and meet there"]
+ratios = [1, 1, 3]
+default = "Further discussion"
+quorum = 1
+roll = {str(list(NAMES)).replace("'", '"')}
+"""
+RANKS, OTHER_RANKS = "1,2,4,3", "2,1,4,3"
+MARK = "1ac5041b936c7fc1"
+# the own mark of each elector, and the subjects of a letter of ours and of the page of the call
+OWN = {name: re.sub("[ilo]", "x", f"{name}23456789")[:10] for name in NAMES}
+TITLE = "Where we meet in spring"
+BY_PAGE = f"Ballot: {TITLE}"
+
+TEN = "Mon, 23 Nov 2026 10:00:00 +0000"
+CALLED = datetime.datetime(2026, 11, 20, 9, tzinfo=datetime.UTC)
+NOW = datetime.datetime(2026, 11, 25, 9, tzinfo=datetime.UTC)
+# what was written to each elector
+OURS = {name: {f"<call.{name}@club.example>"} for name in NAMES}
+
+
+def at(hour: int, minute: int = 0, day: int = 23) -> datetime.datetime:
+    return datetime.datetime(2026, 11, day, hour, minute, tzinfo=datetime.UTC)
+
+
+class DebvoteReader:
+    """Asks debvote about lines, each once a process, and counts how often it is asked."""
+
+    known: dict[bytes, str | None] = {}
+
+    def __init__(self) -> None:
+        self.runs = 0
+
+    def answers(self, lines: Sequence[bytes]) -> Mapping[bytes, str | None]:
+        self.runs += 1
+        new = [line for line in dict.fromkeys(lines) if line not in self.known]
+        if new:
+            self.known.update(self.asked(new))
+        return {line: self.known[line] for line in lines}
+
+    def asked(self, lines: Sequence[bytes]) -> dict[bytes, str | None]:
+        handle = os.memfd_create("poll")
+        os.write(handle, POLL.encode())
+        words = [PROGRAM, "explain", "--poll", f"/proc/{os.getpid()}/fd/{handle}", "--ballots", "/dev/stdin"]
+        given = b"".join(line + b"\n" for line in lines)
+        text = subprocess.run(words, input=given, capture_output=True, check=False).stdout.decode("ascii")
+        os.close(handle)
+        findings = findings_in(text)
+        assert findings.totals.lines == len(lines), text
+        found: dict[bytes, str | None] = dict.fromkeys(lines)
+        for finding in findings.refused:
+            found[lines[finding.envelope - 1]] = f"{finding.word}: {finding._replace(remark='').hint}"
+        return found
+
+
+def names(**other: object) -> Names:
+    """Those of the electors."""
+    usual: dict[str, object] = {"roll": frozenset(NAMES), "language": "en", "real_names": {name: name.capitalize() for name in NAMES}}
+    return Names(**{**usual, **other})  # type: ignore[arg-type]
+
+
+def known(
+    *,
+    addresses: Mapping[str, Sequence[str]] | None = None,
+    keys: Mapping[str, str] | None = None,
+    own_marks: Mapping[str, str] = OWN,
+    roll: Collection[str] = NAMES,
+    **other: object,
+) -> Known:
+    """What is known of a vote that was called three days ago and has no end; with `keys` letters have to be signed."""
+    listed = {name: [f"{name}@club.example"] for name in NAMES} if addresses is None else addresses
+    electors = {
+        name: Elector(number, name, number, name, tuple(listed.get(name, ())), (keys or {}).get(name, ""), mark=own_marks[name])
+        for number, name in enumerate(roll)
+    }
+    usual: dict[str, object] = {
+        "mark": MARK,
+        "subject": BY_PAGE,
+        "electors": electors,
+        "is_marked": False,
+        "is_signed": keys is not None,
+        "called": CALLED,
+        "end": None,
+        "first_close": None,
+        "now": NOW,
+        "our_letters": OURS,
+        "decisions": {},
+    }
+    return Known(**{**usual, **other})  # type: ignore[arg-type]
+
+
+def letter(
+    name: str,
+    text: str,
+    *,
+    number: int | str = 1,
+    time: str | None = TEN,
+    sender: str | None = None,
+    head: str = "",
+    kind: str = "text/plain; charset=utf-8",
+    subject: str = f"my ballot [{MARK}]",
+) -> bytes:
+    """A letter of an elector. Its subject has the mark of the poll, unless its head has another one."""
+    if not re.search("(?im)^subject", head):
+        head = f"Subject: {subject}\n{head}"
+    received = "" if time is None else f"Received: from a by b; {time}\n"
+    fields = f"From: {sender or f'{name}@club.example'}\nTo: vote@club.example\nMessage-ID: <{number}.{name}@mail.example>\n"
+    return f"{received}{fields}{head}Content-Type: {kind}\n\n{text}".encode("utf-8", "surrogateescape")
+
+
+def marked(name: str, text: str, **how: object) -> bytes:
+    """A letter of an elector whose subject has the own mark, as that of each letter of ours to them."""
+    return letter(name, text, **{"subject": f"Re: Vote: {TITLE} [{MARK}-{OWN[name]}]", **how})  # type: ignore[arg-type]
+
+
+def answer(name: str, text: str, **how: object) -> bytes:
+    """A letter of an elector that answers the call."""
+    return marked(name, text, **{"head": f"In-Reply-To: <call.{name}@club.example>\n", **how})
+
+
+def with_mark(data: bytes, mark: str) -> bytes:
+    """A letter of a mail program, with a mark at the end of its subject."""
+    return re.sub(rb"(?im)^(subject:[^\n]*?(?:\n[ \t][^\n]*?)*)(\r?\n)(?![ \t])", rb"\1\2 %b\2" % mark.encode(), data, count=1)
+
+
+def alternatives(name: str, plain: str, marked: str, **how: object) -> bytes:
+    """A letter in plain text and in HTML."""
+    text = f"--b\nContent-Type: text/plain\n\n{plain}\n--b\nContent-Type: text/html\n\n{marked}\n--b--\n"
+    return letter(name, text, kind="multipart/alternative; boundary=b", **how)  # type: ignore[arg-type]
+
+
+def mailbox(*letters: bytes) -> bytes:
+    """An mbox."""
+    return b"".join(b"From somebody Mon Nov 23 10:00:00 2026\n" + data.rstrip(b"\n") + b"\n\n" for data in letters)
+
+
+def parsed(data: bytes, where: str = "letter", *, is_parted_off: bool = False) -> ParsedLetter:
+    """A letter that was read, as the book gives it back."""
+    found = parse(RawLetter(where, data, is_parted_off))
+    kept = from_json(as_json(found))
+    assert kept == found, (kept, found)
+    return kept
+
+
+def read(*letters: bytes | ParsedLetter, reader: DebvoteReader | None = None, **of_names: object) -> list[ParsedLetter]:
+    """Letters with what their lines may be, as the book gives them back."""
+    given = [
+        one if isinstance(one, ParsedLetter) else parsed(one, f"letter {number}") for number, one in enumerate(letters, start=1)
+    ]
+    found = read_all(given, names(**of_names), reader or DebvoteReader())
+    kept = [from_json(as_json(one)) for one in found]
+    assert kept == found and len(found) == len(given)
+    return kept
+
+
+def judged(
+    *letters: bytes | ParsedLetter,
+    reader: DebvoteReader | None = None,
+    ballots: Mapping[str, Sequence[Ballot]] | None = None,
+    **other: object,
+) -> list[JudgedLetter]:
+    """What becomes of letters, in the order of their times."""
+    of_names = {name: value for name, value in other.items() if name in ("roll", "language", "real_names")}
+    of_others = {name: value for name, value in other.items() if name not in ("language", "real_names")}
+    given = read(*letters, reader=reader, **of_names)
+    return judge_all(given, known(**of_others), lambda _: ballots or {})
+
+
+def label(because: Because) -> str:
+    """A reason in a word or two."""
+    return because.reason.name.lower().replace("_", " ")
+
+
+def outcome(one: JudgedLetter) -> str:
+    """What becomes of a letter, in a word and the ballot or the reason."""
+    if one.outcome is Outcome.GOES_IN:
+        return f"in: {one.ballots[0].ballot}"
+    return one.outcome.value if one.reason is None else f"{one.outcome.value}: {label(one.reason)}"
+
+
+def outcomes(*letters: bytes | ParsedLetter, **other: object) -> list[str]:
+    """The same of several, in the order of their times."""
+    return [outcome(one) for one in judged(*letters, **other)]
+
+
+def lines_in(*letters: bytes | ParsedLetter, **other: object) -> list[str]:
+    """The ballots that go in, in their order."""
+    return [one.ballots[0].ballot for one in judged(*letters, **other) if one.outcome is Outcome.GOES_IN]
+
+
+def with_time(one: ParsedLetter, time: datetime.datetime) -> ParsedLetter:
+    return dataclasses.replace(one, arrived=time)

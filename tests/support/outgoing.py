@@ -1,0 +1,273 @@
+"""What the tests of letters that go out share: elections with addresses, what was written, and a mail server on this computer."""
+
+import contextlib
+import dataclasses
+import email
+import email.message
+import email.policy
+import logging
+import os
+import pathlib
+import signal
+import socket
+import sqlite3
+import subprocess
+import sys
+import threading
+import unittest
+from collections.abc import Callable, Mapping, Sequence
+
+from debvote_tools.book.book import Book, open_book
+
+from tests.support import elections
+
+try:
+    from aiosmtpd.controller import Controller
+    from aiosmtpd.smtp import SMTP, AuthResult
+except ImportError:
+    Controller = SMTP = AuthResult = None
+
+TITLE = "Where we meet in spring"
+RANKS, OTHER_RANKS = "1,2,4,3", "2,1,4,3"
+AT = "https://club.example/vote/"
+CALLED, TEN, END = "2026-11-20T09:00:00+00:00", "2026-11-23T10:00:00+00:00", "2026-12-04 18:00"
+
+
+# what the server says of connections that are cut, as the tests want it
+logging.getLogger("mail.log").setLevel(logging.CRITICAL)
+
+
+class OutTest(elections.ElectionTest):
+    """A test with an election that was called with an end and the address of its page; the clock is some days later."""
+
+    call_words: Sequence[str] | None = ("--to", "vote@club.example", "--at", AT, "--until", END, "--zone", "UTC")
+
+    def made(self) -> pathlib.Path:
+        self.set_clock(CALLED)
+        try:
+            return super().made()
+        finally:
+            self.set_clock(TEN)
+
+    def setUp(self) -> None:
+        super().setUp()
+        self.set_clock(TEN)
+
+    def book(self) -> Book:
+        book = open_book(self.folder / "election.db")
+        self.addCleanup(book.connection.close)
+        return book
+
+    def rows(self, kind: str) -> list[tuple[str, str]]:
+        """The states of the letters of a kind, in their order, each with the name of its elector."""
+        words = "SELECT name, state FROM sent JOIN elector USING (elector) WHERE kind = ? ORDER BY sent"
+        # the thread of a mail server asks, too
+        with contextlib.closing(sqlite3.connect(f"file:{self.folder / 'election.db'}?mode=ro", uri=True)) as book:
+            return [tuple(row) for row in book.execute(words, (kind,))]
+
+    def files(self, kind: str) -> list[pathlib.Path]:
+        """The files of the last letters of a kind that were written."""
+        folders = sorted((self.folder / "letters" / kind).glob("[0-9]*"), key=lambda folder: int(folder.name))
+        return sorted(folders[-1].iterdir()) if folders else []
+
+    def written(self, kind: str, *words: object) -> dict[str, email.message.EmailMessage]:
+        """The letters of a kind that are written now, by the names of their electors."""
+        ended = self.done("letters", kind, *words)
+        self.assertEqual(ended.faults, "")
+        if "There is no letter to send.\n" in ended.output:
+            return {}
+        self.assertIn("letter", ended.output)
+        return {file.stem: parsed(file.read_bytes()) for file in self.files(kind) if file.suffix == ".eml"}
+
+    def texts(self, kind: str, *words: object) -> dict[str, str]:
+        """What they say, each in one line."""
+        return {name: one_line(message) for name, message in self.written(kind, *words).items()}
+
+    def add_lines(self, *lines: str) -> None:
+        self.write("lines", "".join(f"{line}\n" for line in lines))
+        self.done("add", "--yes", "lines")
+
+    def add_letters(self, *letters: bytes, yes: bool = True) -> None:
+        """The letters come in a folder of their own."""
+        place = self.folder / f"box{len(list(self.folder.iterdir()))}"
+        place.mkdir()
+        for number, letter in enumerate(letters):
+            (place / f"{number}.eml").write_bytes(self.of_this_vote(letter))
+        ended = self.election("add", *(["--yes"] if yes else []), place.name)
+        self.assertIn(ended.status, (0, 9), ended)
+
+
+def parsed(data: bytes) -> email.message.EmailMessage:
+    message = email.message_from_bytes(data, policy=email.policy.default)
+    assert isinstance(message, email.message.EmailMessage) and not message.defects
+    return message
+
+
+def one_line(message: email.message.EmailMessage) -> str:
+    return " ".join(message.get_content().split())
+
+
+# ---------------------------------------------------------------- a mail server
+@dataclasses.dataclass
+class Taken:
+    """A letter that the server has taken: to whom, and its bytes."""
+
+    to: str
+    data: bytes
+
+
+class MailServer:
+    """A mail server that notes what it takes. `answers` has the answer to RCPT or DATA by address; `at` is called at each step of each letter,
+    by its name and the number of the letter from 0, and the connection is cut if it says so.
+    """
+
+    def __init__(self, **how: object) -> None:
+        if Controller is None:
+            raise unittest.SkipTest("aiosmtpd is not installed")
+        self.taken: list[Taken] = []
+        self.rcpt_answers: dict[str, str] = {}
+        self.data_answers: dict[str, str] = {}
+        self.mail_answer = "250 OK"
+        self.steps: list[tuple[str, int]] = []
+        self.at: Callable[[str, int], bool] = lambda step, number: False
+        self.logins: list[tuple[bytes, bytes]] = []
+        self.started = 0
+        self.is_stopped = False
+        self.was_encrypted = False
+        with socket.socket() as probe:
+            probe.bind(("127.0.0.1", 0))
+            self.port = probe.getsockname()[1]
+        self.controller = Controller(self, hostname="127.0.0.1", port=self.port, **how)  # type: ignore[arg-type]
+        self.controller.start()
+        self.lock = threading.Lock()
+
+    @property
+    def name(self) -> str:
+        return f"127.0.0.1:{self.port}"
+
+    def stop(self) -> None:
+        if not self.is_stopped:
+            self.is_stopped = True
+            self.controller.stop()
+
+    def addresses(self) -> list[str]:
+        return [one.to for one in self.taken]
+
+    def is_cut(self, step: str, server: SMTP) -> bool:
+        self.steps.append((step, self.started))
+        if self.at(step, self.started):
+            server.transport.abort()
+            return True
+        return False
+
+    async def handle_MAIL(self, server: SMTP, session: object, envelope: object, address: str, options: object) -> str:
+        if self.is_cut("mail", server):
+            return "421 gone"
+        envelope.mail_from = address  # type: ignore[attr-defined]
+        return self.mail_answer
+
+    async def handle_RCPT(self, server: SMTP, session: object, envelope: object, address: str, options: object) -> str:
+        if self.is_cut("rcpt", server):
+            return "421 gone"
+        answer = self.rcpt_answers.get(address, "250 OK")
+        if answer.startswith("250"):
+            envelope.rcpt_tos.append(address)  # type: ignore[attr-defined]
+        return answer
+
+    async def handle_DATA(self, server: SMTP, session: object, envelope: object) -> str:
+        [to] = envelope.rcpt_tos  # type: ignore[attr-defined]
+        self.was_encrypted = session.ssl is not None  # type: ignore[attr-defined]
+        if self.is_cut("data", server):
+            return "421 gone"
+        answer = self.data_answers.get(to, "250 taken")
+        if answer.startswith("250"):
+            self.taken.append(Taken(to, envelope.content))  # type: ignore[attr-defined]
+        self.started += 1
+        return answer
+
+    def authenticated(self, server: object, session: object, envelope: object, mechanism: str, data: object) -> AuthResult:
+        self.logins.append((data.login, data.password))  # type: ignore[attr-defined]
+        return AuthResult(success=data.password == b"right", handled=False)  # type: ignore[attr-defined]
+
+
+class PlainServer:
+    """A mail server that answers by itself, as no good one does: to each step by its name, else as it should."""
+
+    usual = {"helo": "250 here", "from": "250 OK", "to": "250 OK", "data": "354 go on", "letter": "250 OK"}
+
+    def __init__(self, answers: Mapping[str, str]) -> None:
+        self.answers = {**self.usual, **answers}
+        self.socket = socket.create_server(("127.0.0.1", 0))
+        self.port = self.socket.getsockname()[1]
+        self.thread = threading.Thread(target=self.serve, daemon=True)
+
+    def __enter__(self) -> "PlainServer":
+        self.thread.start()
+        return self
+
+    def __exit__(self, *_: object) -> None:
+        self.socket.close()
+
+    def serve(self) -> None:
+        with contextlib.suppress(OSError):
+            while True:
+                self.converse(self.socket.accept()[0])
+
+    def converse(self, connection: socket.socket) -> None:
+        def say(text: str) -> None:
+            connection.sendall(f"{text}\r\n".encode())
+
+        with connection, connection.makefile("rb") as lines:
+            say("220 here")
+            steps = {"EHLO": "helo", "HELO": "helo", "MAIL": "from", "RCPT": "to", "DATA": "data"}
+            is_letter = False
+            for line in lines:
+                step = steps.get(line[:4].decode().upper(), "")
+                if is_letter:
+                    if line == b".\r\n":
+                        is_letter = False
+                        say(self.answers["letter"])
+                elif step:
+                    say(self.answers[step])
+                    is_letter = step == "data" and self.answers[step].startswith("354")
+                else:
+                    say("250 OK")
+
+
+class SendTest(OutTest):
+    """A test with a mail server."""
+
+    def setUp(self) -> None:
+        super().setUp()
+        self.server = self.mail_server()
+
+    def mail_server(self, **how: object) -> MailServer:
+        server = MailServer(**how)
+        self.addCleanup(server.stop)
+        return server
+
+    def send(self, kind: str, *words: object) -> elections.Ended:
+        return self.election("letters", kind, "--send", "--server", self.server.name, *words)
+
+    def send_until_killed(self, kind: str, step: str, number: int) -> int:
+        """Sends letters by a program that is killed at a step of one of them; returns how it ended."""
+        env = elections.environment() | self.clock | {"XDG_STATE_HOME": str(self.state)}
+        words = [sys.executable, elections.ELECTION, "letters", kind, "--send", "--server", self.server.name]
+        began = self.server.started
+        process = subprocess.Popen(words, cwd=self.folder, env=env, stdout=subprocess.DEVNULL, stderr=subprocess.DEVNULL)
+
+        def kill(now: str, count: int) -> bool:
+            if (now, count - began) == (step, number):
+                os.kill(process.pid, signal.SIGKILL)
+                process.wait()
+                return now != "data"
+            return False
+
+        self.server.at = kill
+        try:
+            process.wait(elections.SECONDS)
+        finally:
+            process.kill()
+            process.wait()
+        self.server.at = lambda now, count: False
+        return process.returncode

@@ -1,0 +1,88 @@
+"""What the tests of debvote-publish share: a folder for each test, and the programs, which run as a user runs them."""
+
+import concurrent.futures
+import os
+import pathlib
+import shutil
+import sys
+import tempfile
+
+from tests.support import expecting, forks
+from tests.support.program import PROGRAM, ROOT
+
+PUBLISH = ROOT / "bin" / "debvote-publish"
+CASES = ROOT / "tests" / "cases"
+EXAMPLES = ROOT / "examples"
+PATH = os.pathsep.join([str(PROGRAM.parent), os.environ["PATH"]])
+
+# the output of a run if Graphviz is not installed, which is about this machine
+HAS_PICTURES = shutil.which("dot") is not None
+NO_PICTURE = "Note: no picture: Graphviz (its program dot) is not installed\n"
+
+# a run that has not ended after this time hangs: far more than any takes on a busy machine
+SECONDS = 600
+
+# the greatest size of the page of the largest election, in bytes; 1.3 million of them are its poll and its ballots, which it
+# carries so that they can be counted again
+LARGEST_PAGE = 7_000_000
+
+# a poll with three options and four electors, and three ballots for it
+PLAIN_POLL = """title = "Plain"
+options = ["A", "B"]
+ratios = [1, 1]
+default = "N"
+quorum = 1
+roll = ["ada", "ben", "cleo", "dan"]
+"""
+PLAIN_BALLOTS = "ada 1,2,3\nben 2,1,3\ncleo 1,2,3\n"
+
+# the two files of an election, in its folder
+FILES = ["--poll", "poll.toml", "--ballots", "ballots"]
+
+
+def run(words, path=PATH, **how):
+    """The output of a run, and its status."""
+    given = {"capture_output": True, "text": True, "timeout": SECONDS, "env": {**os.environ, "PATH": path}}
+    ended = forks.run(list(map(str, words)), **given, **how)
+    return ended.stdout, ended.stderr, ended.returncode
+
+
+def publish(room, *words, **how):
+    """The output of debvote-publish in a folder, without that about a picture that can't be drawn here, and its status."""
+    output, faults, status = run([sys.executable, PUBLISH, *words], cwd=room, **how)
+    return output, faults if HAS_PICTURES else faults.replace(NO_PICTURE, ""), status
+
+
+def publish_files(poll, ballots, folder, *more, **how):
+    """The output of debvote-publish for these files, and its status."""
+    return run([sys.executable, PUBLISH, "--poll", poll, "--ballots", ballots, *more, folder], **how)
+
+
+def room_with(folder, example):
+    """A folder with the two files of an example."""
+    folder.mkdir(parents=True)
+    for name in ("poll.toml", "ballots"):
+        (folder / name).write_bytes((EXAMPLES / example / name).read_bytes())
+    return folder
+
+
+def plain_room(folder, poll=PLAIN_POLL, ballots=PLAIN_BALLOTS):
+    """A folder with these two files."""
+    folder.mkdir(parents=True)
+    (folder / "poll.toml").write_bytes(poll.encode())
+    (folder / "ballots").write_bytes(ballots.encode())
+    return folder
+
+
+def side_by_side(function, items):
+    """What a function that runs programs returns for each item, as many at once as there are processors."""
+    with concurrent.futures.ThreadPoolExecutor(len(os.sched_getaffinity(0))) as pool:
+        return list(pool.map(function, items))
+
+
+class PublishTest(expecting.Expecting):
+    """Tests with one folder for all, in which each makes its own folders."""
+
+    @classmethod
+    def setUpClass(cls):
+        cls.scratch = pathlib.Path(cls.enterClassContext(tempfile.TemporaryDirectory(prefix="debvote-publish-")))

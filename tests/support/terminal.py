@@ -1,0 +1,68 @@
+"""A program at its own terminal, where a test types."""
+
+import contextlib
+import os
+import pty
+import select
+import signal
+import sys
+import time
+
+from tests.support import elections
+
+# words that have not come by then do not come, and a program that has not ended hangs
+SECONDS = 20
+
+
+class Terminal:
+    """debvote-election at its own terminal, where a test types; without arguments it is a desk."""
+
+    def __init__(self, test: elections.ElectionTest, *words: str) -> None:
+        self.test, self.text = test, ""
+        self.process, self.keys = pty.fork()
+        if self.process == 0:
+            os.chdir(test.folder)
+            program = [sys.executable, str(elections.ELECTION), *(words or ("desk",))]
+            os.execve(sys.executable, program, elections.environment() | test.clock | {"XDG_STATE_HOME": str(test.state)})
+        # a test that fails leaves no program running
+        test.addCleanup(self.kill)
+
+    def kill(self) -> None:
+        """Ends the program, if it has not ended."""
+        with contextlib.suppress(ChildProcessError):
+            if os.waitpid(self.process, os.WNOHANG) == (0, 0):
+                os.kill(self.process, signal.SIGKILL)
+                os.waitpid(self.process, 0)
+
+    def until(self, words: str) -> str:
+        """The text of the terminal up to these words, from the end of the last call."""
+        end = time.monotonic() + SECONDS
+        while words not in self.text:
+            ready, _, _ = select.select([self.keys], [], [], max(0, end - time.monotonic()))
+            self.test.assertTrue(ready, f"waits for {words!r}, has {self.text!r}")
+            try:
+                self.text += os.read(self.keys, 65_536).decode().replace("\r\n", "\n")
+            except OSError:
+                self.test.fail(f"ended before {words!r}, with {self.text!r}")
+        shown, _, self.text = self.text.partition(words)
+        return shown + words
+
+    def type(self, keys: str) -> None:
+        os.write(self.keys, keys.encode())
+
+    def end(self) -> tuple[str, int]:
+        """The rest of the text, and the exit status."""
+        end = time.monotonic() + SECONDS
+        while True:
+            ready, _, _ = select.select([self.keys], [], [], max(0, end - time.monotonic()))
+            self.test.assertTrue(ready, f"does not end, has {self.text!r}")
+            try:
+                data = os.read(self.keys, 65_536)
+            except OSError:
+                break
+            if not data:
+                break
+            self.text += data.decode().replace("\r\n", "\n")
+        _, status = os.waitpid(self.process, 0)
+        os.close(self.keys)
+        return self.text, os.waitstatus_to_exitcode(status)
