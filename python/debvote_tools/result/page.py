@@ -15,7 +15,7 @@ from markupsafe import Markup
 from debvote_tools.cli.console import seen, tell_aside
 from debvote_tools.debvote import standing_in
 from debvote_tools.inbox.lines import ballot_lines
-from debvote_tools.poll.secret import ALIAS, BY_OPENSSL, BY_PYTHON, REMAINS, sealed_checksum
+from debvote_tools.poll.secret import BY_OPENSSL, BY_PYTHON, sealed_checksum
 from debvote_tools.poll.call import explanations_of, numbered_options, paragraphs_of
 from debvote_tools.result import facts as files, scripts
 from debvote_tools.result.facts import Answers, Facts
@@ -125,8 +125,6 @@ def page_of(facts: Facts, answers: Answers, checksums: Mapping[str, str]) -> byt
             ((at, line, "") for at, line in enumerate(ballot_lines(facts.late or b""), start=1)),
             in_html,
         ),
-        remains=[language.say(text) for text in REMAINS] if facts.has_aliases else [],
-        alias=language.say(ALIAS),
         by_python=BY_PYTHON,
         by_openssl=BY_OPENSSL,
         checksums=checksums,
