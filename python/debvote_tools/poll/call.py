@@ -5,13 +5,20 @@ import datetime
 import functools
 import re
 import urllib.parse
-from collections.abc import Mapping
+from collections.abc import Iterable, Mapping
 
 from debvote_tools.text.ballots import IN_A_LIST, without_ballots
 from debvote_tools.files import sha256_of
 from debvote_tools.text.language import Language, marked
 from debvote_tools.text.rendering import render_letter, render_page, resources
 from debvote_tools.poll.sealed import SealedPoll, in_brackets
+
+# a first line that greets: it ends as one does, or begins so in one of the languages
+GREETING = re.compile(
+    r"\s*(?:[^\n]*[,:!][ \t]*$|(?:dear|hello|hi|good|liebe|sehr geehrte|hallo|guten|cher|ch\u00e8re|bonjour"
+    r"|madame|mesdames|messieurs|estimad|querid|\u00a1?hola|buen)\w*\b)",
+    re.IGNORECASE | re.MULTILINE,
+)
 
 # an option in a sentence: its number and its name do not run into each other
 OPTION = marked("Option {number}: {name}")
@@ -24,7 +31,7 @@ PACKAGE = "debvote_tools.poll"
 SENTENCES = {
     "option": OPTION,
     "subject": SUBJECT,
-    "type_name": marked("Type your name as it is on the roll."),
+    "type_name": marked("Type your name."),
     "on_roll": marked("On the roll: {names}"),
     "not_on_roll": marked(
         "{name} is not on the roll of this poll; the names on the roll are below."
@@ -110,8 +117,12 @@ class CallData:
     @functools.cached_property
     def option_names(self) -> list[str]:
         """The options in plain text, each with its number."""
-        options = enumerate(self.poll.names, start=1)
-        return [self.language.say(OPTION, number=number, name=name) for number, name in options]
+        return list(numbered_options(self.poll.names, self.language).values())
+
+    @property
+    def has_greeting(self) -> bool:
+        """Whether the secretary's own words begin with a greeting."""
+        return GREETING.match(self.letter_text) is not None
 
     @property
     def explanations(self) -> list[tuple[int, list[str]]]:
@@ -128,6 +139,12 @@ class CallData:
     def gaps(self) -> str:
         """The text in place of the ranks, where an elector is to write them."""
         return ",".join("_" * len(self.poll.names))
+
+
+def numbered_options(names: Iterable[str], language: Language) -> dict[int, str]:
+    """Options as parts of a sentence, by their numbers."""
+    options = enumerate(names, start=1)
+    return {number: language.say(OPTION, number=number, name=name) for number, name in options}
 
 
 def explanations_of(poll: SealedPoll) -> list[tuple[int, list[str]]]:
@@ -155,7 +172,14 @@ def extension_letter(call: CallData) -> str:
 
 def letter_to_all(call: CallData, *, is_extension: bool) -> str:
     text = render_letter(
-        PACKAGE, "call.txt", call.language, call=call, elector=None, is_extension=is_extension
+        PACKAGE,
+        "call.txt",
+        call.language,
+        call=call,
+        elector=None,
+        is_extension=is_extension,
+        is_whole=call.at is None,
+        are_texts_elsewhere=False,
     )
     return without_ballots(text, len(call.poll.names), lambda word: True)
 
@@ -166,7 +190,7 @@ def call_page(call: CallData) -> bytes:
         "page.html",
         call.language,
         style=resources(PACKAGE, "fields.css", "given.css", "ballot.css"),
-        script=resources(PACKAGE, "fold.js", "ballot.js"),
+        script=resources(PACKAGE, "names.js", "fold.js", "ballot.js"),
         call=call,
         script_words=call.language.words(SENTENCES),
     )

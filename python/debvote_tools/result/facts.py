@@ -1,19 +1,18 @@
 """What a result is made from, beside the answers of debvote: one value for the page, the letters of
-the result and the data. What is told of it in words is in `told.jinja`.
+the result and the data. `told.jinja` says it in words.
 """
 
 import dataclasses
 import datetime
 import functools
-from collections.abc import Iterable, Mapping
+from collections.abc import Callable, Mapping
 from typing import Any
 
 from debvote_tools.debvote import Finding, casting_words
+from debvote_tools.text.ballots import ballot_lines
 from debvote_tools.poll.sealed import SealedPoll
 from debvote_tools.result.sheet import Sheet, sheet_in
 from debvote_tools.text.language import ENGLISH, Language
-from debvote_tools.text.rendering import InHtml, templates_of
-from debvote_tools.text.times import time_in_words
 
 # the files of a published folder; a plain web server shows a text that ends in .txt
 POLL, BALLOTS, LATE, SHEET = "poll.toml", "ballots.txt", "late.txt", "sheet.txt"
@@ -45,15 +44,38 @@ FOR_SECRETARY = {
 }
 
 
+# says a time
+Said = Callable[[datetime.datetime], Any]
+
+
+def with_times(places: Mapping[str, Any], said: Said) -> dict[str, Any]:
+    """What fills a sentence, with each time as it is said."""
+    return {
+        key: said(value) if isinstance(value, datetime.datetime) else value
+        for key, value in places.items()
+    }
+
+
 @dataclasses.dataclass(frozen=True)
-class CastingVote:
-    """The plain name of the option that it chooses; whose it was and on which day, if that is said.
-    No count can show it.
+class Words:
+    """What the secretary says of a publication. The act keeps it, so that the same folder can be
+    made again.
     """
 
-    option: str
-    by: str | None = None
-    on: datetime.date | None = None
+    # the plain name of the option that the casting vote chooses; whose it was and on which day, if
+    # that is said. No count can show it
+    casting: str | None = None
+    cast_by: str | None = None
+    cast_on: str | None = None
+    about: str | None = None
+    # whether doubts stop nothing, which needs a reason
+    is_forced: bool = False
+    because: str | None = None
+    language: str | None = None
+
+    @property
+    def cast_day(self) -> datetime.date | None:
+        return datetime.date.fromisoformat(self.cast_on) if self.cast_on else None
 
 
 @dataclasses.dataclass(frozen=True)
@@ -69,10 +91,13 @@ class Doubt:
 
     def as_data(self) -> dict[str, Any]:
         """As the act of a publication keeps it."""
-        return {"kind": self.kind, **self.places}
+        return {"kind": self.kind, **self.shown(datetime.datetime.isoformat)}
 
     def for_secretary(self) -> str:
-        return FOR_SECRETARY[self.kind].format(**self.places)
+        return FOR_SECRETARY[self.kind].format(**self.as_data())
+
+    def shown(self, said: Said) -> dict[str, Any]:
+        return with_times(self.places, said)
 
 
 def doubts_about(sheet: Sheet) -> list[Doubt]:
@@ -87,7 +112,8 @@ def doubts_about(sheet: Sheet) -> list[Doubt]:
 class Act:
     """Something that was done in an election, at a time by the clock of the secretary's computer.
 
-    `places` fill its sentence. `because` is None if no reason was given, or it is not published.
+    `places` fill its sentence; all times are in the zone in which the end was announced. `because`
+    is None if no reason was given, or it is not published.
     """
 
     time: datetime.datetime
@@ -95,35 +121,15 @@ class Act:
     places: Mapping[str, Any] = dataclasses.field(default_factory=dict)
     because: str | None = None
 
+    def shown(self, said: Said) -> dict[str, Any]:
+        return with_times(self.places, said)
+
     @property
     def is_quiet(self) -> bool:
         if self.done != "closed":
             return self.done in QUIET
         more = (self.places[key] for key in ("early", "waiting", "after_end"))
         return not (any(more) or self.because or self.places["came"] is not None)
-
-
-@dataclasses.dataclass(frozen=True)
-class Chronicle:
-    """What the book of an election says of its course."""
-
-    acts: tuple[Act, ...] = ()
-    # the end as it is, with the offset in which it was announced
-    until: datetime.datetime | None = None
-    # lines that came after the end, and count since the vote was not closed
-    after_the_end: int = 0
-
-    @property
-    def zone(self) -> datetime.tzinfo | None:
-        """The zone in which the end was announced."""
-        return self.until.tzinfo if self.until else datetime.UTC
-
-    @property
-    def days(self) -> list[datetime.date]:
-        """The day of the call that holds, and that of the first close."""
-        calls = [act for act in self.acts if act.done in ("called", "called until")]
-        closes = [act for act in self.acts if act.done == "closed" and act.time >= calls[-1].time]
-        return [act.time.astimezone(self.zone).date() for act in (*calls[-1:], *closes[:1])]
 
 
 @dataclasses.dataclass(frozen=True)
@@ -151,23 +157,21 @@ class Facts:
     # the lines in time; in a secret vote the ballots that stand, under aliases
     ballots: bytes
     language: Language = ENGLISH
-    casting: CastingVote | None = None
+    words: Words = Words()
     desks: int = 1
     # of two files: the checksum of the file that was given as the poll
     given_checksum: str | None = None
-    # None of two files
-    chronicle: Chronicle | None = None
+    # what was done, None of two files; and how many lines came after the end, and count since the
+    # vote was not closed
+    acts: tuple[Act, ...] | None = None
+    after_the_end: int = 0
     # in a vote that is not secret: the lines that were entered after the close
     late: bytes | None = None
     # the letter of the last close
     closed: bytes | None = None
     # by the names on the roll, if they are published
     real_names: Mapping[str, str] = dataclasses.field(default_factory=dict)
-    # texts of those who publish
-    about: str | None = None
-    because: str | None = None
-    # whether doubts stop nothing, and those that are known before the count
-    is_forced: bool = False
+    # those that are known before the count; in the end all
     doubts: tuple[Doubt, ...] = ()
     secret: SecretVote | None = None
     # whether the names on the roll are codes, and nobody has a list of them
@@ -180,13 +184,26 @@ class Facts:
         return self.poll.secret and not self.has_codes
 
     @property
+    def days(self) -> list[datetime.date]:
+        """The day of the call that holds, and that of the first close."""
+        acts = self.acts or ()
+        calls = [act for act in acts if act.done in ("called", "called until")]
+        closes = [act for act in acts if act.done == "closed" and act.time >= calls[-1].time]
+        return [act.time.date() for act in (*calls[-1:], *closes[:1])]
+
+    @property
+    def late_number(self) -> int:
+        """How many lines were entered after the close."""
+        return self.secret.late if self.secret else len(ballot_lines(self.late or b""))
+
+    @property
     def seal(self) -> str:
         """The random line of the last close; empty if there is none."""
         return (self.secret and self.secret.seal) or ""
 
     @property
     def casting_words(self) -> list[str]:
-        return casting_words(self.casting.option if self.casting else None)
+        return casting_words(self.words.casting)
 
 
 @dataclasses.dataclass(frozen=True)
@@ -204,50 +221,3 @@ class Answers:
     # what `verify` says of the sheet
     verified: str
     version: str
-
-
-# ---------------------------------------------------------------- in words
-def told(language: Language, template: str = "told.jinja") -> Any:
-    """What a template says by its macros, for a page or for a letter."""
-    templates = templates_of(__package__, language, is_page=isinstance(language, InHtml))
-    return templates.get_template(template).module
-
-
-def all_acts(facts: Facts, language: Language, *, but_quiet: bool = False) -> list[str]:
-    chronicle = facts.chronicle or Chronicle()
-
-    def in_words(value: Any) -> Any:
-        """Of times the words, in the zone of the vote."""
-        is_time = isinstance(value, datetime.datetime)
-        return time_in_words(value.astimezone(chronicle.zone), language) if is_time else value
-
-    return [
-        told(language).dated(
-            act, in_words(act.time), {key: in_words(value) for key, value in act.places.items()}
-        )
-        for act in chronicle.acts
-        if not (but_quiet and act.is_quiet)
-    ]
-
-
-def told_acts(facts: Facts, language: Language) -> list[str]:
-    """What the letter tells: all but the call and a plain close."""
-    return [*all_acts(facts, language, but_quiet=True), *after_the_end(facts, language)]
-
-
-def after_the_end(facts: Facts, language: Language) -> list[str]:
-    number = facts.chronicle.after_the_end if facts.chronicle else 0
-    return [told(language).after_the_end(number)] if number else []
-
-
-def sentences_of(doubts: Iterable[Doubt], language: Language, *, is_secret: bool) -> list[str]:
-    """The doubts for the readers."""
-    said = []
-    for doubt in doubts:
-        times = {
-            key: time_in_words(datetime.datetime.fromisoformat(doubt.places[key]), language)
-            for key in ("arrival", "closed", "until")
-            if key in doubt.places
-        }
-        said.append(told(language).doubt(doubt.kind, {**doubt.places, **times}, is_secret))
-    return said

@@ -112,7 +112,7 @@ class Open(CallTest):
         self.done("call", *UNTIL)
         text = " ".join(self.read("letters/extension.txt").decode().split())
         self.assertIn("You can now vote until the time below. Nothing else that the call says has changed.", text)
-        self.assertIn(f"Until when: {FIRST} The call did not", text)
+        self.assertIn(f"Vote until: {FIRST} The call did not", text)
         self.assertNotIn("more time", text)
 
 
