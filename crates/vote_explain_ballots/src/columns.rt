@@ -1,10 +1,8 @@
 //! Signs that the ranks of a ballot file may stand in another order than the options of the poll.
-
 ghost use Rattle.std.specs.Prelude.{◌≡◌, ◌≤◌, IfSome, length};
 ghost use Rattle.vote_poll_text.specs.Adding.{Adds};
-ghost use Rattle.vote_explain_ballots.specs.Explained.{order_text, table_text};
+ghost use Rattle.vote_explain_ballots.specs.Explained.{IsColumnsText, order_text};
 ghost use Rattle.vote_explain_poll.specs.Hints.{Tells};
-ghost use Rattle.vote_explain_ballots.specs.Explained.{IsColumnsText};
 
 use crate::MARK;
 use std::alloc::AllocError;
@@ -75,13 +73,10 @@ fn has_other_order(poll: &Poll, begins: &[bool; 256], line: &[u8]) -> bool {
 
 /// Whether a step refuses its line for its shape.
 pub(crate) fn is_of_bad_shape(step: &Step) -> bool {
-    matches!(
-        step,
-        Step::Cast {
-            reply: Reply::BadLine(LineFault::Shape),
-            ..
-        }
-    )
+    match step {
+        Step::Cast { reply, .. } => matches!(reply, Reply::BadLine(LineFault::Shape)),
+        Step::Close => false,
+    }
 }
 
 /// The number of the first line of bad shape that names options in another order than the poll has them.

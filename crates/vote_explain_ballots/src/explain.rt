@@ -1,13 +1,12 @@
 //! What is wrong with the lines of a ballot file, as a text.
-
-ghost use Rattle.std.specs.Prelude.{◌≡◌, IfOk, OnOk, drop, length};
+ghost use Rattle.std.specs.Prelude.{◌≡◌, IfOk, drop, length, string_bytes};
 ghost use Rattle.vote_poll.specs.PollContent.{last_in_time};
 ghost use Rattle.vote_poll.specs.Readings.{is_ballot, reading};
 ghost use Rattle.vote_poll_text.specs.Adding.{Adds};
 ghost use Rattle.vote_steps.specs.HeldLines.{HoldsLines};
 ghost use Rattle.vote_sheet.specs.LastBallots.{refused_count};
 ghost use Rattle.vote_explain_poll.specs.Hints.{Tells};
-ghost use Rattle.vote_explain_ballots.specs.Explained.{AreTotals, AreWarnings, IsExample, IsIfText, SaysAll, counted_text, example_line, numbers_text};
+ghost use Rattle.vote_explain_ballots.specs.Explained.{AreTotals, AreWarnings, IsExample, IsExplained, IsIfText, counted_text, example_line, numbers_text};
 ghost use Rattle.vote_explain_ballots.specs.Refusals.{AreReplies, EachRefusalIsListed, RefusedAsBySteps};
 
 use crate::columns::{is_of_bad_shape, push_columns};
@@ -67,10 +66,7 @@ fn push_line(text: &mut String, example: &str) -> Result<(), AllocError>
 fn is_ballot(poll: &Poll, line: &[u8]) -> bool
     ensures { result ≡ is_ballot (reading poll.now line.now) }
 {
-    match read_line(poll, line) {
-        Reading::Ballot { .. } => true,
-        Reading::Bad(_) => false,
-    }
+    matches!(read_line(poll, line), Reading::Ballot { .. })
 }
 
 /// Adds an example if it is wanted, and if it is a ballot of the poll.
@@ -164,7 +160,7 @@ pub fn explain_ballots(
     text: &[u8],
     file: Option<&str>,
 ) -> Result<Explained, AllocError>
-    ensures text { IfOk result (λ said. SaysAll poll.now text.now lines.now said.text) }
+    ensures text { IfOk result (λ said. IsExplained poll.now text.now lines.now (string_bytes said.text)) }
     ensures refused { IfOk result (λ said. said.refused ≡ refused_count poll.now lines.now) }
 {
     let ballot_box = cast_all(alloc, poll, lines)?;

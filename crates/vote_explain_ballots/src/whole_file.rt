@@ -1,10 +1,8 @@
 //! What lets only remarks through, one line of printable text each; and what is remarked on a whole ballot file: what it is if it is
 //! no ballots, and how the ends of its lines are mended.
-
 ghost use Rattle.std.specs.Prelude.{◌≡◌, IfOk, IsTrue};
-ghost use Rattle.std.specs.List.{list_all, list_any};
+ghost use Rattle.std.specs.List.{list_any};
 ghost use Rattle.vote_poll_text.specs.Adding.{Adds};
-ghost use Rattle.vote_poll_text.specs.Names.{is_printable};
 ghost use Rattle.vote_explain_poll.specs.Hints.{Tells};
 ghost use Rattle.vote_explain_ballots.specs.Remarks.{IsFileText, IsRemark, can_be_ballots, file_line, is_title};
 
@@ -32,18 +30,11 @@ const WINDOWS: (&str, &str) = (
 
 const MARKED: (&str, &str) = ("begins with a byte-order mark: this can be mended", "");
 
-/// Whether all bytes of a text are printable.
-fn are_printable(text: &[u8]) -> bool
-    ensures { result ≡ list_all is_printable text.now }
-{
-    text.iter().all(|byte| is_printable(*byte))
-}
-
 /// Whether a text is one line of printable text, and not too long.
 fn is_remark(text: &str) -> bool
     ensures { IsTrue result → IsRemark text.now }
 {
-    text.len() <= MOST_REMARK && are_printable(text.as_bytes())
+    text.len() <= MOST_REMARK && text.bytes().all(|byte| is_printable(byte))
 }
 
 /// Adds a remark. What is none is left out.
@@ -87,12 +78,10 @@ fn has_title(lines: &Lines<'_>) -> bool
 
 /// Adds what a file is that is no ballots: another kind of file, by its first bytes, or else a poll.
 fn push_kind(words: &mut String, text: &[u8]) -> Result<(), AllocError> {
-    let Some(kind) = file_kind(text) else {
-        return words.push_str("looks like a poll: are the files exchanged?");
-    };
-    words.push_str("is ")?;
-    words.push_str(kind)?;
-    words.push_str("; ballots are plain text in UTF-8")
+    match file_kind(text) {
+        Some(kind) => write!(words, "is {kind}; ballots are plain text in UTF-8"),
+        None => words.push_str("looks like a poll: are the files exchanged?"),
+    }
 }
 
 /// Whether no line feed is in the file, and a space is after a carriage return: so old Macs end lines.

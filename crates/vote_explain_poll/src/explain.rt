@@ -64,24 +64,6 @@ fn outcome_of(
     }
 }
 
-/// What a table says of which the keys were found and all faults.
-fn explain_judged(
-    alloc: Global,
-    table: &Table,
-    keys: &FoundKeys<'_>,
-    faults: &[PollFault],
-) -> Result<ExplainedPoll, AllocError>
-    requires { IsJudged (table_view table.now) (found_view keys.now) faults.now }
-    ensures findings { IfOk result (λ told. AreFindings (faults_in (Ok (table_view table.now))) (table_view table.now) (string_bytes told.findings)) }
-    ensures outcome { IfOk result (λ told. told.outcome ≡ poll_in_table (table_view table.now)) }
-    ensures known { IfOk result (λ told. told.outcome ≢ Err Memory) }
-{
-    Ok(ExplainedPoll {
-        findings: findings_of(alloc, table, keys, faults)?,
-        outcome: outcome_of(alloc, keys, faults)?,
-    })
-}
-
 /// What the table of a poll file says, and all that is wrong with it: it is judged as [`Poll::from_text`] judges it.
 fn explain_table(alloc: Global, table: &Table) -> Result<ExplainedPoll, AllocError>
     ensures findings { IfOk result (λ told. AreFindings (faults_in (Ok (table_view table.now))) (table_view table.now) (string_bytes told.findings)) }
@@ -91,7 +73,10 @@ fn explain_table(alloc: Global, table: &Table) -> Result<ExplainedPoll, AllocErr
     let keys = FoundKeys::of_table(alloc, table)?;
     let mut faults = keys.key_faults(alloc, table)?;
     push_faults(alloc, &mut faults, &keys)?;
-    explain_judged(alloc, table, &keys, &faults)
+    Ok(ExplainedPoll {
+        findings: findings_of(alloc, table, &keys, &faults)?,
+        outcome: outcome_of(alloc, &keys, &faults)?,
+    })
 }
 
 /// Reads a poll file as [`Poll::from_text`] does, and says all that is wrong with it: each fault, judged by itself, with what was

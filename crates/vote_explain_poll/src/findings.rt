@@ -3,7 +3,7 @@ ghost use Rattle.std.specs.Prelude.{◌≡◌, IfOk};
 ghost use Rattle.toml.specs.View.{table_view};
 ghost use Rattle.vote_poll_text.specs.Adding.{Adds};
 ghost use Rattle.vote_explain_poll.specs.Findings.{SaysFault, SaysKey, fault_head};
-ghost use Rattle.vote_explain_poll.specs.Hints.{IsHintLine, Tells};
+ghost use Rattle.vote_explain_poll.specs.Hints.{Tells};
 ghost use Rattle.vote_explain_poll.specs.Remarks.{IsKeyRemark, suggestion};
 
 use crate::characters::push_character;
@@ -151,10 +151,7 @@ fn with_first_places<'t>(
     let mut seen = IndexMap::new(alloc);
     let mut placed = Vec::new(alloc);
     for (place, name) in names.iter().enumerate() {
-        let first = seen.get(*name).copied().unwrap_or(place);
-        if first == place {
-            seen.insert(*name, place)?;
-        }
+        let first = *seen.entry(*name)?.or_insert(place);
         placed.push((*name, first))?;
     }
     Ok(placed)
@@ -194,29 +191,13 @@ impl<'f> Hints<'f> {
         ensures { IfOk result (λ hints. table_view hints.file.now ≡ table_view file.now) }
     {
         let names = keys.option_names(alloc)?;
-        let options = with_first_places(alloc, entries(&names))?;
-        let roll = with_first_places(alloc, entries(&keys.roll))?;
         Ok(Hints {
             file,
             keys,
             unread,
-            options,
-            roll,
+            options: with_first_places(alloc, entries(&names))?,
+            roll: with_first_places(alloc, entries(&keys.roll))?,
         })
-    }
-
-    /// Adds what was found where the file has a fault, and what is wanted there.
-    fn push_found(
-        &self,
-        alloc: Global,
-        text: &mut String,
-        fault: PollFault,
-    ) -> Result<(), AllocError>
-        ensures { Tells result text.old IsHintLine text.new }
-    {
-        let mut words = String::new(alloc);
-        self.push_fault(&mut words, fault)?;
-        push_hint_line(text, words.as_bytes())
     }
 
     /// Adds what is said of a key that is not read: where a key of its name is read, or a missing key that is near to it, or nothing.
@@ -228,16 +209,16 @@ impl<'f> Hints<'f> {
     ) -> Result<(), AllocError>
         ensures { Tells result text.old (IsKeyRemark (table_view self.now.file.now) key.now.name) text.new }
     {
-        if PollKey::named(key.name).is_some() {
+        let None = PollKey::named(key.name) else {
             return text.push_str("; it is read above all tables alone");
-        }
+        };
         match near_key(alloc, self.file, key.name)? {
             Some(near) => push_suggestion(text, near),
             None => Ok(()),
         }
     }
 
-    /// The same as `push_found`, in words that may be longer than a hint.
+    /// Adds what was found where the file has a fault, and what is wanted there, in words that may be longer than a hint.
     fn push_fault(&self, words: &mut String, fault: PollFault) -> Result<(), AllocError> {
         let keys = self.keys;
         let others = entries(&keys.options).len();
@@ -353,7 +334,9 @@ pub(crate) fn push_fault_line(
     ensures { Tells result text.old (SaysFault fault) text.new }
 {
     push_fault_head(text, fault)?;
-    hints.push_found(alloc, text, fault)?;
+    let mut words = String::new(alloc);
+    hints.push_fault(&mut words, fault)?;
+    push_hint_line(text, words.as_bytes())?;
     Ok(())
 }
 
