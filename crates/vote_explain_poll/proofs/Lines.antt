@@ -19,7 +19,3 @@ pub one_more : {X : Type 0} (Says : X → List ℕ → Type 0) (xs : List X) (i 
 one_more Says xs i d x before between after within at first (line, says, e) =
     subst (λ ys. Adding (AreLinesFor Says ys) before after) (sym (take_more xs i d within ∙ ap (λ y. take i xs ++ y ∷ []) at))
     (lines_on Says (take i xs) (x ∷ []) before between after first (line, (line, [], says, refl, sym (append-nil line)), e))
-
--- what an empty text became by what was added
-pub from_nothing : (Says : List ℕ → Type 0) (before after : List ℕ) → before ≡ [] → Adding Says before after → Says after
-from_nothing Says before after none (added, says, is) = subst Says (sym (is ∙ ap (λ t. t ++ added) none)) says

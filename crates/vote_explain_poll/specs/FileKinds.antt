@@ -2,11 +2,7 @@
 use Rattle.std.specs.Prelude.{ℕ, ◌==◌, ◌||◌, Bool, if◌then◌else◌, List, [], ◌∷◌, ◌++◌, Option, Some, None, codes, nat_eq, take}
 use Rattle.std.specs.List.{list_any, starts_with}
 
--- a zero is among the first bytes
-abbrev pub has_zero : List ℕ → Bool
-has_zero text = list_any (λ b. b == 0) (take 16 text)
-
--- what the file is with whose sign the text begins. The sign of UTF-32 may begin with that of UTF-16.
+-- What the file is with whose sign the text begins, or that has a zero among its first bytes. The sign of UTF-32 may begin with that of UTF-16.
 abbrev pub file_kind : List ℕ → Option (List ℕ)
 file_kind text =
     let begins : List ℕ → Bool = starts_with nat_eq text in
@@ -16,5 +12,5 @@ file_kind text =
     else if begins (codes "%PDF") then Some (codes "a PDF file")
     else if begins (codes "{\\rtf") then Some (codes "an RTF file")
     else if begins (0xD0 ∷ 0xCF ∷ 0x11 ∷ 0xE0 ∷ []) then Some (codes "an old Word or Excel file")
-    else if has_zero text then Some (codes "no text")
+    else if list_any (λ b. b == 0) (take 16 text) then Some (codes "no text")
     else None

@@ -6,7 +6,6 @@ use Rattle.vote_poll.specs.BallotLine.{IsBallotText}
 use Rattle.vote_explain_poll.specs.FileKinds.{file_kind}
 use Rattle.vote_explain_poll.specs.Hints.{IsHintLine}
 
--- ---- lines
 -- the first line of a text, and what stands after its last line feed
 abbrev pub first_line : List ℕ → List ℕ
 first_line text = slice_index_or (parts_of text) 0 []
@@ -14,7 +13,7 @@ first_line text = slice_index_or (parts_of text) 0 []
 abbrev pub last_line : List ℕ → List ℕ
 last_line text = slice_index_or (parts_of text) (length (parts_of text) - 1) []
 
--- ---- the line and the column after a text, from 1
+-- the line after a text, from 1
 abbrev pub line_number : List ℕ → ℕ
 line_number before = feed_count before + 1
 
@@ -22,11 +21,10 @@ line_number before = feed_count before + 1
 abbrev pub begins_character : ℕ → Bool
 begins_character b = not (is_within 0x80 0xBF b)
 
--- in the last line, of which this stands before the place
+-- the column, from 1, in the last line, of which this stands before the place
 abbrev pub column_number : List ℕ → ℕ
 column_number before = count_by begins_character before + 1
 
--- ---- the whole
 -- the place as it is written
 abbrev pub place_words : List ℕ → List ℕ
 place_words before = codes "poll:" ++ decimal (line_number before) ++ codes ":" ++ decimal (column_number (last_line before)) ++ codes ": "
@@ -43,21 +41,13 @@ pub record IsPlaceFinding (text finding : List ℕ) : Type 0 where
   pub is_mark : IsHintLine mark
   pub is_text : finding ≡ place_words (take place text) ++ hint ++ line ++ mark
 
-abbrev pub exchanged_text : List ℕ
-exchanged_text = codes "the poll file looks like ballots: are the files exchanged?\n"
-
--- the files may be exchanged if the first line is that of a ballot; else there is a place
-abbrev pub IsPlainFinding : List ℕ → List ℕ → Type 0
-IsPlainFinding text finding =
-    (IsBallotText (first_line text) × (finding ≡ exchanged_text)) ⊎ (¬ IsBallotText (first_line text) × IsPlaceFinding text finding)
-
--- what is said of a file that is this
-abbrev pub file_text : List ℕ → List ℕ
-file_text kind = codes "the poll file is " ++ kind ++ codes "; a poll is plain text in UTF-8\n"
-
+-- What is said of a file that is this; and of plain text that the files may be exchanged if the first line is that of a ballot, or else
+-- the place.
 abbrev pub IsFindingOf : Option (List ℕ) → List ℕ → List ℕ → Type 0
-IsFindingOf (Some kind) text finding = finding ≡ file_text kind
-IsFindingOf None text finding = IsPlainFinding text finding
+IsFindingOf (Some kind) text finding = finding ≡ codes "the poll file is " ++ kind ++ codes "; a poll is plain text in UTF-8\n"
+IsFindingOf None text finding =
+    (IsBallotText (first_line text) × (finding ≡ codes "the poll file looks like ballots: are the files exchanged?\n"))
+    ⊎ (¬ IsBallotText (first_line text) × IsPlaceFinding text finding)
 
 -- what the file is, if it is no plain text
 abbrev pub IsSyntaxFinding : List ℕ → List ℕ → Type 0

@@ -1,10 +1,9 @@
 //! The lines of findings: of a fault, with what was found and what is wanted, and of a key that is not read.
 ghost use Rattle.std.specs.Prelude.{◌≡◌, IfOk};
 ghost use Rattle.toml.specs.View.{table_view};
-ghost use Rattle.vote_poll_text.specs.Adding.{Adds};
-ghost use Rattle.vote_explain_poll.specs.Findings.{SaysFault, SaysKey, fault_head};
+ghost use Rattle.vote_explain_poll.specs.Findings.{SaysFault, SaysKey};
 ghost use Rattle.vote_explain_poll.specs.Hints.{Tells};
-ghost use Rattle.vote_explain_poll.specs.Remarks.{IsKeyRemark, suggestion};
+ghost use Rattle.vote_explain_poll.specs.UnreadKeys.{IsKeyRemark};
 
 use crate::characters::push_character;
 use crate::near::near_key;
@@ -162,13 +161,6 @@ fn entries<T>(list: &Option<Vec<T>>) -> &[T] {
     list.as_deref().unwrap_or(&[])
 }
 
-/// Adds a key that may be meant.
-fn push_suggestion(text: &mut String, meant: PollKey) -> Result<(), AllocError>
-    ensures { Adds result text.old (suggestion meant) text.new }
-{
-    write!(text, "; did you mean {meant}?")
-}
-
 /// What hints on a poll file are made of.
 #[derive(Drop)]
 pub(crate) struct Hints<'f> {
@@ -213,7 +205,7 @@ impl<'f> Hints<'f> {
             return text.push_str("; it is read above all tables alone");
         };
         match near_key(alloc, self.file, key.name)? {
-            Some(near) => push_suggestion(text, near),
+            Some(near) => write!(text, "; did you mean {near}?"),
             None => Ok(()),
         }
     }
@@ -317,14 +309,7 @@ impl<'f> Hints<'f> {
     }
 }
 
-/// Adds the words of a fault, which are those of its fault line.
-fn push_fault_head(text: &mut String, fault: PollFault) -> Result<(), AllocError>
-    ensures { Adds result text.old (fault_head fault) text.new }
-{
-    write!(text, "poll: {}: ", fault.words())
-}
-
-/// Adds the line of a fault, with what was found.
+/// Adds the line of a fault: the words of its fault line, and what was found.
 pub(crate) fn push_fault_line(
     alloc: Global,
     text: &mut String,
@@ -333,7 +318,7 @@ pub(crate) fn push_fault_line(
 ) -> Result<(), AllocError>
     ensures { Tells result text.old (SaysFault fault) text.new }
 {
-    push_fault_head(text, fault)?;
+    write!(text, "poll: {}: ", fault.words())?;
     let mut words = String::new(alloc);
     hints.push_fault(&mut words, fault)?;
     push_hint_line(text, words.as_bytes())?;
