@@ -6,8 +6,8 @@ ghost use Rattle.vote_poll_text.specs.Adding.{Adds};
 ghost use Rattle.vote_steps.specs.HeldLines.{HoldsLines};
 ghost use Rattle.vote_sheet.specs.LastBallots.{refused_count};
 ghost use Rattle.vote_explain_poll.specs.Hints.{Tells};
-ghost use Rattle.vote_explain_ballots.specs.Explained.{AreTotals, AreWarnings, IsExample, IsExplained, IsIfText, counted_text, example_line, numbers_text};
-ghost use Rattle.vote_explain_ballots.specs.Refusals.{AreReplies, EachRefusalIsListed, RefusedAsBySteps};
+ghost use Rattle.vote_explain_ballots.specs.Explained.{AreTotals, AreWarnings, IsExample, IsExplained, IsIfText, counted_text, numbers_text};
+ghost use Rattle.vote_explain_ballots.specs.Refusals.{EachRefusalIsListed, RefusedAsBySteps};
 
 use crate::columns::{is_of_bad_shape, push_columns};
 use crate::findings::Findings;
@@ -55,13 +55,6 @@ fn example(alloc: Global, poll: &Poll) -> Result<String, AllocError> {
     Ok(ballot)
 }
 
-/// Adds a line with an example.
-fn push_line(text: &mut String, example: &str) -> Result<(), AllocError>
-    ensures { Adds result text.old (example_line example.now) text.new }
-{
-    writeln!(text, "a ballot line of this poll: {example}")
-}
-
 /// Whether the poll reads a ballot in a line.
 fn is_ballot(poll: &Poll, line: &[u8]) -> bool
     ensures { result ≡ is_ballot (reading poll.now line.now) }
@@ -85,8 +78,7 @@ fn push_example(
     if !is_ballot(poll, example.as_bytes()) {
         return Ok(());
     }
-    push_line(text, example.as_str())?;
-    Ok(())
+    writeln!(text, "a ballot line of this poll: {}", example.as_str())
 }
 
 /// Adds how many lines are valid, refused and late, and how many electors have a ballot.
@@ -179,11 +171,13 @@ pub fn explain_ballots(
 }
 
 /// A law: as many lines are listed as the result sheet has refused lines.
+#[tactic(auto, using(crate::proofs::Counting::each_is_listed))]
 pub fn each_refusal_is_listed()
     ensures { EachRefusalIsListed }
 {}
 
 /// A law: the box of `steps` refuses the lines that are listed, and no others, each with the reply that is told.
+#[tactic(auto, using(crate::proofs::BoxReplies::replies_of_box))]
 pub fn refused_as_by_steps()
     ensures { RefusedAsBySteps }
 {}

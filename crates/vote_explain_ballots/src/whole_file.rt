@@ -1,10 +1,10 @@
 //! What lets only remarks through, one line of printable text each; and what is remarked on a whole ballot file: what it is if it is
 //! no ballots, and how the ends of its lines are mended.
 ghost use Rattle.std.specs.Prelude.{◌≡◌, IfOk, IsTrue};
-ghost use Rattle.std.specs.List.{list_any};
-ghost use Rattle.vote_poll_text.specs.Adding.{Adds};
+ghost use Rattle.std.specs.List.{list_all, list_any};
+ghost use Rattle.vote_poll_text.specs.Names.{is_printable};
 ghost use Rattle.vote_explain_poll.specs.Hints.{Tells};
-ghost use Rattle.vote_explain_ballots.specs.Remarks.{IsFileText, IsRemark, can_be_ballots, file_line, is_title};
+ghost use Rattle.vote_explain_ballots.specs.Remarks.{IsFileText, IsRemark, can_be_ballots, is_title};
 
 use crate::columns::is_of_bad_shape;
 use crate::{MARK, MOST_REMARK};
@@ -30,11 +30,18 @@ const WINDOWS: (&str, &str) = (
 
 const MARKED: (&str, &str) = ("begins with a byte-order mark: this can be mended", "");
 
+/// Whether all bytes of a text are printable.
+fn are_printable(text: &[u8]) -> bool
+    ensures { result ≡ list_all is_printable text.now }
+{
+    text.iter().all(|byte| is_printable(*byte))
+}
+
 /// Whether a text is one line of printable text, and not too long.
 fn is_remark(text: &str) -> bool
     ensures { IsTrue result → IsRemark text.now }
 {
-    text.len() <= MOST_REMARK && text.bytes().all(|byte| is_printable(byte))
+    text.len() <= MOST_REMARK && are_printable(text.as_bytes())
 }
 
 /// Adds a remark. What is none is left out.
@@ -47,13 +54,6 @@ pub(crate) fn push_remark(text: &mut String, remark: &str) -> Result<(), AllocEr
     text.push_str(remark)
 }
 
-/// Adds a line on the file.
-fn push_line(text: &mut String, remark: &str) -> Result<(), AllocError>
-    ensures { Adds result text.old (file_line remark.now) text.new }
-{
-    writeln!(text, "the ballot file {remark}")
-}
-
 /// Adds a line with a remark on the file, if it is one.
 fn push_file_line(text: &mut String, remark: &str) -> Result<(), AllocError>
     ensures { Tells result text.old IsFileText text.new }
@@ -61,7 +61,7 @@ fn push_file_line(text: &mut String, remark: &str) -> Result<(), AllocError>
     if remark.is_empty() || !is_remark(remark) {
         return Ok(());
     }
-    push_line(text, remark)
+    writeln!(text, "the ballot file {remark}")
 }
 
 /// Whether a line begins as that of the title of a poll.

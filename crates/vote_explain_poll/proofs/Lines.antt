@@ -1,8 +1,5 @@
 -- Lines of findings, one after another.
-use Rattle.std.proofs.Common.{◌≡◌, ◌+◌, ◌<◌, ◌∷◌, ◌++◌, [], ℕ, List, length, take, refl, ap, sym, subst, ◌∙◌, append_assoc, append-nil, get_or}
-use Rattle.std.proofs.lemmas.List.{take_more}
-use Rattle.vote_explain_poll.specs.Hints.{Adding}
-use Rattle.vote_explain_poll.specs.Findings.{AreLinesFor}
+use Rattle.vote_explain_poll.proofs.Words.{◌≡◌, ◌+◌, ◌<◌, ◌∷◌, ◌++◌, [], ℕ, List, length, take, refl, ap, sym, subst, ◌∙◌, append_assoc, append-nil, get_or, take_more, Adding, AreLinesFor}
 
 lines_append : {X : Type 0} (Says : X → List ℕ → Type 0) (xs ys : List X) (s t : List ℕ) → AreLinesFor Says xs s → AreLinesFor Says ys t → AreLinesFor Says (xs ++ ys) (s ++ t)
 lines_append Says [] ys s t none more = subst (λ (u : List ℕ). AreLinesFor Says ys (u ++ t)) (sym none) more

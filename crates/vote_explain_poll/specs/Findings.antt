@@ -12,11 +12,8 @@ use Rattle.vote_explain_poll.specs.UnreadKeys.{IsKeyRemark, KeyPlace, path_of, u
 use Rattle.vote_explain_poll.specs.declared.TheConstants.{MAX_SHOWN}
 use Rattle.vote_explain_poll.specs.Syntax.{IsSyntaxFinding}
 
-abbrev pub fault_head : PollFault → List ℕ
-fault_head e = codes "poll: " ++ fault_words e ++ codes ": "
-
 abbrev pub SaysFault : PollFault → List ℕ → Type 0
-SaysFault e line = (hint : List ℕ) × IsHintLine hint × (line ≡ fault_head e ++ hint)
+SaysFault e line = (hint : List ℕ) × IsHintLine hint × (line ≡ codes "poll: " ++ fault_words e ++ codes ": " ++ hint)
 
 abbrev pub key_head : List ℕ → List ℕ
 key_head path = codes "poll: key " ++ shown MAX_SHOWN path ++ codes " is not read"

@@ -1,6 +1,5 @@
 -- what the contracts of public calls say
 pub mod Hints
-pub mod FileKinds
 pub mod UnreadKeys
 pub mod Syntax
 pub mod Findings

@@ -1,9 +1,9 @@
 -- What is said of a poll file that is no TOML, by the place of an error in it: how many bytes stand before the error.
-use Rattle.std.specs.Prelude.{◌≡◌, ◌⊎◌, ℕ, ◌+◌, ◌-◌, ◌≤◌, not, Bool, List, [], ◌++◌, Option, Some, None, count_by, length, slice_index_or, take, codes, decimal}
+use Rattle.std.specs.Prelude.{◌≡◌, ◌⊎◌, ℕ, ◌+◌, ◌-◌, ◌≤◌, not, Bool, List, [], ◌++◌, Option, Some, None, count_by, length, slice_index_or, take, codes, decimal, ◌==◌, ◌||◌, if◌then◌else◌, ◌∷◌, nat_eq}
+use Rattle.std.specs.List.{list_any, starts_with}
 use Rattle.vote_poll_text.specs.Lines.{feed_count, parts_of}
 use Rattle.vote_poll_text.specs.Names.{is_within}
 use Rattle.vote_poll.specs.BallotLine.{IsBallotText}
-use Rattle.vote_explain_poll.specs.FileKinds.{file_kind}
 use Rattle.vote_explain_poll.specs.Hints.{IsHintLine}
 
 -- the first line of a text, and what stands after its last line feed
@@ -40,6 +40,19 @@ pub record IsPlaceFinding (text finding : List ℕ) : Type 0 where
   pub mark : List ℕ
   pub is_mark : IsHintLine mark
   pub is_text : finding ≡ place_words (take place text) ++ hint ++ line ++ mark
+
+-- What the file is with whose sign the text begins, or that has a zero among its first bytes. The sign of UTF-32 may begin with that of UTF-16.
+abbrev pub file_kind : List ℕ → Option (List ℕ)
+file_kind text =
+    let begins : List ℕ → Bool = starts_with nat_eq text in
+    if begins (0xFF ∷ 0xFE ∷ 0 ∷ 0 ∷ []) || begins (0 ∷ 0 ∷ 0xFE ∷ 0xFF ∷ []) then Some (codes "UTF-32")
+    else if begins (0xFF ∷ 0xFE ∷ []) || begins (0xFE ∷ 0xFF ∷ []) then Some (codes "UTF-16")
+    else if begins (codes "PK" ++ 3 ∷ 4 ∷ []) then Some (codes "a ZIP file, as of word processors and spreadsheets")
+    else if begins (codes "%PDF") then Some (codes "a PDF file")
+    else if begins (codes "{\\rtf") then Some (codes "an RTF file")
+    else if begins (0xD0 ∷ 0xCF ∷ 0x11 ∷ 0xE0 ∷ []) then Some (codes "an old Word or Excel file")
+    else if list_any (λ b. b == 0) (take 16 text) then Some (codes "no text")
+    else None
 
 -- What is said of a file that is this; and of plain text that the files may be exchanged if the first line is that of a ballot, or else
 -- the place.

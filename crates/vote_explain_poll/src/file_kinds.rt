@@ -1,6 +1,6 @@
 //! What a file is that is no plain text in UTF-8, by its signs.
 ghost use Rattle.std.specs.Prelude.{◌≡◌, option_copied};
-ghost use Rattle.vote_explain_poll.specs.FileKinds.{file_kind};
+ghost use Rattle.vote_explain_poll.specs.Syntax.{file_kind};
 
 /// What a file with these bytes is, as the end of a sentence, unless it may be plain text in UTF-8.
 pub fn file_kind(text: &[u8]) -> Option<&'static str>

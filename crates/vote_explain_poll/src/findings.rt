@@ -284,11 +284,10 @@ impl<'f> Hints<'f> {
             return push_wanted(words, key, self.roll.len());
         };
         words.push_str(kind_words(value))?;
-        match (value, key) {
-            (Value::Array(entries), PollKey::Options | PollKey::Ratios | PollKey::Roll) => {
-                push_wrong_entry(words, key, entries)?
-            }
-            _ => {}
+        if let Value::Array(entries) = value
+            && matches!(key, PollKey::Options | PollKey::Ratios | PollKey::Roll)
+        {
+            push_wrong_entry(words, key, entries)?;
         }
         push_wanted(words, key, self.roll.len())
     }

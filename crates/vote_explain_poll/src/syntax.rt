@@ -86,10 +86,8 @@ fn place_at(text: &[u8], at: usize) -> Place<'_>
 fn index_of(text: &[u8], error: &toml::de::Error) -> usize
     ensures { result ≤ length text.now }
 {
-    match error.span() {
-        Some(span) => span.start.min(text.len()),
-        None => 0,
-    }
+    let start = error.span().map_or(0, |span| span.start);
+    start.min(text.len())
 }
 
 /// Adds that a finding is at this line and column of the poll.

@@ -1,6 +1,4 @@
-use Rattle.std.proofs.Common.{refl, sym}
-use Rattle.toml.specs.View.{table_view}
-use Rattle.vote_explain_poll.specs.Findings.{SaysFault, SaysKey}
+use Rattle.vote_explain_poll.proofs.Words.{refl, sym, table_view, SaysFault, SaysKey}
 use Rattle.vote_explain_poll.proofs.Lines.{one_more}
 use Rattle.vote_explain_poll.proofs.explain.findings_of.Goals as goal
 

@@ -1,4 +1,4 @@
-use Rattle.std.proofs.Common.{◌==◌, arith}
+use Rattle.vote_explain_poll.proofs.Words.{◌==◌, arith}
 use Rattle.std.proofs.lemmas.Grind.{common_steps}
 use Rattle.std.proofs.lemmas.List.Splits.{length-slice_split}
 use Rattle.vote_explain_poll.proofs.syntax.last_line.Goals as goal

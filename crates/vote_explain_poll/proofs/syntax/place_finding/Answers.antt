@@ -1,5 +1,4 @@
-use Rattle.std.proofs.Common.{◌∙◌, ap, refl}
-use Rattle.vote_explain_poll.specs.Syntax.{column_number}
+use Rattle.vote_explain_poll.proofs.Words.{◌∙◌, ap, refl, column_number}
 use Rattle.vote_explain_poll.proofs.syntax.place_finding.Goals as goal
 
 pub returns : goal.returns

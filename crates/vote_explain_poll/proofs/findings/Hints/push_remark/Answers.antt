@@ -1,5 +1,4 @@
-use Rattle.std.proofs.Common.{◌≡◌, ◌∙◌, [], ap, append-nil, inr, refl, sym}
-use Rattle.vote_poll_keys.specs.Keys.{key_named}
+use Rattle.vote_explain_poll.proofs.Words.{◌≡◌, ◌∙◌, [], ap, append-nil, inr, refl, sym, key_named}
 use Rattle.vote_explain_poll.proofs.findings.Hints.push_remark.Goals as goal
 
 pub returns-in-None-2 : goal.returns-in-None-2
