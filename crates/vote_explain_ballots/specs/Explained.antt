@@ -49,6 +49,7 @@ question [] = []
 question (name ∷ others) =
     codes "; did you mean " ++ shown MOST_SHOWN name ++ flat_map (λ other. codes " or " ++ shown MOST_SHOWN other) others ++ codes "?"
 
+-- a name that is not on the roll, and the names on it that are suggested
 abbrev pub stranger_words : Text → List Text → Text
 stranger_words name near = shown MOST_SHOWN name ++ codes " is not on the roll" ++ question near
 
@@ -94,12 +95,15 @@ numbers_text poll lines = line (
     ∷ codes " refused, " ∷ decimal (length (drop (last_in_time poll) lines)) ∷ codes " of them late; " ∷ decimal (voter_count poll lines) ∷ codes " of "
     ∷ decimal (elector_count poll) ∷ codes " electors have a ballot" ∷ [])
 
+abbrev pub order_text : ℕ → Text
+order_text number = line (
+    codes "line " ∷ decimal number ∷ codes " names options of the poll in another order than the poll has them: the ranks below it may stand in that order" ∷ [])
+
 -- the columns may be in another order by one of the lines, or by all, or nothing is said of it
 abbrev pub IsColumnsText : List Text → Text → Type 0
 IsColumnsText lines text =
     (text ≡ []) ⊎ ((text ≡ line (codes "the lines look like a table; its columns may stand in another order than the options" ∷ []))
-    ⊎ ((number : ℕ) × (1 ≤ number) × (number ≤ length lines) × (text ≡ line (
-    codes "line " ∷ decimal number ∷ codes " names options of the poll in another order than the poll has them: the ranks below it may stand in that order" ∷ []))))
+    ⊎ ((number : ℕ) × (1 ≤ number) × (number ≤ length lines) × (text ≡ order_text number)))
 
 -- that lines are counted, if the line with the number of the last envelope is there, and a line is refused that is not late
 abbrev pub counted_text : PollContent → List Text → Text
