@@ -355,7 +355,7 @@ class Rewritten(BookTest):
         self.done("close")
         self.done("desk", given="dan 1,2,3,4\n")
         with contextlib.closing(sqlite3.connect(self.book)) as connection:
-            ballots = [line for line, in connection.execute("SELECT line FROM envelope_now WHERE in_time ORDER BY envelope")]
+            ballots = [line for line, in connection.execute("SELECT line FROM ballot ORDER BY envelope")]
         self.assertEqual(ballots, [b"ben 2,1,3,4", b"cleo 1,2,3,4"])
 
     def test_lines_of_any_bytes(self) -> None:
