@@ -105,9 +105,9 @@ class AsItCame(Before):
         before = self.last_act()
         for words in ((), ("--force",)):
             said = "more: it has two different ballots of cleo (row 2 and row 3)"
-            self.assert_stops(self.election("add", *TABLE, *words, "more"), before, 9, said, "--oldest-first or --newest-first")
+            self.assert_refused(("add", *TABLE, *words, "more"), 9, said, "--oldest-first or --newest-first")
         older = "more: the ballot of cleo in row 3 is older than that in row 2, which came before, and would replace it"
-        self.assert_stops(self.election("add", *TABLE, "--newest-first", "more"), before, 9, older)
+        self.assert_refused(("add", *TABLE, "--newest-first", "more"), 9, older)
         self.assert_ignored(1, 2, *TABLE, "--oldest-first")
         self.assertEqual(self.lines()[3:], [f"cleo {OTHER_RANKS}", f"dan {RANKS}"])
         # by now both came before, in whatever order
