@@ -107,12 +107,14 @@ class WhenDebvoteRuns(CalledTest):
 
     def test_three_times_at_most_and_never_within_an_act(self) -> None:
         lines = f"Ada {RANKS}\nGsu {RANKS}\nben {RANKS}\n"
-        self.assertEqual(self.asked("add", "--look", given=lines), ["explain", "explain", "steps"])
-        self.assertEqual(self.asked("add", given=lines), ["explain", "explain", "steps"])
-        self.assertEqual(self.asked("add", given=f"cleo {RANKS}\n"), ["explain", "steps"])
-        self.assertEqual(self.asked("desk", given=f"ada {OTHER_RANKS}\n"), ["explain", "steps"])
-        self.assertEqual(self.asked("show", "ada"), ["explain"])
-        self.assertEqual(self.asked("strike", 1, "--because", "a test"), ["standing"])
-        self.assertEqual(self.asked("undo"), ["standing"])
-        self.assertEqual(self.asked("undo"), ["standing"])
+        for words, given, asked in (
+            (("add", "--look"), lines, ["explain", "explain", "steps"]),
+            (("add",), lines, ["explain", "explain", "steps"]),
+            (("add",), f"cleo {RANKS}\n", ["explain", "steps"]),
+            (("desk",), f"ada {OTHER_RANKS}\n", ["explain", "steps"]),
+            (("show", "ada"), None, ["explain"]),
+            (("strike", 1, "--because", "a test"), None, ["standing"]),
+            *[(("undo",), None, ["standing"])] * 2,
+        ):
+            self.assertEqual(self.asked(*words, given=given), asked, words)
         self.assertEqual(len(queries.envelopes(self.book)), 5)
