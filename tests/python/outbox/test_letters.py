@@ -50,7 +50,7 @@ class Call(OutTest):
         found = self.written("call")
         mark = re.search(r"\[([0-9a-f]{16})\]", self.read("call/call.txt").decode())
         assert mark is not None
-        ids, own_marks = set(), dict(self.book().rows("SELECT name, mark FROM elector JOIN elector_state USING (elector) WHERE mark <> ''"))
+        ids, own_marks = set(), dict(self.book.rows("SELECT name, mark FROM elector JOIN elector_state USING (elector) WHERE mark <> ''"))
         self.assertEqual(len(set(own_marks.values())), 9)
         for name, message in found.items():
             self.assertEqual(message["To"], f"{name}@club.example")
@@ -69,23 +69,23 @@ class Call(OutTest):
     def test_again_it_makes_the_same_files_and_no_act(self) -> None:
         self.written("call")
         before = {file: file.read_bytes() for file in self.files("call")}
-        last = self.book().last_number()
+        last = self.book.last_number()
         for file in before:
             file.unlink()
         self.set_clock("2026-11-24T11:00:00+00:00")
         self.written("call")
         self.assertEqual({file: file.read_bytes() for file in self.files("call")}, before)
-        self.assertEqual(self.book().last_number(), last)
+        self.assertEqual(self.book.last_number(), last)
 
     def test_an_answer_to_it_goes_in(self) -> None:
         """Who knows the own mark of an elector and the Message-ID of a letter to them may put a quotation above the ballot, and nobody else."""
         found = self.written("call")
         quoted = "\n".join(f"> {line}" for line in found["ada"].get_content().splitlines()[:12])
-        [own] = self.book().rows("SELECT mark FROM elector JOIN elector_state USING (elector) WHERE name = 'ada' AND mark <> ''")
+        [own] = self.book.rows("SELECT mark FROM elector JOIN elector_state USING (elector) WHERE name = 'ada' AND mark <> ''")
         for name, other in (("ada", "ada"), ("ben", "ada")):
             head = f"In-Reply-To: {found[other]['Message-ID']}\nSubject: Re: Vote [{elections.ANY_MARK}-{own[0]}]\n"
             text = f"On 23 November 2026 you wrote:\n{quoted}\n\n{name} {RANKS}\n"
-            self.add_letters(letter(name, text, head=head, time="Mon, 23 Nov 2026 09:59:00 +0000", number=name))
+            self.add(letter(name, text, head=head, time="Mon, 23 Nov 2026 09:59:00 +0000", number=name))
         self.assertIn("ada", self.debvote_standing())
         self.assertNotIn("ben", self.debvote_standing())
 
@@ -101,8 +101,7 @@ class Call(OutTest):
     def test_after_an_extension_those_who_have_the_call_get_its_letter(self) -> None:
         self.written("call")
         # whose address was wrong has no call yet
-        self.write("members.csv", elections.members_of(elections.NAMES).replace("ada@club", "ada@new"))
-        self.done("roll", "--yes")
+        self.change_roll("ada@club", "ada@new")
         self.done("call", "--until", "2026-12-06 12:00", "--zone", "UTC")
         found = self.written("call")
         texts = {name: one_line(message) for name, message in found.items()}
@@ -204,8 +203,8 @@ class OwnWords(OutTest):
         for name, message in self.written("call").items():
             head = f"In-Reply-To: {message['Message-ID']}\nSubject: Re: {message['Subject']}\n"
             text = f"{name} {RANKS}\n\nOn Monday the secretary wrote:\n{message.get_content()}"
-            self.add_letters(letter(name, text, head=head, number=name, time="Mon, 23 Nov 2026 09:59:00 +0000"))
-        self.assertEqual(json.loads(self.done("status", "--json").output)["voters"], 9)
+            self.add(letter(name, text, head=head, number=name, time="Mon, 23 Nov 2026 09:59:00 +0000"))
+        self.assertEqual(json.loads(self.told("status", "--json"))["voters"], 9)
 
 
 class CodesOnRoll(OutTest):
@@ -218,7 +217,7 @@ class CodesOnRoll(OutTest):
         for kind in ("call", "receipts", "reminders"):
             self.assert_fault(self.election("letters", kind), 9, "codes are on the roll", "call/call.txt")
         # so the close goes on to no letters
-        self.assertTrue(self.done("close").output.endswith(" before you count anything.\nNext: debvote-election count\n"))
+        self.assertTrue(self.told("close").endswith(" before you count anything.\nNext: debvote-election count\n"))
 
 
 class Paper(OutTest):
@@ -256,8 +255,7 @@ class Names(OutTest):
 
     def test_no_letter_takes_the_place_of_another(self) -> None:
         """Two letters to ada, at her old address and her new one, beside one to ada-2."""
-        self.write("members.csv", elections.members_of(self.names).replace(",ada@club", ",ada@new"))
-        self.done("roll", "--yes")
+        self.change_roll(",ada@club", ",ada@new")
         self.add_lines("ada 1", f"ada-2 {RANKS}")
         wanted = ["ada-2@club.example", "ada@club.example", "ada@new.example"]
         found = self.written("receipts").values()
@@ -318,13 +316,13 @@ class Receipts(OutTest):
         [ada, ben, cleo] = sorted(before, key=lambda file: file.name)
         self.assertEqual([ada.stem, ben.stem, cleo.stem], ["ada", "ben", "cleo"])
         shutil.rmtree(place)
-        output = self.done("letters", "receipts").output
+        output = self.told("letters", "receipts")
         self.assertEqual((there(), self.rows("receipts")), (before, rows))
         for file, said in ((ada, "2 earlier letters"), (cleo, "1 earlier letter")):
             self.assertIn(f"Wrote {said}, since the folder was not there: letters/receipts/{file.parent.name}\n", output)
         # a file that was taken out may have been sent
         ada.unlink()
-        self.assertEqual(self.done("letters", "receipts").output, "There is no letter to send.\n")
+        self.assertEqual(self.told("letters", "receipts"), "There is no letter to send.\n")
         self.assertFalse(ada.exists())
         self.done("strike", 2, "--because", "not his")
         shutil.rmtree(place)
@@ -355,7 +353,7 @@ class Receipts(OutTest):
         """A letter without a ballot, a line that is refused, a ballot that is taken back, and after the close one that is late."""
         self.add_lines(*(f"{name} {RANKS}" for name in ("ada", "ben", "cleo", "dan")))
         first = self.texts("receipts")
-        self.add_letters(letter("ada", "Thank you, all is right.\n"))
+        self.add(letter("ada", "Thank you, all is right.\n"))
         self.add_lines("ben 1,2")
         self.add_lines(f"cleo {OTHER_RANKS}")
         self.done("undo", "--yes")
@@ -380,45 +378,44 @@ class Receipts(OutTest):
 
     def test_a_letter_of_which_one_ballot_is_entered(self) -> None:
         """It waits for the other elector, who is told."""
-        self.add_letters(letter("ada", f"ada {RANKS}\nben {OTHER_RANKS}\n"))
+        self.add(letter("ada", f"ada {RANKS}\nben {OTHER_RANKS}\n"))
         self.done("held", 1, "--enter", 1)
         texts = self.texts("receipts")
         self.assertEqual(sorted(texts), ["ada", "ben"])
         self.assertIn("It counts unless you send a later one.", texts["ada"])
         self.assertIn(ELSEWHERE, texts["ben"])
-        shown = {name: "letter 1, from " in self.done("show", name).output for name in ("ada", "ben", "cleo")}
+        shown = {name: "letter 1, from " in self.told("show", name) for name in ("ada", "ben", "cleo")}
         self.assertEqual(shown, {"ada": True, "ben": True, "cleo": False})
 
     def test_letters_that_are_in_no_receipt_are_named(self) -> None:
         """Letters of a couple and of a stranger. Not a ballot in an elector's name, who is told, and not what a program wrote."""
-        self.write("members.csv", elections.members_of(elections.NAMES).replace("ben@club", "ada@club"))
-        self.done("roll", "--yes")
-        self.add_letters(letter("ada", f"Benjamin Lind {RANKS}\n"), letter("x", "Who are you?\n"))
-        self.add_letters(
+        self.change_roll("ben@club", "ada@club")
+        self.add(letter("ada", f"Benjamin Lind {RANKS}\n"), letter("x", "Who are you?\n"))
+        self.add(
             letter("x", f"eve {RANKS}\n"), letter("x", "away\n", head="Auto-Submitted: auto-replied\n"), letter("cleo", "Thank you.\n")
         )
         said = "No receipt is about these letters that wait, since no elector alone has the sender's address: 1, 2\n"
-        output = self.done("letters", "receipts").output
+        output = self.told("letters", "receipts")
         self.assertTrue(output.startswith(said), output)
         self.assertEqual([file.stem for file in self.files("receipts")], ["cleo", "eve"])
-        self.assertEqual(self.done("letters", "receipts").output, f"{said}5 letters wait until you have looked at them: debvote-election held\nThere is no letter to send.\n")
-        held = self.done("held").output.replace("\n        ", "\n")
+        self.assertEqual(self.told("letters", "receipts"), f"{said}5 letters wait until you have looked at them: debvote-election held\nThere is no letter to send.\n")
+        held = self.told("held").replace("\n        ", "\n")
         self.assertIn("no ballot found\nother words: Who are you?\n", held)
         self.assertIn(f"no ballot found\nother words: Benjamin Lind {RANKS}\nsame address: ada, ben\n", held)
         self.done("held", 1, 2, "--set-aside")
         waits = "3 letters wait until you have looked at them: debvote-election held\n"
-        self.assertEqual(self.done("letters", "receipts").output, f"{waits}There is no letter to send.\n")
+        self.assertEqual(self.told("letters", "receipts"), f"{waits}There is no letter to send.\n")
 
     def test_undo_names_those_whose_receipts_no_longer_hold(self) -> None:
         self.add_lines(f"ada {RANKS}")
         self.add_lines(f"ben {RANKS}", f"cleo {RANKS}")
         self.assertEqual(sorted(self.texts("receipts")), ["ada", "ben", "cleo"])
         self.add_lines(f"ben {OTHER_RANKS}", f"dan {RANKS}")
-        self.assertNotIn("receipt", self.done("undo", "--yes").output)
-        self.assertIn("\nThese electors have receipts that are no longer true: ben, cleo\n", self.done("undo", "--yes").output)
+        self.assertNotIn("receipt", self.told("undo", "--yes"))
+        self.assertIn("\nThese electors have receipts that are no longer true: ben, cleo\n", self.told("undo", "--yes"))
 
     def test_letters(self) -> None:
-        self.add_letters(
+        self.add(
             letter("ada", f"Ada: {RANKS}.\n"),
             letter("ben", "ben 1,2\n"),
             letter("cleo", f"dan {RANKS}\n"),
@@ -454,7 +451,7 @@ class Receipts(OutTest):
 
     def test_a_ballot_that_the_secretary_typed_for_a_letter(self) -> None:
         """It is told as the letter, with its time, and how it was read; one that was entered as it stood is told without that."""
-        self.add_letters(letter("ada", "I want the lake, then the town hall.\n"), letter("ben", f"Hello 1\nben {RANKS}\n"))
+        self.add(letter("ada", "I want the lake, then the town hall.\n"), letter("ben", f"Hello 1\nben {RANKS}\n"))
         self.assertIn("No ballot from it is entered yet", self.texts("receipts")["ada"])
         self.done("held", 1, "--as", f"ada {RANKS}")
         self.done("held", 2, "--enter", 2)
@@ -466,7 +463,7 @@ class Receipts(OutTest):
 
     def test_a_copy_is_the_letter_that_it_copies(self) -> None:
         first = letter("ada", f"ada {RANKS}\n")
-        self.add_letters(
+        self.add(
             first,
             first.replace(b"Received: from a", b"Received: from c"),
             letter("ben", "hi\n"),
@@ -476,18 +473,18 @@ class Receipts(OutTest):
         self.assertEqual({name: text.count("has arrived") for name, text in texts.items()}, {"ada": 1, "ben": 1})
 
     def test_an_address_that_is_written_in_capitals(self) -> None:
-        self.add_letters(letter("ada", "hi\n", sender="ADA@Club.Example"))
+        self.add(letter("ada", "hi\n", sender="ADA@Club.Example"))
         self.assertIn("Your letter of", self.texts("receipts")["ada"])
 
     def test_one_that_was_set_aside_before_the_receipt(self) -> None:
-        self.add_letters(letter("ada", "hello\n"), letter("ben", f"ben {RANKS}\n", sender="x@x.example"))
+        self.add(letter("ada", "hello\n"), letter("ben", f"ben {RANKS}\n", sender="x@x.example"))
         self.done("held", 1, 2, "--set-aside")
         texts = self.texts("receipts")
         self.assertIn("No ballot from it was entered. The reason: the secretary has looked at it, and set it aside.", texts["ada"])
         self.assertIn("A letter in your name came from another address. The secretary has set it aside.", texts["ben"])
 
     def test_one_for_each_elector_and_run(self) -> None:
-        self.add_letters(
+        self.add(
             letter("ada", f"ada {RANKS}\n", number=1, time="Mon, 23 Nov 2026 08:00:00 +0000"),
             letter("ada", f"ada {OTHER_RANKS}\n", number=2, time="Mon, 23 Nov 2026 09:00:00 +0000"),
             letter("ada", "thanks\n", number=3, time="Mon, 23 Nov 2026 09:30:00 +0000"),
@@ -500,14 +497,13 @@ class Receipts(OutTest):
         self.assertEqual(places, sorted(places))
 
     def test_the_next_one_goes_to_the_old_address_too(self) -> None:
-        self.write("members.csv", elections.members_of(elections.NAMES).replace("ada@club", "ada@new"))
-        self.done("roll", "--yes")
+        self.change_roll("ada@club", "ada@new")
         self.add_lines(f"ada {RANKS}", f"ben {RANKS}")
         found = self.written("receipts")
         self.assertEqual(
             sorted(message["To"] for message in found.values()), ["ada@club.example", "ada@new.example", "ben@club.example"]
         )
-        shown = self.done("show", "ada").output
+        shown = self.told("show", "ada")
         for address in ("ada@club.example", "ada@new.example"):
             self.assertIn(f"  receipt, 2026-11-23 10:00:00 UTC, to {address}: written\n", shown)
         self.add_lines(f"ada {OTHER_RANKS}")
@@ -531,7 +527,7 @@ class Receipts(OutTest):
             )
             for number, text in enumerate(evil)
         ]
-        self.add_letters(*letters)
+        self.add(*letters)
         [message] = self.written("receipts").values()
         self.assertEqual(message["To"], "ada@club.example")
         names = [name for name, _ in message.raw_items()]
@@ -590,7 +586,7 @@ class FullDisk(OutTest):
         ):
             for count in counts:
                 with self.subTest(call=call, count=count):
-                    number = len(self.book().acts())
+                    number = len(self.book.acts())
                     for name in self.names:
                         self.add_lines(f"{name} {1 + number % 90},{1 + number // 90},-,1")
                     before = len(self.rows("receipts"))
@@ -612,7 +608,7 @@ class FullDisk(OutTest):
 class Reminders(OutTest):
     def test_to_whom(self) -> None:
         self.add_lines(f"ada {RANKS}", "ben 1,2")
-        self.add_letters(letter("cleo", "I want the lake\n"), letter("dan", f"dan {RANKS}\n", sender="x@x.example"))
+        self.add(letter("cleo", "I want the lake\n"), letter("dan", f"dan {RANKS}\n", sender="x@x.example"))
         texts = self.texts("reminders")
         self.assertEqual(sorted(texts), [name for name in elections.NAMES if name != "ada"])
         begin = f"Dear Ben, No ballot of yours that counts has come yet. {WHEN} {FORM}#ben/"
@@ -626,7 +622,7 @@ class Reminders(OutTest):
         self.assertIn("dan _,_,_,_", texts["dan"])
 
     def test_an_own_letter_that_waits_behind_one_of_a_stranger(self) -> None:
-        self.add_letters(
+        self.add(
             letter("ada", f"ada {RANKS}\n", sender="x@x.example", time="Mon, 23 Nov 2026 08:00:00 +0000"),
             letter("ada", "I want the lake\n", number=2, time="Mon, 23 Nov 2026 09:00:00 +0000"),
         )
@@ -639,7 +635,7 @@ class Reminders(OutTest):
             self.done("call", "--until", f"2026-12-{day:02} 18:00", "--zone", "UTC")
             self.assertIn(f"Until when: {words} 2026, 18:00 (UTC)", self.texts("reminders")["ada"])
             self.set_clock(f"2026-12-{day - 1:02}T10:00:00+00:00")
-            self.add_letters(letter("ben", "hi\n", number=day, time=f"Fri, {day - 1:02} Dec 2026 09:00:00 +0000"))
+            self.add(letter("ben", "hi\n", number=day, time=f"Fri, {day - 1:02} Dec 2026 09:00:00 +0000"))
             receipt = self.texts("receipts")["ben"]
             self.assertNotIn("after the end", receipt)
             self.set_clock("2026-11-23T10:00:00+00:00")
@@ -655,7 +651,7 @@ class NoBallots(OutTest):
         (self.folder / "texts").mkdir()
         found = dict(self.written("call"))
         self.add_lines(f"ada {RANKS}", "ben 1,2", f"cleo {RANKS}", f"cleo {OTHER_RANKS}")
-        self.add_letters(letter("dan", f"I vote dan {RANKS} today\n"), letter("eve", f"fay {RANKS}\ngus {RANKS}\n"))
+        self.add(letter("dan", f"I vote dan {RANKS} today\n"), letter("eve", f"fay {RANKS}\ngus {RANKS}\n"))
         kinds = {"call": found, "receipts": self.written("receipts"), "reminders": self.written("reminders")}
         self.done("close", "--early", "--force", "--because", "cleo 1,2,3,4")
         kinds["closed"] = self.written("closed")
@@ -796,10 +792,10 @@ class ResultAt(OutTest):
         self.assert_fault(self.election("letters", "result"), 2, "--at: the letter must say where the result is published")
         self.assert_fault(self.election("letters", "result", "--at", "ftp://x"), 2, "it must be the address of a page")
         self.assertIn("https://x.example/r/#ada", self.texts("result", "--at", "https://x.example/r/")["ada"])
-        acts = [(act.name, act.detail) for act in self.book().acts()]
+        acts = [(act.name, act.detail) for act in self.book.acts()]
         self.assertEqual(acts.count(("announce", {"at": "https://x.example/r/"})), 1)
         self.texts("result", "--at", "https://x.example/r/")
-        self.assertEqual(len(self.book().acts()), len(acts))
+        self.assertEqual(len(self.book.acts()), len(acts))
         self.assertIn("https://x.example/r/#ada", self.texts("result")["ada"])
         self.assertIn("https://x.example/s/#ada", self.texts("result", "--at", "https://x.example/s/")["ada"])
 
@@ -807,9 +803,8 @@ class ResultAt(OutTest):
 class Family(OutTest):
     def test_who_is_told_of_a_letter_with_two_ballots(self) -> None:
         """Of the ballot that was entered its elector is told once, and the other one that the letter waits."""
-        self.write("members.csv", elections.members_of(elections.NAMES).replace("ben@", "ada@"))
-        self.done("roll", "--yes")
-        self.add_letters(letter("ada", f"ada {RANKS}\nben {OTHER_RANKS}\n"))
+        self.change_roll("ben@", "ada@")
+        self.add(letter("ada", f"ada {RANKS}\nben {OTHER_RANKS}\n"))
         self.done("held", 1, "--enter", 1)
         texts = self.texts("receipts")
         self.assertEqual(texts["ada"].count("has arrived"), 1, texts["ada"])
@@ -821,7 +816,7 @@ class Secret(OutTest):
     poll = elections.POLL + "secret = true\n"
 
     def codes(self) -> dict[str, str]:
-        return dict(self.book().rows("SELECT name, code FROM elector JOIN elector_state USING (elector) WHERE code <> ''"))
+        return dict(self.book.rows("SELECT name, code FROM elector JOIN elector_state USING (elector) WHERE code <> ''"))
 
     def test_each_letter_of_the_call_has_the_code_of_its_own_elector(self) -> None:
         codes = self.codes()
@@ -847,8 +842,8 @@ class Secret(OutTest):
         self.assertEqual([mark], [mark for mark, _ in re.findall(MARKS, found["Subject"])])
         self.assertRegex(one_line(found), rf"the result will be: {AT} {LINE}ada _,_,_,_ ")
         head = f"In-Reply-To: {found['Message-ID']}\nSubject: Re: {found['Subject']}\n"
-        self.add_letters(letter("ada", f"ada {RANKS}\n", head=head, time="Mon, 23 Nov 2026 09:59:00 +0000"))
-        self.assertEqual(json.loads(self.done("status", "--json").output)["valid"], 1)
+        self.add(letter("ada", f"ada {RANKS}\n", head=head, time="Mon, 23 Nov 2026 09:59:00 +0000"))
+        self.assertEqual(json.loads(self.told("status", "--json"))["valid"], 1)
 
     def test_a_doubt_tells_no_number_of_lines(self) -> None:
         for line in (f"ada {RANKS}", "ben 1", "cleo 1"):
@@ -862,12 +857,12 @@ class Secret(OutTest):
     def test_nothing_else_has_codes_or_ranks(self) -> None:
         codes = self.codes()
         self.add_lines(f"ada {RANKS}", "ben 1,2")
-        self.add_letters(letter("cleo", f"{codes['cleo']} {RANKS}\n"), letter("dan", f"dan {RANKS}\n{codes['dan']}\n"))
+        self.add(letter("cleo", f"{codes['cleo']} {RANKS}\n"), letter("dan", f"dan {RANKS}\n{codes['dan']}\n"))
         found = [*self.written("receipts").values(), *self.written("reminders").values()]
         self.done("call", "--until", "2026-12-06 12:00", "--zone", "UTC")
         self.done("close", "--early", "--force", "--because", "x")
         found += self.written("closed").values()
-        aliases = [alias for alias, in self.book().rows("SELECT alias FROM elector_state WHERE alias <> ''")]
+        aliases = [alias for alias, in self.book.rows("SELECT alias FROM elector_state WHERE alias <> ''")]
         self.done("publish", "--yes")
         private = self.run_program("sh", "-c", "cd out && sha256sum *").output if self.done("export", "out") else ""
         results = self.texts("result")

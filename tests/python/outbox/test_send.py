@@ -72,7 +72,7 @@ class Sending(SendTest):
         self.assertIn("Next: in a quarter of an hour, or with corrected addresses, try again: debvote-election letters call", ended.output)
         self.assertNotIn("\x1b", ended.output)
         for name, said in {"ada": "refused (550 5.1.1 no such", "ben": "refused (451 4.7.1 greylisted)\n", "eve": "taken\n"}.items():
-            self.assertIn(f"UTC, to {name}@club.example: {said}", self.done("show", name).output)
+            self.assertIn(f"UTC, to {name}@club.example: {said}", self.told("show", name))
         self.assertEqual(self.server.addresses(), ALL[4:])
         # each run tries them again
         self.server.rcpt_answers = {"ada@club.example": "550 5.1.1 no such user"}
@@ -85,8 +85,7 @@ class Sending(SendTest):
         self.assertEqual(list(self.written("call")), ["ada"])
         # a new address is another try, with a new own mark
         marks = [message["Subject"][-11:] for message in [self.written("call")["ada"]]]
-        self.write("members.csv", elections.members_of(elections.NAMES).replace("ada@club", "ada@new"))
-        self.done("roll", "--yes")
+        self.change_roll("ada@club", "ada@new")
         self.assertEqual(self.send("call").status, 0)
         self.assertEqual(self.server.addresses()[8:], ["ada@new.example"])
         self.assertEqual(len(marks), 1)
@@ -94,7 +93,7 @@ class Sending(SendTest):
 
     def not_reached(self) -> dict[str, str]:
         """Whom `status` names, in both of its forms, with the reason."""
-        found, said = json.loads(self.done("status", "--json").output)["not_reached"], self.done("status").output
+        found, said = json.loads(self.told("status", "--json"))["not_reached"], self.told("status")
         for reason in {*found.values()}:
             names = [name for name, why in found.items() if why == reason]
             self.assertIn(f"Not reached by the call: {reason} ({len(names)}):\n  {' '.join(names)}\n", said)
@@ -117,23 +116,21 @@ class Sending(SendTest):
 
     def test_who_got_no_letter_is_named(self) -> None:
         """One whose address changed since, and those whom a run that was cut off did not come to; not who gets it printed."""
-        self.write("members.csv", elections.members_of(elections.NAMES).replace("gus@club.example", ""))
-        self.done("roll", "--yes")
+        self.change_roll("gus@club.example", "")
         self.assertEqual(self.not_reached(), {})
         self.server.at = lambda step, number: (step, number) == ("data", 6)
-        self.assertEqual(json.loads(self.done("status", "--json").output)["printed"], [])
+        self.assertEqual(json.loads(self.told("status", "--json"))["printed"], [])
         self.assertEqual(self.send("call").status, 7)
         self.server.at = lambda step, number: False
         self.assertEqual(self.not_reached(), {"hal": "no letter", "ida": "no letter"})
-        self.assertEqual(json.loads(self.done("status", "--json").output)["printed"], ["gus"])
-        self.assertIn("Get the call printed (1):\n  gus\n", self.done("status").output)
+        self.assertEqual(json.loads(self.told("status", "--json"))["printed"], ["gus"])
+        self.assertIn("Get the call printed (1):\n  gus\n", self.told("status"))
         ended = self.send("call")
         self.assertIn("Without an address: gus. Print letters/call/", ended.output)
         self.assertNotIn("Not reached", ended.output)
-        self.write("members.csv", elections.members_of(elections.NAMES).replace("ada@club", "ada@new"))
-        self.done("roll", "--yes")
+        self.change_roll("ada@club", "ada@new")
         self.assertEqual(self.not_reached(), {"ada": "no letter", "gus": "no letter"})
-        self.assertIn("Not reached by the call: ada (no letter), gus (no letter)\n", self.done("letters", "receipts").output)
+        self.assertIn("Not reached by the call: ada (no letter), gus (no letter)\n", self.told("letters", "receipts"))
         self.send("call")
         self.assertEqual(self.not_reached(), {})
 
@@ -158,19 +155,19 @@ class Sending(SendTest):
         parts = ("text/plain", "I'm sorry to have to inform you that your message could not be delivered."), inner
         text = "".join(f"--b\nContent-Type: {kind}\n\n{part}\n" for kind, part in parts)
         kind = 'multipart/report; report-type=delivery-status; boundary="b"'
-        self.add_letters(letter(name, f"{text}--b--\n", sender=sender, kind=kind, number=f"{what}{len(self.server.taken)}"))
+        self.add(letter(name, f"{text}--b--\n", sender=sender, kind=kind, number=f"{what}{len(self.server.taken)}"))
 
     def test_what_is_no_letter_that_came_back(self) -> None:
         """A program answers for somebody who is away; a delivery is late, or done."""
         self.assertEqual(self.send("call").status, 0)
         [subject] = [parsed(taken.data)["Subject"] for taken in self.server.taken if taken.to == "ada@club.example"]
         away = {"head": f"Auto-Submitted: auto-replied\nReturn-Path: <>\nSubject: Re: {subject}\n", "sender": "ada.private@mail.example"}
-        self.add_letters(letter("ada", "I am away.", number="away", **away))
+        self.add(letter("ada", "I am away.", number="away", **away))
         for action, wanted in (("delayed", {}), ("delivered", {}), ("failed", {"ada": "came back"})):
             report = f"--b\nContent-Type: message/delivery-status\n\nReporting-MTA: dns; x\n\nAction: {action}\n"
             text = f"{report}--b\nContent-Type: text/rfc822-headers\n\nSubject: {subject}\n--b--\n"
             kind = 'multipart/report; report-type=delivery-status; boundary="b"'
-            self.add_letters(letter("ada", text, sender="mailer-daemon@mail.example", kind=kind, number=action))
+            self.add(letter("ada", text, sender="mailer-daemon@mail.example", kind=kind, number=action))
             self.assertEqual(self.not_reached(), wanted, action)
 
     def test_whose_letter_came_back_is_named_and_gets_it_again(self) -> None:
@@ -182,7 +179,7 @@ class Sending(SendTest):
                 self.assertEqual(self.send("call").status, 0)
                 self.came_back("ada", what)
                 self.assertEqual(self.not_reached(), {"ada": "came back"})
-                self.assertIn("Not reached by the call: ada (came back)\n", self.done("letters", "receipts").output)
+                self.assertIn("Not reached by the call: ada (came back)\n", self.told("letters", "receipts"))
                 first = parsed(self.server.taken[0].data)
                 ended = self.send("call")
                 self.assertIn("Sent 1 of 1 letter.\n", ended.output)
@@ -200,8 +197,7 @@ class Sending(SendTest):
         self.assertIn("There is no letter to send", self.send("call").output)
 
     def test_an_old_address_that_refuses_is_no_fault(self) -> None:
-        self.write("members.csv", elections.members_of(elections.NAMES).replace("ada@club", "ada@new"))
-        self.done("roll", "--yes")
+        self.change_roll("ada@club", "ada@new")
         self.add_lines(f"ada {RANKS}")
         for address, is_named in (("ada@club.example", False), ("ada@new.example", True)):
             self.server.rcpt_answers = {address: "550 no"}
@@ -230,8 +226,7 @@ class Sending(SendTest):
         self.server.rcpt_answers = {"ada@club.example": "450 4.1.2 domain not found"}
         for _ in range(2):
             self.assertIn("Refused: ada, ada@club.example", self.send("receipts").output)
-        self.write("members.csv", elections.members_of(elections.NAMES).replace("ada@club", "ada@new"))
-        self.done("roll", "--yes")
+        self.change_roll("ada@club", "ada@new")
         self.assertIn("Sent 1 of 2 letters.", self.send("receipts").output)
         self.assertEqual(self.server.addresses(), ["ben@club.example", "ada@new.example"])
         # the old address gets it, too, as soon as it can
@@ -243,16 +238,14 @@ class Sending(SendTest):
     def test_a_receipt_that_is_a_file_goes_to_a_new_address(self) -> None:
         self.add_lines(f"ada {RANKS}")
         self.done("letters", "receipts")
-        self.write("members.csv", elections.members_of(elections.NAMES).replace("ada@club", "ada@new"))
-        self.done("roll", "--yes")
+        self.change_roll("ada@club", "ada@new")
         for _ in range(2):
             self.assertEqual(self.send("receipts").status, 0)
             self.assertEqual(sorted(self.server.addresses()), ["ada@club.example", "ada@new.example"])
 
     def test_a_receipt_on_paper_is_printed_once(self) -> None:
         """Ada has no address any longer."""
-        self.write("members.csv", elections.members_of(elections.NAMES).replace("ada@club.example", ""))
-        self.done("roll", "--yes")
+        self.change_roll("ada@club.example", "")
         self.add_lines(f"ada {RANKS}", f"ben {RANKS}")
         place = self.folder / "letters" / "receipts"
         self.assertIn("Without an address: ada. Print letters/receipts/", self.send("receipts").output)
@@ -274,8 +267,7 @@ class Sending(SendTest):
         self.assertEqual(len(list(place.rglob("*.html"))), 2)
 
     def test_files_to_a_new_address_and_to_the_old_one_are_sent_once_each(self) -> None:
-        self.write("members.csv", elections.members_of(elections.NAMES).replace("ada@club", "ada@new"))
-        self.done("roll", "--yes")
+        self.change_roll("ada@club", "ada@new")
         self.add_lines(f"ada {RANKS}")
         self.done("letters", "receipts")
         for _ in range(2):
@@ -392,8 +384,7 @@ class Sending(SendTest):
         del self.server.rcpt_answers["ben@club.example"]
         for tried in (2, 1):
             self.assertIn(f"Sent {tried - 1} of {count_of(tried, 'letter')}.", self.send("receipts").output)
-        self.write("members.csv", elections.members_of(elections.NAMES).replace("ada@club", "ada@new"))
-        self.done("roll", "--yes")
+        self.change_roll("ada@club", "ada@new")
         ended = self.send("receipts")
         # the old address, which refused it for good, is not tried again
         self.assertEqual((ended.status, ended.output), (0, "Sent 1 of 1 letter.\n"))
@@ -403,7 +394,7 @@ class Sending(SendTest):
 
     def test_a_receipt_that_is_outdated_before_it_is_taken(self) -> None:
         """It would tell of nothing: the letter that it is about is a ballot now."""
-        self.add_letters(letter("cleo", f"dan {RANKS}\n"))
+        self.add(letter("cleo", f"dan {RANKS}\n"))
         self.server.rcpt_answers = {"dan@club.example": "451 later"}
         self.assertEqual(self.send("receipts").status, 9)
         self.done("held", 1, "--enter", 1)
@@ -418,7 +409,7 @@ class Remembered(SendTest):
 
     def test_the_server_of_the_last_letters(self) -> None:
         self.assert_fault(self.election("letters", "call", "--send"), 2, "--send: no server is named", "give --server HOST[:PORT]")
-        self.assertIn("or by debvote-election letters call --send --server HOST\n", self.done("letters", "call").output)
+        self.assertIn("or by debvote-election letters call --send --server HOST\n", self.told("letters", "call"))
         self.send("call")
         ended = self.election("letters", "reminders", "--send")
         self.assertEqual(ended.status, 0, ended)
@@ -441,7 +432,7 @@ class Remembered(SendTest):
         self.write("password", "right\n")
         words = ("--user", "vote", "--password-file", "password")
         self.assertEqual(self.send("call", *words).status, 0)
-        details = [act.detail for act in self.book().acts() if act.name == "letter sent"]
+        details = [act.detail for act in self.book.acts() if act.name == "letter sent"]
         self.assertEqual(details, [{"kind": "call", "server": self.server.name, "user": "vote"}] * 9)
         ended = self.election("letters", "reminders", "--send")
         self.assert_fault(ended, 2, "the password of vote can't be asked here")
@@ -458,7 +449,7 @@ class Remembered(SendTest):
         moved = ("--moved", "--because", "a rehearsal")
         self.assert_fault(self.election("letters", "reminders", "--send", *moved), 2, "no server is named", "act 14 (moved) was done")
         self.assertEqual(self.server.addresses(), ALL)
-        self.assertIn("--server HOST\n", self.done("letters", "reminders").output)
+        self.assertIn("--server HOST\n", self.told("letters", "reminders"))
         self.assertEqual(self.send("reminders").status, 0)
 
     def test_a_server_that_is_gone(self) -> None:
@@ -562,8 +553,7 @@ class Reminders(SendTest):
         self.assertIn("Sent 8 of 8 letters.", self.send("reminders").output)
 
     def test_a_letter_on_paper_holds_up_no_later_run(self) -> None:
-        self.write("members.csv", elections.members_of(elections.NAMES).replace("ada@club.example", ""))
-        self.done("roll", "--yes")
+        self.change_roll("ada@club.example", "")
         for count in (8, 16):
             self.assertEqual(self.send("reminders").status, 0)
             self.assertEqual(len(self.server.taken), count)
@@ -571,8 +561,7 @@ class Reminders(SendTest):
     def test_nor_does_one_to_an_address_that_its_elector_no_longer_has(self) -> None:
         self.server.rcpt_answers = {"ben@club.example": "451 later", "dan@club.example": "451 later"}
         self.assertEqual(self.send("reminders").status, 9)
-        self.write("members.csv", elections.members_of(elections.NAMES).replace("ben@club", "ben@new"))
-        self.done("roll", "--yes")
+        self.change_roll("ben@club", "ben@new")
         self.server.rcpt_answers = {}
         self.assertEqual(self.send("reminders").status, 0)
         self.assertEqual(self.server.addresses()[7:], ["dan@club.example"])
