@@ -218,6 +218,16 @@ class SendTest(OutTest):
     def send(self, kind: str, *words: object) -> elections.Ended:
         return self.election("letters", kind, "--send", "--server", self.server.name, *words)
 
+    def assert_sent(self, kind: str, said: str = "", status: int = 0) -> elections.Ended:
+        """Letters of a kind are sent; the run says this, and ends so."""
+        ended = self.send(kind)
+        self.assertEqual(ended.status, status, ended)
+        self.assertIn(said, ended.output)
+        return ended
+
+    def assert_none_is_due(self, kind: str) -> None:
+        self.assert_sent(kind, "There is no letter to send: the server has taken all that are due.\n")
+
     def sending(self, kind: str) -> subprocess.Popen:
         """A run that sends letters beside this test."""
         env = elections.environment() | self.clock | {"XDG_STATE_HOME": str(self.state)}

@@ -189,6 +189,11 @@ class Since(Before):
         self.assertIn("3 counted  ada: ", self.assert_ignored(1, 1, "--again", name="monday"))
         self.assertNotIn("struck", self.assert_ignored(2, 0, name="monday"))
 
+    def test_of_equal_lines_the_struck_one_came_last(self) -> None:
+        self.told("add", given=f"ada {RANKS}\nada {RANKS}\n")
+        self.told("strike", 1, "--because", "a test")
+        self.assertNotIn("--again", self.assert_ignored(2, 0, name="monday"))
+
     def test_in_two_files_at_once_it_is_taken_once(self) -> None:
         self.told("strike", 1, "--because", "a test")
         self.write("copy", MONDAY)
