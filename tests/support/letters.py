@@ -1,6 +1,5 @@
 """What the tests of letters that come share: letters, what is known when they are judged, and debvote, which is asked about lines."""
 
-import dataclasses
 import datetime
 import os
 import re
@@ -208,7 +207,3 @@ def outcomes(*letters: bytes | ParsedLetter, **other: object) -> list[str]:
 def lines_in(*letters: bytes | ParsedLetter, **other: object) -> list[str]:
     """The ballots that go in, in their order."""
     return [one.ballots[0].ballot for one in judged(*letters, **other) if one.outcome is Outcome.GOES_IN]
-
-
-def with_time(one: ParsedLetter, time: datetime.datetime) -> ParsedLetter:
-    return dataclasses.replace(one, arrived=time)
