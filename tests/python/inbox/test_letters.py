@@ -87,10 +87,10 @@ class Adding(LettersTest):
         self.assertEqual(self.contents(), before)
 
     def test_asked_elsewhere_than_at_a_terminal(self) -> None:
-        self.assert_fault(self.election("add", self.box(letter("ada", f"ada {RANKS}"))), 9, "--yes", "the letters are kept")
-        self.assertEqual(self.exported()[0], "")
-        self.assertEqual(self.numbers()["waiting"], 1)
-        self.assertIn("1 counted", self.add(letter("ada", f"ada {RANKS}")))
+        box = self.box(letter("ada", f"ada {RANKS}"))
+        self.assert_fault(self.election("add", box), 9, "--yes", "the letters are kept")
+        self.assertEqual((self.exported()[0], self.numbers()["waiting"]), ("", 1))
+        self.assertIn("1 counted", self.told("add", "--yes", box))
 
     def test_another_act_between_question_and_answer(self) -> None:
         desk = Terminal(self, "add", str(self.box(letter("ada", f"ada {RANKS}"), letter("ben", f"ben {RANKS}"))))
@@ -200,7 +200,8 @@ class Adding(LettersTest):
         self.set_clock("2026-11-23T11:00:00+00:00")
         self.assertIn("after the end of the vote", self.add(letter("ada", f"ada {RANKS}")))
         self.told("call", "--until", "2026-11-24 09:00", "--zone", "UTC")
-        self.assertIn("1 counted", self.add(letter("ada", f"ada {RANKS}")))
+        self.add(letter("ben", f"ben {RANKS}"))
+        self.assertEqual(self.exported()[0], f"ada {RANKS}\nben {RANKS}\n")
 
 
 class ReadOnce(LettersTest):
@@ -524,6 +525,33 @@ class InTime(LettersTest):
         self.assertEqual(self.election("count").status, 1)
 
 
+class AtTheEnd(LettersTest):
+    call_words = ("--to", "vote@club.example", "--until", "2026-11-24 12:00", "--zone", "Europe/Berlin")
+    late = {"time": "Tue, 24 Nov 2026 13:00:00 +0000"}
+
+    def closed(self) -> tuple[object, ...]:
+        """What the page tells of letters that did not go in."""
+        detail = self.acts()[-1][1]
+        return detail["waiting"], detail["after_end"], detail.get("because")
+
+    def test_letters_of_after_the_end_need_no_act_at_the_close(self) -> None:
+        """Whatever else they wait for. Where none waits that came in time, the page has no reason to tell."""
+        away = letters.letter("ada", "I am away\n", head="Auto-Submitted: auto-replied\n", **self.late)
+        self.add(away, letters.letter("ben", f"> ben {RANKS}\n", sender="x, y", **self.late))
+        self.told("close", "--force", "--because", "in a hurry")
+        self.assertEqual(self.closed(), (0, 2, None))
+
+    def test_a_letter_in_time_needs_a_reason(self) -> None:
+        self.add(letter("ada", "hello"), letter("ben", f"ben {RANKS}", **self.late))
+        self.assertEqual(self.numbers()["waiting"], 2)
+        for words in ((), ("--force",), ("--force", "--because", " "), ("--because", "hello is no ballot")):
+            said = "these letters arrived in time, and wait: 1; nothing was changed: "
+            self.assert_refused(("close", *words), 9, said, "--force --because TEXT")
+        said = self.told("close", "--force", "--because", "hello is no ballot")
+        self.assertIn("\n1 letter that arrived in time did not go in; the result page says so.\n", said)
+        self.assertEqual(self.closed(), (1, 1, "hello is no ballot"))
+
+
 class BetweenCloses(LettersTest):
     """Who has seen the first close, or its numbers, does not vote again: only what arrived before it is in time."""
 
@@ -630,10 +658,10 @@ class Signed(LettersTest):
         place.mkdir()
         (place / "gpgv").write_text("#!/bin/sh\nexec sleep 60\n")
         (place / "gpgv").chmod(0o755)
+        words = ("add", "--yes", str(self.box(self.signed("ada"))))
         with mock.patch.object(signature, "SECONDS", 0.2):
-            said = self.in_this_process("add", "--yes", str(self.box(self.signed("ada"))), path=f"{place}:")
-        self.assertIn("gpgv did not answer about its signature in time", said)
-        self.assertIn("1 counted  ada: ", self.add(self.signed("ada")))
+            self.assertIn("gpgv did not answer about its signature in time", self.in_this_process(*words, path=f"{place}:"))
+        self.assertIn("1 counted  ada: ", self.told(*words))
 
     def test_a_copy_that_only_its_signature_shows_stops_no_close(self) -> None:
         """Its Message-ID is another, which nobody has signed."""
@@ -663,6 +691,9 @@ class TakenBack(LettersTest):
         self.told("undo", "--yes")
         self.assertEqual(self.exported()[0], "")
         self.assertIn("its ballot was taken back", self.told("held"))
+        # a copy with another head is the same letter
+        self.assertIn("2 letters wait", self.add(*(b"X-Status: R\n" + one for one in box)))
+        self.assert_fault(self.election("close"), 9, "these letters arrived in time, and wait: 1, 2")
         self.assertIn("0 ballots of letters went in; 2 letters wait", self.add(*box))
         self.told("held", "1", "--enter", "1")
         self.told("strike", "3", "--because", "she asked for it")
