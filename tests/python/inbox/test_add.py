@@ -122,9 +122,11 @@ class AfterTheEnd(CalledTest):
         self.assertEqual((self.lines(), self.late_lines()), (["ada 1,2,4,3"], ["ada 2,1,4,3", "ben x"]))
 
     def test_after_reopen_it_is_asked_and_kept(self) -> None:
+        self.write("bag", "ada 1,2,4,3\n")
+        said = "--came-before-close: the vote was never closed; nothing was added: "
+        self.assert_refused(("add", "--came-before-close", "yes", "bag"), 2, said)
         self.act("close", {"lines": 0, "checksum": "", "early": False})
         self.act("reopen", {"because": "a bag was forgotten"})
-        self.write("bag", "ada 1,2,4,3\n")
         said = " and opened again, and only what came before counts; nothing was added: say whether this came before that close: "
         self.assert_refused(("add", "bag"), 9, "--came-before-close: the vote was closed at ", said)
         self.assertIn("1 counted  ada: ", self.told("add", "--came-before-close", "yes", "bag"))
@@ -132,9 +134,6 @@ class AfterTheEnd(CalledTest):
         self.assertEqual((self.lines(), self.late_lines()), (["ada 1,2,4,3"], ["ben 1,2,4,3"]))
         self.assertEqual([detail["came_before_close"] for name, detail in self.acts() if name == "add"], [True, False])
 
-    def test_where_nobody_asks_for_an_answer(self) -> None:
-        said = "--came-before-close: the vote was never closed; nothing was added: "
-        self.assert_refused(("add", "--came-before-close", "yes"), 2, said, given="ada 1,2,4,3\n")
 
 
 class NoBallots(CalledTest):
@@ -204,21 +203,21 @@ class OtherOrder(CalledTest):
 
     ROWS = "ada 1,2,4,3\nben 1,2,4,3\ncleo 2,1,4,3\n"
 
-    def assert_named(self, head: str, place: str = "line 1") -> None:
+    def test_a_line_that_names_options_in_another_order(self) -> None:
         """The line is named, in the words of debvote explain."""
-        with self.subTest(head=head):
+        for head in (
+            "Name,In the town hall,At the lake,Further discussion,Sell the house and meet there\n",
+            "name in the TOWN hall, at the lake\n",
+            "\ufeff# further discussion;sell the house and meet there\r\n",
+            "\tFurther discussion\tAt  the lake\n",
+            "ada 1,2,4,3\n\nDear all, In the town hall is better than At the lake.\n",
+        ):
+            place = f"line {head.count(chr(10))}"
             words = f"wrong: {place} names options of the poll in another order than the poll has them: the ranks below it may stand in that order"
             self.write("wrong", head + self.ROWS)
             for asked in ((), ("--look",)):
                 cure = f"take {place} out; if they do not, add it anyway"
                 self.assert_refused(("add", *asked, "wrong"), 9, f"{words}; nothing was added: ", cure)
-
-    def test_a_line_that_names_options_in_another_order(self) -> None:
-        self.assert_named("Name,In the town hall,At the lake,Further discussion,Sell the house and meet there\n")
-        self.assert_named("name in the TOWN hall, at the lake\n")
-        self.assert_named("\ufeff# further discussion;sell the house and meet there\r\n")
-        self.assert_named("\tFurther discussion\tAt  the lake\n")
-        self.assert_named("ada 1,2,4,3\n\nDear all, In the town hall is better than At the lake.\n", "line 3")
         self.told("add", "--force", "wrong")
         self.assertEqual(len(self.lines()), 5)
 
@@ -251,23 +250,19 @@ class OtherOrder(CalledTest):
         self.told("add", given="ada 1;2;4;3\nben 1; 2 ;4; 3\ncleo 1, 2, 4, 3\ndan 1;2,4;3\n")
         self.assertEqual(self.lines(), ["ada 1,2,4,3", "ben 1,2,4,3", "cleo 1,2,4,3", "dan 1;2,4;3"])
 
-    def test_a_table_whose_times_contradict_the_order(self) -> None:
-        self.write("form", "When,n,a,b,c,d\n2026-11-23 10:00,ada,1,2,4,3\n2026-11-22 10:00,ada,2,1,4,3\n")
-        table = ("--csv", "--name=n", "--ranks=a,b,c,d")
-        for words in (("--oldest-first",), ("--oldest-first", "--force"), ("--oldest-first", "--look")):
-            said = "form: the times of the column `When` are ", ", against --oldest-first; nothing was "
-            self.assert_refused(("add", *table, *words, "form"), 2, *said)
-        self.told("add", *table, "--newest-first", "form")
-        self.assertEqual(self.lines(), ["ada 2,1,4,3", "ada 1,2,4,3"])
-
-    def test_a_table_whose_columns_are_in_another_order(self) -> None:
-        self.write("form", "n,At the lake,In the town hall,Sell,Further discussion\nada,1,2,4,3\n")
+    def test_a_table_in_another_order(self) -> None:
+        """By the times of its rows, or by the names of its columns. No --force passes over this."""
+        head, rows = "At the lake,In the town hall,Sell,Further discussion", "2026-11-23 10:00,ada,1,2,4,3\n2026-11-22 10:00,ada,2,1,4,3\n"
+        self.write("form", f"When,n,{head}\n{rows}")
+        right = ("--csv", "--name=n", f"--ranks={head}", "--newest-first")
+        other = ("--csv", "--name=n", "--ranks=In the town hall,At the lake,Sell,Further discussion", "--newest-first")
+        times = "form: the times of the column `When` are ", ", against --oldest-first; nothing was "
+        columns = ("--ranks: `In the town hall` stands in the place of option 1 At the lake",)
         for words in ((), ("--force",), ("--look",)):
-            table = ("--csv", "--name=n", "--ranks=In the town hall,At the lake,Sell,Further discussion")
-            said = "--ranks: `In the town hall` stands in the place of option 1 At the lake"
-            self.assert_refused(("add", *table, *words, "form"), 2, said)
-        self.told("add", "--csv", "--name=n", "--ranks=At the lake,In the town hall,Sell,Further discussion", "form")
-        self.assertEqual(self.lines(), ["ada 1,2,4,3"])
+            self.assert_refused(("add", *right[:3], "--oldest-first", *words, "form"), 2, *times)
+            self.assert_refused(("add", *other, *words, "form"), 2, *columns)
+        self.told("add", *right, "form")
+        self.assertEqual(self.lines(), ["ada 2,1,4,3", "ada 1,2,4,3"])
 
 
 class ShortNames(CalledTest):
@@ -448,21 +443,14 @@ class CodesOnRoll(CalledTest):
         super().setUp()
         self.act("extend", {"codes_on_roll": True})
 
-    def test_near_codes_and_right_lines(self) -> None:
-        near = "0a" * 15 + "0b"
-        output = self.told("add", given=f"{near} 1,2,3,4\n")
-        self.assertIn(f"{near} is not on the roll\nA valid line in this poll: CODE 1,2,3,4 (a code of the roll, ", output)
-        for code in self.names:
-            self.assertNotIn(code, output)
-
-    def test_a_near_code_that_has_a_ballot_in_the_same_file(self) -> None:
-        """Debvote says of it that it has one, behind the name that it offers."""
+    def test_a_near_code(self) -> None:
+        """Also if it has a ballot in the same file: debvote says so behind the name that it offers."""
         known, near = self.names[0], "0a" * 15 + "0b"
-        output = self.told("add", "--force", given=f"{known} {RANKS}\n{near} {RANKS}\n")
-        self.assertIn(f"{near} is not on the roll\n", output)
-        output = output.replace(f"1 counted  {known}: ", "")
-        self.assertNotIn(known, output)
-        self.assertNotIn("did you mean", output)
+        for before, ranks in (("", RANKS), (f"{known} {RANKS}\n", OTHER_RANKS)):
+            output = self.told("add", "--force", given=f"{before}{near} {ranks}\n").replace(f" counted  {known}: ", "")
+            self.assertIn(f"{near} is not on the roll\nA valid line in this poll: CODE 1,2,3,4 (a code of the roll, ", output)
+            self.assertNotIn("did you mean", output)
+            self.assertEqual([code for code in self.names if code in output], [])
 
     def test_of_an_undo_and_a_strike_numbers_alone(self) -> None:
         first, second, third = self.names

@@ -356,15 +356,20 @@ class Receipts(OutTest):
         self.assertIn("You can send a right line now", texts["ben"])
 
     def test_a_letter_of_which_one_ballot_is_entered(self) -> None:
-        """It waits for the other elector, who is told."""
-        self.add(letter("ada", f"ada {RANKS}\nben {OTHER_RANKS}\n"))
-        self.done("held", 1, "--enter", 1)
+        """Its elector is told once of that, and the other elector that the letter waits: Ben, who has the same address, or Dan."""
+        self.change_roll("ben@club", "ada@club")
+        self.add(letter("ada", f"ada {RANKS}\nben {OTHER_RANKS}\n"), letter("cleo", f"cleo {RANKS}\ndan {OTHER_RANKS}\n"))
+        for number in (1, 2):
+            self.done("held", number, "--enter", 1)
         texts = self.texts("receipts")
-        self.assertEqual(sorted(texts), ["ada", "ben"])
-        self.assertIn("It counts unless you send a later one.", texts["ada"])
-        self.assertIn(ELSEWHERE, texts["ben"])
-        shown = {name: "letter 1, from " in self.told("show", name) for name in ("ada", "ben", "cleo")}
-        self.assertEqual(shown, {"ada": True, "ben": True, "cleo": False})
+        # one goes to the address that Ben had
+        self.assertEqual(sorted(texts), ["ada", "ben", "ben_2", "cleo", "dan"])
+        for name in ("ada", "cleo"):
+            self.assertEqual((texts[name].count("has arrived"), "It counts unless you send a later one." in texts[name]), (1, True))
+        self.assertIn("No ballot from it is entered yet", texts["ben"])
+        self.assertIn(ELSEWHERE, texts["dan"])
+        shown = {name: "letter 2, from " in self.told("show", name) for name in ("cleo", "dan", "eve")}
+        self.assertEqual(shown, {"cleo": True, "dan": True, "eve": False})
 
     def test_letters_that_are_in_no_receipt_are_named(self) -> None:
         """Letters of a couple and of a stranger. Not a ballot in an elector's name, who is told, and not what a program wrote."""
@@ -729,18 +734,6 @@ class ResultAt(OutTest):
         self.assertEqual(len(self.book.acts()), len(acts))
         self.assertIn("https://x.example/r/#ada", self.texts("result")["ada"])
         self.assertIn("https://x.example/s/#ada", self.texts("result", "--at", "https://x.example/s/")["ada"])
-
-
-class Family(OutTest):
-    def test_who_is_told_of_a_letter_with_two_ballots(self) -> None:
-        """Of the ballot that was entered its elector is told once, and the other one that the letter waits."""
-        self.change_roll("ben@", "ada@")
-        self.add(letter("ada", f"ada {RANKS}\nben {OTHER_RANKS}\n"))
-        self.done("held", 1, "--enter", 1)
-        texts = self.texts("receipts")
-        self.assertEqual(texts["ada"].count("has arrived"), 1, texts["ada"])
-        self.assertIn("It counts unless you send a later one.", texts["ada"])
-        self.assertIn("No ballot from it is entered yet", texts["ben"])
 
 
 class Secret(OutTest):
