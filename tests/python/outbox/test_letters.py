@@ -398,12 +398,12 @@ class Receipts(OutTest):
 
     def test_letters(self) -> None:
         self.add(
-            letter("ada", f"Ada: {RANKS}.\n", sender="ADA@Club.Example"),
+            letter("ada", f"Ada: {RANKS}.\n"),
             letter("ben", "ben 1,2\n"),
             letter("cleo", f"dan {RANKS}\n"),
             letter("eve", f"eve {RANKS}\n", sender="stranger@x.example"),
             letter("fay", "away\n", head="Auto-Submitted: auto-replied\n"),
-            letter("gus", "I want the lake.\n"),
+            letter("gus", "I want the lake.\n", sender="GUS@Club.Example"),
             letter("hal", "Hello\nI vote hal 1,2,3,4, of course\n"),
             # the call to her that came back
             letter("ida", "Undelivered.\n\n  ida _,_,_,_\n", sender="mailer-daemon@x.example"),
