@@ -150,7 +150,9 @@ class Sending(SendTest):
         self.add(letter(name, f"{text}--b--\n", sender=sender, kind=REPORT, number=f"{what}{len(self.server.taken)}"))
 
     def test_what_is_no_letter_that_came_back(self) -> None:
-        """A program answers for somebody who is away; a delivery is late, or done; a stranger has no own mark; a person answers."""
+        """A program answers for somebody who is away, or reports from the elector's own address; a delivery is late, or done; a stranger
+        has no own mark; a person answers.
+        """
         self.assert_sent("call")
         self.came_back("ada", "nothing")
         self.came_back("ben", "text", sender="ben@club.example")
@@ -159,11 +161,14 @@ class Sending(SendTest):
         self.add(letter("ada", "I am away.", number="away", **away))
         self.assertEqual(self.not_reached(), {})
         self.assert_none_is_due("call")
-        for action, wanted in (("delayed", {}), ("delivered", {}), ("failed", {"ada": "came back"})):
+        servers = "mailer-daemon@mail.example"
+        for number, (action, sender, wanted) in enumerate(
+            (("delayed", servers, {}), ("delivered", servers, {}), ("failed", ALL[0], {}), ("failed", servers, {"ada": "came back"}))
+        ):
             report = f"--b\nContent-Type: message/delivery-status\n\nReporting-MTA: dns; x\n\nAction: {action}\n"
             text = f"{report}--b\nContent-Type: text/rfc822-headers\n\nSubject: {subject}\n--b--\n"
-            self.add(letter("ada", text, sender="mailer-daemon@mail.example", kind=REPORT, number=action))
-            self.assertEqual(self.not_reached(), wanted, action)
+            self.add(letter("ada", text, sender=sender, kind=REPORT, number=number, head="Auto-Submitted: auto-generated\n"))
+            self.assertEqual(self.not_reached(), wanted, (action, sender))
 
     def test_whose_letter_came_back_is_named_and_gets_it_again(self) -> None:
         for what in ("whole", "head", "text", "link", "encoded"):
