@@ -1,12 +1,22 @@
-"""What the tests of `add`, `desk`, `undo`, `strike` and `show` read from the book of a called election."""
+"""What the tests of commands read from the book of a called election, and how letters come to it."""
 
+import contextlib
+import hashlib
+import io
+import json
 import os
+import pathlib
+import shutil
+from collections.abc import Sequence
 from typing import Any
+from unittest import mock
 
 from debvote_tools.book import queries
 from debvote_tools.book.book import Book, open_book
+from debvote_tools.cli import command_line
 
 from tests.support import elections
+from tests.support.letters import mailbox
 
 LAKE = "At the lake, then In the town hall, then Further discussion, then Sell the house and meet there"
 HALL = "In the town hall, then At the lake, then Further discussion, then Sell the house and meet there"
@@ -45,13 +55,18 @@ class CalledTest(elections.ElectionTest):
             for key, data in (sealed or {}).items():
                 act.insert("sealed", name=key, data=data)
 
+    def entered(self, is_late: bool) -> list[str]:
+        """The lines that came in time or late, and are not struck. The test has words of its own for this."""
+        words = "SELECT line FROM envelope WHERE late = ? AND envelope NOT IN (SELECT envelope FROM struck) ORDER BY envelope"
+        return [line.decode("utf-8", "replace") for line, in self.book.rows(words, int(is_late))]
+
     def lines(self) -> list[str]:
         """The lines that are counted."""
-        return [line.decode("utf-8", "replace") for line in queries.lines_in_time(self.book)]
+        return self.entered(False)
 
     def late_lines(self) -> list[str]:
         """The lines that came late."""
-        return [line.decode("utf-8", "replace") for line in queries.late_lines(self.book)]
+        return self.entered(True)
 
     def envelopes(self) -> list[queries.Envelope]:
         """All envelopes."""
@@ -75,3 +90,96 @@ class CalledTest(elections.ElectionTest):
         """There is one fault, with these parts, and no act."""
         self.assert_fault(ended, status, *parts)
         self.assertEqual(self.last_act(), before)
+
+    def assert_refused(self, words: Sequence[object], status: int, *parts: str, **how: Any) -> elections.Ended:
+        """A command stops with one fault, which has these parts, and does no act."""
+        before = self.last_act()
+        ended = self.election(*words, **how)
+        self.assert_stops(ended, before, status, *parts)
+        return ended
+
+
+class LettersTest(CalledTest):
+    """A test of an election that was called on 20 November, before letters came. Now it is the 25th."""
+
+    now = "2026-11-25T09:00:00+00:00"
+
+    def setUp(self) -> None:
+        super().setUp()
+        self.set_clock(self.now)
+
+    def made(self) -> pathlib.Path:
+        self.set_clock("2026-11-20T09:00:00+00:00")
+        try:
+            return super().made()
+        finally:
+            self.set_clock(self.now)
+
+    def write(self, name: str, content: bytes | str) -> pathlib.Path:
+        """Writes a file with letters of this vote into the folder of the election."""
+        return super().write(name, self.of_this_vote(content.encode() if isinstance(content, str) else content))
+
+    def add(self, *letters: bytes, words: Sequence[str] = ("--yes",)) -> str:
+        """What `add` tells of letters that come in a mailbox."""
+        self.write("inbox.mbox", mailbox(*letters))
+        return self.told("add", *words, "inbox.mbox")
+
+    def box(self, *letters: bytes) -> pathlib.Path:
+        """A folder with letters, each in a file."""
+        folder = self.scratch / f"letters {len(list(self.scratch.iterdir()))}"
+        folder.mkdir()
+        for number, data in enumerate(letters):
+            (folder / f"{number:03}.eml").write_bytes(self.of_this_vote(data))
+        return folder
+
+    def add_lines(self, *lines: str, words: Sequence[str] = ()) -> str:
+        """What `add` tells of lines from a pipe."""
+        return self.told("add", *words, "-", given="".join(f"{line}\n" for line in lines))
+
+    def change_roll(self, before: str, after: str) -> None:
+        """Reads a list of members in which some words are others."""
+        self.write("members.csv", elections.members_of(self.names).replace(before, after))
+        self.told("roll", "--yes")
+
+    @property
+    def mark(self) -> str:
+        """That of the poll, which everybody sees."""
+        return hashlib.sha256(self.read("call/poll.toml")).hexdigest()[:16]
+
+    def numbers(self) -> dict[str, Any]:
+        """What `status` tells a program."""
+        return dict(json.loads(self.told("status", "--json")))
+
+    def exported(self) -> tuple[str, str]:
+        """What came in time, and what came late, as `export` writes it."""
+        out = self.scratch / "out"
+        shutil.rmtree(out, ignore_errors=True)
+        self.told("export", out)
+        return (out / "ballots.txt").read_text(), (out / "late.txt").read_text()
+
+    def stands(self, name: str) -> str:
+        """The ranks of the ballot that counts; empty if there is none."""
+        found = [line for line in self.lines() if line.startswith(f"{name} ")]
+        return found[-1].partition(" ")[2] if found else ""
+
+    def in_this_process(self, *words: str, path: str = "") -> str:
+        """Runs a command here, where a test puts something between two of its steps; returns its output."""
+        env = {"PATH": f"{path}{elections.environment()['PATH']}", "XDG_STATE_HOME": str(self.state)}
+        with mock.patch.dict(os.environ, env), contextlib.chdir(self.folder):
+            with contextlib.redirect_stdout(io.StringIO()) as said, contextlib.redirect_stderr(io.StringIO()):
+                command_line.main(elections.ELECTION.parent, list(words))
+        return said.getvalue()
+
+    def overtaken(self, module: object, name: str, other: Sequence[object], words: Sequence[str]) -> None:
+        """Runs a command here; another one runs after a step of it, which it may have made untrue."""
+        is_first, step = [True], getattr(module, name)
+
+        def before_another(*given: Any, **how: Any) -> object:
+            found = step(*given, **how)
+            if is_first:
+                is_first.clear()
+                self.told(*other)
+            return found
+
+        with mock.patch.object(module, name, before_another):
+            self.in_this_process(*words)

@@ -1,6 +1,5 @@
 """What the tests of letters that come share: letters, what is known when they are judged, and debvote, which is asked about lines."""
 
-import dataclasses
 import datetime
 import os
 import re
@@ -217,7 +216,3 @@ def read_in(found: Sequence[RawLetter]) -> list[RawLetter]:
 def passed_over_in(found: Sequence[RawLetter]) -> list[tuple[str, NotRead]]:
     """What is passed over of a mailbox, and why."""
     return [(one.where, one.why_not_read) for one in found if one.why_not_read is not None]
-
-
-def with_time(one: ParsedLetter, time: datetime.datetime) -> ParsedLetter:
-    return dataclasses.replace(one, arrived=time)

@@ -17,9 +17,8 @@ import threading
 import unittest
 from collections.abc import Callable, Mapping, Sequence
 
-from debvote_tools.book.book import Book, open_book
-
 from tests.support import elections
+from tests.support.called import LettersTest
 
 try:
     from aiosmtpd.controller import Controller
@@ -30,33 +29,17 @@ except ImportError:
 TITLE = "Where we meet in spring"
 RANKS, OTHER_RANKS = "1,2,4,3", "2,1,4,3"
 AT = "https://club.example/vote/"
-CALLED, TEN, END = "2026-11-20T09:00:00+00:00", "2026-11-23T10:00:00+00:00", "2026-12-04 18:00"
-
+TEN, END = "2026-11-23T10:00:00+00:00", "2026-12-04 18:00"
 
 # what the server says of connections that are cut, as the tests want it
 logging.getLogger("mail.log").setLevel(logging.CRITICAL)
 
 
-class OutTest(elections.ElectionTest):
+class OutTest(LettersTest):
     """A test with an election that was called with an end and the address of its page; the clock is some days later."""
 
     call_words: Sequence[str] | None = ("--to", "vote@club.example", "--at", AT, "--until", END, "--zone", "UTC")
-
-    def made(self) -> pathlib.Path:
-        self.set_clock(CALLED)
-        try:
-            return super().made()
-        finally:
-            self.set_clock(TEN)
-
-    def setUp(self) -> None:
-        super().setUp()
-        self.set_clock(TEN)
-
-    def book(self) -> Book:
-        book = open_book(self.folder / "election.db")
-        self.addCleanup(book.connection.close)
-        return book
+    now = TEN
 
     def rows(self, kind: str) -> list[tuple[str, str]]:
         """The states of the letters of a kind, in their order, each with the name of its elector."""
@@ -72,29 +55,15 @@ class OutTest(elections.ElectionTest):
 
     def written(self, kind: str, *words: object) -> dict[str, email.message.EmailMessage]:
         """The letters of a kind that are written now, by the names of their electors."""
-        ended = self.done("letters", kind, *words)
-        self.assertEqual(ended.faults, "")
-        if "There is no letter to send.\n" in ended.output:
+        said = self.told("letters", kind, *words)
+        if "There is no letter to send.\n" in said:
             return {}
-        self.assertIn("letter", ended.output)
+        self.assertIn("letter", said)
         return {file.stem: parsed(file.read_bytes()) for file in self.files(kind) if file.suffix == ".eml"}
 
     def texts(self, kind: str, *words: object) -> dict[str, str]:
         """What they say, each in one line."""
         return {name: one_line(message) for name, message in self.written(kind, *words).items()}
-
-    def add_lines(self, *lines: str) -> None:
-        self.write("lines", "".join(f"{line}\n" for line in lines))
-        self.done("add", "--yes", "lines")
-
-    def add_letters(self, *letters: bytes, yes: bool = True) -> None:
-        """The letters come in a folder of their own."""
-        place = self.folder / f"box{len(list(self.folder.iterdir()))}"
-        place.mkdir()
-        for number, letter in enumerate(letters):
-            (place / f"{number}.eml").write_bytes(self.of_this_vote(letter))
-        ended = self.election("add", *(["--yes"] if yes else []), place.name)
-        self.assertIn(ended.status, (0, 9), ended)
 
 
 def parsed(data: bytes) -> email.message.EmailMessage:
@@ -117,8 +86,8 @@ class Taken:
 
 
 class MailServer:
-    """A mail server that notes what it takes. `answers` has the answer to RCPT or DATA by address; `at` is called at each step of each letter,
-    by its name and the number of the letter from 0, and the connection is cut if it says so.
+    """A mail server that notes what it takes. `answers` has the answer to RCPT or DATA by address. `at` is called at each step of
+    each letter, by its name and the number of the letter from 0, and the connection is cut if it says so.
     """
 
     def __init__(self, **how: object) -> None:
@@ -249,12 +218,25 @@ class SendTest(OutTest):
     def send(self, kind: str, *words: object) -> elections.Ended:
         return self.election("letters", kind, "--send", "--server", self.server.name, *words)
 
-    def send_until_killed(self, kind: str, step: str, number: int) -> int:
-        """Sends letters by a program that is killed at a step of one of them; returns how it ended."""
+    def assert_sent(self, kind: str, said: str = "", status: int = 0) -> elections.Ended:
+        """Letters of a kind are sent; the run says this, and ends so."""
+        ended = self.send(kind)
+        self.assertEqual(ended.status, status, ended)
+        self.assertIn(said, ended.output)
+        return ended
+
+    def assert_none_is_due(self, kind: str) -> None:
+        self.assert_sent(kind, "There is no letter to send: the server has taken all that are due.\n")
+
+    def sending(self, kind: str) -> subprocess.Popen:
+        """A run that sends letters beside this test."""
         env = elections.environment() | self.clock | {"XDG_STATE_HOME": str(self.state)}
         words = [sys.executable, elections.ELECTION, "letters", kind, "--send", "--server", self.server.name]
-        began = self.server.started
-        process = subprocess.Popen(words, cwd=self.folder, env=env, stdout=subprocess.DEVNULL, stderr=subprocess.DEVNULL)
+        return subprocess.Popen(words, cwd=self.folder, env=env, stdout=subprocess.PIPE, stderr=subprocess.DEVNULL, text=True)
+
+    def send_until_killed(self, kind: str, step: str, number: int) -> int:
+        """Sends letters by a program that is killed at a step of one of them; returns how it ended."""
+        began, process = self.server.started, self.sending(kind)
 
         def kill(now: str, count: int) -> bool:
             if (now, count - began) == (step, number):

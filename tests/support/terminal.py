@@ -34,16 +34,22 @@ class Terminal:
                 os.kill(self.process, signal.SIGKILL)
                 os.waitpid(self.process, 0)
 
+    def read(self, end: float, waits: str) -> bool:
+        """Reads what is shown next; whether the program goes on. The test fails if nothing comes in time."""
+        ready, _, _ = select.select([self.keys], [], [], max(0, end - time.monotonic()))
+        self.test.assertTrue(ready, f"{waits}, has {self.text!r}")
+        try:
+            data = os.read(self.keys, 65_536)
+        except OSError:
+            data = b""
+        self.text += data.decode().replace("\r\n", "\n")
+        return bool(data)
+
     def until(self, words: str) -> str:
         """The text of the terminal up to these words, from the end of the last call."""
         end = time.monotonic() + SECONDS
         while words not in self.text:
-            ready, _, _ = select.select([self.keys], [], [], max(0, end - time.monotonic()))
-            self.test.assertTrue(ready, f"waits for {words!r}, has {self.text!r}")
-            try:
-                self.text += os.read(self.keys, 65_536).decode().replace("\r\n", "\n")
-            except OSError:
-                self.test.fail(f"ended before {words!r}, with {self.text!r}")
+            self.test.assertTrue(self.read(end, f"waits for {words!r}"), f"ended before {words!r}, with {self.text!r}")
         shown, _, self.text = self.text.partition(words)
         return shown + words
 
@@ -53,16 +59,8 @@ class Terminal:
     def end(self) -> tuple[str, int]:
         """The rest of the text, and the exit status."""
         end = time.monotonic() + SECONDS
-        while True:
-            ready, _, _ = select.select([self.keys], [], [], max(0, end - time.monotonic()))
-            self.test.assertTrue(ready, f"does not end, has {self.text!r}")
-            try:
-                data = os.read(self.keys, 65_536)
-            except OSError:
-                break
-            if not data:
-                break
-            self.text += data.decode().replace("\r\n", "\n")
+        while self.read(end, "does not end"):
+            pass
         _, status = os.waitpid(self.process, 0)
         os.close(self.keys)
         return self.text, os.waitstatus_to_exitcode(status)

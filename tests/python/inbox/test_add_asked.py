@@ -24,12 +24,12 @@ class AfterReopen(CalledTest):
         self.assertRegex(terminal.until(ASKED), r"^The vote was closed at [-\d]+ [:\d]+ UTC and opened again\. Did")
         return terminal
 
-    def answer(self, terminal: Terminal, *keys: str) -> str:
-        """What is shown after these keys, up to an end with status 0."""
+    def answer(self, terminal: Terminal, *keys: str, status: int = 0) -> str:
+        """What is shown after these keys, up to an end with this status."""
         for key in keys:
             terminal.type(key)
-        output, status = terminal.end()
-        self.assertEqual(status, 0, output)
+        output, ended = terminal.end()
+        self.assertEqual(ended, status, output)
         return output
 
     def test_yes_and_no(self) -> None:
@@ -40,11 +40,9 @@ class AfterReopen(CalledTest):
 
     def test_the_end_of_the_input_is_no_answer(self) -> None:
         before = self.last_act()
-        terminal = self.asked()
-        terminal.type("\x04")
-        output, status = terminal.end()
-        self.assertIn("you did not say whether it came before the close; nothing was added: ", output)
-        self.assertEqual((status, self.last_act()), (9, before))
+        said = "you did not say whether it came before the close; nothing was added: "
+        self.assertIn(said, self.answer(self.asked(), "\x04", status=9))
+        self.assertEqual(self.last_act(), before)
 
     def test_an_act_that_changes_nothing_of_it(self) -> None:
         terminal = self.asked()
@@ -79,13 +77,21 @@ class AfterReopen(CalledTest):
         self.assertIn("1 counted  ada: ", self.answer(terminal, "y\n"))
 
 
-class AtOnce(CalledTest):
+class AddingTest(CalledTest):
+    def adding(self, *words: str) -> subprocess.Popen:
+        """An `add` that runs beside this test."""
+        pipes = {"stdin": subprocess.PIPE, "stdout": subprocess.PIPE, "stderr": subprocess.PIPE, "text": True}
+        run = subprocess.Popen([sys.executable, elections.ELECTION, "add", *words], cwd=self.folder, env=elections.environment(), **pipes)
+        self.addCleanup(run.wait)
+        self.addCleanup(run.kill)
+        return run
+
+
+class AtOnce(AddingTest):
     def test_two_copies_of_one_file(self) -> None:
         """Whoever is second finds that its lines came before."""
         self.write("many", "".join(f"ada {a},{b},1,2\n" for a in range(1, 20) for b in range(1, 20)))
-        words = [sys.executable, elections.ELECTION, "add", "many"]
-        how = {"cwd": self.folder, "env": elections.environment(), "stdout": subprocess.PIPE, "stderr": subprocess.PIPE, "text": True}
-        runs = [subprocess.Popen(words, **how) for _ in range(4)]
+        runs = [self.adding("many") for _ in range(4)]
         outputs = [run.communicate(timeout=elections.SECONDS) for run in runs]
         self.assertEqual([run.returncode for run in runs], [0] * 4, outputs)
         self.assertEqual(len(self.lines()), 361)
@@ -93,11 +99,7 @@ class AtOnce(CalledTest):
         self.assertEqual(sum("There is nothing new" in output for output, _ in outputs), 3)
 
     def test_each_gets_the_replies_to_its_own_lines(self) -> None:
-        words = [sys.executable, elections.ELECTION, "add"]
-        pipes = {"stdin": subprocess.PIPE, "stdout": subprocess.PIPE, "stderr": subprocess.PIPE}
-        runs = {
-            name: subprocess.Popen(words, cwd=self.folder, env=elections.environment(), text=True, **pipes) for name in self.names
-        }
+        runs = {name: self.adding() for name in self.names}
         for name, run in runs.items():
             run.stdin.write(f"{name} {RANKS}\n{name} {OTHER_RANKS}\n")
             run.stdin.close()
@@ -110,7 +112,7 @@ class AtOnce(CalledTest):
             self.assertIn(f"\n{second} replaced  {name}: ", output)
 
 
-class FromAPipe(CalledTest):
+class FromAPipe(AddingTest):
     """What is read of a pipe is gone from it, so it is read once."""
 
     def test_lines_from_a_named_pipe(self) -> None:
@@ -121,10 +123,7 @@ class FromAPipe(CalledTest):
     def test_another_call_while_it_reads(self) -> None:
         """What it says of the lines is of the poll before."""
         os.mkfifo(self.folder / "more")
-        words = [sys.executable, elections.ELECTION, "add", "more"]
-        run = subprocess.Popen(words, cwd=self.folder, env=elections.environment(), stdout=subprocess.PIPE, stderr=subprocess.PIPE, text=True)
-        self.addCleanup(run.wait)
-        self.addCleanup(run.kill)
+        run = self.adding("more")
         with open(self.folder / "more", "w") as pipe:
             self.told("call", "--take-back")
             self.told("call", "--to", "vote@club.example")
@@ -149,15 +148,14 @@ class Look(CalledTest):
     def assert_look_says_it(self, *words: str, given: str | None = None) -> None:
         before = self.last_act()
         look = self.election("add", "--look", *words, given=given)
-        self.assertEqual((self.last_act(), len(self.sources())), (before, len(self.sources())))
+        self.assertEqual(self.last_act(), before)
         ended = self.election("add", *words, given=given)
         self.assertEqual((look.status, look.faults), (ended.status, ended.faults))
-        if ended.status:
-            return
-        replies = [line for line in ended.output.splitlines() if line[:1].isdigit()]
-        self.assertEqual([line for line in look.output.splitlines() if line[:1].isdigit()], replies)
-        added = next(line for line in ended.output.splitlines() if line.startswith("Added ")).removeprefix("Added ")
-        self.assertIn(f"These would be {added} Nothing was changed.\n", look.output)
+        if not ended.status:
+            replies, looked = ([line for line in one.output.splitlines() if line[:1].isdigit()] for one in (ended, look))
+            self.assertEqual(looked, replies)
+            added = next(line for line in ended.output.splitlines() if line.startswith("Added ")).removeprefix("Added ")
+            self.assertIn(f"These would be {added} Nothing was changed.\n", look.output)
 
     def test_new_lines_and_those_that_came_before(self) -> None:
         self.assert_look_says_it(given=MONDAY)
@@ -165,12 +163,10 @@ class Look(CalledTest):
         self.told("strike", 1, "--because", "a test")
         self.assert_look_says_it("--again", given=MONDAY)
 
-    def test_what_stops(self) -> None:
+    def test_what_stops_and_after_the_close(self) -> None:
         self.write("wrong", f"Dear all,\nwe meet on Monday\nada {RANKS}\n")
         self.assert_look_says_it("wrong")
         self.assert_look_says_it("--force", "wrong")
-
-    def test_after_the_close(self) -> None:
         self.act("close", {"lines": 0, "checksum": "", "early": False})
         self.assert_look_says_it(given=MONDAY)
 

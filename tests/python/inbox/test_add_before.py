@@ -1,5 +1,7 @@
 """`add`: what came before is ignored, whatever became of it, and what has changed since is told."""
 
+from debvote_tools.book import queries
+
 from tests.support.called import OTHER_RANKS, RANKS, CalledTest
 
 MONDAY = "Ada 1,2,4,3\nben 1, 2,4,3\n"
@@ -96,31 +98,53 @@ class AsItCame(Before):
         self.told("undo")
         self.assert_ignored(2, 1)
 
-
     def test_a_table_with_a_newer_row_that_came_before(self) -> None:
         """A web form may show the newest row first: then the row below, which is new to the book, is the older one."""
         self.write("form", "n,a,b,c,d\ncleo,1,2,4,3\n")
         self.told("add", *TABLE, "form")
         self.write("more", "n,a,b,c,d\ncleo,1,2,4,3\ncleo,2,1,4,3\ndan,1,2,4,3\n")
-        before = self.last_act()
         for words in ((), ("--force",)):
             said = "more: it has two different ballots of cleo (row 2 and row 3)"
-            self.assert_stops(self.election("add", *TABLE, *words, "more"), before, 9, said, "--oldest-first or --newest-first")
+            self.assert_refused(("add", *TABLE, *words, "more"), 9, said, "--oldest-first or --newest-first")
         older = "more: the ballot of cleo in row 3 is older than that in row 2, which came before, and would replace it"
-        self.assert_stops(self.election("add", *TABLE, "--newest-first", "more"), before, 9, older)
+        self.assert_refused(("add", *TABLE, "--newest-first", "more"), 9, older)
+        self.write("below", "n,a,b,c,d\ncleo,2,1,4,3\ncleo,1,2,4,3\n")
+        older = "below: the ballot of cleo in row 2 is older than that in row 3, which came before"
+        self.assert_refused(("add", *TABLE, "--oldest-first", "below"), 9, older, "nothing was added: take the older ballot out, or ")
         self.assert_ignored(1, 2, *TABLE, "--oldest-first")
         self.assertEqual(self.lines()[3:], [f"cleo {OTHER_RANKS}", f"dan {RANKS}"])
         # by now both came before, in whatever order
         self.assert_ignored(3, 0, *TABLE)
 
 
+    def test_an_older_line_above_one_that_came_before(self) -> None:
+        """The file says that the other one is the newer one. Below it a line is newer, and a third one again."""
+        older, newer = f"cleo {RANKS}", f"cleo {OTHER_RANKS}"
+        self.told("add", given=f"{newer}\n")
+        said = "the ballot of cleo in line 1 is older than that in line 2, which came before, and would replace it; nothing was added: "
+        self.assert_refused(("add",), 9, said, given=f"{older}\n{newer}\n")
+        self.assertIn("1 replaced", self.told("add", given=f"{newer}\n{older}\n"))
+        self.told("add", given=f"{newer}\n{older}\n{newer}\n")
+        self.assertEqual(self.lines()[2:], [newer, older, newer])
+        self.assertIn("6 replaced  cleo", self.told("add", "--force", given=f"cleo 1,1,4,3\n{newer}\n"))
+
+    def test_the_ballot_of_a_letter_came_in_no_file(self) -> None:
+        """Ada's letter and then her paper: the same line in a file is her last word."""
+        with self.book.act("add") as act:
+            source = queries.keep_source(act, "inbox", b"letter")
+            letter = act.insert("letter", source=source, identity="1", known="{}")
+            line = queries.NewEnvelope(f"cleo {RANKS}".encode(), "", source, letter)
+            queries.add_envelopes(act, [line], [self.elector("cleo")], is_late=False)
+        self.told("desk", given=f"cleo {OTHER_RANKS}\n")
+        self.assertIn("5 replaced  cleo: ", self.told("add", given=f"cleo {RANKS}\n"))
+
+
 class Since(Before):
     def test_another_ballot_has_come(self) -> None:
         self.told("desk", given=f"ada {OTHER_RANKS}\n")
         output = self.assert_ignored(2, 0, name="monday")
-        self.assertIn(
-            f"\n  monday:1: `ada {RANKS}` came before, and ada has voted since (envelope 3); --again enters it again\n", output
-        )
+        said = f"\n  monday:1: `ada {RANKS}` came before, and ada has voted since (envelope 3); --again enters it again\n"
+        self.assertIn(said, output)
         self.assertNotIn("monday:2", output)
         self.assertEqual(len(self.lines()), 3)
         output = self.assert_ignored(1, 1, "--again", name="monday")
@@ -152,8 +176,7 @@ class Since(Before):
         self.assertNotIn("--again", self.assert_ignored(2, 0))
         self.assertNotIn("--again", self.assert_ignored(2, 0, "--again"))
         self.told("desk", given="cleo -,-,-,1\n")
-        output = self.assert_ignored(0 + 2, 0)
-        self.assertEqual(output.count("and cleo has voted since (envelope 5)"), 2)
+        self.assertEqual(self.assert_ignored(2, 0).count("and cleo has voted since (envelope 5)"), 2)
         # both go in again, in their order
         self.told("add", "--again", "more")
         self.assertEqual(self.lines()[-2:], [f"cleo {RANKS}", f"cleo {OTHER_RANKS}"])
@@ -166,18 +189,21 @@ class Since(Before):
         self.assertIn("3 counted  ada: ", self.assert_ignored(1, 1, "--again", name="monday"))
         self.assertNotIn("struck", self.assert_ignored(2, 0, name="monday"))
 
+    def test_of_equal_lines_the_struck_one_came_last(self) -> None:
+        self.told("add", given=f"ada {RANKS}\nada {RANKS}\n")
+        self.told("strike", 1, "--because", "a test")
+        self.assertNotIn("--again", self.assert_ignored(2, 0, name="monday"))
+
     def test_in_two_files_at_once_it_is_taken_once(self) -> None:
         self.told("strike", 1, "--because", "a test")
         self.write("copy", MONDAY)
         self.told("add", "--again", "monday", "copy")
         self.assertEqual(self.lines(), [f"ben {RANKS}", f"ada {RANKS}"])
 
-    def test_another_ballot_that_was_struck_is_nothing_since(self) -> None:
+    def test_a_ballot_that_was_struck_or_late_is_nothing_since(self) -> None:
         self.told("desk", given=f"ada {OTHER_RANKS}\n")
         self.told("strike", 3, "--because", "a test")
         self.assertNotIn("--again", self.assert_ignored(2, 0, name="monday"))
-
-    def test_a_late_ballot_is_nothing_since(self) -> None:
         self.act("close", {"lines": 2, "checksum": "", "early": False})
         self.told("desk", given=f"ada {OTHER_RANKS}\n")
         self.assertNotIn("--again", self.assert_ignored(2, 0, name="monday"))
@@ -196,8 +222,7 @@ class Since(Before):
         self.assertNotIn("--again", self.assert_ignored(1, 0, "--came-before-close", "yes"))
 
     def test_of_many_the_first_are_told(self) -> None:
-        lines = "".join(f"cleo {number},1,1,1\n" for number in range(1, 31))
-        self.write("more", lines)
+        self.write("more", "".join(f"cleo {number},1,1,1\n" for number in range(1, 31)))
         self.told("add", "more")
         self.told("desk", given="cleo -,-,-,1\n")
         output = self.assert_ignored(30, 0)

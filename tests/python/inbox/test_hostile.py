@@ -70,11 +70,10 @@ class Bombs(unittest.TestCase):
             "lines of ranks": letter("ada", ("1," * 240 + "\n") * 500),
         }  # fmt: skip
         for what, data in bombs.items():
-            with self.subTest(what=what):
-                began = time.process_time()
-                self.assertTrue(outcomes(data)[0].startswith("waits: ") or "head" in what or "field" in what, what)
-                # no second is promised, but a time that grows with the square of the length would be minutes
-                self.assertLess(time.process_time() - began, 20, what)
+            began = time.process_time()
+            self.assertTrue(outcomes(data)[0].startswith("waits: ") or "head" in what or "field" in what, what)
+            # no second is promised, but a time that grows with the square of the length would be minutes
+            self.assertLess(time.process_time() - began, 20, what)
         self.assertEqual(lines_in(*list(bombs.values())[-3:], letter("ben", f"ben {RANKS}")), [f"ben {RANKS}"])
 
     def test_many_lines_in_the_head_are_no_trouble(self) -> None:
@@ -105,11 +104,8 @@ class Random(unittest.TestCase):
     def test_halves_of_characters(self) -> None:
         for charset, text in (("unicode_escape", "\\ud800"), ("raw_unicode_escape", "\\ud800"), ("utf-7", "+2AA-")):
             word = f"=?{charset}?q?{text.replace('+', '=2B')}?="
-            found = parsed(
-                letter(
-                    "ada", f"{text}1\n", kind=f"text/plain; charset={charset}", head=f"Subject: {word}\n", sender=f"{word} <ada@x>"
-                )
-            )
+            how = {"kind": f"text/plain; charset={charset}", "head": f"Subject: {word}\n", "sender": f"{word} <ada@x>"}
+            found = parsed(letter("ada", f"{text}1\n", **how))
             self.assertEqual(found.shown_lines[0][-1], "1")
             "\n".join((*found.shown_lines, found.subject, found.shown_sender)).encode()
 

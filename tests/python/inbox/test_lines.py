@@ -8,64 +8,29 @@ from debvote_tools.inbox.lines import changed, differences, lines_in, name_in
 
 class Changes(unittest.TestCase):
     def test_what_is_changed(self) -> None:
-        cases = {
-            b"  ada 1,2\t ": b"ada 1,2",
-            b"ada 1 , 2,\t3": b"ada 1,2,3",
-            b"ada   1,2": b"ada 1,2",
-            b"ada\t1,2": b"ada 1,2",
-            b"ada \t 1,2": b"ada 1,2",
-            b"Ada.B-9 1,2": b"ada.b-9 1,2",
-            b"ADA -,1": b"ada -,1",
-            # what can mean one thing only
-            b"ada\xc2\xa01,2": b"ada 1,2",
-            b"ada\xe2\x80\xaf1,2": b"ada 1,2",
-            b"ada 1,2.": b"ada 1,2",
-            b"ada:1,2": b"ada 1,2",
-            b"Ada : 1,2": b"ada 1,2",
-            b"ada 1;2": b"ada 1,2",
-            b"ada 1; 2;3": b"ada 1,2,3",
-            b"ada 1 ;\t2 ; -": b"ada 1,2,-",
-            b'"ada 1,2"': b"ada 1,2",
-            b"'ada 1,2.'": b"ada 1,2",
-            b'"ada 1,2".': b"ada 1,2",
-            "\u201cada 1,2\u201d".encode(): b"ada 1,2",
-            "\u201eAda: 1; \u2013; 2.\u201c".encode(): b"ada 1,-,2",
-            "\u00bbada 1,2\u00ab".encode(): b"ada 1,2",
-            "ada 1,\u2014,\u2212".encode(): b"ada 1,-,-",
-            b"**ada 1,2**": b"ada 1,2",
-            b"*ada* 1,2": b"ada 1,2",
-            b"ada *1,2*": b"ada 1,2",
-            b"ada 1,*2*,3": b"ada 1,2,3",
-        }
-        for came, wanted in cases.items():
-            self.assertEqual(changed(came), wanted)
+        for wanted, lines in {
+            b"ada 1,2": (
+                b"  ada 1,2\t ", b"ada   1,2", b"ada\t1,2", b"ada \t 1,2",
+                # what can mean one thing only
+                b"ada\xc2\xa01,2", b"ada\xe2\x80\xaf1,2", b"ada 1,2.", b"ada:1,2", b"Ada : 1,2", b"ada 1;2", b'"ada 1,2"', b"'ada 1,2.'", b'"ada 1,2".',
+                "\u201cada 1,2\u201d".encode(), "\u00bbada 1,2\u00ab".encode(), b"**ada 1,2**", b"*ada* 1,2", b"ada *1,2*",
+            ),
+            b"ada 1,2,3": (b"ada 1 , 2,\t3", b"ada 1; 2;3", b"ada 1,*2*,3"),
+            b"ada.b-9 1,2": (b"Ada.B-9 1,2",),
+            b"ada -,1": (b"ADA -,1",),
+            b"ada 1,2,-": (b"ada 1 ;\t2 ; -",),
+            b"ada 1,-,2": ("\u201eAda: 1; \u2013; 2.\u201c".encode(),),
+            b"ada 1,-,-": ("ada 1,\u2014,\u2212".encode(),),
+        }.items():  # fmt: skip
+            for came in lines:
+                self.assertEqual(changed(came), wanted, came)
 
     def test_what_is_not_changed(self) -> None:
-        # a line tabulator, quotation marks within the line, points, a capital that is no rank, letters not in ASCII, ..
+        # a line tabulator, quotation marks within the line, points, a capital that is no rank, letters not in ASCII, half a point, ..
         for came in (
-            b"ada 1,2\x0b",
-            b'"ada" 1,2',
-            b'"ada 1,2',
-            b"ada 1,2..",
-            b"ada 1.,2",
-            b"ada 1*2*3",
-            b"ada *1,2",
-            b"ada 1,X",
-            "Ädä 1,2".encode(),
-            "anna\u2013maria 1,2".encode(),
-            "ada 1\u20132".encode(),
-            b"ada 1 2,3",
-            b"A>B>C",
-            b"ada:b",
-            b"ada 1:2",
-            b"\xff 1,2",
-            b"ada 1,2,",
-            b"ada 1,,2",
-            # half a point, or two ranks
-            b"ada 1;2,5;3",
-            b"ada 1,5; 2",
-            b"ada;1;2",
-        ):
+            b"ada 1,2\x0b", b'"ada" 1,2', b'"ada 1,2', b"ada 1,2..", b"ada 1.,2", b"ada 1*2*3", b"ada *1,2", b"ada 1,X", "Ädä 1,2".encode(), "anna\u2013maria 1,2".encode(),
+            "ada 1\u20132".encode(), b"ada 1 2,3", b"A>B>C", b"ada:b", b"ada 1:2", b"\xff 1,2", b"ada 1,2,", b"ada 1,,2", b"ada 1;2,5;3", b"ada 1,5; 2", b"ada;1;2",
+        ):  # fmt: skip
             self.assertEqual(changed(came), came)
 
     def test_a_line_that_is_right_stays(self) -> None:
@@ -73,14 +38,7 @@ class Changes(unittest.TestCase):
             self.assertEqual((changed(came), differences(came, changed(came))), (came, []))
 
     def test_the_name_with_which_a_line_begins(self) -> None:
-        for line, name in {
-            b"ada 1,2": b"ada",
-            b"ada-b.9,1": b"ada-b.9",
-            b"ada": b"ada",
-            b" ada 1": b"",
-            b"Ada 1": b"",
-            b"": b"",
-        }.items():
+        for line, name in {b"ada 1,2": b"ada", b"ada-b.9,1": b"ada-b.9", b"ada": b"ada", b" ada 1": b"", b"Ada 1": b"", b"": b""}.items():
             self.assertEqual(name_in(line), name)
 
     def test_a_long_line_of_blanks_takes_no_time(self) -> None:
@@ -103,10 +61,6 @@ class Ends(unittest.TestCase):
             wanted = [("f:1", b"ada 1"), ("f:2", b"ben 2")]
             self.assertEqual(self.texts(b"ada 1" + end + b"ben 2" + end), wanted)
             self.assertEqual(self.texts(b"ada 1" + end + b"ben 2"), wanted)
-
-    def test_a_file_of_lines(self) -> None:
-        (line,) = lines_in(b"Ada 1, 2,3\r\n", "more.txt")
-        self.assertEqual((line.where, line.repaired), ("more.txt:1", b"ada 1,2,3"))
 
     def test_empty_lines_are_numbered(self) -> None:
         self.assertEqual(self.texts(b"\n \t\r\nada 1\r\r\n"), [("f:1", b""), ("f:2", b""), ("f:3", b"ada 1"), ("f:4", b"")])

@@ -38,22 +38,21 @@ class Sentences(unittest.TestCase):
         for reason in Reason:
             text = for_elector(with_values(reason))
             for value in VALUES.values():
-                self.assertNotRegex(
-                    text, rf"(?<!\w){re.escape(str(value))}(?!\w)" if isinstance(value, str) and len(value) > 4 else "\x00"
-                )
+                if isinstance(value, str) and len(value) > 4:
+                    self.assertNotRegex(text, rf"(?<!\w){re.escape(value)}(?!\w)")
             self.assertNotIn("@", text)
             self.assertFalse(may_be_ballot(repaired_line(text)) and any(name in text.split() for name in NAMES), text)
 
     def test_how_values_are_shown(self) -> None:
-        self.assertEqual(
-            for_secretary(Reason.AFTER_THE_END(end=at(9))), "it arrived after the end of the vote, 2026-11-23 09:00:00 UTC"
-        )
+        said = for_secretary(Reason.AFTER_THE_END(end=at(9)))
+        self.assertEqual(said, "it arrived after the end of the vote, 2026-11-23 09:00:00 UTC")
         said = for_secretary(Reason.OTHER_SENDER(sender="a\x1b[2J\u202e@x", listed="b@x", elector="ada"))
         self.assertEqual(said, "it came from a\\u001B[2J\\u202E@x, but the list of members has b@x for ada")
 
     def test_each_becomes_of_some_letter(self) -> None:
-        tables = [*(row.becomes for row in test_table_of_letters.TABLE), *test_signatures.BECOMES.values()]
-        found = {one.partition(": ")[2] for one in tables}
+        test_signatures.Table.setUpClass()
+        signed = [becomes for _, becomes, _ in test_signatures.Table().rows()]
+        found = {one.partition(": ")[2] for one in (*(row.becomes for row in test_table_of_letters.TABLE), *signed)}
         # these two are of letters beside others, and of a gpgv that hangs
         found |= {"came before", "slow signature", "parted off"}
         self.assertEqual({label(reason()) for reason in Reason} - found, set())

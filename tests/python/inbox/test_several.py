@@ -21,6 +21,11 @@ def first(**how: object) -> bytes:
     return letter("ada", f"{BALLOT}\n", **{"time": hour(10), **how})  # type: ignore[arg-type]
 
 
+def other(time: str, **how: object) -> bytes:
+    """A letter with another ballot of its elector."""
+    return letter("ada", OTHER, **{"number": 2, "time": time, **how})  # type: ignore[arg-type]
+
+
 def entered(*letters: JudgedLetter) -> dict[str, object]:
     """The circumstances when what goes in of these has gone in."""
     going = [one for one in letters if one.outcome is Outcome.GOES_IN]
@@ -33,69 +38,46 @@ def entered(*letters: JudgedLetter) -> dict[str, object]:
 
 class Order(unittest.TestCase):
     def test_as_they_arrived(self) -> None:
-        later, elsewhere = letter("ada", OTHER, number=2, time=hour(12)), letter(
-            "ben", f"ben {RANKS}", time="Mon, 23 Nov 2026 12:30:00 +0100"
-        )
-        self.assertEqual(lines_in(later, elsewhere, first()), [BALLOT, f"ben {RANKS}", OTHER])
-
-    def test_without_a_time_they_come_last(self) -> None:
+        """Those without a time come last."""
+        elsewhere = letter("ben", f"ben {RANKS}", time="Mon, 23 Nov 2026 12:30:00 +0100")
+        self.assertEqual(lines_in(other(hour(12)), elsewhere, first()), [BALLOT, f"ben {RANKS}", OTHER])
         found = judged(letter("ada", BALLOT, time=None), letter("ben", f"ben {RANKS}", time=None), first(number=2))
         self.assertEqual([one.parsed.where for one in found], ["letter 3", "letter 1", "letter 2"])
 
     def test_two_of_one_second_that_differ_both_wait(self) -> None:
         others = [letter("ben", f"ben {RANKS}", time=hour(10)), letter("ada", BALLOT, number=3, time=hour(9))]
-        both = [first(), letter("ada", OTHER, number=2, time=hour(10))]
+        both = [first(), other(hour(10))]
+        wanted = [f"in: {BALLOT}", f"in: ben {RANKS}", "waits: same time", "waits: same time"]
         for letters in (both, both[::-1]):
-            self.assertEqual(
-                sorted(outcomes(*letters, *others)), [f"in: {BALLOT}", f"in: ben {RANKS}", "waits: same time", "waits: same time"]
-            )
-        self.assertEqual(outcomes(first(), letter("ada", OTHER, number=2, time=hour(10, 1))), [f"in: {BALLOT}", f"in: {OTHER}"])
-
-    def test_two_of_one_second_that_are_the_same_go_in(self) -> None:
+            self.assertEqual(sorted(outcomes(*letters, *others)), wanted)
+        self.assertEqual(outcomes(first(), other(hour(10, 1))), [f"in: {BALLOT}", f"in: {OTHER}"])
+        # the same ballot goes in twice, and one that waits takes nobody's place
         self.assertEqual(lines_in(first(), letter("ada", f"Hello\n{BALLOT}", number=2, time=hour(10))), [BALLOT, BALLOT])
-
-    def test_one_that_waits_takes_nobody_s_place(self) -> None:
-        self.assertEqual(
-            outcomes(first(), letter("ada", OTHER, number=2, time=hour(10), sender="x@y.example")),
-            [f"in: {BALLOT}", "waits: other sender"],
-        )
+        self.assertEqual(outcomes(first(), other(hour(10), sender="x@y.example")), [f"in: {BALLOT}", "waits: other sender"])
 
     def test_an_older_letter_that_comes_after_a_newer_one(self) -> None:
-        newer = judged(letter("ada", OTHER, number=2, time=hour(12)))
+        newer = judged(other(hour(12)))
         self.assertEqual(outcomes(newer[0].parsed, first(), **entered(*newer)), ["waits: later ballot", "entered"])
 
 
 class Copies(unittest.TestCase):
     def test_a_mailbox_that_is_saved_again(self) -> None:
         """With other lines in its heads, and a new letter."""
-        letters = [
-            first(),
-            letter("ada", OTHER, number=2, time=hour(12)),
-            letter("ben", f"ben {RANKS}", time=hour(11)),
-            letter("ben", "ben", number=2),
-        ]
+        letters = [first(), other(hour(12)), letter("ben", f"ben {RANKS}", time=hour(11)), letter("ben", "ben", number=2)]
         found = judged(*letters)
         again = [b"X-Mozilla-Status: 0001\n" + data for data in letters]
-        new = letter("cleo", f"cleo {RANKS}", time=hour(13))
-        self.assertEqual(
-            sorted(outcomes(*(one.parsed for one in found), *again, new, **entered(*found))),
-            sorted(["entered"] * 3 + ["copy"] * 4 + ["waits: no ballot", f"in: cleo {RANKS}"]),
-        )
-
-    def test_the_same_bytes_twice(self) -> None:
-        self.assertEqual(outcomes(first(), first()), [f"in: {BALLOT}", "copy"])
+        becomes = outcomes(*(one.parsed for one in found), *again, letter("cleo", f"cleo {RANKS}", time=hour(13)), **entered(*found))
+        self.assertEqual(sorted(becomes), [*["copy"] * 4, *["entered"] * 3, f"in: cleo {RANKS}", "waits: no ballot"])
 
     def test_other_parts_that_differ_make_no_copy(self) -> None:
         """Two letters wait for one reason; only one of them may be genuine, and the secretary sees both."""
-        parts = [
-            alternatives("ada", BALLOT, f"<p>{ballot}</p>", time=None, head=f"X: {number}\n")
-            for number, ballot in enumerate((BALLOT, OTHER, OTHER))
-        ]
+        texts = [f"<p>{ballot}</p>" for ballot in (BALLOT, OTHER, OTHER)]
+        parts = [alternatives("ada", BALLOT, text, time=None, head=f"X: {number}\n") for number, text in enumerate(texts)]
         self.assertEqual(outcomes(*parts), ["waits: no arrival", "waits: no arrival", "copy"])
 
     def test_what_makes_no_other_letter(self) -> None:
         changes = [
-            (b"\n", b"\r\n"), (f"{BALLOT}\n".encode(), f"{BALLOT}  \n\n\n".encode()), (b"To: ", b"X-Status: R\nTo: "),
+            (b"", b""), (b"\n", b"\r\n"), (f"{BALLOT}\n".encode(), f"{BALLOT}  \n\n\n".encode()), (b"To: ", b"X-Status: R\nTo: "),
             (b"charset=utf-8", b"charset=us-ascii"),
         ]  # fmt: skip
         for before, after in changes:
@@ -104,28 +86,20 @@ class Copies(unittest.TestCase):
         self.assertEqual(outcomes(quoted, quoted.replace(b"\nFrom here", b"\n>From here")), [f"in: {BALLOT}", "copy"])
 
     def test_what_makes_another_letter(self) -> None:
-        others = [
-            first(number=2),
-            letter("ada", f"Hi\n{BALLOT}\n"),
-            first(sender="x@y.example"),
-            first().replace(b"Message-ID", b"X-ID"),
-        ]
+        others = [first(number=2), letter("ada", f"Hi\n{BALLOT}\n"), first(sender="x@y.example"), first().replace(b"Message-ID", b"X-ID")]
         for data in others:
             self.assertNotEqual(parsed(data).identity, parsed(first()).identity)
         self.assertEqual(parsed(others[-1]).identity, parsed(others[-1] + b"\n").identity, "no Message-ID is as none")
 
     def test_the_later_copy_waits_if_another_ballot_came_between(self) -> None:
-        other, again = letter("ada", OTHER, number=2, time=hour(11)), first(time=hour(12))
-        wanted = [f"in: {BALLOT}", f"in: {OTHER}", "waits: came before"]
-        self.assertEqual(outcomes(again, other, first()), wanted)
-        found = judged(first(), other)
-        self.assertEqual(
-            outcomes(*(one.parsed for one in found), again, **entered(*found)), ["entered", "entered", "waits: came before"]
-        )
+        between, again = other(hour(11)), first(time=hour(12))
+        self.assertEqual(outcomes(again, between, first()), [f"in: {BALLOT}", f"in: {OTHER}", "waits: came before"])
+        found = judged(first(), between)
+        becomes = outcomes(*(one.parsed for one in found), again, **entered(*found))
+        self.assertEqual(becomes, ["entered", "entered", "waits: came before"])
         self.assertEqual(outcomes(first(), again), [f"in: {BALLOT}", "copy"])
-        self.assertEqual(
-            outcomes(first(), letter("ben", f"ben {RANKS}", time=hour(11)), again), [f"in: {BALLOT}", f"in: ben {RANKS}", "copy"]
-        )
+        bens = letter("ben", f"ben {RANKS}", time=hour(11))
+        self.assertEqual(outcomes(first(), bens, again), [f"in: {BALLOT}", f"in: ben {RANKS}", "copy"])
 
     def test_a_copy_of_one_that_waits_for_a_ballot_beside_it(self) -> None:
         """It is one letter, of the earliest arrival: a second delivery makes it no later one."""
@@ -133,12 +107,11 @@ class Copies(unittest.TestCase):
         later = {"ada": [Ballot(at(11), OTHER)]}
         self.assertEqual(outcomes(first(), again, ballots=later), ["waits: later ballot", "waits: came before"])
         self.assertEqual(outcomes(first(), b"X-Status: R\n" + first(), ballots=later), ["waits: later ballot", "copy"])
-        beside = letter("ada", OTHER, number=2, time=hour(10))
-        self.assertEqual(sorted(outcomes(first(), beside, again)), ["copy", "waits: same time", "waits: same time"])
+        self.assertEqual(sorted(outcomes(first(), other(hour(10)), again)), ["copy", "waits: same time", "waits: same time"])
 
     def test_a_copy_is_no_other_ballot_of_its_second(self) -> None:
         """A server delivers again what it has delivered, and a new letter."""
-        again, new = first(time=hour(12)), letter("ada", OTHER, number=2, time=hour(12))
+        again, new = first(time=hour(12)), other(hour(12))
         self.assertEqual(outcomes(first(), again, new), [f"in: {BALLOT}", "copy", f"in: {OTHER}"])
         found = judged(first())
         self.assertEqual(outcomes(found[0].parsed, again, new, **entered(*found)), ["entered", "copy", f"in: {OTHER}"])
@@ -196,24 +169,17 @@ class Copies(unittest.TestCase):
 
 
 class Decisions(unittest.TestCase):
-    def decided(self, decision: str) -> list[str]:
-        """What becomes of a letter, and of it once more with another head."""
-        kept: ParsedLetter = parsed(first())
-        return outcomes(kept, b"X-Status: R\n" + first(), decisions={kept.digest: decision})
-
     def test_what_an_act_decided_holds_for_copies(self) -> None:
         wanted = {
-            queries.ENTERED: "entered",
-            queries.TAKEN_BACK: "waits: taken back",
-            queries.PUT_BACK: "waits: put back",
-            queries.SET_ASIDE: "set aside: set aside",
-            queries.STRUCK: "set aside: struck",
-        }
+            queries.ENTERED: "entered", queries.TAKEN_BACK: "waits: taken back", queries.PUT_BACK: "waits: put back",
+            queries.SET_ASIDE: "set aside: set aside", queries.STRUCK: "set aside: struck",
+        }  # fmt: skip
+        kept: ParsedLetter = parsed(first())
         for decision, becomes in wanted.items():
-            self.assertEqual(self.decided(decision), [becomes, "copy"])
+            found = outcomes(kept, b"X-Status: R\n" + first(), decisions={kept.digest: decision})
+            self.assertEqual(found, [becomes, "copy"])
 
     def test_a_ballot_that_goes_in_counts_for_those_after_it(self) -> None:
         found = judged(first(), letter("ada", "hello", number=2, time=hour(9)))
-        self.assertEqual(
-            [(outcome(one), one.has_voted_since) for one in found], [("waits: no ballot", True), (f"in: {BALLOT}", False)]
-        )
+        told = [(outcome(one), one.has_voted_since) for one in found]
+        self.assertEqual(told, [("waits: no ballot", True), (f"in: {BALLOT}", False)])

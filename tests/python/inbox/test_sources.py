@@ -15,6 +15,10 @@ from tests.support.letters import NAMES, RANKS, answer, letter, mailbox, outcome
 
 LINE = b"From somebody Mon Nov 23 10:00:00 2026\n"
 ADA, BEN = letter("ada", f"ada {RANKS}\n"), letter("ben", f"ben {RANKS}\n")
+IN_ADA, IN_BEN, PARTED = f"in: ada {RANKS}", f"in: ben {RANKS}", "waits: parted off"
+# a ballot of Ben that is no ballot as a text of another letter, and one of Ada in parts
+CODED = letter("ben", "YmVuIDEsMiw0LDMK\n", head="Content-Transfer-Encoding: base64\n")
+PARTS = letter("ada", f"--b\n\nada {RANKS}\n--b--\n", kind="multipart/mixed; boundary=b")
 
 
 def outcome_of(found: list[RawLetter]) -> list[str]:
@@ -22,106 +26,77 @@ def outcome_of(found: list[RawLetter]) -> list[str]:
 
 
 class Files(unittest.TestCase):
+    def assert_becomes(self, data: bytes, *wanted: str) -> None:
+        """What becomes of the letters of a file."""
+        self.assertEqual(outcome_of(letters_of_file("box", data)), list(wanted), data)
+
+    def assert_parted_off(self, data: bytes, *wanted: bool) -> None:
+        """Which letters of a file may be text of the letter above."""
+        self.assertEqual([raw.is_parted_off for raw in read_in(letters_of_file("box", data))], list(wanted), data)
+
     def test_one_message(self) -> None:
         for data in (ADA, b"\n\n" + ADA, b"\xef\xbb\xbf" + ADA, b"From ben\n" + ADA):
             found = letters_of_file("x", data)
             self.assertEqual([(raw.where, raw.data, raw.is_parted_off) for raw in read_in(found)], [("x", ADA, False)], data[:10])
 
     def test_a_mailbox(self) -> None:
-        for line in (
-            LINE,
-            b"From - Mon Nov 23 10:00:00 2026\n",
-            b"From 17@xxx Mon Nov 23 10:00:00 +0000 2026\n",
-            b"From x Mon, 2 Nov 2026 9:00\n",
-        ):
+        for line in (LINE, b"From - Mon Nov 23 10:00:00 2026\n", b"From 17@xxx Mon Nov 23 10:00:00 +0000 2026\n", b"From x Mon, 2 Nov 2026 9:00\n"):
             box = mailbox(ADA, BEN).replace(LINE, line)
             for data in (box, box.replace(b"\n", b"\r\n")):
                 found = letters_of_file("box", data)
                 self.assertEqual([raw.where for raw in read_in(found)], ["box, message 1", "box, message 2"])
                 self.assertEqual([raw.data.replace(b"\r", b"") for raw in read_in(found)], [ADA, BEN], line)
-                self.assertEqual(outcome_of(found), [f"in: ada {RANKS}", f"in: ben {RANKS}"])
+                self.assertEqual(outcome_of(found), [IN_ADA, IN_BEN])
 
-    def test_what_editors_put_before_a_mailbox(self) -> None:
-        """Else it is one letter, and all but its first ballot are text of it."""
-        box = mailbox(ADA, BEN)
+    def test_what_editors_put_before_a_mailbox_or_take_away(self) -> None:
+        """Without its first line it is one letter, and all but its first ballot are text of it: it waits."""
         for start in (b"\n", b"\r\n\r\n", b"\xef\xbb\xbf"):
-            self.assertEqual(outcome_of(letters_of_file("box", start + box)), [f"in: ada {RANKS}", f"in: ben {RANKS}"], start)
-
-    def test_a_mailbox_without_its_first_line(self) -> None:
-        coded = letter("ben", "YmVuIDEsMiw0LDMK\n", head="Content-Transfer-Encoding: base64\n")
-        box = mailbox(ADA, coded).removeprefix(LINE)
-        self.assertEqual(outcome_of(letters_of_file("box", box)), ["waits: parted off"])
+            self.assert_becomes(start + mailbox(ADA, BEN), IN_ADA, IN_BEN)
+        self.assert_becomes(mailbox(ADA, CODED).removeprefix(LINE), PARTED)
 
     def test_lines_without_a_date_hide_no_letter(self) -> None:
         """The letter above waits, and says to look at the file: what is below its parts nobody would see."""
-        coded = letter("ben", "YmVuIDEsMiw0LDMK\n", head="Content-Transfer-Encoding: base64\n")
-        parts = letter("ada", f"--b\n\nada {RANKS}\n--b--\n", kind="multipart/mixed; boundary=b")
         for line in (b"From ben\n", b"From - Mo Nov 23 10:00:00 2026\n", b"from ben\n", b">From - Mon Nov 23 10:00:00 2026\n"):
-            for above in (ADA, parts):
-                self.assertEqual(
-                    outcome_of(letters_of_file("box", LINE + above + b"\n" + line + coded)), ["waits: parted off"], line
-                )
-                self.assertEqual(outcome_of(letters_of_file("one", above + b"\n" + line + coded)), ["waits: parted off"], line)
+            for above in (ADA, PARTS, LINE + ADA, LINE + PARTS):
+                self.assert_becomes(above + b"\n" + line + CODED, PARTED)
 
     def test_whatever_field_is_below_a_line_without_a_date(self) -> None:
         """Thunderbird and others put fields of their own above all that the mail server wrote."""
-        coded = letter("ben", "YmVuIDEsMiw0LDMK\n", head="Content-Transfer-Encoding: base64\n")
         line = b"From ben 2026-11-23T10:00:00\n"
-        for field in (
-            b"X-Mozilla-Status: 0001\n",
-            b"X-UID: 7\n",
-            b"Delivery-Date: x\n",
-            b"Status: RO\n",
-            b"To: vote\n",
-            b"Subject: x\n",
-        ):
-            below = b"\n" + line + field + coded
-            self.assertEqual(outcome_of(letters_of_file("box", LINE + ADA + below)), ["waits: parted off"], field)
-            self.assertEqual(outcome_of(letters_of_file("box", line + field + ADA)), [f"in: ada {RANKS}"], field)
-            self.assertEqual(outcome_of(letters_of_file("box", line + field + ADA + below)), ["waits: parted off"], field)
+        for field in (b"X-Mozilla-Status: 0001\n", b"X-UID: 7\n", b"Delivery-Date: x\n", b"Status: RO\n", b"To: vote\n", b"Subject: x\n"):
+            below = b"\n" + line + field + CODED
+            self.assert_becomes(LINE + ADA + below, PARTED)
+            self.assert_becomes(line + field + ADA, IN_ADA)
+            self.assert_becomes(line + field + ADA + below, PARTED)
 
     def test_a_mailbox_of_thunderbird(self) -> None:
         """Today it writes lines without sender and date; older letters in it have lines with a date."""
         status = b"X-Mozilla-Status: 0001\nX-Mozilla-Status2: 00000000\n"
-        for lines in (
-            (b"From \n", b"From \n"),
-            (b"From - \n", b"From -\n"),
-            (b"From - Mon Nov 23 10:00:00 2026\n", b"From \n"),
-            (b"From \n", LINE),
-        ):
-            box = lines[0] + status + ADA + b"\n" + lines[1] + status + BEN + b"\n"
+        dated = b"From - Mon Nov 23 10:00:00 2026\n"
+        for first, second in ((b"From \n", b"From \n"), (b"From - \n", b"From -\n"), (dated, b"From \n"), (b"From \n", LINE)):
+            box = first + status + ADA + b"\n" + second + status + BEN + b"\n"
             for data in (box, box.replace(b"\n", b"\r\n")):
-                self.assertEqual(outcome_of(letters_of_file("box", data)), [f"in: ada {RANKS}", f"in: ben {RANKS}"], lines)
+                self.assert_becomes(data, IN_ADA, IN_BEN)
         # without an empty line between, and as text of a letter that is not in a mailbox
-        self.assertEqual(
-            outcome_of(letters_of_file("box", b"From \n" + ADA + b"From \n" + BEN)), [f"in: ada {RANKS}", "waits: parted off"]
-        )
-        self.assertEqual(outcome_of(letters_of_file("x", ADA + b"\nFrom \n" + BEN)), ["waits: parted off"])
+        self.assert_becomes(b"From \n" + ADA + b"From \n" + BEN, IN_ADA, PARTED)
+        self.assert_becomes(ADA + b"\nFrom \n" + BEN, PARTED)
 
     def test_letters_that_somebody_put_together(self) -> None:
         """As `cat *.eml` does: of the second nobody would see anything."""
-        coded = letter("ben", "YmVuIDEsMiw0LDMK\n", head="Content-Transfer-Encoding: base64\n")
-        above = {
-            "plain text": ADA,
-            "parts": letter("ada", f"--b\n\nada {RANKS}\n--b--\n", kind="multipart/mixed; boundary=b"),
-            "HTML": letter("ada", f"<p>ada {RANKS}</p><br>\n", kind="text/html"),
-            "coded": letter("ada", "YWRhIDEsMiw0LDMK\n", head="Content-Transfer-Encoding: base64\n"),
-            "a PDF": letter("ada", "JVBERi0x\n", kind="application/pdf", head="Content-Transfer-Encoding: base64\n"),
-        }
-        for what, data in above.items():
+        base64 = "Content-Transfer-Encoding: base64\n"
+        html = letter("ada", f"<p>ada {RANKS}</p><br>\n", kind="text/html")
+        coded, pdf = letter("ada", "YWRhIDEsMiw0LDMK\n", head=base64), letter("ada", "JVBERi0x\n", kind="application/pdf", head=base64)
+        for data in (ADA, PARTS, html, coded, pdf):
             for between in (b"", b"\n", b"Return-Path: <ben@club.example>\n"):
-                self.assertEqual(outcome_of(letters_of_file("x", data + between + coded)), ["waits: parted off"], what)
+                self.assert_becomes(data + between + CODED, PARTED)
         attached = letter("ada", f"--b\n\nada {RANKS}\n--b\nContent-Type: message/rfc822\n\n", kind="multipart/mixed; boundary=b")
-        found = letters_of_file("x", attached + letter("ben", "hello\n") + b"--b--\n")
-        self.assertEqual(outcome_of(found), [f"in: ada {RANKS}"])
+        self.assert_becomes(attached + letter("ben", "hello\n") + b"--b--\n", IN_ADA)
 
     def test_a_boundary_with_a_blank(self) -> None:
         """Lotus Notes writes such."""
         notes = "=_alternative 004A8E32C1256F5A_="
         for kind in (f'multipart/alternative; boundary="{notes}"', f'multipart/alternative; boundary="{notes} "'):
-            parts = letter("ada", f"--{notes}\n\nada {RANKS}\n--{notes}--\n", kind=kind)
-            found = letters_of_file("box", mailbox(parts, BEN))
-            self.assertEqual(outcome_of(found), [f"in: ada {RANKS}", f"in: ben {RANKS}"])
+            self.assert_becomes(mailbox(letter("ada", f"--{notes}\n\nada {RANKS}\n--{notes}--\n", kind=kind), BEN), IN_ADA, IN_BEN)
 
     def test_lines_that_part_nothing(self) -> None:
         text = f"ada {RANKS}\n\nFrom Monday on\n\nFrom Monday on see\nhttps://x.example\n\n>From x Mon Nov 23 10:00:00 2026\n\nfrom x Mon Nov 23 10:00:00 2026\n\nFrom 10:00 on\n"
@@ -129,42 +104,23 @@ class Files(unittest.TestCase):
         self.assertEqual(len(read_in(found)), 2)
 
     def test_what_may_be_text_of_the_letter_above(self) -> None:
-        carrier = letter("mallory", "hello\n")
+        carrier, below = letter("mallory", "hello\n"), b"\n" + LINE + BEN
         length = f"Content-Length: {len(LINE) + len(BEN) + 8}\n".encode()
-        cases = {
-            "no empty line": LINE + carrier + LINE + BEN,
-            "within the length": LINE + length + carrier + b"\n" + LINE + BEN,
-            "within the length, in two lines": LINE + length.replace(b": ", b":\n ") + carrier + b"\n" + LINE + BEN,
-            "within parts whose boundary is in pieces": LINE
-            + letter("x", "--bc\n\nhi\n", kind="multipart/mixed; boundary*0=b; boundary*1=c")
-            + b"\n"
-            + LINE
-            + BEN,
-            "within the parts": LINE + letter("x", "--b\n\nhi\n", kind="multipart/mixed; boundary=b") + b"\n" + LINE + BEN,
-            "within the parts of the second of two": LINE
-            + letter("x", "--b--\n\n--c\n\nhi\n", kind="a/b; boundary=b; boundary=c")
-            + b"\n"
-            + LINE
-            + BEN,
-        }
-        for what, box in cases.items():
-            found = letters_of_file("box", box)
-            self.assertEqual([raw.is_parted_off for raw in read_in(found)], [False, True], what)
-            self.assertEqual(outcome_of(found)[1], "waits: parted off", what)
+        for box in (
+            # no empty line, within the length, or within the parts
+            carrier + LINE + BEN,
+            length + carrier + below,
+            length.replace(b": ", b":\n ") + carrier + below,
+            letter("x", "--bc\n\nhi\n", kind="multipart/mixed; boundary*0=b; boundary*1=c") + below,
+            letter("x", "--b\n\nhi\n", kind="multipart/mixed; boundary=b") + below,
+            letter("x", "--b--\n\n--c\n\nhi\n", kind="a/b; boundary=b; boundary=c") + below,
+        ):
+            self.assert_parted_off(LINE + box, False, True)
+            self.assertEqual(outcome_of(letters_of_file("box", LINE + box))[1], PARTED)
         # each that is within the length, whatever those between say; and none after it
-        inner = b"Content-Length: 1\n" + BEN
-        body = b"hello\n\n" + LINE + inner + b"\n" + LINE + BEN
-        box = (
-            LINE
-            + f"Content-Length: {len(body)}\n".encode()
-            + letter("mallory", "").rstrip(b"\n")
-            + b"\n\n"
-            + body
-            + b"\n"
-            + LINE
-            + ADA
-        )
-        self.assertEqual([raw.is_parted_off for raw in read_in(letters_of_file("box", box))], [False, True, True, False])
+        body = b"hello\n\n" + LINE + b"Content-Length: 1\n" + BEN + b"\n" + LINE + BEN
+        head = f"Content-Length: {len(body)}\n".encode() + letter("mallory", "").rstrip(b"\n")
+        self.assert_parted_off(LINE + head + b"\n\n" + body + b"\n" + LINE + ADA, False, True, True, False)
 
     def test_a_length_that_ends_elsewhere_parts_nothing_off(self) -> None:
         """Any sender can write one. Else a stranger's letter would have all letters wait that come after it."""
@@ -172,28 +128,24 @@ class Files(unittest.TestCase):
         exact = body + 1 + len(LINE) + len(BEN) + 1
         for length in (exact - 2, exact + 1, exact + len(LINE), exact + 50, 10**9):
             box = LINE + f"Content-Length: {length}\n".encode() + carrier + b"\n" + mailbox(BEN, ADA)
-            found = letters_of_file("box", box)
-            self.assertEqual([raw.is_parted_off for raw in read_in(found)], [False] * 3, length)
-            self.assertEqual(outcome_of(found)[1:], [f"in: ben {RANKS}", f"in: ada {RANKS}"], length)
+            self.assert_parted_off(box, False, False, False)
+            self.assertEqual(outcome_of(letters_of_file("box", box))[1:], [IN_BEN, IN_ADA], length)
         # before a line without a date, too
         for line, is_parted_off in ((LINE, True), (b"From \n", False)):
             for empty in (0, 1):
                 head = f"Content-Length: {exact - empty - len(LINE) + len(line)}\n".encode()
                 box = LINE + head + (carrier + b"\n" + mailbox(BEN, ADA)).replace(LINE, line)
-                self.assertEqual([raw.is_parted_off for raw in read_in(letters_of_file("box", box))], [False, is_parted_off, False], box)
+                self.assert_parted_off(box, False, is_parted_off, False)
         # its own text alone, and the end of the file
         for length, is_parted_off in ((body, False), (exact, True), (exact + 1, True), (exact + 3, False)):
-            box = LINE + f"Content-Length: {length}\n".encode() + carrier + b"\n" + LINE + BEN
-            self.assertEqual([raw.is_parted_off for raw in read_in(letters_of_file("box", box))], [False, is_parted_off], length)
+            head = f"Content-Length: {length}\n".encode()
+            self.assert_parted_off(LINE + head + carrier + b"\n" + LINE + BEN, False, is_parted_off)
 
     def test_parts_that_end_part_nothing_off(self) -> None:
-        for above in (
-            letter("x", "--b\n\nhi\n--b--\n", kind="multipart/mixed; boundary=b"),
-            # anybody can write so, and no letter after it would go in
-            letter("x", "hi\n", head="Subject: boundary=b\n"),
-        ):
-            box = LINE + above + b"\n" + LINE + BEN
-            self.assertEqual([raw.is_parted_off for raw in read_in(letters_of_file("box", box))], [False, False])
+        """Nor does a subject that anybody can write."""
+        parts = letter("x", "--b\n\nhi\n--b--\n", kind="multipart/mixed; boundary=b")
+        for above in (parts, letter("x", "hi\n", head="Subject: boundary=b\n")):
+            self.assert_parted_off(LINE + above + b"\n" + LINE + BEN, False, False)
 
     def test_a_long_letter_is_named_and_the_others_are_read(self) -> None:
         long = letter("ada", "x" * MAX_LETTER)
@@ -214,26 +166,15 @@ class Files(unittest.TestCase):
             self.assertTrue(why.what and why.cure)
 
     def test_a_file_of_lines_is_none(self) -> None:
-        for data in (
-            b"ada: 1,2\nben: 1,2\n",
-            b"From: ada 1\n",
-            b"From Monday on\n\nada 1,2\n",
-            b"",
-            b"To be or not: x\n",
-            LINE + b"ada 1,2\n",
-        ):
-            self.assertFalse(are_letters(data), data)
+        texts = (b"ada: 1,2\nben: 1,2\n", b"From: ada 1\n", b"From Monday on\n\nada 1,2\n", b"", b"To be or not: x\n", LINE + b"ada 1,2\n")
+        self.assertEqual([data for data in texts if are_letters(data)], [])
 
     def test_many_lines_take_a_time_that_grows_with_their_number(self) -> None:
+        """As processor time: a time that grows with the square of the length would be minutes."""
         began = time.process_time()
-        for data in (
-            LINE * 100_000,
-            b"From Mon Mon Mon " * 50 * 5_000,
-            (b"From " + b"Mon " * 200 + b"\n") * 10_000,
-            mailbox(*[ADA] * 20_000),
-        ):
+        words = b"From Mon Mon Mon " * 50 * 5_000, (b"From " + b"Mon " * 200 + b"\n") * 10_000
+        for data in (LINE * 100_000, *words, mailbox(*[ADA] * 20_000)):
             letters_of_file("box", LINE + b"From: x\n" + data)
-        # no second is promised, but a time that grows with the square of the length would be minutes
         self.assertLess(time.process_time() - began, 60)
 
 
@@ -255,9 +196,7 @@ class Conservation(unittest.TestCase):
             place = chance.randrange(len(lines) + 1)
             lines[place : place + chance.randint(0, 1)] = [chance.choice(self.lines)]
         data = b"".join(lines[chance.choice((0, 0, 0, 1)) :])
-        return (
-            data.replace(b"\n", b"\r\n") if chance.random() < 0.2 else data[: chance.choice((len(data), len(data), len(data) - 1))]
-        )
+        return data.replace(b"\n", b"\r\n") if chance.random() < 0.2 else data[: len(data) - chance.choice((0, 0, 1))]
 
     def test_the_parts_of_a_file_are_the_file(self) -> None:
         chance = random.Random(3)
@@ -295,10 +234,8 @@ class Conservation(unittest.TestCase):
             for number in range(200):
                 (folder / f"{number}.eml").write_bytes(self.changed(chance))
             found = letters_of_folder(folder)
-            self.assertEqual(
-                sorted([raw.where for raw in read_in(found)] + [one[0] for one in passed_over_in(found)]),
-                sorted(map(str, folder.iterdir())),
-            )
+            named = [raw.where for raw in read_in(found)] + [where for where, _ in passed_over_in(found)]
+            self.assertEqual(sorted(named), sorted(map(str, folder.iterdir())))
 
 
 class Folders(unittest.TestCase):
@@ -313,28 +250,17 @@ class Folders(unittest.TestCase):
     def found(self) -> tuple[list[str], dict[str, NotRead]]:
         found = letters_of_folder(self.folder)
         place = f"{self.folder}{os.sep}"
-        return [raw.where.removeprefix(place) for raw in read_in(found)], {
-            where.removeprefix(place): why for where, why in passed_over_in(found)
-        }
+        why = {where.removeprefix(place): why for where, why in passed_over_in(found)}
+        return [raw.where.removeprefix(place) for raw in read_in(found)], why
 
     def test_a_folder_of_messages(self) -> None:
-        for name, data in {
-            "b.eml": ADA,
-            "a.eml": BEN,
-            "list.txt": b"hello",
-            ".hidden.eml": ADA,
-            "more/c.eml": ADA,
-            "d.zip": b"PK\x03\x04",
-        }.items():
+        files = {"b.eml": ADA, "a.eml": BEN, "list.txt": b"hello", ".hidden.eml": ADA, "more/c.eml": ADA, "d.zip": b"PK\x03\x04"}
+        for name, data in files.items():
             self.write(name, data)
         os.mkfifo(self.folder / "pipe")
-        wanted = {
-            "list.txt": NotRead.NO_LETTER,
-            ".hidden.eml": NotRead.HIDDEN,
-            "more": NotRead.FOLDER,
-            "d.zip": NotRead.ZIP,
-            "pipe": NotRead.NO_LETTER,
-        }
+        (self.folder / "link").symlink_to("nowhere")
+        wanted = dict.fromkeys(("list.txt", "pipe", "link"), NotRead.NO_LETTER)
+        wanted |= {".hidden.eml": NotRead.HIDDEN, "more": NotRead.FOLDER, "d.zip": NotRead.ZIP}
         self.assertEqual(self.found(), (["a.eml", "b.eml"], wanted))
 
     def test_a_maildir(self) -> None:
@@ -378,16 +304,7 @@ class Answers(unittest.TestCase):
         """They are plain, or none: what is written into a letter that goes out has no line of its own."""
         data = answer("ada", f"ada {RANKS}\n")
         self.assertEqual(parsed(data).in_reply_to, "<call.ada@club.example>")
-        for value in (
-            "=?utf-8?q?=3Cx=0ABcc=3A_y=40z=3E?=",
-            "<x y@z>",
-            "<\xff\xfe@z>",
-            "<a@b> <c@d>",
-            "<a\n b@c>",
-            f"<{'x' * 300}@y>",
-            "x",
-            "",
-        ):
+        for value in ("=?utf-8?q?=3Cx=0ABcc=3A_y=40z=3E?=", "<x y@z>", "<\xff\xfe@z>", "<a@b> <c@d>", "<a\n b@c>", f"<{'x' * 300}@y>", "x", ""):
             changed = data.replace(b"<call.ada@club.example>", value.encode("latin-1"))
             self.assertEqual(parsed(changed).in_reply_to, "", value)
             self.assertEqual(outcomes(changed), [f"in: ada {RANKS}"], value)

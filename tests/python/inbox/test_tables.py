@@ -3,6 +3,7 @@
 import codecs
 import dataclasses
 import unittest
+from typing import Any
 
 from debvote_tools.cli.faults import Fault, Status
 from debvote_tools.inbox.tables import heads_of, lines_of_table
@@ -24,11 +25,9 @@ class CsvBallotsTest(unittest.TestCase):
         found = lines_of_table(data_bytes, "form.csv", heads, POLL, is_newest_first=is_newest_first, **how)
         return [(line.where, line.came, line.unframed, line.repaired) for line in found]
 
-    def assert_refused(
-        self, data: str | bytes, status: Status, *parts: str, name: str = "n", ranks: str = "a,b,c", is_newest_first: bool | None = None
-    ) -> None:
+    def assert_refused(self, data: str | bytes, status: Status, *parts: str, **how: Any) -> None:
         with self.assertRaises(Fault) as caught:
-            self.lines(data, name, ranks, is_newest_first)
+            self.lines(data, **how)
         self.assertEqual(caught.exception.status, status)
         for part in (*parts, "nothing was added"):
             self.assertIn(part, str(caught.exception.words))
@@ -73,20 +72,26 @@ class Refused(CsvBallotsTest):
     def test_columns(self) -> None:
         table = "n,a,b,c,A\nada,1,2,3,4\n"
         heads = "the headers are `n`, `a`, `b`, `c`, `A`"
-        self.assert_refused(table, Status.BAD_WORDS, "form.csv: there is no column `who`", heads, name="who", ranks="n,b,c")
-        self.assert_refused(table, Status.BAD_WORDS, "there is more than one column `a`", heads)
-        self.assert_refused(table, Status.BAD_WORDS, "the column `b` is named twice", ranks="b,c,B")
-        self.assert_refused(table, Status.BAD_WORDS, "the column `b` is named twice", name="c", ranks="a,b,b")
-        self.assert_refused(table, Status.BAD_WORDS, "it names 2 columns, and the poll has 3 options", "3 Keins", ranks="b,c")
-        self.assert_refused(table, Status.BAD_WORDS, "--ranks: ", "quotation marks", ranks='"b,c')
+        for columns, *parts in (
+            ({"name": "who", "ranks": "n,b,c"}, "form.csv: there is no column `who`", heads),
+            ({}, "there is more than one column `a`", heads),
+            ({"ranks": "b,c,B"}, "the column `b` is named twice"),
+            ({"name": "c", "ranks": "a,b,b"}, "the column `b` is named twice"),
+            ({"ranks": "b,c"}, "it names 2 columns, and the poll has 3 options", "3 Keins"),
+            ({"ranks": '"b,c'}, "--ranks: ", "quotation marks"),
+        ):
+            self.assert_refused(table, Status.BAD_WORDS, *parts, **columns)
         self.assertEqual(heads_of("n", '"a, b",c,d', POLL), ["n", "a, b", "c", "d"])
 
     def test_tables(self) -> None:
-        self.assert_refused("x,n,a,b,c\nI, too,ada,1,2,3\n", Status.BAD_BALLOTS, "form.csv: row 2: it has 6 cells, and the header line has 5")
-        self.assert_refused('n,a,b,c\nada,1,2,3\n"ben,1,2,3\n', Status.BAD_BALLOTS, "form.csv:3: ", "close each quotation mark")
-        self.assert_refused(b"n,a,b,c\nad\xe4,1,2,3\n", Status.BAD_BALLOTS, "form.csv:2: it is not in UTF-8", "Latin-1: ad\u00e4,1,2,3")
-        self.assert_refused("", Status.BAD_BALLOTS, "form.csv: it is empty")
-        self.assert_refused(b"PK\x03\x04", Status.BAD_BALLOTS, "not CSV")
+        for data, *parts in (
+            ("x,n,a,b,c\nI, too,ada,1,2,3\n", "form.csv: row 2: it has 6 cells, and the header line has 5"),
+            ('n,a,b,c\nada,1,2,3\n"ben,1,2,3\n', "form.csv:3: ", "close each quotation mark"),
+            (b"n,a,b,c\nad\xe4,1,2,3\n", "form.csv:2: it is not in UTF-8", "Latin-1: ad\u00e4,1,2,3"),
+            ("", "form.csv: it is empty"),
+            (b"PK\x03\x04", "not CSV"),
+        ):
+            self.assert_refused(data, Status.BAD_BALLOTS, *parts)
 
 
 class OtherOrders(CsvBallotsTest):
@@ -109,16 +114,11 @@ class OtherOrders(CsvBallotsTest):
 
     def test_columns_in_their_places(self) -> None:
         for ranks in (
-            "at the LAKE,Im Rathaus Süd,x",
-            "1. Am See,2 In the town hall,3) Neither",
-            "1,2,3",
+            "at the LAKE,Im Rathaus Süd,x", "1. Am See,2 In the town hall,3) Neither", "1,2,3", "7 Am See,1 In the town hall,2 Neither",
             # the questions of a form are numbered, with the name as the first
-            "2. lake,3. hall,4. none",
-            "7 Am See,1 In the town hall,2 Neither",
-            "20 euros,90 euros,4 euros",
-        ):
-            with self.subTest(ranks=ranks):
-                self.assertEqual(heads_of("n", ranks, POLL), ["n", *ranks.split(",")])
+            "2. lake,3. hall,4. none", "20 euros,90 euros,4 euros",
+        ):  # fmt: skip
+            self.assertEqual(heads_of("n", ranks, POLL), ["n", *ranks.split(",")])
 
     def test_heads_that_count_choices(self) -> None:
         what = "counts choices; such a table has the options in each row by preference, and a ballot has a rank for each option"
@@ -158,20 +158,14 @@ class OtherOrders(CsvBallotsTest):
                 self.assertEqual(len(self.lines(table)), 2)
 
     def test_times_that_contradict_no_order(self) -> None:
+        """A day alone may be a birthday; 01/02 is 2 January or 1 February."""
         for column in (
-            ("2026-11-23 10:00", "2026-11-23 10:00"),
-            # a day alone may be a birthday
-            ("2026-11-23", "2026-11-24"),
-            ("2026-11-23 10:00", "later"),
-            # 2 January or 1 February, and so on
-            ("01/02/2026 10:00", "02/01/2026 10:00"),
-            ("99/99/2026 10:00", "98/99/2026 10:00"),
-            ("", ""),
-        ):
+            ("2026-11-23 10:00", "2026-11-23 10:00"), ("2026-11-23", "2026-11-24"), ("2026-11-23 10:00", "later"),
+            ("01/02/2026 10:00", "02/01/2026 10:00"), ("99/99/2026 10:00", "98/99/2026 10:00"), ("", ""),
+        ):  # fmt: skip
             table = "When;n;a;b;c\n" + "".join(f"{time};ada;1;2;3\n" for time in column)
             for is_newest_first in (True, False):
-                with self.subTest(column=column, is_newest_first=is_newest_first):
-                    self.assertEqual(len(self.lines(table, is_newest_first=is_newest_first)), 2)
+                self.assertEqual(len(self.lines(table, is_newest_first=is_newest_first)), 2, column)
 
     def test_one_column_of_times_with_the_order_is_enough(self) -> None:
         table = "begun,sent,n,a,b,c\n2026-11-23 10:00,2026-11-23 10:09,ada,1,2,3\n2026-11-23 10:01,2026-11-23 10:05,ben,1,2,3\n"

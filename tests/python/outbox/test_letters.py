@@ -1,9 +1,9 @@
 """`letters`: what goes to the electors as files, to whom, and that nothing of it reads as a ballot."""
 
+import contextlib
 import email
 import email.header
 import hashlib
-import json
 import pathlib
 import re
 import shutil
@@ -12,6 +12,7 @@ import subprocess
 import sys
 
 from debvote_tools.inbox.lines import changed
+from debvote_tools.outbox.files import in_place
 
 from tests.support import elections
 from tests.support.letters import letter
@@ -23,6 +24,7 @@ LINE = "Your line, with a rank in the place of each _. 1 is the best; equal rank
 MARKS = r"\[([0-9a-f]{16})-([2-9a-hjkmnp-z]{10})\]"
 WHEN = f"{TITLE} Vote until: Friday, 4 December 2026, 18:00 (UTC)"
 OPTIONS = "Option 1: At the lake Option 2: In the town hall Option 3: Sell the house and meet there Option 4: Further discussion (the default option)"
+EARLIER = "Mon, 23 Nov 2026 09:59:00 +0000"
 ELSEWHERE = "A letter in your name came from another address, and waits until the secretary has looked at it."
 
 
@@ -50,17 +52,14 @@ class Call(OutTest):
 
     def test_head_and_modes(self) -> None:
         found = self.written("call")
-        mark = re.search(r"\[([0-9a-f]{16})\]", self.read("call/call.txt").decode())
-        assert mark is not None
-        ids, own_marks = set(), dict(self.book().rows("SELECT name, mark FROM elector JOIN elector_state USING (elector) WHERE mark <> ''"))
+        ids, own_marks = set(), dict(self.book.rows("SELECT name, mark FROM elector JOIN elector_state USING (elector) WHERE mark <> ''"))
         self.assertEqual(len(set(own_marks.values())), 9)
         for name, message in found.items():
             self.assertEqual(message["To"], f"{name}@club.example")
-            self.assertEqual(message["Subject"], f"Vote: {TITLE} [{mark[1]}-{own_marks[name]}]")
-            self.assertEqual(
-                (message["From"], message["Auto-Submitted"], message["X-Unsent"]), ("vote@club.example", "auto-generated", "1")
-            )
-            self.assertEqual((message["In-Reply-To"], message["Reply-To"], message["Cc"], message["Bcc"]), (None,) * 4)
+            self.assertEqual(message["Subject"], f"Vote: {TITLE} [{self.mark}-{own_marks[name]}]")
+            heads = {"From": "vote@club.example", "Auto-Submitted": "auto-generated", "X-Unsent": "1"}
+            heads |= dict.fromkeys(("In-Reply-To", "Reply-To", "Cc", "Bcc"))
+            self.assertEqual({name: message[name] for name in heads}, heads)
             self.assertRegex(message["Message-ID"], r"^<[0-9a-f]{32}@club\.example>$")
             ids.add(message["Message-ID"])
         self.assertEqual(len(ids), 9)
@@ -71,34 +70,22 @@ class Call(OutTest):
     def test_again_it_makes_the_same_files_and_no_act(self) -> None:
         self.written("call")
         before = {file: file.read_bytes() for file in self.files("call")}
-        last = self.book().last_number()
+        last = self.book.last_number()
         for file in before:
             file.unlink()
         self.set_clock("2026-11-24T11:00:00+00:00")
         self.written("call")
         self.assertEqual({file: file.read_bytes() for file in self.files("call")}, before)
-        self.assertEqual(self.book().last_number(), last)
+        self.assertEqual(self.book.last_number(), last)
 
     def test_an_answer_to_it_goes_in(self) -> None:
         """Who knows the own mark of an elector and the Message-ID of a letter to them may put a quotation above the ballot, and nobody else."""
         found = self.written("call")
         quoted = "\n".join(f"> {line}" for line in found["ada"].get_content().splitlines()[:12])
-        [own] = self.book().rows("SELECT mark FROM elector JOIN elector_state USING (elector) WHERE name = 'ada' AND mark <> ''")
-        for name, other in (("ada", "ada"), ("ben", "ada")):
-            head = f"In-Reply-To: {found[other]['Message-ID']}\nSubject: Re: Vote [{elections.ANY_MARK}-{own[0]}]\n"
-            text = f"On 23 November 2026 you wrote:\n{quoted}\n\n{name} {RANKS}\n"
-            self.add_letters(letter(name, text, head=head, time="Mon, 23 Nov 2026 09:59:00 +0000", number=name))
-        self.assertIn("ada", self.debvote_standing())
-        self.assertNotIn("ben", self.debvote_standing())
-
-    def debvote_standing(self) -> str:
-        self.done("export", "out")
-        text = (self.folder / "out" / "ballots.txt").read_text()
-        for file in (self.folder / "out").rglob("*"):
-            if file.is_file():
-                file.unlink()
-        self.run_program("rm", "-r", "out")
-        return text
+        head = f"In-Reply-To: {found['ada']['Message-ID']}\nSubject: Re: {found['ada']['Subject']}\n"
+        for name in ("ada", "ben"):
+            self.add(letter(name, f"On 23 November 2026 you wrote:\n{quoted}\n\n{name} {RANKS}\n", head=head, time=EARLIER))
+        self.assertEqual(self.exported()[0], f"ada {RANKS}\n")
 
     def test_how_many_are_new(self) -> None:
         self.assertIn("Wrote 9 letters: letters/call/", self.done("letters", "call").output)
@@ -110,8 +97,7 @@ class Call(OutTest):
     def test_after_an_extension_those_who_have_the_call_get_its_letter(self) -> None:
         self.written("call")
         # whose address was wrong has no call yet
-        self.write("members.csv", elections.members_of(elections.NAMES).replace("ada@club", "ada@new"))
-        self.done("roll", "--yes")
+        self.change_roll("ada@club", "ada@new")
         self.done("call", "--until", "2026-12-06 12:00", "--zone", "UTC")
         found = self.written("call")
         texts = {name: one_line(message) for name, message in found.items()}
@@ -138,11 +124,10 @@ class Call(OutTest):
 
     def test_after_the_end_nobody_is_invited(self) -> None:
         self.set_clock("2026-12-04T18:00:01+00:00")
-        for kind in ("call", "reminders"):
-            self.assert_fault(self.election("letters", kind), 9, "the vote is over")
-        self.done("close")
-        for kind in ("call", "reminders"):
-            self.assert_fault(self.election("letters", kind), 9, "the vote is over")
+        for words in ("status", "close"):
+            self.told(words)
+            for kind in ("call", "reminders"):
+                self.assert_refused(("letters", kind), 9, "the vote is over")
         self.assertEqual((self.rows("call"), self.rows("reminders")), ([], []))
 
 
@@ -151,14 +136,13 @@ class Refused(OutTest):
 
     def test_before_the_call(self) -> None:
         for kind in ("call", "receipts", "reminders", "closed", "result"):
-            self.assertEqual(self.election("letters", kind, "--from", "vote@club.example").status, 9)
+            self.assertEqual(self.election("letters", kind, "--from", "vote@club.example").status, 9, kind)
 
     def test_a_call_without_addresses(self) -> None:
         self.done("call")
         self.assert_fault(self.election("letters", "call"), 2, "--from: the call names no address")
         found = self.written("call", "--from", "vote@other.example")
-        text = one_line(found["ada"])
-        begin = f"Dear Ada, {TITLE} You can vote until the time that the secretary announces. {LINE}ada _,_,_,_ "
+        text, begin = one_line(found["ada"]), f"Dear Ada, {TITLE} You can vote until the time that the secretary announces. {LINE}ada _,_,_,_ "
         self.assertTrue(text.startswith(begin), text)
         self.assertIn("Option 3: Sell the house and meet there (majority ratio 3)", text)
         # there is no page that has the rest
@@ -183,14 +167,12 @@ class Refused(OutTest):
                 self.done("call", "--take-back")
 
     def test_of_several_addresses_the_first_that_each_server_takes(self) -> None:
-        self.write("members.csv", elections.members_of(elections.NAMES).replace("ada@club", "ädä@club.example home@ada"))
-        self.done("roll")
+        self.change_roll("ada@club", "ädä@club.example home@ada")
         self.done("call", "--to", "vote@club.example")
         self.assertEqual(self.written("call")["ada"]["To"], "home@ada.example")
 
     def test_an_address_of_before_the_call_gets_no_receipt(self) -> None:
-        self.write("members.csv", elections.members_of(elections.NAMES).replace("ada@club", "ada@new"))
-        self.done("roll")
+        self.change_roll("ada@club", "ada@new")
         self.done("call", "--to", "vote@club.example")
         self.add_lines(f"ada {RANKS}")
         self.assertEqual([message["To"] for message in self.written("receipts").values()], ["ada@new.example"])
@@ -206,8 +188,8 @@ class OwnWords(OutTest):
         super().setUp()
         self.write("letter.txt", self.letter)
         self.set_clock("2026-11-20T09:00:00+00:00")
-        self.done("call", "--to", "Wahlleitung T\u00fcV <vote@club.example>", "--at", AT, "--until", "2026-12-04 18:00", "--zone", "UTC")
-        self.set_clock("2026-11-23T10:00:00+00:00")
+        self.done("call", "--to", "Wahlleitung T\u00fcV <vote@club.example>", *Call.call_words[2:])
+        self.set_clock(self.now)
 
     def test_each_begins_so(self) -> None:
         found = {kind: self.written(kind) for kind in ("call", "reminders")}
@@ -229,8 +211,8 @@ class OwnWords(OutTest):
         for name, message in self.written("call").items():
             head = f"In-Reply-To: {message['Message-ID']}\nSubject: Re: {message['Subject']}\n"
             text = f"{name} {RANKS}\n\nOn Monday the secretary wrote:\n{message.get_content()}"
-            self.add_letters(letter(name, text, head=head, number=name, time="Mon, 23 Nov 2026 09:59:00 +0000"))
-        self.assertEqual(json.loads(self.done("status", "--json").output)["voters"], 9)
+            self.add(letter(name, text, head=head, time=EARLIER))
+        self.assertEqual(self.numbers()["voters"], 9)
 
 
 class CodesOnRoll(OutTest):
@@ -243,7 +225,7 @@ class CodesOnRoll(OutTest):
         for kind in ("call", "receipts", "reminders"):
             self.assert_fault(self.election("letters", kind), 9, "codes are on the roll", "call/call.txt")
         # so the close goes on to no letters
-        self.assertTrue(self.done("close").output.endswith(" before you count anything.\nNext: debvote-election count\n"))
+        self.assertTrue(self.told("close").endswith(" before you count anything.\nNext: debvote-election count\n"))
 
 
 class Paper(OutTest):
@@ -281,8 +263,7 @@ class Names(OutTest):
 
     def test_no_letter_takes_the_place_of_another(self) -> None:
         """Two letters to ada, at her old address and her new one, beside one to ada-2."""
-        self.write("members.csv", elections.members_of(self.names).replace(",ada@club", ",ada@new"))
-        self.done("roll", "--yes")
+        self.change_roll(",ada@club", ",ada@new")
         self.add_lines("ada 1", f"ada-2 {RANKS}")
         wanted = ["ada-2@club.example", "ada@club.example", "ada@new.example"]
         found = self.written("receipts").values()
@@ -303,20 +284,17 @@ class Receipts(OutTest):
         self.done("undo")
         texts = self.texts("receipts")
         self.assertEqual(sorted(texts), ["ada", "ben", "cleo", "dan", "eve"])
-        self.assertIn("has arrived. It counts unless you send a later one.", texts["ada"])
-        self.assertIn(f"It was read as: (ada {RANKS}) In words: {LAKE}. If you have not sent this", texts["ada"])
-        self.assertRegex(
-            texts["ben"], r"has arrived\. A later ballot of yours counts instead\. .* It counts unless you send a later one"
-        )
-        self.assertIn(f"It was read as: (ben {OTHER_RANKS}) In words: In the town hall, then", texts["ben"])
-        self.assertIn(
-            "It is not a valid ballot of this vote, so it does not count. It has 2 ranks, and the vote has 4 options.",
-            texts["cleo"],
-        )
-        self.assertIn("was entered, and the secretary has struck it. It does not count.", texts["dan"])
-        self.assertIn(
-            "was entered, and the secretary has taken it back. It does not count unless it is entered again.", texts["eve"]
-        )
+        replaced = r"has arrived\. A later ballot of yours counts instead\. .* It counts unless you send a later one"
+        self.assertRegex(texts["ben"], replaced)
+        for name, said in (
+            ("ada", "has arrived. It counts unless you send a later one."),
+            ("ada", f"It was read as: (ada {RANKS}) In words: {LAKE}. If you have not sent this"),
+            ("ben", f"It was read as: (ben {OTHER_RANKS}) In words: In the town hall, then"),
+            ("cleo", "It is not a valid ballot of this vote, so it does not count. It has 2 ranks, and the vote has 4 options."),
+            ("dan", "was entered, and the secretary has struck it. It does not count."),
+            ("eve", "was entered, and the secretary has taken it back. It does not count unless it is entered again."),
+        ):
+            self.assertIn(said, texts[name])
         # a receipt that refuses says why, then where the form is and how a right line looks; another has neither
         begin = f"and the vote has 4 options. You can send a right line now, and need not wait. {WHEN} {FORM}#cleo/"
         self.assertIn(begin, texts["cleo"])
@@ -343,13 +321,13 @@ class Receipts(OutTest):
         [ada, ben, cleo] = sorted(before, key=lambda file: file.name)
         self.assertEqual([ada.stem, ben.stem, cleo.stem], ["ada", "ben", "cleo"])
         shutil.rmtree(place)
-        output = self.done("letters", "receipts").output
+        output = self.told("letters", "receipts")
         self.assertEqual((there(), self.rows("receipts")), (before, rows))
         for file, said in ((ada, "2 earlier letters"), (cleo, "1 earlier letter")):
             self.assertIn(f"Wrote {said}, since the folder was not there: letters/receipts/{file.parent.name}\n", output)
         # a file that was taken out may have been sent
         ada.unlink()
-        self.assertEqual(self.done("letters", "receipts").output, "There is no letter to send.\n")
+        self.assertEqual(self.told("letters", "receipts"), "There is no letter to send.\n")
         self.assertFalse(ada.exists())
         self.done("strike", 2, "--because", "not his")
         shutil.rmtree(place)
@@ -372,15 +350,14 @@ class Receipts(OutTest):
         self.add_lines(f"ada {RANKS}", f"ben {RANKS}")
         self.assertEqual(sorted(self.texts("receipts")), ["ada", "ben"])
         self.done("strike", 1, "--because", "not hers")
-        texts = self.texts("receipts")
-        self.assertEqual(list(texts), ["ada"])
-        self.assertIn("the secretary has struck it", texts["ada"])
+        [(name, text)] = self.texts("receipts").items()
+        self.assertEqual((name, "the secretary has struck it" in text), ("ada", True))
 
     def test_a_ballot_that_counts_is_told_again_beside_what_does_not(self) -> None:
         """A letter without a ballot, a line that is refused, a ballot that is taken back, and after the close one that is late."""
         self.add_lines(*(f"{name} {RANKS}" for name in ("ada", "ben", "cleo", "dan")))
         first = self.texts("receipts")
-        self.add_letters(letter("ada", "Thank you, all is right.\n"))
+        self.add(letter("ada", "Thank you, all is right.\n"))
         self.add_lines("ben 1,2")
         self.add_lines(f"cleo {OTHER_RANKS}")
         self.done("undo", "--yes")
@@ -404,72 +381,75 @@ class Receipts(OutTest):
         self.assertIn("You can send a right line now", texts["ben"])
 
     def test_a_letter_of_which_one_ballot_is_entered(self) -> None:
-        """It waits for the other elector, who is told."""
-        self.add_letters(letter("ada", f"ada {RANKS}\nben {OTHER_RANKS}\n"))
-        self.done("held", 1, "--enter", 1)
+        """Its elector is told once of that, and the other elector that the letter waits: Ben, who has the same address, or Dan."""
+        self.change_roll("ben@club", "ada@club")
+        self.add(letter("ada", f"ada {RANKS}\nben {OTHER_RANKS}\n"), letter("cleo", f"cleo {RANKS}\ndan {OTHER_RANKS}\n"))
+        for number in (1, 2):
+            self.done("held", number, "--enter", 1)
         texts = self.texts("receipts")
-        self.assertEqual(sorted(texts), ["ada", "ben"])
-        self.assertIn("It counts unless you send a later one.", texts["ada"])
-        self.assertIn(ELSEWHERE, texts["ben"])
-        shown = {name: "letter 1, from " in self.done("show", name).output for name in ("ada", "ben", "cleo")}
-        self.assertEqual(shown, {"ada": True, "ben": True, "cleo": False})
+        # one goes to the address that Ben had
+        self.assertEqual(sorted(texts), ["ada", "ben", "ben_2", "cleo", "dan"])
+        for name in ("ada", "cleo"):
+            self.assertEqual((texts[name].count("has arrived"), "It counts unless you send a later one." in texts[name]), (1, True))
+        self.assertIn("No ballot from it is entered yet", texts["ben"])
+        self.assertIn(ELSEWHERE, texts["dan"])
+        shown = {name: "letter 2, from " in self.told("show", name) for name in ("cleo", "dan", "eve")}
+        self.assertEqual(shown, {"cleo": True, "dan": True, "eve": False})
 
     def test_letters_that_are_in_no_receipt_are_named(self) -> None:
         """Letters of a couple and of a stranger. Not a ballot in an elector's name, who is told, and not what a program wrote."""
-        self.write("members.csv", elections.members_of(elections.NAMES).replace("ben@club", "ada@club"))
-        self.done("roll", "--yes")
-        self.add_letters(letter("ada", f"Benjamin Lind {RANKS}\n"), letter("x", "Who are you?\n"))
-        self.add_letters(
-            letter("x", f"eve {RANKS}\n"), letter("x", "away\n", head="Auto-Submitted: auto-replied\n"), letter("cleo", "Thank you.\n")
-        )
+        self.change_roll("ben@club", "ada@club")
+        away = letter("x", "away\n", number=3, head="Auto-Submitted: auto-replied\n")
+        self.add(letter("ada", f"Benjamin Lind {RANKS}\n"), letter("x", "Who are you?\n"), letter("x", f"eve {RANKS}\n", number=2), away, letter("cleo", "Thank you.\n"))
         said = "No receipt is about these letters that wait, since no elector alone has the sender's address: 1, 2\n"
-        output = self.done("letters", "receipts").output
+        output = self.told("letters", "receipts")
         self.assertTrue(output.startswith(said), output)
         self.assertEqual([file.stem for file in self.files("receipts")], ["cleo", "eve"])
-        self.assertEqual(self.done("letters", "receipts").output, f"{said}5 letters wait until you have looked at them: debvote-election held\nThere is no letter to send.\n")
-        held = self.done("held").output.replace("\n        ", "\n")
+        waits = " letters wait until you have looked at them: debvote-election held\nThere is no letter to send.\n"
+        self.assertEqual(self.told("letters", "receipts"), f"{said}5{waits}")
+        held = self.told("held").replace("\n        ", "\n")
         self.assertIn("no ballot found\nother words: Who are you?\n", held)
         self.assertIn(f"no ballot found\nother words: Benjamin Lind {RANKS}\nsame address: ada, ben\n", held)
-        self.done("held", 1, 2, "--set-aside")
-        waits = "3 letters wait until you have looked at them: debvote-election held\n"
-        self.assertEqual(self.done("letters", "receipts").output, f"{waits}There is no letter to send.\n")
+        self.told("held", 1, 2, "--set-aside")
+        self.assertEqual(self.told("letters", "receipts"), f"3{waits}")
 
     def test_undo_names_those_whose_receipts_no_longer_hold(self) -> None:
         self.add_lines(f"ada {RANKS}")
         self.add_lines(f"ben {RANKS}", f"cleo {RANKS}")
         self.assertEqual(sorted(self.texts("receipts")), ["ada", "ben", "cleo"])
         self.add_lines(f"ben {OTHER_RANKS}", f"dan {RANKS}")
-        self.assertNotIn("receipt", self.done("undo", "--yes").output)
-        self.assertIn("\nThese electors have receipts that are no longer true: ben, cleo\n", self.done("undo", "--yes").output)
+        self.assertNotIn("receipt", self.told("undo", "--yes"))
+        self.assertIn("\nThese electors have receipts that are no longer true: ben, cleo\n", self.told("undo", "--yes"))
 
     def test_letters(self) -> None:
-        self.add_letters(
+        self.add(
             letter("ada", f"Ada: {RANKS}.\n"),
             letter("ben", "ben 1,2\n"),
             letter("cleo", f"dan {RANKS}\n"),
             letter("eve", f"eve {RANKS}\n", sender="stranger@x.example"),
             letter("fay", "away\n", head="Auto-Submitted: auto-replied\n"),
-            letter("gus", "I want the lake.\n"),
+            letter("gus", "I want the lake.\n", sender="GUS@Club.Example"),
             letter("hal", "Hello\nI vote hal 1,2,3,4, of course\n"),
             # the call to her that came back
             letter("ida", "Undelivered.\n\n  ida _,_,_,_\n", sender="mailer-daemon@x.example"),
         )
         texts = self.texts("receipts")
         self.assertEqual(sorted(texts), ["ada", "ben", "cleo", "dan", "eve", "gus", "hal"])
-        self.assertIn(f"(ada {RANKS})", texts["ada"])
-        # who wrote a ballot in another's name is told, too, with nothing of the other
-        self.assertIn("The reason: the list of members has another address for the name on the ballot.", texts["cleo"])
-        self.assertNotRegex(texts["cleo"], rf"dan|{RANKS}")
         waits = "has arrived. No ballot from it is entered yet: the secretary has to look at it first. The reason: "
-        self.assertIn(
-            f"{waits}no line of it is a ballot of this vote. Line 1 of its text is near to a ballot. It has 2 ranks,", texts["ben"]
-        )
-        self.assertIn(ELSEWHERE, texts["dan"])
-        self.assertIn(ELSEWHERE, texts["eve"])
+        none = f"{waits}no line of it is a ballot of this vote."
+        for name, said in (
+            ("ada", f"(ada {RANKS})"),
+            ("ben", f"{none} Line 1 of its text is near to a ballot. It has 2 ranks,"),
+            # who wrote a ballot in another's name is told, too, with nothing of the other
+            ("cleo", "The reason: the list of members has another address for the name on the ballot."),
+            ("dan", ELSEWHERE),
+            ("eve", ELSEWHERE),
+            ("gus", f"{none} You can send"),
+            ("hal", "Line 2 of its text is near to a ballot. It has a ballot within other words; the ballot has to be there alone."),
+        ):
+            self.assertIn(said, texts[name])
+        self.assertNotRegex(texts["cleo"], rf"dan|{RANKS}")
         self.assertNotIn("stranger", texts["eve"] + texts["dan"])
-        self.assertIn(f"{waits}no line of it is a ballot of this vote. You can send", texts["gus"])
-        said = "Line 2 of its text is near to a ballot. It has a ballot within other words; the ballot has to be there alone."
-        self.assertIn(said, texts["hal"])
         self.assertEqual(self.texts("receipts"), {})
         # one that waited and is entered now
         self.done("held", 3, "--enter", 1)
@@ -479,7 +459,7 @@ class Receipts(OutTest):
 
     def test_a_ballot_that_the_secretary_typed_for_a_letter(self) -> None:
         """It is told as the letter, with its time, and how it was read; one that was entered as it stood is told without that."""
-        self.add_letters(letter("ada", "I want the lake, then the town hall.\n"), letter("ben", f"Hello 1\nben {RANKS}\n"))
+        self.add(letter("ada", "I want the lake, then the town hall.\n"), letter("ben", f"Hello 1\nben {RANKS}\n"))
         self.assertIn("No ballot from it is entered yet", self.texts("receipts")["ada"])
         self.done("held", 1, "--as", f"ada {RANKS}")
         self.done("held", 2, "--enter", 2)
@@ -491,90 +471,48 @@ class Receipts(OutTest):
 
     def test_a_copy_is_the_letter_that_it_copies(self) -> None:
         first = letter("ada", f"ada {RANKS}\n")
-        self.add_letters(
-            first,
-            first.replace(b"Received: from a", b"Received: from c"),
-            letter("ben", "hi\n"),
-            b"X-Y: z\n" + letter("ben", "hi\n"),
-        )
+        again = first.replace(b"Received: from a", b"Received: from c")
+        self.add(first, again, letter("ben", "hi\n"), b"X-Y: z\n" + letter("ben", "hi\n"))
         texts = self.texts("receipts")
         self.assertEqual({name: text.count("has arrived") for name, text in texts.items()}, {"ada": 1, "ben": 1})
 
-    def test_an_address_that_is_written_in_capitals(self) -> None:
-        self.add_letters(letter("ada", "hi\n", sender="ADA@Club.Example"))
-        self.assertIn("Your letter of", self.texts("receipts")["ada"])
-
     def test_one_that_was_set_aside_before_the_receipt(self) -> None:
-        self.add_letters(letter("ada", "hello\n"), letter("ben", f"ben {RANKS}\n", sender="x@x.example"))
+        self.add(letter("ada", "hello\n"), letter("ben", f"ben {RANKS}\n", sender="x@x.example"))
         self.done("held", 1, 2, "--set-aside")
         texts = self.texts("receipts")
         self.assertIn("No ballot from it was entered. The reason: the secretary has looked at it, and set it aside.", texts["ada"])
         self.assertIn("A letter in your name came from another address. The secretary has set it aside.", texts["ben"])
 
     def test_one_for_each_elector_and_run(self) -> None:
-        self.add_letters(
+        self.add(
             letter("ada", f"ada {RANKS}\n", number=1, time="Mon, 23 Nov 2026 08:00:00 +0000"),
             letter("ada", f"ada {OTHER_RANKS}\n", number=2, time="Mon, 23 Nov 2026 09:00:00 +0000"),
             letter("ada", "thanks\n", number=3, time="Mon, 23 Nov 2026 09:30:00 +0000"),
         )
         [text] = self.texts("receipts").values()
-        places = [
-            text.index(part)
-            for part in ("08:00 (UTC) has arrived. A later", "09:00 (UTC) has arrived. It counts", "09:30 (UTC) has arrived. No")
-        ]
-        self.assertEqual(places, sorted(places))
+        self.assertRegex(text, r"08:00 \(UTC\) has arrived\. A later.*09:00 \(UTC\) has arrived\. It counts.*09:30 \(UTC\) has arrived\. No")
 
     def test_the_next_one_goes_to_the_old_address_too(self) -> None:
-        self.write("members.csv", elections.members_of(elections.NAMES).replace("ada@club", "ada@new"))
-        self.done("roll", "--yes")
+        self.change_roll("ada@club", "ada@new")
         self.add_lines(f"ada {RANKS}", f"ben {RANKS}")
-        found = self.written("receipts")
-        self.assertEqual(
-            sorted(message["To"] for message in found.values()), ["ada@club.example", "ada@new.example", "ben@club.example"]
-        )
-        shown = self.done("show", "ada").output
+        found = sorted(message["To"] for message in self.written("receipts").values())
+        self.assertEqual(found, ["ada@club.example", "ada@new.example", "ben@club.example"])
+        shown = self.told("show", "ada")
         for address in ("ada@club.example", "ada@new.example"):
             self.assertIn(f"  receipt, 2026-11-23 10:00:00 UTC, to {address}: written\n", shown)
         self.add_lines(f"ada {OTHER_RANKS}")
         self.assertEqual([message["To"] for message in self.written("receipts").values()], ["ada@new.example"])
 
     def test_heads_that_came_add_no_line(self) -> None:
-        evil = (
-            "<a@b>\n Bcc: everybody@x.example",
-            "=?utf-8?q?=3Ca=40b=3E=0D=0ABcc=3A_all=40x.example?=",
-            "<\xff\xfe@b>",
-            "<" + "a" * 5000 + "@b>",
-            "",
-        )
-        letters = [
-            letter(
-                "ada",
-                "no ballot\n",
-                number=f"{number}@x>\nX-Old: <{number}",
-                head=f"References: {text}\nSubject: {text}\nReply-To: {text}\n",
-                sender=f'"=?utf-8?q?Ada=0ABcc:_x=40y.example?=" <ada@club.example>' if number % 2 else "ada@club.example",
-            )
-            for number, text in enumerate(evil)
-        ]
-        self.add_letters(*letters)
+        coded = "=?utf-8?q?=3Ca=40b=3E=0D=0ABcc=3A_all=40x.example?="
+        senders = ("ada@club.example", '"=?utf-8?q?Ada=0ABcc:_x=40y.example?=" <ada@club.example>')
+        for number, text in enumerate(("<a@b>\n Bcc: everybody@x.example", coded, "<\xff\xfe@b>", "<" + "a" * 5000 + "@b>", "")):
+            head = f"References: {text}\nSubject: {text}\nReply-To: {text}\n"
+            self.add(letter("ada", "no ballot\n", number=f"{number}@x>\nX-Old: <{number}", head=head, sender=senders[number % 2]))
         [message] = self.written("receipts").values()
         self.assertEqual(message["To"], "ada@club.example")
-        names = [name for name, _ in message.raw_items()]
-        self.assertEqual(
-            names,
-            [
-                "From",
-                "To",
-                "Subject",
-                "Date",
-                "Message-ID",
-                "X-Unsent",
-                "Auto-Submitted",
-                "MIME-Version",
-                "Content-Type",
-                "Content-Transfer-Encoding",
-            ],
-        )
+        names = "From To Subject Date Message-ID X-Unsent Auto-Submitted MIME-Version Content-Type Content-Transfer-Encoding"
+        self.assertEqual([name for name, _ in message.raw_items()], names.split())
 
 
 class ReceiptsElsewhere(OutTest):
@@ -605,39 +543,48 @@ class FullDisk(OutTest):
         ended = subprocess.run(words, cwd=self.folder, env=env, capture_output=True, timeout=elections.SECONDS)
         return elections.Ended(ended.stdout.decode(), ended.stderr.decode(), ended.returncode)
 
+    def receipts(self) -> dict[pathlib.Path, bytes]:
+        """The files of all receipts that were written."""
+        return {file: file.read_bytes() for file in (self.folder / "letters").rglob("*.eml") if ".debvote" not in str(file)}
+
+    def test_what_could_not_be_noted_leaves_the_folder_as_it_was(self) -> None:
+        place = self.folder / "letters" / "call" / "4"
+        for before in ({}, {"ada.eml": b"1"}):
+            with contextlib.suppress(KeyError), in_place({"ben.eml": b"2"}, place):
+                raise KeyError
+            self.assertEqual({file.name: file.read_bytes() for file in place.parent.rglob("*.eml")}, before)
+            with in_place({"ada.eml": b"1"}, place):
+                pass
+            self.assertEqual([file.name for file in place.parent.iterdir()], ["4"])
+
     def test_it_loses_no_receipt(self) -> None:
-        failures = 0
-        for call, counts in (
-            ("write", range(1, 7)),
-            ("pwrite64", range(2, 20, 4)),
-            ("mkdir", range(1, 4)),
-            ("rename", range(1, 3)),
-        ):
+        """The calls are those that write into the folder and the book; some come in each run, and the disk is full at each of them."""
+        failures = set()
+        for call, counts in (("write", range(1, 7)), ("pwrite64", range(2, 20, 4)), ("mkdir", range(6, 8)), ("rename", range(1, 3))):
             for count in counts:
                 with self.subTest(call=call, count=count):
-                    number = len(self.book().acts())
-                    for name in self.names:
-                        self.add_lines(f"{name} {1 + number % 90},{1 + number // 90},-,1")
-                    before = len(self.rows("receipts"))
+                    number = len(self.book.acts())
+                    self.add_lines(*(f"{name} {1 + number % 90},{1 + number // 90},-,1" for name in self.names))
+                    before, files = len(self.rows("receipts")), self.receipts()
                     ended = self.full_at(call, count)
-                    failures += ended.status != 0
+                    failures |= {call} if ended.status else set()
                     noted = [name for name, _ in self.rows("receipts")[before:]]
-                    there = [file.stem for file in self.files("receipts")]
                     self.assertIn(noted, ([], self.names))
                     if noted:
-                        self.assertEqual(there, self.names)
+                        self.assertEqual([file.stem for file in self.files("receipts")], self.names)
                     else:
                         self.assertNotEqual(ended.status, 0)
+                        self.assertEqual(self.receipts(), files)
                         self.assertEqual(sorted(self.texts("receipts")), self.names)
                     left = [file.name for file in (self.folder / "letters" / "receipts").iterdir() if not file.name.isdigit()]
                     self.assertLessEqual(len(left), 2)
-        self.assertGreater(failures, 8)
+        self.assertEqual(failures, {"write", "pwrite64", "mkdir", "rename"})
 
 
 class Reminders(OutTest):
     def test_to_whom(self) -> None:
         self.add_lines(f"ada {RANKS}", "ben 1,2")
-        self.add_letters(letter("cleo", "I want the lake\n"), letter("dan", f"dan {RANKS}\n", sender="x@x.example"))
+        self.add(letter("cleo", "I want the lake\n"), letter("dan", f"dan {RANKS}\n", sender="x@x.example"))
         texts = self.texts("reminders")
         self.assertEqual(sorted(texts), [name for name in elections.NAMES if name != "ada"])
         begin = f"Dear Ben, No ballot of yours that counts has come yet. {WHEN} {FORM}#ben/"
@@ -651,7 +598,7 @@ class Reminders(OutTest):
         self.assertIn("dan _,_,_,_", texts["dan"])
 
     def test_an_own_letter_that_waits_behind_one_of_a_stranger(self) -> None:
-        self.add_letters(
+        self.add(
             letter("ada", f"ada {RANKS}\n", sender="x@x.example", time="Mon, 23 Nov 2026 08:00:00 +0000"),
             letter("ada", "I want the lake\n", number=2, time="Mon, 23 Nov 2026 09:00:00 +0000"),
         )
@@ -664,7 +611,7 @@ class Reminders(OutTest):
             self.done("call", "--until", f"2026-12-{day:02} 18:00", "--zone", "UTC")
             self.assertIn(f"Vote until: {words} 2026, 18:00 (UTC)", self.texts("reminders")["ada"])
             self.set_clock(f"2026-12-{day - 1:02}T10:00:00+00:00")
-            self.add_letters(letter("ben", "hi\n", number=day, time=f"Fri, {day - 1:02} Dec 2026 09:00:00 +0000"))
+            self.add(letter("ben", "hi\n", number=day, time=f"Fri, {day - 1:02} Dec 2026 09:00:00 +0000"))
             receipt = self.texts("receipts")["ben"]
             self.assertNotIn("after the end", receipt)
             self.set_clock("2026-11-23T10:00:00+00:00")
@@ -677,25 +624,14 @@ class NoBallots(OutTest):
     poll = elections.POLL.replace("At the lake", "ada 1").replace("Where we meet in spring", "ben 1 2 3 4")
 
     def test_no_line_is_a_ballot(self) -> None:
-        (self.folder / "texts").mkdir()
-        found = dict(self.written("call"))
+        found = self.written("call")
         self.add_lines(f"ada {RANKS}", "ben 1,2", f"cleo {RANKS}", f"cleo {OTHER_RANKS}")
-        self.add_letters(letter("dan", f"I vote dan {RANKS} today\n"), letter("eve", f"fay {RANKS}\ngus {RANKS}\n"))
+        self.add(letter("dan", f"I vote dan {RANKS} today\n"), letter("eve", f"fay {RANKS}\ngus {RANKS}\n"))
         kinds = {"call": found, "receipts": self.written("receipts"), "reminders": self.written("reminders")}
         self.done("close", "--early", "--force", "--because", "cleo 1,2,3,4")
         kinds["closed"] = self.written("closed")
-        self.done(
-            "publish",
-            "--casting",
-            "ada 1",
-            "--cast-by",
-            "ada 1,2,3,4",
-            "--cast-on",
-            "2026-11-23",
-            "--force",
-            "--because",
-            "ben 1,2,3,4",
-        )
+        casting = ("--casting", "ada 1", "--cast-by", "ada 1,2,3,4", "--cast-on", "2026-11-23")
+        self.done("publish", *casting, "--force", "--because", "ben 1,2,3,4")
         kinds["result"] = self.written("result")
         lines = set()
         for kind, letters in kinds.items():
@@ -710,12 +646,12 @@ class NoBallots(OutTest):
         self.assertGreater(len(lines), 1000)
         ballots = [changed(line) for line in lines]
         self.write("lines", b"".join(line.replace(b"\n", b" ") + b"\n" for line in ballots if line.strip()))
-        steps = self.debvote("steps", "--poll", "call/poll.toml", "--ballots", "lines")
-        replies = {line.partition(" ")[2] for line in steps.output.splitlines()}
+        steps = ("steps", "--poll", "call/poll.toml", "--ballots", "lines")
+        replies = {line.partition(" ")[2] for line in self.debvote(*steps).output.splitlines()}
         self.assertLessEqual(replies, {"bad shape", "bad rank count", "bad not on roll"})
         # a ballot among them is seen
         self.write("lines", self.read("lines") + f"ada {RANKS}\n".encode())
-        self.assertIn("counted", self.debvote("steps", "--poll", "call/poll.toml", "--ballots", "lines").output)
+        self.assertIn("counted", self.debvote(*steps).output)
 
 
 class Closed(OutTest):
@@ -737,8 +673,7 @@ class Closed(OutTest):
         self.done("reopen", "--because", "a bag was forgotten")
         for kind, said in (("closed", "the vote is not closed"), ("call", "nobody is asked to vote"), ("reminders", "nobody is asked to vote")):
             self.assert_fault(self.election("letters", kind), 9, said)
-        self.write("lines", f"ben {RANKS}\n")
-        self.done("add", "--came-before-close", "yes", "lines")
+        self.add_lines(f"ben {RANKS}", words=("--came-before-close", "yes"))
         self.done("close", "--early")
         second = self.texts("closed")
         self.assertEqual((sorted(first), sorted(second)), (elections.NAMES, elections.NAMES))
@@ -791,12 +726,12 @@ class Result(OutTest):
         words = ["--cast-by", "the chair", "--cast-on", "2026-11-23"]
         self.done("publish", "--casting", "In the town hall", *words)
         text = self.texts("result")["ada"]
-        self.assertIn("Winner: Option 2: In the town hall by casting vote", text)
-        self.assertIn('The secretary says that the casting vote was that of "the chair", given on 23 November 2026.', text)
-        self.assertIn(
+        for said in (
+            "Winner: Option 2: In the town hall by casting vote",
+            'The secretary says that the casting vote was that of "the chair", given on 23 November 2026.',
             "The secretary struck envelope 2: its line does not count. The reason, in the secretary's words: (a mistake of 'ours' & <yours>)",
-            text,
-        )
+        ):
+            self.assertIn(said, text)
 
     def test_none_of_a_vote_that_is_open_again(self) -> None:
         self.published()
@@ -804,14 +739,11 @@ class Result(OutTest):
         self.assert_fault(self.election("letters", "result"), 9, "nothing is published")
 
     def test_doubts(self) -> None:
-        self.write("lines", f"ada {RANKS}\nben 1\ncleo 1\n")
-        self.done("add", "--yes", "--force", "lines")
+        self.add_lines(f"ada {RANKS}", "ben 1", "cleo 1", words=("--force",))
         self.done("close", "--early")
         self.done("publish", "--force", "--because", "they were asked")
         text = self.texts("result")["ada"]
-        self.assertIn(
-            "What is doubtful about this result: - More than half of the lines of the ballot file are refused: 2 of 3.", text
-        )
+        self.assertIn("What is doubtful about this result: - More than half of the lines of the ballot file are refused: 2 of 3.", text)
         self.assertIn("Why it was published all the same, in the secretary's words: (they were asked)", text)
 
 
@@ -825,32 +757,19 @@ class ResultAt(OutTest):
         self.assert_fault(self.election("letters", "result"), 2, "--at: the letter must say where the result is published")
         self.assert_fault(self.election("letters", "result", "--at", "ftp://x"), 2, "it must be the address of a page")
         self.assertIn("https://x.example/r/#ada", self.texts("result", "--at", "https://x.example/r/")["ada"])
-        acts = [(act.name, act.detail) for act in self.book().acts()]
+        acts = [(act.name, act.detail) for act in self.book.acts()]
         self.assertEqual(acts.count(("announce", {"at": "https://x.example/r/"})), 1)
         self.texts("result", "--at", "https://x.example/r/")
-        self.assertEqual(len(self.book().acts()), len(acts))
+        self.assertEqual(len(self.book.acts()), len(acts))
         self.assertIn("https://x.example/r/#ada", self.texts("result")["ada"])
         self.assertIn("https://x.example/s/#ada", self.texts("result", "--at", "https://x.example/s/")["ada"])
-
-
-class Family(OutTest):
-    def test_who_is_told_of_a_letter_with_two_ballots(self) -> None:
-        """Of the ballot that was entered its elector is told once, and the other one that the letter waits."""
-        self.write("members.csv", elections.members_of(elections.NAMES).replace("ben@", "ada@"))
-        self.done("roll", "--yes")
-        self.add_letters(letter("ada", f"ada {RANKS}\nben {OTHER_RANKS}\n"))
-        self.done("held", 1, "--enter", 1)
-        texts = self.texts("receipts")
-        self.assertEqual(texts["ada"].count("has arrived"), 1, texts["ada"])
-        self.assertIn("It counts unless you send a later one.", texts["ada"])
-        self.assertIn("No ballot from it is entered yet", texts["ben"])
 
 
 class Secret(OutTest):
     poll = elections.POLL + "secret = true\n"
 
     def codes(self) -> dict[str, str]:
-        return dict(self.book().rows("SELECT name, code FROM elector JOIN elector_state USING (elector) WHERE code <> ''"))
+        return dict(self.book.rows("SELECT name, code FROM elector JOIN elector_state USING (elector) WHERE code <> ''"))
 
     def test_each_letter_of_the_call_has_the_code_of_its_own_elector(self) -> None:
         codes = self.codes()
@@ -872,16 +791,14 @@ class Secret(OutTest):
     def test_an_answer_to_the_call_goes_in(self) -> None:
         """The mark in its subject is that of the poll that everybody sees, with the own one. The link has no name."""
         found = self.written("call")["ada"]
-        mark = hashlib.sha256((self.folder / "call" / "poll.toml").read_bytes()).hexdigest()[:16]
-        self.assertEqual([mark], [mark for mark, _ in re.findall(MARKS, found["Subject"])])
+        self.assertEqual([self.mark], [mark for mark, _ in re.findall(MARKS, found["Subject"])])
         self.assertRegex(one_line(found), rf"the result will be: {AT} {LINE}ada _,_,_,_ ")
         head = f"In-Reply-To: {found['Message-ID']}\nSubject: Re: {found['Subject']}\n"
-        self.add_letters(letter("ada", f"ada {RANKS}\n", head=head, time="Mon, 23 Nov 2026 09:59:00 +0000"))
-        self.assertEqual(json.loads(self.done("status", "--json").output)["valid"], 1)
+        self.add(letter("ada", f"ada {RANKS}\n", head=head, time=EARLIER))
+        self.assertEqual(self.numbers()["valid"], 1)
 
     def test_a_doubt_tells_no_number_of_lines(self) -> None:
-        for line in (f"ada {RANKS}", "ben 1", "cleo 1"):
-            self.add_lines(line)
+        self.add_lines(f"ada {RANKS}", "ben 1", "cleo 1", words=("--force",))
         self.done("close", "--early")
         self.done("publish", "--yes", "--force", "--because", "they were asked")
         for text in self.texts("result").values():
@@ -891,12 +808,12 @@ class Secret(OutTest):
     def test_nothing_else_has_codes_or_ranks(self) -> None:
         codes = self.codes()
         self.add_lines(f"ada {RANKS}", "ben 1,2")
-        self.add_letters(letter("cleo", f"{codes['cleo']} {RANKS}\n"), letter("dan", f"dan {RANKS}\n{codes['dan']}\n"))
+        self.add(letter("cleo", f"{codes['cleo']} {RANKS}\n"), letter("dan", f"dan {RANKS}\n{codes['dan']}\n"))
         found = [*self.written("receipts").values(), *self.written("reminders").values()]
         self.done("call", "--until", "2026-12-06 12:00", "--zone", "UTC")
         self.done("close", "--early", "--force", "--because", "x")
         found += self.written("closed").values()
-        aliases = [alias for alias, in self.book().rows("SELECT alias FROM elector_state WHERE alias <> ''")]
+        aliases = [alias for alias, in self.book.rows("SELECT alias FROM elector_state WHERE alias <> ''")]
         self.done("publish", "--yes")
         private = self.run_program("sh", "-c", "cd out && sha256sum *").output if self.done("export", "out") else ""
         results = self.texts("result")

@@ -2,6 +2,7 @@
 
 import dataclasses
 import datetime
+import itertools
 import pathlib
 import re
 import subprocess
@@ -47,13 +48,11 @@ def vote(code: str = "en", *, is_over: bool = False, **how: object) -> Composer:
 def all_that_came() -> list[Came]:
     """Something of each kind, with each fault that a line may have."""
     near = (
-        Near(1, "ada 1,2", False, "bad rank count: 2 ranks, the poll has 3 options"),
-        Near(2, "bob 1,2,3", True, "bad not on roll: bob is not on the roll"),
-        Near(3, "ada 1;2;x", False, 'bad shape: column 9: "x"'),
-        Near(4, "ada one", False, "bad shape: it is odd"),
-        Near(5, "ada 1,2,3", False, None),
-        Near(6, "ada 1,2,3", True, None),
-    )
+        Near(1, "ada 1,2", False, "bad rank count: 2 ranks, the poll has 3 options"), Near(2, "bob 1,2,3", True, "bad not on roll: bob is not on the roll"),
+        Near(3, "ada 1;2;x", False, 'bad shape: column 9: "x"'), Near(4, "ada one", False, "bad shape: it is odd"),
+        Near(5, "ada 1,2,3", False, None), Near(6, "ada 1,2,3", True, None),
+    )  # fmt: skip
+
     def envelope(number: int, became: Became, answer: str | None = None) -> Came:
         line = b"ada 1,2,3" if answer is None else b"ada 1"
         return Came(TIME, became, Envelope(number, number, 1, line, None, 1, "", TIME, False, None), answer)
@@ -61,11 +60,8 @@ def all_that_came() -> list[Came]:
     ballots = [envelope(number, became) for number, became in enumerate(Became) if became is not Became.REFUSED]
     refused = ["bad rank count: 1 ranks, the poll has 3 options", 'bad shape: column 2: "!"']
     letter = types.SimpleNamespace(reason=Reason.NO_BALLOT(), near=near)
-    letters = [
-        Came(TIME, outcome, letter=letter, is_own=is_own)  # type: ignore[arg-type]
-        for outcome in (Outcome.WAITS, Outcome.SET_ASIDE)
-        for is_own in (True, False)
-    ]
+    outcomes = itertools.product((Outcome.WAITS, Outcome.SET_ASIDE), (True, False))
+    letters = [Came(TIME, outcome, letter=letter, is_own=is_own) for outcome, is_own in outcomes]  # type: ignore[arg-type]
     return [*ballots, *(envelope(9, Became.REFUSED, answer) for answer in refused), *letters]
 
 
@@ -181,10 +177,8 @@ class CallLetter(unittest.TestCase):
             for text in first:
                 begin = "Dear friends,\n\npaper ballots go to the box in the hall.\n|Write\n|ada 1,2,3 or so.\n  |ben 3,2,1\n\nYours, Eve\n\n"
                 self.assertTrue(text.startswith(begin), text)
-                said = now.call.language.say(
-                    "The words above are those of whoever sends this letter. "
-                    "The program debvote wrote the rest, and has not checked them."
-                )
+                whose = "The words above are those of whoever sends this letter. "
+                said = now.call.language.say(f"{whose}The program debvote wrote the rest, and has not checked them.")
                 self.assertEqual(" ".join(text.split()).count(said), 1)
             self.assertNotIn("Dear friends", refusing)
         # a letter that does not remind does not begin so
@@ -277,17 +271,8 @@ class NoBallot(unittest.TestCase):
 
     def test_lines_that_read_as_ballots_get_a_bar(self) -> None:
         for line in (
-            "ada 1,2,3",
-            "  Ada: 1, 2, 3.",
-            "\u201cada 1,-,3\u201d",
-            "*ada* 1;2;3",
-            "ada *1,2,3*",
-            "ada:1,2,3",
-            "ben-2 1,2,\u2013",
-            "ada\u00a01 , 2 , 3",
-            "ada -,\u2013,1",
-            "ada 1,2,3 ,4",
-        ):
+            "ada 1,2,3", "  Ada: 1, 2, 3.", "\u201cada 1,-,3\u201d", "*ada* 1;2;3", "ada *1,2,3*", "ada:1,2,3", "ben-2 1,2,\u2013", "ada\u00a01 , 2 , 3", "ada -,\u2013,1", "ada 1,2,3 ,4",
+        ):  # fmt: skip
             blanks = line[: len(line) - len(line.lstrip())]
             self.assertEqual(self.guarded(line), f"{blanks}|{line.strip()}")
 
@@ -310,16 +295,7 @@ class Bytes(unittest.TestCase):
         return message(due, LETTER, is_draft=False)  # type: ignore[arg-type]
 
     def test_texts_come_through_as_they_are(self) -> None:
-        for text in (
-            "a\n",
-            "\u00e4\n",
-            "From me\n>From you\n.\n",
-            "x" * 2000 + "\n",
-            "\u00e4 " * 500 + "\n",
-            "a\n\nFrom \u00fc\n",
-            " \n\t\n",
-            "=20\n",
-        ):
+        for text in ("a\n", "\u00e4\n", "From me\n>From you\n.\n", "x" * 2000 + "\n", "\u00e4 " * 500 + "\n", "a\n\nFrom \u00fc\n", " \n\t\n", "=20\n"):
             data = self.message(text)
             self.assertEqual(parsed(data).get_content(), text)
             self.assertTrue(data.isascii())
@@ -343,21 +319,9 @@ class Bytes(unittest.TestCase):
             self.assertEqual((found["To"], found["Bcc"]), ("ada@club.example", None))
 
     def test_addresses(self) -> None:
-        for text in ("a@b.example", "a.b+c@d-e.example"):
-            self.assertTrue(is_mail_address(text))
-        for text in (
-            "",
-            "a",
-            "a@b\nBcc: c@d",
-            "a@b, c@d",
-            "<a@b>",
-            "a b@c.example",
-            "\u00e4@b.example",
-            "a@b@c",
-            "-a@b",
-            "a@b.example\n",
-        ):
-            self.assertFalse(is_mail_address(text), text)
+        right = ("a@b.example", "a.b+c@d-e.example")
+        wrong = ("", "a", "a@b\nBcc: c@d", "a@b, c@d", "<a@b>", "a b@c.example", "\u00e4@b.example", "a@b@c", "-a@b", "a@b.example\n")
+        self.assertEqual([text for text in (*right, *wrong) if is_mail_address(text)], list(right))
 
     def test_a_name_is_one_line(self) -> None:
         elector = ADA._replace(who="Ada\r\nBcc: x@y.example\n\nada 1,2,3\u2028" + "x" * 500)

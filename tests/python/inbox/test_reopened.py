@@ -1,0 +1,170 @@
+"""Letters and lines of a vote that was closed and opened again: which count, in which order, and what is told."""
+
+from tests.support.called import LettersTest
+from tests.support.letters import OTHER_RANKS, RANKS, letter
+from tests.support.terminal import Terminal
+
+BALLOT, OTHER = f"ada {RANKS}", f"ada {OTHER_RANKS}"
+ELEVEN = "Mon, 23 Nov 2026 11:00:00 +0000"
+IN_TIME = ("--because", "it was in time")
+
+
+class Reopened(LettersTest):
+    first, second = letter("ada", BALLOT), letter("ada", OTHER, number=2, time=ELEVEN)
+
+    def reopen(self, *words: object) -> str:
+        return self.told("reopen", *words, *IN_TIME)
+
+    def asked(self) -> Terminal:
+        """A terminal that asks which of the late lines were in time."""
+        terminal = Terminal(self, "reopen", *IN_TIME)
+        self.listed = terminal.until("Enter for none: ")
+        return terminal
+
+    def test_late_letters_go_in_by_their_times(self) -> None:
+        """In whatever order they are named. What needed no force is not told as forced."""
+        self.told("close")
+        self.add(self.first, self.second)
+        said = self.reopen("--in-time", 2, 1, "--force")
+        first = f"\nEnvelope 3, entered anew from late envelope 1: {BALLOT}\n"
+        self.assertIn(f"{first}Envelope 4, entered anew from late envelope 2: {OTHER}\n", said)
+        self.assertEqual(self.stands("ada"), OTHER_RANKS)
+        self.assertEqual(self.acts()[-1][1], {"because": "it was in time", "in_time": [1, 2]})
+
+    def test_an_older_late_letter_after_a_newer_one(self) -> None:
+        self.told("close")
+        self.add(self.first)
+        self.reopen()
+        # the elector's newer letter does not wait, since the late one keeps its time
+        self.add(self.second)
+        self.told("close")
+        words = ("reopen", "--in-time", 1, *IN_TIME)
+        said = "envelope 1 would replace envelope 2, a later ballot of the same elector; nothing was changed: "
+        self.assert_refused(words, 9, "--in-time: ", said, "leave it out", "--force")
+        self.assertEqual(self.stands("ada"), OTHER_RANKS)
+        self.told(*words, "--force")
+        self.assertEqual(self.stands("ada"), RANKS)
+        self.assertEqual(self.acts()[-1][1], {"because": "it was in time", "in_time": [1], "force": True})
+
+    def test_an_older_and_a_newer_one_than_that_in_time(self) -> None:
+        """They go in by their times, whatever their envelopes are, and the newest one of all counts."""
+        self.add(self.second)
+        self.told("close")
+        self.add(letter("ada", "ada 1,1,4,3", number=3, time="Mon, 23 Nov 2026 12:00:00 +0000"))
+        self.add(self.first)
+        self.told("held", 3, "--enter", 1, "--force")
+        first = f"\nEnvelope 4, entered anew from late envelope 3: {BALLOT}\n"
+        self.assertIn(f"{first}Envelope 5, entered anew from late envelope 2: ada 1,1,4,3\n", self.reopen("--in-time", 2, 3))
+        self.assertEqual(self.lines(), [OTHER, BALLOT, "ada 1,1,4,3"])
+
+    def test_the_times_of_two_closes(self) -> None:
+        """What had to come before a close, had to before the first one; the vote is closed since the last one."""
+
+        def at(hour: int) -> str:
+            self.set_clock(f"2026-11-25T{hour}:00:00+00:00")
+            return f"2026-11-25 {hour}:00:00 UTC"
+
+        first = at(10)
+        self.told("close")
+        last = at(11)
+        self.assertIn(f"the close at {first} stays in the log", self.reopen())
+        self.told("close")
+        for words, part in (
+            (("status",), f"\nClosed: at {last}\n"),
+            (("close",), f"The vote was closed at {last}, "),
+            (("add", "-"), f"Note: the vote was closed at {last}; what is added now is late."),
+        ):
+            self.assertIn(part, self.told(*words, given=BALLOT))
+        self.assert_fault(self.election("undo", "--yes"), 9, f"the vote was closed at {last}, and its ballots stay")
+        opened = at(12)
+        self.assertIn(f"the close at {last} stays in the log", self.reopen())
+        self.assertIn(f"\nReopened: at {opened}\n", self.told("status"))
+        said = f"the vote was closed at {first} and opened again, and only what came before counts"
+        self.assert_fault(self.election("add", "-", given=OTHER), 9, said)
+        # what comes by letter would wait until the end that the call says
+        said = f"--until: the vote was closed at {first}, and only ballots that came before then count"
+        self.assert_fault(self.election("call", "--until", "2026-12-24 12:00"), 9, said)
+
+    def test_a_late_letter_keeps_its_time(self) -> None:
+        self.told("close")
+        self.add(self.first)
+        self.reopen("--in-time", 1)
+        self.add(self.second)
+        self.assertEqual((self.stands("ada"), self.numbers()["waiting"]), (OTHER_RANKS, 0))
+
+    def test_a_late_line_is_entered_once(self) -> None:
+        """What was entered again came once: the same line in a file is another one."""
+        self.told("close")
+        self.add_lines(BALLOT)
+        self.reopen("--in-time", 1)
+        self.add_lines(BALLOT, OTHER, words=("--came-before-close", "yes"))
+        self.assertEqual(self.lines(), [BALLOT, OTHER])
+        self.told("close")
+        said = "envelope 1 was entered as in time by an earlier reopen; nothing was changed: leave it out"
+        self.assert_refused(("reopen", "--in-time", 1, *IN_TIME, "--force"), 9, said)
+        self.reopen()
+        self.add_lines(BALLOT, OTHER, BALLOT, words=("--came-before-close", "yes"))
+        self.assertEqual(self.stands("ada"), RANKS)
+
+    def test_what_is_listed_and_typed_at_a_terminal(self) -> None:
+        """The late lines, but for those that were entered before. Numbers are typed with commas between, and nothing else."""
+        self.told("close")
+        self.add_lines(BALLOT, f"ben {RANKS}", f"cleo {RANKS}")
+        two = f"2 lines came late:\r?\n  2 ben {RANKS}\r?\n  3 cleo"
+        for listed, typed, status, lines in (
+            (f"3 lines came late:\r?\n  1 {BALLOT}\r?\n  2 ben", "1\n", 0, [BALLOT]),
+            (two, "2, x3\n", 9, [BALLOT]),
+            (two, "2, 3\n", 0, [BALLOT, f"ben {RANKS}", f"cleo {RANKS}"]),
+        ):
+            terminal = self.asked()
+            self.assertRegex(self.listed, f"^{listed}")
+            terminal.type(typed)
+            self.assertEqual((terminal.end()[1], self.lines()), (status, lines), typed)
+            self.told("close")
+
+    def test_another_reopen_while_it_asks(self) -> None:
+        """It is seen that the vote is open already."""
+        self.told("close")
+        self.add_lines(BALLOT)
+        terminal = self.asked()
+        self.reopen("--in-time", 1)
+        before = self.last_act()
+        terminal.type("\n")
+        output, status = terminal.end()
+        self.assertIn("the vote is not closed; nothing was changed", output)
+        self.assertEqual((status, self.last_act(), self.lines()), (9, before, [BALLOT]))
+
+    def test_undo_of_a_reopen(self) -> None:
+        """What is late again comes before as such, and can be entered again; a letter waits."""
+        self.told("close")
+        self.add_lines(BALLOT)
+        self.add(letter("ben", f"ben {RANKS}"))
+        self.reopen("--in-time", 1, 2)
+        self.assertIn("came before; 0 are new", self.add_lines(BALLOT, words=("--came-before-close", "yes")))
+        self.told("undo", "--yes")
+        self.assertEqual((self.lines(), self.late_lines(), self.numbers()["waiting"]), ([], [BALLOT, f"ben {RANKS}"], 1))
+        said = self.add_lines(BALLOT, words=("--came-before-close", "yes"))
+        self.assertIn("came before, and was late (envelope 1); --again enters it again", said)
+        self.told("close", "--force", "--because", "ben's letter is known")
+        self.reopen("--in-time", 1)
+        self.assertEqual(self.lines(), [BALLOT])
+
+
+class CallTakenBack(LettersTest):
+    def test_letters_for_the_call_that_was_taken_back(self) -> None:
+        self.told("call", "--take-back")
+        self.told("call", "--to", "vote@club.example")
+        self.assertIn("it arrived before the call for votes", self.add(letter("ada", BALLOT)))
+
+    def test_a_call_that_was_closed_and_taken_back(self) -> None:
+        """A close stays; where an earlier version took the call back, the next one is open until its own close."""
+        self.told("close")
+        self.assert_fault(self.election("call", "--take-back"), 9, "the vote was closed at ", "electors rely on the close")
+        self.act("take back", {"call": self.first_act - 1})
+        self.told("call", "--to", "vote@club.example")
+        self.assertIn("1 counted", self.add_lines(BALLOT))
+        self.set_clock("2026-11-25T10:00:00+00:00")
+        self.assertIn("2 counted", self.add(letter("ben", f"ben {RANKS}", time="Wed, 25 Nov 2026 09:30:00 +0000")))
+        for words, stage in (((), "called"), (("close",), "closed"), (("reopen", *IN_TIME), "called")):
+            self.told(*(words or ("status",)))
+            self.assertEqual(self.numbers()["stage"], stage)
