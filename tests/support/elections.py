@@ -1,9 +1,11 @@
 """What the tests of elections share: a folder for each test, and the programs, which run as a user runs them."""
 
+import contextlib
 import os
 import pathlib
 import re
 import shutil
+import sqlite3
 import subprocess
 import sys
 import tempfile
@@ -154,6 +156,28 @@ class ElectionTest(unittest.TestCase):
     def election(self, *words: object, **how: object) -> Ended:
         """Runs debvote-election in the folder of the election."""
         return self.run_program(sys.executable, ELECTION, *words, **how)
+
+    def desk(self, **how: object) -> subprocess.Popen[str]:
+        """A desk on pipes that waits for lines; none is left when the test ends."""
+        pipes = {"stdin": subprocess.PIPE, "stdout": subprocess.PIPE, "stderr": subprocess.PIPE, "text": True}
+        env = environment() | self.clock | {"XDG_STATE_HOME": str(self.state)}
+        desk = subprocess.Popen([sys.executable, ELECTION, "desk"], cwd=self.folder, env=env, **(pipes | how))
+        for pipe in filter(None, (desk.stdin, desk.stdout, desk.stderr)):
+            self.addCleanup(pipe.close)
+        self.addCleanup(desk.wait)
+        self.addCleanup(desk.kill)
+        return desk
+
+    def traced(self, *how: object, words: Sequence[object], given: str | None = None) -> Ended:
+        """Runs debvote-election under strace, which does with its system calls what it is told."""
+        if shutil.which("strace") is None:
+            self.skipTest("strace is not installed")
+        return self.run_program("strace", "-o", "/dev/null", *how, sys.executable, ELECTION, *words, given=given)
+
+    def rows(self, query: str, *values: object) -> list[tuple[object, ...]]:
+        """What the book answers to a query, without the words of the program."""
+        with contextlib.closing(sqlite3.connect(self.folder / "election.db")) as connection:
+            return connection.execute(query, values).fetchall()
 
     def without_rights(self, *words: object, **how: object) -> Ended:
         """Runs debvote-election as a user whom a mode stops: root becomes nobody."""

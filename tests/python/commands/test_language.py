@@ -24,15 +24,6 @@ class Folder(languages.LanguageTest):
         self.election("german", "publish", "--language", "fr", "german/result-2")
         self.assertEqual(self.language_of("german/result-2/index.html"), "fr")
 
-    def test_without_it_it_is_english(self) -> None:
-        self.run_program("debvote-election", "new", "english")
-        place = self.scratch / "english"
-        (place / "poll.toml").write_text(languages.POLL)
-        (place / "members.csv").write_text("who,mail\nAda,ada@example.org\n")
-        self.election("english", "roll")
-        self.election("english", "call")
-        self.assertEqual(self.language_of("english/call/index.html"), "en")
-
     def test_a_language_that_there_is_not(self) -> None:
         for program, words in (
             ("debvote-election", ("new", "--language", "it", "other")),

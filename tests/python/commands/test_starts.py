@@ -119,6 +119,7 @@ class Starts(elections.ElectionTest):
 class Open(Starts):
     def test_each_command(self) -> None:
         self.votes()
+        self.started("count")
         self.result()
         self.assertEqual(self.tried, {*COMMANDS} - {"codes"})
 
