@@ -238,28 +238,29 @@ class Copies(BookTest):
         self.assertEqual(self.done("roll").faults, "")
 
     def test_left_by_a_sync_tool(self) -> None:
-        """What this book lacks counts, and not how many acts there are: another book with fewer acts, with more, or one cut off."""
+        """What this book lacks counts, and not how many acts there are: one that was cut off, and others."""
         self.add("ada 1,2,3,4")
         shutil.copytree(self.state, self.scratch / "other state")
         other = self.scratch / "other"
         shutil.copytree(self.folder, other)
-        self.add("ben 1,2,3,4")
-        self.add("cleo 1,2,3,4")
+        for line in ("ben 1,2,3,4", "cleo 1,2,3,4", "dan 1,2,3,4"):
+            self.add(line)
         here, self.folder, before = self.folder, other, self.state
         self.state = self.scratch / "other state"
         books = [self.read("election.db")[:5_000]]
-        for words in (("strike", "1", "--because", "x", *MOVED[:1]), ("call",), ("call", "--at", "https://club.example/")):
+        pages = (("call", "--at", f"https://club.example/{number}") for number in (1, 2))
+        for words in (("strike", "1", "--because", "x", *MOVED[:1]), *pages):
             self.done(*words)
             books.append(self.read("election.db"))
         self.folder, self.state = here, before
-        for name, data in zip(("cut.db", "fewer acts.db", "election (conflicted copy).db"), books):
+        for name, data in zip(("cut.db", "fewer acts.db", "as many.db", "election (conflicted copy).db"), books, strict=True):
             (self.folder / name).write_bytes(data)
             self.assert_stops(name, "acts that election.db lacks")
             (self.folder / name).unlink()
         # this book as it was, and what is no book
         shutil.copy(self.book, self.folder / "copy.db")
         (self.folder / "a.db").write_bytes(b"SQLite format 3\0")
-        self.add("dan 1,2,3,4")
+        self.add("eve 1,2,3,4")
 
     def test_backup_beside_it(self) -> None:
         self.add("ada 1,2,3,4")
