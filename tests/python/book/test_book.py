@@ -656,10 +656,10 @@ class Places(BookTest):
     def test_damaged(self) -> None:
         data = self.book.read_bytes()
         cut_off, zeros = data[: len(data) // 2], data[:4096] + bytes(len(data) - 4096)
-        for damage, status in ((b"words " * 1000, 9), (cut_off, 9), (zeros, 9), (b"", 2)):
+        for damage in (b"words " * 1000, cut_off, zeros, b""):
             with self.subTest(damage[:20]):
                 self.book.write_bytes(damage)
-                self.assert_fault(self.election("status"), status, "election.db")
+                self.assert_fault(self.election("status"), 9, "election.db")
                 self.assertEqual(self.book.read_bytes(), damage)
 
     def test_read_only_folder(self) -> None:
