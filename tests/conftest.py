@@ -1,9 +1,10 @@
 """What pytest needs for these tests: `pytest tests/python -k show` runs those with this word in their names, `-n 4` four at once.
 
-With -n all tests of a class run in one process, since a class makes its election once. At the end the tests that were skipped are
-listed with the reason, and above pytest's own last line is 'N passed, M failed', as the other programs of the tests print it.
+With -n all tests of a class run in one process, since a class makes its election once. At the end is a line for each reason for which
+tests were skipped, and above pytest's own last line 'N passed, M failed', as the other programs of the tests print it.
 """
 
+import collections
 import locale
 import os
 
@@ -44,8 +45,8 @@ def pytest_collection_modifyitems(items: list[pytest.Item]) -> None:
 
 def pytest_terminal_summary(terminalreporter: TerminalReporter) -> None:
     stats = terminalreporter.stats
-    for report in stats.get("skipped", []):
-        _, _, why = report.longrepr
-        terminalreporter.write_line(f"skipped: {report.nodeid}: {why.removeprefix('Skipped: ')}")
+    reasons = (report.longrepr[2].removeprefix("Skipped: ") for report in stats.get("skipped", []))
+    for why, number in collections.Counter(reasons).most_common():
+        terminalreporter.write_line(f"skipped: {why} ({number})")
     failed = len(stats.get("failed", [])) + len(stats.get("error", []))
     terminalreporter.write_line(f"{len(stats.get('passed', []))} passed, {failed} failed")

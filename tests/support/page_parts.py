@@ -132,7 +132,7 @@ class Parts:
         count, poll = self.count, self.count.poll
         found = [entry.text() for entry in tree_of(self.page).one("ul", "facts").all("li")]
         reached = any(count.votes[option, poll.default] >= least_of(count) for option in poll.ratios)
-        quorum = [f"quorum {least_of(count)}, {'reached' if reached else 'not reached'}"] if poll.quorum else []
+        quorum = [f"quorum {least_of(count)} {'reached' if reached else 'not reached'}"] if poll.quorum else []
         refused = sum(reply not in ("counted", "replaced") for reply in count.replies)
         lines = f"{refused} {'line' if refused == 1 else 'lines'} of {len(count.lines)} refused"
         demand_equal("the facts", found, [f"{count.voters} of {len(poll.roll)} voted", *quorum, lines])
@@ -170,7 +170,7 @@ class Parts:
         default, least = poll.default, least_of(count)
         whole = max(count.voters, least, 1)
         hint = next(self.sections["Why"].all("p", "hint")).text()
-        said = (f"prefer each option to {self.name(default)} (from the left)" in hint, f"stands for {whole}." in hint)
+        said = (f"For: they prefer it to {self.name(default)}. Against: the reverse." in hint, f"stands for {whole}." in hint)
         demand_equal("the hint of the bars", said, (True, whole != count.voters))
         last = {o: max((n for n, (kept, _) in enumerate(count.rounds, 1) if o in kept), default=0) for o in poll.options}
         order = sorted(poll.options, key=lambda o: (o != count.winner, o in count.dropped, -last[o], o))

@@ -1,6 +1,7 @@
 """Parts of the tests: each is a program whose last line is 'N passed, M failed'. They run side by side, and their sum is printed.
 
-A line of a part that begins with 'skipped: ' says what it left out, and why: 'skipped: TEST: WHY', or 'skipped: WHY'.
+A line of a part that begins with 'skipped: ' says why it left something out, and how many tests: 'skipped: WHY (N)'. The sum names
+each reason once.
 """
 
 import collections
@@ -17,7 +18,7 @@ ROOT = pathlib.Path(__file__).resolve().parent.parent.parent
 PYTEST = f"/usr/bin/python3 -m pytest -q -n {len(os.sched_getaffinity(0))}"
 
 COUNT = re.compile(r"(\d+) passed, (\d+) failed")
-SKIPPED = re.compile(r"skipped: (.*)")
+SKIPPED = re.compile(r"skipped: (.*?)(?: \((\d+)\))?")
 # what `rt try --test` says
 COUNT_OF_TRY = re.compile(r"test result: \w+\. (\d+) passed; (\d+) failed;.*")
 
@@ -29,22 +30,20 @@ def environment_of_try() -> dict[str, str]:
 
 @dataclasses.dataclass(frozen=True)
 class Count:
-    """How many tests passed, how many failed, and why others were skipped."""
+    """How many tests passed and failed, and how many were skipped, by the reason."""
 
     passed: int
     failed: int
-    skipped: tuple[str, ...] = ()
+    skipped: collections.Counter[str] = dataclasses.field(default_factory=collections.Counter)
 
     def __add__(self, other: "Count") -> "Count":
         return Count(self.passed + other.passed, self.failed + other.failed, self.skipped + other.skipped)
 
     def __str__(self) -> str:
-        return "\n".join([*self.left_out(), f"{self.passed} passed, {self.failed} failed"])
-
-    def left_out(self) -> list[str]:
-        """A line that says how many tests were skipped, and why; no line if none was."""
-        reasons = [f"{why} ({number})" for why, number in collections.Counter(self.skipped).most_common()]
-        return [f"{len(self.skipped)} skipped: {', '.join(reasons)}"] if reasons else []
+        """If something was skipped, a line that says why; then 'N passed, M failed'."""
+        reasons = ", ".join(f"{why} ({number})" for why, number in self.skipped.most_common())
+        left_out = f"{self.skipped.total()} skipped: {reasons}\n" if reasons else ""
+        return f"{left_out}{self.passed} passed, {self.failed} failed"
 
 
 class Part:
@@ -69,40 +68,25 @@ class Part:
         """Its output."""
         return self.told.read_text(encoding="utf-8", errors="replace")
 
-    def skipped(self) -> list[str]:
-        """What it left out, and why."""
-        return [found[1] for line in self.text().splitlines() if (found := SKIPPED.fullmatch(line))]
-
     def count(self) -> Count:
         """Its counts, once it has ended. If it ended without a count of its failures, that is a failure too."""
         status = self.process.wait()
-        found = [self.counted.fullmatch(line) for line in self.text().splitlines()]
-        counts = [Count(int(line[1]), int(line[2])) for line in found if line]
-        return with_status(counts, status)
-
-
-def with_status(counts: list[Count], status: int) -> Count:
-    """The sum of some counts. If the exit status says that something failed, and no count has a failure, one is added."""
-    failed = sum(count.failed for count in counts)
-    return Count(sum(count.passed for count in counts), failed or int(status != 0 or not counts))
-
-
-def reason(skipped: str) -> str:
-    """Why something was skipped, without the name of the test; names of tests have no spaces."""
-    name, _, why = skipped.partition(": ")
-    return why if why and " " not in name else skipped
+        lines = self.text().splitlines()
+        counts = [Count(int(found[1]), int(found[2])) for line in lines if (found := self.counted.fullmatch(line))]
+        skipped = [Count(0, 0, collections.Counter({found[1]: int(found[2] or 1)})) for line in lines if (found := SKIPPED.fullmatch(line))]
+        whole = sum([*counts, *skipped], Count(0, 0))
+        return whole if whole.failed or (counts and status == 0) else whole + Count(0, 1)
 
 
 def tell(parts: Iterable[Part]) -> Count:
-    """Waits for the parts, prints the output of each, its time and what was skipped, and returns their sum."""
+    """Waits for the parts, prints the output and the time of each, and returns their sum."""
     parts = list(parts)
     counts = []
     for part in parts:
         counts.append(part.count())
-        print(f"== {part.name}", part.text().rstrip("\n"), sep="\n", flush=True)
+        lines = [line for line in part.text().splitlines() if not SKIPPED.fullmatch(line)]
+        print(f"== {part.name}", *lines, sep="\n", flush=True)
     print("== seconds, and those of processor")
     for part in parts:
         print(part.seconds.read_text().rstrip("\n") if part.seconds.exists() else f"{part.name}: it was killed", flush=True)
-    skipped = [line for part in parts for line in part.skipped()]
-    print(f"{len(skipped)} skipped{':' if skipped else ''}", *skipped, sep="\n  ", flush=True)
-    return sum(counts, Count(0, 0, tuple(map(reason, skipped))))
+    return sum(counts, Count(0, 0))

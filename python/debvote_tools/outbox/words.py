@@ -15,15 +15,17 @@ from debvote_tools.book.queries import Elector
 from debvote_tools.inbox.rules import Outcome
 from debvote_tools.inbox.of_electors import Became, Came
 from debvote_tools.inbox.reasons import for_elector
-from debvote_tools.poll.call import CallData
+from debvote_tools.poll.call import CallData, is_mail_address
 from debvote_tools.poll.plain_names import without_accents
-from debvote_tools.poll.secret import BY_PYTHON
 from debvote_tools.text.ballots import without_ballots
 from debvote_tools.text.language import Language, marked
 from debvote_tools.text.rendering import one_line, render_letter
 from debvote_tools.text.times import time_in_words
 
 PACKAGE = "debvote_tools.outbox"
+
+# how many lines two sides of A4 have, as letter.css prints them
+TWO_SIDES = 112
 
 # what debvote says of a line
 RANK_COUNT = re.compile(r"bad rank count: (\d+) ranks?, the poll has (\d+) options?")
@@ -95,9 +97,15 @@ class Composer:
         return self.call.language.say(said, title=one_line(self.call.poll.name))
 
     def call_letter(self, elector: Elector, *, is_extension: bool) -> str:
-        """The call; or that it ends later, which repeats no code."""
-        more = {"is_extension": is_extension, "find_command": BY_PYTHON}
-        return self.rendered("debvote_tools.poll", "call.txt", elector, **more)
+        """The call; or that it ends later, which repeats no code. On paper it has at most two
+        sides: if the texts about the options are too long for them, it says where they are.
+        """
+        for are_texts_elsewhere in (False, True):
+            more = {"is_extension": is_extension, "are_texts_elsewhere": are_texts_elsewhere}
+            text = self.rendered("debvote_tools.poll", "call.txt", elector, **more)
+            if not is_on_paper(elector) or text.count("\n") <= TWO_SIDES:
+                break
+        return text
 
     def reminder(self, elector: Elector, waits: Sequence[Came]) -> str:
         """A letter to an elector without a ballot. If a letter of theirs waits, it says so, and
@@ -125,7 +133,9 @@ class Composer:
         greeting = call.language.say(
             "Dear {name},", name=one_line(elector.who)[:200] or elector.name
         )
-        own = {"call": call, "elector": elector, "greeting": greeting}
+        own = {"call": call, "elector": elector, "greeting": greeting, "has_texts": False}
+        # who has no address may not see the page, either
+        own["is_whole"] = call.at is None or is_on_paper(elector)
         text = render_letter(package, template, call.language, **own, **values)
         return without_ballots(text, len(call.poll.names), self.is_name)
 
@@ -179,6 +189,11 @@ class Composer:
         elif came.became is Became.REFUSED:
             sentences += faults_of(came.answer, name, language)
         return " ".join(sentences)
+
+
+def is_on_paper(elector: Elector) -> bool:
+    """Whether letters to an elector are printed: no address is one that every mail server takes."""
+    return not any(map(is_mail_address, elector.addresses))
 
 
 def faults_of(

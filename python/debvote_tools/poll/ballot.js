@@ -9,8 +9,6 @@
   // mail programs break longer lines at their space
   const MAIL_LIMIT = 72;
   const UNRANKED = "-";
-  // if more names begin with what is typed, none of them is suggested
-  const NEAR_LIMIT = 8;
 
   // each id of the page has a capital letter, and no elector's name has one
   const byId = (id) => document.getElementById(id);
@@ -29,11 +27,6 @@
   // the name and the own mark that the address of the page has
   let linked = {};
 
-  // A sentence with lists of nodes at its places, as texts and these nodes.
-  function nodesOf(key, places) {
-    return words[key].split(/(\{[a-z]+\})/).flatMap((part) => (part.startsWith("{") ? places[part.slice(1, -1)] : [part]));
-  }
-
   // A text that has not changed is not written again, so that a screen reader does not read it again.
   function say(id, ...nodes) {
     const made = document.createElement("p");
@@ -43,45 +36,21 @@
   }
 
   // ---------------------------------------------------------------- the name
-  // Letters that Unicode does not take apart into a letter and its accent.
-  const letters = { ø: "o", ł: "l", đ: "d", ð: "d", þ: "th", æ: "ae", œ: "oe", ı: "i", ħ: "h", ŧ: "t", ß: "ss" };
+  const find = finderOf(electors);
 
-  // The letters and digits of a name, small and without accents.
-  function lettersOf(name) {
-    const plain = name.normalize("NFKD").toLowerCase().replace(/[øłđðþæœıħŧß]/g, (letter) => letters[letter]);
-    return plain.replace(/[^\p{Letter}\p{Number}]/gu, "");
-  }
-
-  // By the name of each elector its letters and those of the real name; and the letters without the number of a namesake.
-  const wholes = new Map(electors.map((known) => [known[0], known.map(lettersOf)]));
-  const shared = new Map(roll.map((name) => [name, lettersOf(name.replace(/-[0-9]+$/, ""))]));
-
-  // The name on the roll that what was typed plainly is, if there is one; and the names that are suggested: never one of several
-  // namesakes alone.
+  // The name on the roll that what was typed plainly is, if there is one; and the names that are suggested.
   function electorsTyped(text) {
     const typed = text.trim().replace(/[A-Z]/g, (letter) => letter.toLowerCase());
     if (roll.length === 0 || roll.includes(typed)) return { name: NAME.test(typed) ? typed : undefined, suggested: [] };
-    // in German ä is ae; the family name may come first
-    const turned = text.split(",").reverse().join(" ");
-    const forms = [text, text.normalize("NFC").replace(/[äöü]/gi, "$&e"), turned].map(lettersOf).filter(Boolean);
-    const isWhole = (name) => wholes.get(name).some((key) => forms.includes(key));
-    const same = roll.filter((name) => isWhole(name) || forms.includes(shared.get(name)));
-    if (same.length > 0) return { name: same.length === 1 && isWhole(same[0]) ? same[0] : undefined, suggested: same };
-    const begun = roll.filter((name) => wholes.get(name).some((key) => forms.some((form) => key.startsWith(form))));
-    return { suggested: begun.length > NEAR_LIMIT ? [] : begun };
+    const { whole, suggested } = find(text);
+    return { name: suggested.length === 1 ? whole[0] : undefined, suggested };
   }
 
-  // A button that puts a name into the field.
-  function suggestion(name) {
-    const button = document.createElement("button");
-    button.type = "button";
-    button.textContent = name;
-    button.addEventListener("click", () => {
-      nameInput.value = name;
-      nameInput.focus();
-      update();
-    });
-    return button;
+  // Puts a name into the field.
+  function choose(name) {
+    nameInput.value = name;
+    nameInput.focus();
+    update();
   }
 
   // The name for the line; undefined if there is none yet. What is wrong with it, or suggested, is said below the field.
@@ -90,7 +59,7 @@
     const text = nameInput.value;
     const { name, suggested } = electorsTyped(text);
     const isOdd = text.trim() !== "" && name === undefined;
-    if (suggested.length > 0) say("Name-said", ...nodesOf("on_roll", { names: suggested.map(suggestion) }));
+    if (suggested.length > 0) say("Name-said", ...nodesOf(words.on_roll, { names: suggestions(suggested, choose) }));
     else say("Name-said", isOdd ? sentence(roll.length > 0 ? "not_on_roll" : "no_name", { name: text.trim() }) : "");
     nameInput.setAttribute("aria-invalid", String(isOdd));
     return name;
@@ -122,7 +91,7 @@
     const last = nodes.pop();
     if (nodes.length === 0) return [last];
     const entries = nodes.flatMap((node, place) => (place === 0 ? [node] : [", ", node]));
-    return nodesOf("and", { entries, last: [last] });
+    return nodesOf(words.and, { entries, last: [last] });
   }
 
   // What the ranks say, as texts and names: "B; then equally A and C; not ranked: D".
@@ -130,10 +99,10 @@
     const optionsOf = (rank) => given.flatMap((other, option) => (other === rank ? [option] : []));
     const steps = [...new Set(given)].filter((rank) => rank !== UNRANKED).sort((a, b) => a - b).map(optionsOf);
     const said = steps
-      .map((options) => (options.length === 1 ? joined(options) : nodesOf("equally", { options: joined(options) })))
-      .reduce((before, step) => nodesOf("then", { before, step }));
+      .map((options) => (options.length === 1 ? joined(options) : nodesOf(words.equally, { options: joined(options) })))
+      .reduce((before, step) => nodesOf(words.then, { before, step }));
     const unranked = optionsOf(UNRANKED);
-    return unranked.length === 0 ? said : nodesOf("unranked", { ranked: said, unranked: joined(unranked) });
+    return unranked.length === 0 ? said : nodesOf(words.unranked, { ranked: said, unranked: joined(unranked) });
   }
 
   // ---------------------------------------------------------------- what the page shows

@@ -28,6 +28,13 @@ WEB = re.compile(r"[!$-;=?-_a-z~]+")
 WEB_LIMIT = 500
 HOST = re.compile(r"[A-Za-z0-9.-]*[A-Za-z0-9]|\[[0-9A-Fa-f:.]+\]")
 
+# a first line that greets: it ends as one does, or begins so in one of the languages
+GREETING = re.compile(
+    r"\s*(?:[^\n]*[,:!][ \t]*$|(?:dear|hello|hi|good|liebe|sehr geehrte|hallo|guten|cher|ch\u00e8re|bonjour"
+    r"|madame|mesdames|messieurs|estimad|querid|\u00a1?hola|buen)\w*\b)",
+    re.IGNORECASE | re.MULTILINE,
+)
+
 # an option in a sentence: its number and its name do not run into each other
 OPTION = marked("Option {number}: {name}")
 SUBJECT = marked("Ballot: {title}")
@@ -39,7 +46,7 @@ PACKAGE = "debvote_tools.poll"
 SENTENCES = {
     "option": OPTION,
     "subject": SUBJECT,
-    "type_name": marked("Type your name as it is on the roll."),
+    "type_name": marked("Type your name."),
     "on_roll": marked("On the roll: {names}"),
     "not_on_roll": marked(
         "{name} is not on the roll of this poll; the names on the roll are below."
@@ -129,6 +136,11 @@ class CallData:
         return [self.language.say(OPTION, number=number, name=name) for number, name in options]
 
     @property
+    def has_greeting(self) -> bool:
+        """Whether the secretary's own words begin with a greeting."""
+        return GREETING.match(self.letter_text) is not None
+
+    @property
     def explanations(self) -> list[tuple[int, list[str]]]:
         return explanations_of(self.poll)
 
@@ -211,7 +223,14 @@ def extension_letter(call: CallData) -> str:
 
 def letter_to_all(call: CallData, *, is_extension: bool) -> str:
     text = render_letter(
-        PACKAGE, "call.txt", call.language, call=call, elector=None, is_extension=is_extension
+        PACKAGE,
+        "call.txt",
+        call.language,
+        call=call,
+        elector=None,
+        is_extension=is_extension,
+        is_whole=call.at is None,
+        are_texts_elsewhere=False,
     )
     return without_ballots(text, len(call.poll.names), lambda word: True)
 
@@ -222,7 +241,7 @@ def call_page(call: CallData) -> bytes:
         "page.html",
         call.language,
         style=resources(PACKAGE, "fields.css", "given.css", "ballot.css"),
-        script=resources(PACKAGE, "fold.js", "ballot.js"),
+        script=resources(PACKAGE, "names.js", "fold.js", "ballot.js"),
         call=call,
         script_words=call.language.words(SENTENCES),
     )

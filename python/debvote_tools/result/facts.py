@@ -1,19 +1,18 @@
 """What a result is made from, beside the answers of debvote: one value for the page, the letters of
-the result and the data. What is told of it in words is in `told.jinja`.
+the result and the data. `told.jinja` says it in words.
 """
 
 import dataclasses
 import datetime
 import functools
-from collections.abc import Iterable, Mapping
+from collections.abc import Callable, Mapping
 from typing import Any
 
 from debvote_tools.debvote import Finding, casting_words
+from debvote_tools.inbox.lines import ballot_lines
 from debvote_tools.poll.sealed import SealedPoll
 from debvote_tools.result.sheet import Sheet, sheet_in
 from debvote_tools.text.language import ENGLISH, Language
-from debvote_tools.text.rendering import InHtml, templates_of
-from debvote_tools.text.times import time_in_words
 
 # the files of a published folder; a plain web server shows a text that ends in .txt
 POLL, BALLOTS, LATE, SHEET = "poll.toml", "ballots.txt", "late.txt", "sheet.txt"
@@ -45,6 +44,19 @@ FOR_SECRETARY = {
 }
 
 
+class Told:
+    """What is told in a sentence that `places` fill."""
+
+    places: Mapping[str, Any]
+
+    def shown(self, of_time: Callable[[datetime.datetime], Any]) -> dict[str, Any]:
+        """The places, with each time as it is shown."""
+        return {
+            key: of_time(value) if isinstance(value, datetime.datetime) else value
+            for key, value in self.places.items()
+        }
+
+
 @dataclasses.dataclass(frozen=True)
 class CastingVote:
     """The plain name of the option that it chooses; whose it was and on which day, if that is said.
@@ -57,7 +69,7 @@ class CastingVote:
 
 
 @dataclasses.dataclass(frozen=True)
-class Doubt:
+class Doubt(Told):
     """Something doubtful about a result. The page tells it, and most stop a publication until it is
     forced with a reason.
     """
@@ -69,10 +81,10 @@ class Doubt:
 
     def as_data(self) -> dict[str, Any]:
         """As the act of a publication keeps it."""
-        return {"kind": self.kind, **self.places}
+        return {"kind": self.kind, **self.shown(datetime.datetime.isoformat)}
 
     def for_secretary(self) -> str:
-        return FOR_SECRETARY[self.kind].format(**self.places)
+        return FOR_SECRETARY[self.kind].format(**self.as_data())
 
 
 def doubts_about(sheet: Sheet) -> list[Doubt]:
@@ -84,10 +96,11 @@ def doubts_about(sheet: Sheet) -> list[Doubt]:
 
 
 @dataclasses.dataclass(frozen=True)
-class Act:
+class Act(Told):
     """Something that was done in an election, at a time by the clock of the secretary's computer.
 
-    `places` fill its sentence. `because` is None if no reason was given, or it is not published.
+    `places` fill its sentence; all times are in the zone in which the end was announced. `because`
+    is None if no reason was given, or it is not published.
     """
 
     time: datetime.datetime
@@ -108,22 +121,15 @@ class Chronicle:
     """What the book of an election says of its course."""
 
     acts: tuple[Act, ...] = ()
-    # the end as it is, with the offset in which it was announced
-    until: datetime.datetime | None = None
     # lines that came after the end, and count since the vote was not closed
     after_the_end: int = 0
-
-    @property
-    def zone(self) -> datetime.tzinfo | None:
-        """The zone in which the end was announced."""
-        return self.until.tzinfo if self.until else datetime.UTC
 
     @property
     def days(self) -> list[datetime.date]:
         """The day of the call that holds, and that of the first close."""
         calls = [act for act in self.acts if act.done in ("called", "called until")]
         closes = [act for act in self.acts if act.done == "closed" and act.time >= calls[-1].time]
-        return [act.time.astimezone(self.zone).date() for act in (*calls[-1:], *closes[:1])]
+        return [act.time.date() for act in (*calls[-1:], *closes[:1])]
 
 
 @dataclasses.dataclass(frozen=True)
@@ -180,6 +186,11 @@ class Facts:
         return self.poll.secret and not self.has_codes
 
     @property
+    def late_number(self) -> int:
+        """How many lines were entered after the close."""
+        return self.secret.late if self.secret else len(ballot_lines(self.late or b""))
+
+    @property
     def seal(self) -> str:
         """The random line of the last close; empty if there is none."""
         return (self.secret and self.secret.seal) or ""
@@ -204,50 +215,3 @@ class Answers:
     # what `verify` says of the sheet
     verified: str
     version: str
-
-
-# ---------------------------------------------------------------- in words
-def told(language: Language, template: str = "told.jinja") -> Any:
-    """What a template says by its macros, for a page or for a letter."""
-    templates = templates_of(__package__, language, is_page=isinstance(language, InHtml))
-    return templates.get_template(template).module
-
-
-def all_acts(facts: Facts, language: Language, *, but_quiet: bool = False) -> list[str]:
-    chronicle = facts.chronicle or Chronicle()
-
-    def in_words(value: Any) -> Any:
-        """Of times the words, in the zone of the vote."""
-        is_time = isinstance(value, datetime.datetime)
-        return time_in_words(value.astimezone(chronicle.zone), language) if is_time else value
-
-    return [
-        told(language).dated(
-            act, in_words(act.time), {key: in_words(value) for key, value in act.places.items()}
-        )
-        for act in chronicle.acts
-        if not (but_quiet and act.is_quiet)
-    ]
-
-
-def told_acts(facts: Facts, language: Language) -> list[str]:
-    """What the letter tells: all but the call and a plain close."""
-    return [*all_acts(facts, language, but_quiet=True), *after_the_end(facts, language)]
-
-
-def after_the_end(facts: Facts, language: Language) -> list[str]:
-    number = facts.chronicle.after_the_end if facts.chronicle else 0
-    return [told(language).after_the_end(number)] if number else []
-
-
-def sentences_of(doubts: Iterable[Doubt], language: Language, *, is_secret: bool) -> list[str]:
-    """The doubts for the readers."""
-    said = []
-    for doubt in doubts:
-        times = {
-            key: time_in_words(datetime.datetime.fromisoformat(doubt.places[key]), language)
-            for key in ("arrival", "closed", "until")
-            if key in doubt.places
-        }
-        said.append(told(language).doubt(doubt.kind, {**doubt.places, **times}, is_secret))
-    return said

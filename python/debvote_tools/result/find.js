@@ -106,10 +106,30 @@
     return node;
   }
 
+  // The electors of the page who may be meant, as a sentence with buttons.
+  let find;
+  function suggested(name) {
+    const namesIn = (item) => [item.firstChild.textContent.trim(), ...[...item.querySelectorAll("bdi")].map((node) => node.textContent)];
+    find ??= finderOf([...document.querySelectorAll(".roll li")].map(namesIn));
+    const { suggested: names } = find(name);
+    if (names.length === 0) return [];
+    const node = document.createElement("p");
+    const choose = (chosen) => {
+      nameInput.value = chosen;
+      nameInput.focus();
+      show();
+    };
+    node.append(...nodesOf(words.on_roll, { names: suggestions(names, choose) }));
+    return [node];
+  }
+
   // What there is to say of electors, of whom those count that are on the roll. Each has a name that is said.
   function told(electors, files) {
     const found = electors.filter(([elector]) => ballotOf(elector, files) !== undefined);
-    if (found.length === 0) return [paragraph("no_elector", { name: electors[0][1], alias: electors[0][0] })];
+    if (found.length === 0) {
+      const no = paragraph("no_elector", { name: electors[0][1], alias: electors[0][0] });
+      return [no, ...("on_roll" in words ? suggested(nameInput.value) : [])];
+    }
     return found.flatMap(([elector, name]) => {
       const line = ballotOf(elector, files);
       if (line === null) return [paragraph("no_ballot", { name, alias: elector })];
@@ -164,5 +184,6 @@
   byId("Show").addEventListener("click", show);
   byId("Find").hidden = false;
   addEventListener("hashchange", showNamed);
-  showNamed();
+  // a browser goes to the place in the list, and opens it, until the page is loaded
+  addEventListener("load", () => setTimeout(showNamed));
 })();

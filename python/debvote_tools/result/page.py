@@ -18,8 +18,7 @@ from debvote_tools.inbox.lines import ballot_lines
 from debvote_tools.poll.secret import ALIAS, BY_OPENSSL, BY_PYTHON, REMAINS, sealed_checksum
 from debvote_tools.poll.call import OPTION, explanations_of, paragraphs_of
 from debvote_tools.result import facts as files, scripts
-from debvote_tools.result.facts import Answers, Facts, after_the_end, all_acts, sentences_of
-from debvote_tools.result.result_letter import told_if_it_decides
+from debvote_tools.result.facts import Answers, Facts
 from debvote_tools.result.why import Why
 from debvote_tools.text.ballots import IN_A_LIST, BallotWords
 from debvote_tools.text.language import ENGLISH, Language
@@ -51,6 +50,9 @@ IN_HASTE = ["-Gsplines=line", "-Gnslimit=1", "-Gmclimit=0.1"]
 # read
 LEAST_SHARE = 0.75
 
+# how the name of an option begins in the picture
+NUMBERED = re.compile(r"^([0-9]+) ")
+
 SPACE = "{http://www.w3.org/2000/svg}"
 SHAPES = {SPACE + name for name in ("svg", "g", "polygon", "polyline", "ellipse", "path", "text")}
 
@@ -59,7 +61,6 @@ def page_of(given: Facts, answers: Answers, checksums: Mapping[str, str]) -> byt
     """The page, whole. `checksums` are those of the files beside it, by their names."""
     language, sheet, poll = given.language, answers.sheet, given.poll
     in_html = InHtml(language.code, language.catalog)
-    chronicle = given.chronicle or files.Chronicle()
     # a name that is not plain may be written from right to left, and turns nothing around it
     pairs = enumerate(zip(poll.names, poll.plain_names), start=1)
     names = {
@@ -76,17 +77,19 @@ def page_of(given: Facts, answers: Answers, checksums: Mapping[str, str]) -> byt
     style, picture = resources(__package__, "fields.css", "given.css", "page.css"), None
     if answers.picture is not None and len(names) <= MOST_IN_PAGE:
         in_words = language.say("The defeats as a graph. The list above says the same in words.")
-        picture, least_width = picture_in_page(answers.picture, in_words)
+        picture, least_width = picture_in_page(answers.picture, in_words, language)
         style += f".picture svg {{ min-width: {least_width}px; }}\n"
     return render_page(
         __package__,
         "page.html",
         language,
         style=style,
-        script=resources(__package__, files.SCRIPT, "count_again.js", "find.js", "fold.js"),
+        script=resources(__package__, files.SCRIPT, "names.js", "count_again.js", "find.js", "fold.js"),
         head=in_html.say("Result: {title}", title=poll.name),
         title=poll.name,
-        days=[date_in_words(day, language) for day in chronicle.days],
+        days=[date_in_words(day, language) for day in given.chronicle.days]
+        if given.chronicle
+        else [],
         colon=language.between(scripts.COLON),
         plain_name=scripts.PLAIN_NAME,
         facts=given,
@@ -97,9 +100,7 @@ def page_of(given: Facts, answers: Answers, checksums: Mapping[str, str]) -> byt
         named=named,
         framed=framed_options(names, in_html),
         why=Why(sheet, {option: bold(option, name) for option, name in named.items()}),
-        casting_vote=told_if_it_decides(given, sheet),
         share=share(sheet.voters, sheet.electors, language),
-        doubts=sentences_of(given.doubts, language, is_secret=poll.secret),
         because=paragraphs_of(given.because or ""),
         about=paragraphs_of(given.about or ""),
         given_checksum=None
@@ -119,9 +120,6 @@ def page_of(given: Facts, answers: Answers, checksums: Mapping[str, str]) -> byt
             in_html,
         ),
         late=runs_of(((number, line, "") for number, line in enumerate(late, start=1)), in_html),
-        late_number=given.secret.late if given.secret else len(late),
-        acts=all_acts(given, in_html),
-        after_the_end=after_the_end(given, in_html),
         remains=[language.say(text) for text in REMAINS] if given.has_aliases else [],
         alias=language.say(ALIAS),
         by_python=BY_PYTHON,
@@ -244,14 +242,22 @@ def picture_of(graph: str, options: int) -> bytes | None:
         return None
 
 
-def picture_in_page(picture: bytes, words: str) -> tuple[Markup, int]:
+def picture_in_page(picture: bytes, words: str, language: Language) -> tuple[Markup, int]:
     """The picture within the page, and its least width there. The words are for those who do not
     see it.
 
     It has shapes and texts alone, without the names by which Graphviz calls them: as node1, they
-    may be those of electors.
+    may be those of electors. The number of an option stands apart from its name, and why it was
+    dropped is said in the language.
     """
     svg = xml.fromstring(picture)
+    colon = language.between(scripts.COLON)
+    dropped = {"quorum": language.say("no quorum"), "majority": language.say("no majority")}
+    for node in svg.iterfind(f".//{SPACE}g[@class='node']"):
+        named, *why = node.iter(f"{SPACE}text")
+        named.text = NUMBERED.sub(rf"\1{colon}", named.text or "")
+        for text in why:
+            text.text = dropped.get(text.text or "", text.text)
     for part in list(svg.iter()):
         part.attrib.pop("id", None)
         for child in [child for child in part if child.tag not in SHAPES]:

@@ -226,7 +226,7 @@ def doubts_of(
     found = [] if history.is_closed else [Doubt("not closed")]
     if (until := early_end(history)) is not None:
         closed = history.closes[0].time.astimezone(until.tzinfo)
-        places = {"closed": closed.isoformat(), "until": until.isoformat()}
+        places = {"closed": closed, "until": until}
         # `close --early` has agreed to it
         found.append(Doubt("closed early", places, stops=False))
     found += late_letters_in_time(book, history)
@@ -265,7 +265,7 @@ def late_letters_in_time(book: Book, history: History) -> list[Doubt]:
         if arrived is not None and from_text(arrived) <= last:
             places = {
                 "letter": kept.number,
-                "arrival": from_text(arrived).astimezone(zone_of(history)).isoformat(),
+                "arrival": from_text(arrived).astimezone(zone_of(history)),
                 "envelopes": " ".join(numbers[kept.number]),
             }
             found.append(Doubt("late letter", places))
@@ -286,7 +286,16 @@ def chronicle_of(book: Book, history: History, *, is_secret: bool) -> Chronicle:
         condition = f"{queries.IN_TIME} AND letter IS NULL AND time > ? AND act < ?"
         first_close = history.closes[0].number if history.closes else history.last.number + 1
         after_the_end = len(queries.lines(book, condition, as_text(history.until), first_close))
-    return Chronicle(tuple(acts), history.until, after_the_end)
+    zone = zone_of(history)
+
+    def in_zone(time: Any) -> Any:
+        return time.astimezone(zone)
+
+    shown = (
+        dataclasses.replace(act, time=in_zone(act.time), places=act.shown(in_zone))
+        for act in acts
+    )
+    return Chronicle(tuple(shown), after_the_end)
 
 
 def acts_of_page(act: DoneAct, book: Book, history: History, *, is_secret: bool) -> Iterator[Act]:

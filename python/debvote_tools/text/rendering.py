@@ -20,7 +20,7 @@ from markupsafe import Markup
 
 from debvote_tools.text.ballots import ranks_in_words
 from debvote_tools.text.language import ENGLISH, Language, marked
-from debvote_tools.text.times import time_in_words
+from debvote_tools.text.times import date_in_words, time_in_words
 
 # mail programs leave lines of this length as they are
 COLUMNS = 72
@@ -98,6 +98,7 @@ def templates_of(package: str, language: Language, *, is_page: bool) -> jinja2.E
         "is_page": is_page,
         "marked": marked,
         "time_in_words": functools.partial(time_in_words, language=language),
+        "date_in_words": functools.partial(date_in_words, language=language),
         "ranks_in_words": functools.partial(ranks_in_words, language=language),
     }
     return environment

@@ -92,7 +92,7 @@ class Open(CallTest):
         self.done("call", *UNTIL)
         text = " ".join(self.read("letters/extension.txt").decode().split())
         self.assertIn("You can now vote until the time below.", text)
-        self.assertIn(f"Until when: {FIRST} The call did not", text)
+        self.assertIn(f"Vote until: {FIRST} The call did not", text)
 
 
 class Again(CallTest):

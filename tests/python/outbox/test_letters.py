@@ -19,7 +19,7 @@ LAKE = "At the lake, then In the town hall, then Further discussion, then Sell t
 FORM = f"The page of the vote, which writes the line of your ballot for you, and on which the result will be: {AT}"
 LINE = "Your line, with a rank in the place of each _. 1 is the best; equal ranks and - for no rank are allowed: "
 MARKS = r"\[([0-9a-f]{16})-([2-9a-hjkmnp-z]{10})\]"
-WHEN = f"{TITLE} Until when: Friday, 4 December 2026, 18:00 (UTC)"
+WHEN = f"{TITLE} Vote until: Friday, 4 December 2026, 18:00 (UTC)"
 OPTIONS = "Option 1: At the lake Option 2: In the town hall Option 3: Sell the house and meet there Option 4: Further discussion (the default option)"
 ELSEWHERE = "A letter in your name came from another address, and waits until the secretary has looked at it."
 
@@ -111,11 +111,11 @@ class Call(OutTest):
         self.assertNotIn("You have more time", texts.pop("ada"))
         for name, text in texts.items():
             self.assertTrue(text.startswith(f"Dear {name.title()}, You have more time to vote."), text)
-            when = "Until when: Sunday, 6 December 2026, 12:00 (UTC) The time was extended. The call said at first: Friday, 4 December"
+            when = "Vote until: Sunday, 6 December 2026, 12:00 (UTC) The time was extended. The call said at first: Friday, 4 December"
             self.assertIn(f"{TITLE} {when} 2026, 18:00 (UTC) {FORM}#{name}/", text)
             self.assertIn(f"{LINE}{name} _,_,_,_", text)
         self.done("call", "--until", "2026-12-08 12:00", "--zone", "UTC")
-        self.assertIn("Until when: Tuesday, 8 December 2026, 12:00 (UTC)", self.texts("call")["ben"])
+        self.assertIn("Vote until: Tuesday, 8 December 2026, 12:00 (UTC)", self.texts("call")["ben"])
 
     def test_who_has_the_call_that_holds(self) -> None:
         """One that was taken back is none; one that went out after an extension is one."""
@@ -192,7 +192,7 @@ class OwnWords(OutTest):
         self.add_lines("ada 1,2")
         found["receipts"] = self.written("receipts")
         first = self.letter.replace("If you are unsure write ada", "|If you are unsure write\n|ada")
-        begins = {"call": first, "reminders": first, "extension": "It ends later.\n", "receipts": "Dear Ada,\n"}
+        begins = {"call": first, "reminders": first, "extension": "Dear Ada,\n\nIt ends later.\n", "receipts": "Dear Ada,\n"}
         for kind, letters in found.items():
             message = letters["ada"]
             self.assertTrue(message.get_content().startswith(begins[kind]), message.get_content())
@@ -620,7 +620,7 @@ class Reminders(OutTest):
         self.assertIn(f"{LINE}ben _,_,_,_", texts["ben"])
         # whose letter waits is told so, and not reminded
         self.assertIn("No ballot from it is entered yet: the secretary has to look at it first.", texts["cleo"])
-        self.assertNotRegex(texts["cleo"], r"_,_|https|Until when")
+        self.assertNotRegex(texts["cleo"], r"_,_|https|Vote until")
         # a stranger's letter silences nobody
         self.assertIn(ELSEWHERE, texts["dan"])
         self.assertIn("dan _,_,_,_", texts["dan"])
@@ -632,12 +632,12 @@ class Reminders(OutTest):
         )
         text = self.texts("reminders")["ada"]
         self.assertIn(f"{ELSEWHERE} Your letter of Monday, 23 November 2026, 09:00 (UTC) has arrived.", text)
-        self.assertNotRegex(text, r"_,_|https|Until when")
+        self.assertNotRegex(text, r"_,_|https|Vote until")
 
     def test_the_end_after_two_extensions(self) -> None:
         for day, words in ((6, "Sunday, 6 December"), (8, "Tuesday, 8 December")):
             self.done("call", "--until", f"2026-12-{day:02} 18:00", "--zone", "UTC")
-            self.assertIn(f"Until when: {words} 2026, 18:00 (UTC)", self.texts("reminders")["ada"])
+            self.assertIn(f"Vote until: {words} 2026, 18:00 (UTC)", self.texts("reminders")["ada"])
             self.set_clock(f"2026-12-{day - 1:02}T10:00:00+00:00")
             self.add_letters(letter("ben", "hi\n", number=day, time=f"Fri, {day - 1:02} Dec 2026 09:00:00 +0000"))
             receipt = self.texts("receipts")["ben"]
@@ -734,13 +734,16 @@ class Result(OutTest):
         self.published()
         texts = self.texts("result")
         self.assertEqual(sorted(texts), elections.NAMES)
-        begin = f"Dear Ada, Your own ballot, in words: {AT}#ada {TITLE} Winner: Option 1: At the lake. It beats each option that was not dropped: "
+        begin = f"{TITLE} Winner: Option 1: At the lake. It beats each option that was not dropped: "
         numbers = "Option 2: In the town hall by 2 to 0 and Option 4: Further discussion by 2 to 0."
-        self.assertIn(f"{begin}{numbers} The result is published at: {AT} What is doubtful", texts["ada"])
-        for text in texts.values():
-            self.assertIn(" ".join(self.read("letters/result.txt").decode().split()), text)
+        facts = "2 of 9 voted, quorum 2 reached, 0 lines of 2 refused. The result is published at: "
+        own = f"Your own ballot, in words: {AT}#ada "
+        self.assertIn(f"Dear Ada, {begin}{numbers} {facts}{AT} {own}What is doubtful", texts["ada"])
+        self.assertEqual(
+            f"Dear Ada, {' '.join(self.read('letters/result.txt').decode().split())}", texts["ada"].replace(own, "")
+        )
         self.assertIn(f"{AT}#ben", texts["ben"])
-        self.assertIn("Dear Cleo, The result has no ballot of yours that counts.", texts["cleo"])
+        self.assertIn(f"{AT} The result has no ballot of yours that counts.", texts["cleo"])
         self.assertNotIn("#", texts["cleo"])
         for name in ("SHA256SUMS", "index.html"):
             checksum = hashlib.sha256(self.read(f"result/{name}")).hexdigest()
@@ -758,7 +761,8 @@ class Result(OutTest):
         self.done("close", "--early")
         self.assertEqual(self.election("publish").status, 1)
         text = self.texts("result")["ada"]
-        self.assertIn("Tie: Option 1: At the lake and Option 2: In the town hall", text)
+        tied = "Option 1: At the lake and Option 2: In the town hall are tied. The casting vote has to choose one of them."
+        self.assertIn(f"No option has won yet: {tied}", text)
         words = ["--cast-by", "the chair", "--cast-on", "2026-11-23"]
         self.done("publish", "--casting", "In the town hall", *words)
         text = self.texts("result")["ada"]

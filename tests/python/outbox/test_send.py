@@ -294,7 +294,7 @@ class Sending(SendTest):
         whole = [name for name, text in texts.items() if "After the vote all" in text and "You have more time" not in text]
         self.assertEqual(whole, ["ben", "cleo"])
         for text in texts.values():
-            self.assertIn("Until when: Sunday, 6 December 2026, 12:00 (UTC)", text)
+            self.assertIn("Vote until: Sunday, 6 December 2026, 12:00 (UTC)", text)
 
     def test_after_a_second_close_its_letter_goes_out_too(self) -> None:
         for count in (1, 2):

@@ -29,6 +29,12 @@ from tests.support.outgoing import one_line, parsed
 TIME = datetime.datetime(2026, 11, 23, 10, tzinfo=datetime.UTC)
 POLL = SealedPoll("Spring", ("Lake", "Hall"), (1, 1), "None", 1, ("ada", "ben"))
 ADA = Elector(1, "ada", 1, "Ada L.", ("ada@club.example",), mark="abcdefghjk")
+GUS = ADA._replace(name="gus", who="Gus G.", addresses=())
+TOO_LONG = (
+    "The texts about the options are too long for this letter: they are on the page of the vote. "
+    "The secretary gives them on paper to whoever asks."
+)
+TOO_LONG_WITHOUT_PAGE = "The texts about the options are too long for this letter. The secretary gives them to whoever asks."
 LETTER = SentLetter(1, "call", 1, "ada@club.example", "<1@club.example>", TIME, ())
 
 
@@ -121,12 +127,15 @@ class Texts(unittest.TestCase):
                 self.assertNotIn("_,_", over)
 
     def test_of_a_result(self) -> None:
-        """The letter for all, and before it the own ballot; where the result is, if the letter for all does not say it."""
-        for letter in ("RESULT\n", "RESULT at\n  https://club.example/vote/\n"):
+        """The letter for all, and within it, behind the winner, the own ballot and where the result is."""
+        rest = "THE FILES OF THE RESULT\n\nDownload them.\n"
+        place = "The result is published at:\n  https://club.example/vote/\n"
+        for letter in ("RESULT\n", f"RESULT\n\n{rest}", f"RESULT\n\n{place}\nDOUBTS\n\n{rest}"):
             texts = [now.text("result", ADA, letter=letter, has_ballot=True) for now in (vote(), vote(has_aliases=True))]
+            end = letter.removeprefix("RESULT\n").removeprefix(f"\n{place}")
             for text in texts:
-                self.assertTrue(text.endswith(f"\n\n{letter}"), text)
-                self.assertEqual(text.count("  https://club.example/vote/\n"), 1)
+                self.assertTrue(text.startswith(f"Dear Ada L.,\n\nRESULT\n\n{place}\nYour "), text)
+                self.assertTrue(text.endswith(end), text)
             self.assertIn("Your own ballot, in words:\n  https://club.example/vote/#ada\n", texts[0])
             self.assertNotIn("#", texts[1])
             self.assertIn("find it with your name, ada, and your code", " ".join(texts[1].split()))
@@ -172,8 +181,8 @@ class CallLetter(unittest.TestCase):
                 begin = "Dear friends,\n\npaper ballots go to the box in the hall.\n|Write\n|ada 1,2,3 or so.\n  |ben 3,2,1\n\nYours, Eve\n\n"
                 self.assertTrue(text.startswith(begin), text)
                 said = now.call.language.say(
-                    "These words, and all that this letter says about the options, are those of whoever sends it. "
-                    "The program has not checked them."
+                    "The words above are those of whoever sends this letter. "
+                    "The program debvote wrote the rest, and has not checked them."
                 )
                 self.assertEqual(" ".join(text.split()).count(said), 1)
             self.assertNotIn("Dear friends", refusing)
@@ -191,7 +200,8 @@ class CallLetter(unittest.TestCase):
             now = vote(poll=poll, at=None, letter_text=letter)
             text = dataclasses.replace(now, electors=(ADA,)).call_letter(ADA, is_extension=False)
             self.assertIn("\n\nOption 1: Lake\n\nA lake.\n|ada 1,2,3\n\nWHAT DECIDES\n", text)
-            self.assertEqual(text.count("The program has not checked"), 1)
+            self.assertEqual(text.count("checked"), 1)
+            self.assertEqual("The words above, and the texts" in text, bool(letter))
             self.assertNotIn("A lake", now.call_letter(ADA, is_extension=True))
         self.assertNotIn("A lake", vote(poll=poll).call_letter(ADA, is_extension=False))
 
@@ -203,20 +213,42 @@ class Printed(unittest.TestCase):
         names = tuple(f"A rather long name of an option, as societies have them, number {number}" for number in range(1, 12))
         poll = dataclasses.replace(POLL, options=names, ratios=(1,) * 11)
         for code in LANGUAGES:
-            now = vote(code, poll=poll, at=None, has_aliases=True, letter_text="Paper ballots go into the box in the hall of our house.\n" * 11)
+            words = "Paper ballots go into the box in the hall of our house.\n" * 11
+            now = vote(code, poll=poll, at=None, has_aliases=True, letter_text=words)
             text = now.call_letter(ADA._replace(code="c0de" * 8), is_extension=False)
-            style = resources(PACKAGE, "letter.css")
-            page = render_page(PACKAGE, "print.html", now.call.language, style=style, title="Spring", letters=[("Ada", rows_to_print(text, now.call))] * 3)
-            self.assertEqual(page.count(b'<span class="rank"></span>  Op'), 3 * 12)
-            with tempfile.TemporaryDirectory() as folder:
-                place = pathlib.Path(folder)
-                (place / "page.html").write_bytes(page)
-                words = [BROWSER, "--headless", "--no-sandbox", "--disable-gpu", f"--user-data-dir={folder}/of-browser"]
-                words += [f"--print-to-pdf={folder}/page.pdf", f"{folder}/page.html"]
-                subprocess.run(words, check=True, capture_output=True)
-                sides = re.findall(rb"/Type\s*/Page\b", (place / "page.pdf").read_bytes())
             self.assertGreater(len(text.splitlines()), 70)
-            self.assertEqual(len(sides), 6, code)
+            self.check_sides(now, text)
+
+    def test_who_has_no_address_gets_the_texts_on_paper_or_reads_where_they_are(self) -> None:
+        """As many as two sides have; and all else that others read on the page."""
+        for code in LANGUAGES:
+            for number, at in ((1, vote().call.at), (8, None), (9, vote().call.at), (70, vote().call.at), (70, None)):
+                poll = dataclasses.replace(POLL, explanations=("A lake, and a meadow with room for forty tents.\n\n" * number, "", ""))
+                now = vote(code, poll=poll, at=at, letter_text="Dear friends,\n\npaper goes into the box in the hall.\n")
+                text, by_mail = (now.call_letter(elector, is_extension=False) for elector in (GUS, ADA))
+                self.assertEqual(text.count("forty tents"), number if number < 70 else 0)
+                self.assertEqual(by_mail.count("forty tents"), 0 if at else number)
+                said = now.call.language.say(TOO_LONG if at else TOO_LONG_WITHOUT_PAGE).split()
+                self.assertEqual(" ".join(text.split()).count(" ".join(said)), int(number == 70))
+                for head in ("What decides", "What will be public"):
+                    self.assertIn(now.call.language.say(head).upper(), text)
+                self.assertEqual(f"{at}#{GUS.name}/{GUS.mark}" in text, at is not None)
+                self.check_sides(now, text)
+
+    def check_sides(self, now: Composer, text: str) -> None:
+        """Three letters have at most six sides, each with a place for the rank of each option."""
+        letters = [("Ada", rows_to_print(text, now.call))] * 3
+        style = resources(PACKAGE, "letter.css")
+        page = render_page(PACKAGE, "print.html", now.call.language, style=style, title="Spring", letters=letters)
+        self.assertEqual(page.count(b'<span class="rank"></span>  Op'), 3 * len(now.call.poll.names))
+        with tempfile.TemporaryDirectory() as folder:
+            place = pathlib.Path(folder)
+            (place / "page.html").write_bytes(page)
+            words = [BROWSER, "--headless", "--no-sandbox", "--disable-gpu", f"--user-data-dir={folder}/of-browser"]
+            words += [f"--print-to-pdf={folder}/page.pdf", f"{folder}/page.html"]
+            subprocess.run(words, check=True, capture_output=True)
+            sides = re.findall(rb"/Type\s*/Page\b", (place / "page.pdf").read_bytes())
+        self.assertLessEqual(len(sides), 6, text)
 
 
 class NoBallot(unittest.TestCase):

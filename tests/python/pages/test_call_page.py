@@ -278,6 +278,9 @@ class CallPageTest(CallFolder):
             # never one of several namesakes alone
             "Anna": ("", annas), "anna2": ("anna-2", ["anna-2"]), "Ben Lee": ("", ["ben-lee", "ben-lee-2"]), "ben lee 2": ("ben-lee-2", ["ben-lee-2"]),
             "ada": ("", ["ada-angstrom", "ada.lovelace"]), "eve": ("", ["eve-arnold"]),
+            # a family name alone, or its beginning
+            "Arnold": ("", ["eve-arnold"]), "arn": ("", ["eve-arnold"]), "\u00c5ngstr\u00f6m": ("", ["ada-angstrom"]), "Lovelace": ("", ["ada.lovelace"]),
+            "LEE": ("", ["ben-lee", "ben-lee-2"]), "old": ("", []),
             "yves": ("", []), "--": ("", []), "<q>": ("", []),
         }  # fmt: skip
         choices = [{"name": name, "ranks": list("1234")} for name in wanted]
@@ -293,12 +296,25 @@ class CallPageTest(CallFolder):
             self.assertEqual(result["invalid"], "false" if found else "true", name)
             self.assertEqual("is not on the roll of this poll" in result["said"], not found and not suggested, name)
             self.assertEqual(result["said"].startswith("On the roll: "), bool(suggested), name)
-            self.assertEqual(result["missing"], "" if found else "Type your name as it is on the roll.", name)
+            self.assertEqual(result["missing"], "" if found else "Type your name.", name)
         # without the roll each name that one may have gets its line, and none is told
         for name, result in zip(wanted, unlisted["results"], strict=True):
             is_name = re.fullmatch("[A-Za-z0-9.-]+", name) is not None
             self.assertEqual((result["line"], result["suggested"]), (f"{name.lower()} 1,2,3,4" if is_name else "", []), name)
             self.assertEqual("Names on the roll have only small letters" in result["said"], not is_name, name)
+
+    def test_a_family_name_suggests_all_who_have_it_and_their_real_names_do_too(self) -> None:
+        meiers = [f"{given}-meier" for given in ("ada", "ben", "cleo", "dan", "eve", "fay", "gus", "hal", "ida", "jon")]
+        roll = [*meiers, "kim-meierhof", "m-12"]
+        names = {name: name.replace("-", " ").title() for name in roll} | {"m-12": "Zo\u00eb M\u00fcller-Meier"}
+        # of more than eight beginnings none is suggested, of a whole family name all are
+        wanted = {"meier": [*meiers, "m-12"], "mei": [], "meierh": ["kim-meierhof"], "Mueller": ["m-12"], "zo\u00eb": ["m-12"], "M\u00fcller-Meier": ["m-12"]}
+        choices = [{"name": name, "ranks": list("1234")} for name in wanted]
+        page = self.called("meiers", with_roll(POLL, roll), real_names=names)
+        (found,), console = browse(self.scratch, [{"page": page.as_uri(), "width": 360, "choices": choices}])
+        self.assertEqual(console, "")
+        for name, result in zip(wanted, found["results"], strict=True):
+            self.assertEqual((result["suggested"], result["line"]), (wanted[name], ""), name)
 
     def test_no_name_is_typed_into_the_page_of_a_secret_vote(self) -> None:
         """Whoever can change the page would learn it. The line has a gap in its place, to be filled in the letter."""

@@ -66,17 +66,17 @@ class InBrowser(languages.LanguageTest):
             for place in places.values():
                 # four options: who has won, one's own ballot, the bars and the reasons; few results have a doubt
                 window.open(place / "result" / "index.html")
+                self.check_first_screen(window, f"{place.name} with doubts")
                 window.ask("document.querySelector('.doubts').remove()")
                 end = window.ask("document.getElementById('Find-your-ballot').parentNode.getBoundingClientRect().bottom")
                 self.assertLessEqual(end, 3 * TELEPHONE[1], f"{place.name}: screens of a telephone")
-                # on a small one the winner, the facts and the first option with its bar are on the first screen
                 window.resize(*SMALL)
-                first = window.ask("document.querySelector('.options li .bar').getBoundingClientRect().bottom")
-                self.assertLessEqual(first, SMALL[1], f"{place.name}: the first screen of a small telephone")
                 # no name is so narrow beside the longest chip, that of a default option that has won, that a word breaks
                 words = window.ask(f"{BROKEN_WORDS}({json.dumps(language_of(language).say('default option'))})")
                 self.assertEqual(words, [], f"{place.name}: words on two lines")
                 window.resize(*TELEPHONE)
+            self.check_four_options(window, places["open"] / "call" / "index.html")
+            self.check_picture(window, language, places["open"] / "result" / "index.html")
             self.check_call(window, language, places["open"])
             for place in places.values():
                 self.check_count(window, language, place / "result")
@@ -84,6 +84,38 @@ class InBrowser(languages.LanguageTest):
             self.check_find_in_secret(window, language, places["secret"])
             window.resize(*SCREEN)
             self.check_widths(window, language, files, SCREEN[0])
+
+    def check_first_screen(self, window: at_browser.Window, what: str) -> None:
+        """On a small telephone the winner, the facts and the first option with its bar are on the first screen, also with doubts."""
+        window.resize(*SMALL)
+        first = window.ask("document.querySelector('.options li .bar').getBoundingClientRect().bottom")
+        self.assertLessEqual(first, SMALL[1], f"{what}: the first screen of a small telephone")
+        self.assertTrue(window.ask("document.querySelector('.doubts summary').textContent.trim().length > 10"), what)
+        # what is folded says each doubt, and what a doubt is; it links no file
+        self.assertFalse(window.ask("document.querySelector('.doubts details').open"), what)
+        self.assertEqual(window.ask("document.querySelectorAll('.doubts a:not([href^=\"#\"])').length"), 0, what)
+        window.resize(*TELEPHONE)
+
+    def check_four_options(self, window: at_browser.Window, page: pathlib.Path) -> None:
+        """The form with four options is on one screen of a small telephone: name, ranks, line and buttons."""
+        window.resize(*SMALL)
+        window.open(page)
+        window.ask(f"{CHOOSE}('e01', ['2', '1', '-', '3'])")
+        bottom = window.ask("[...document.querySelectorAll('.rank')].at(-1).getBoundingClientRect().bottom")
+        ends = [window.ask(f"document.getElementById('{place}').getBoundingClientRect().{side}")
+                for place, side in (("Bottom", "top"), ("Copy", "bottom"), ("Letter", "bottom"))]
+        self.assertEqual((window.ask("scrollY"), bottom <= ends[0], max(ends) <= SMALL[1]), (0, True, True), (bottom, ends))
+        window.resize(*TELEPHONE)
+
+    def check_picture(self, window: at_browser.Window, language: str, page: pathlib.Path) -> None:
+        """It says in the language why an option was dropped, and numbers stand apart from names."""
+        window.open(page)
+        texts = window.ask("[...document.querySelectorAll('.picture text')].map((node) => node.textContent)")
+        colon = language_of(language).between("{before}: {after}")
+        self.assertIn(f"1{colon}At the lake", texts)
+        self.assertEqual([text for text in texts if text in ("majority", "quorum")], [])
+        why = [language_of(language).say(text) for text in ("no majority", "no quorum")]
+        self.assertNotEqual([text for text in texts if text in why], [])
 
     def check_widths(self, window: at_browser.Window, language: str, files: list[pathlib.Path], width: int) -> None:
         """No page is wider than the window, with all that is folded opened; what may be wider scrolls by itself."""

@@ -116,11 +116,21 @@ class ScriptsTest(publishing.PublishTest):
         equal = ['equally Option 2: <i>B</i> & "C" and Option 3: N', "Not ranked: Option 1: 72 Euro", "The line: ben -,1,1"]
         self.expect("equal ranks", window.find("ben")[1:], equal)
         self.expect("hyphens alone", window.find("cleo")[1:], ["nothing is preferred", "The line: cleo -,-,-"])
-        self.expect("without its hyphens", window.find("a-d-a"), ["No elector has the name a-d-a. Type it as it is on the roll."])
+        no = "No elector has the name a-d-a. Type it as it is on the roll."
+        self.expect("without its hyphens", window.find("a-d-a"), [no, "On the roll: ada"])
+        window.ask("document.querySelector('#Answer button').click()")
+        window.until("document.getElementById('Answer').textContent.startsWith('This ballot counts for ada:')")
         self.expect("no ballot", window.find("dan"), ["dan is on the roll, and no ballot counts for this name."])
         self.expect("nobody", window.find("Zoë"), ["No elector has the name zoë. Type it as it is on the roll."])
         self.expect("a place of the page", window.find("Votes"), ["No elector has the name votes. Type it as it is on the roll."])
         self.expect("nothing typed", window.find(" "), ["Type your name."])
+        # a browser that opens the page at a name shows the ballot, too, and not its place in the list
+        window.tell("Page.navigate", url="about:blank")
+        window.until("location.href === 'about:blank'")
+        window.open(self.room / "result" / "index.html", "#ben")
+        window.until("document.getElementById('Answer').textContent.includes('ben')")
+        window.until("Math.abs(document.getElementById('Find-your-ballot').getBoundingClientRect().top) < 80")
+        self.expect("the list is folded", window.ask("document.getElementById('ben').closest('details').open"), False)
         for address, name in (("ben", "ben"), ("ada/23456789ab", "ada")):
             window.ask(f"location.hash = '#{address}'")
             window.until(f"document.getElementById('Answer').textContent.includes('{name}')")

@@ -117,9 +117,9 @@ class Files(unittest.TestCase):
         said["never"] = dataclasses.replace(said["late"], until=None)
         more = f"The time was extended. The call said at first: {FIRST_WORDS}"
         wanted = {
-            "at first": f"Until when: {FIRST_WORDS} ",
-            "extended": f"Until when: {LATER_WORDS} {more} ",
-            "late": f"Until when: {LATER_WORDS} The call did not say it at first. ",
+            "at first": f"Vote until: {FIRST_WORDS} ",
+            "extended": f"Vote until: {LATER_WORDS} {more} ",
+            "late": f"Vote until: {LATER_WORDS} The call did not say it at first. ",
             "never": "You can vote until the time that the secretary announces. ",
         }
         for kind, data in said.items():
@@ -134,7 +134,7 @@ class Files(unittest.TestCase):
         # after a second extension, too, it is the end that the call said at first
         again = dataclasses.replace(said["extended"], until=LATER + datetime.timedelta(days=2))
         for text in (*texts_of(again).values(), " ".join(extension_letter(again).split())):
-            self.assertIn(f"Until when: Tuesday, 8 December 2026, 18:00 (UTC+01:00) {more} ", text)
+            self.assertIn(f"Vote until: Tuesday, 8 December 2026, 18:00 (UTC+01:00) {more} ", text)
             self.assertNotIn(LATER_WORDS, text)
         # the same moment in another zone is the same end
         self.assertFalse(dataclasses.replace(CALL, until=FIRST.astimezone(datetime.UTC)).is_extended)
@@ -187,7 +187,7 @@ class Files(unittest.TestCase):
         data = dataclasses.replace(CALL, poll=poll)
         files = call_files(data)
         page = files["index.html"].decode()
-        frames = re.findall(r'<bdi class="name">([^<]*)</bdi></p>\n<div class="text" role="note".*?>\n(.*?)</div>', page, re.DOTALL)
+        frames = re.findall(r'<bdi class="name">([^<]*)</bdi></p>\n<div class="said"><div class="text" role="note".*?>\n(.*?)</div>', page, re.DOTALL)
         self.assertEqual([name for name, _ in frames], ["At the lake", "Sell the house"])
         self.assertEqual(re.findall('"about"><bdi>(.*?)</bdi>', frames[0][1], re.DOTALL), ["First line\nsecond &lt;b&gt;line&lt;/b&gt;", "and more"])
         self.assertEqual(re.findall('"about"><bdi>(.*?)</bdi>', frames[1][1], re.DOTALL), ["Sell \u05d0\u05d1", "it"])
@@ -196,7 +196,8 @@ class Files(unittest.TestCase):
         # the letter has them only where no page has them
         self.assertNotIn("First line", files["call.txt"].decode())
         letter = call_files(dataclasses.replace(data, at=None))["call.txt"].decode()
-        self.assertEqual(letter.count("The program has not checked it."), 1)
+        said = "The texts about the options are those of whoever sends this letter. The program debvote wrote the rest,"
+        self.assertTrue(" ".join(letter.split()).startswith(f"{said} and has not checked them. Where we meet"), letter)
         self.assertIn("\n\nOption 1: At the lake\n\nFirst line\nsecond <b>line</b>\n\nand more\n\nOption 3: Sell the house\n", letter)
         self.assertIn("\n\nSell \u05d0\u05d1\n\nit\n\nWHAT DECIDES\n\nMajority", letter)
 
@@ -519,7 +520,7 @@ class InBrowser(unittest.TestCase):
         # a script that was changed does not run
         window = self.opened(call_files(data)["index.html"].replace(b'"use strict";', b'"use strict"; '))
         seen = window.ask("document.body.innerText")
-        for part in ("Until when", "At the lake", "Sell the house", "A long text. " * 39, "Short.", "The poll"):
+        for part in ("Vote until", "At the lake", "Sell the house", "A long text. " * 39, "Short.", "The poll"):
             self.assertIn(part, seen)
         for part in ("Send by e-mail", "Your name", "Read on"):
             self.assertNotIn(part, seen)

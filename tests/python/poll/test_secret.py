@@ -162,25 +162,25 @@ class Slips(unittest.TestCase):
             self.assertEqual([alias for alias in ALIASES.values() if alias in text], [])
 
     def test_what_all_have(self) -> None:
-        said = "Until whenFriday, 4 December 2026, 18:00 (UTC+01:00) Send your ballot tov@example.org "
-        options = "The options: Option 1: At the lake; Option 2: 72 Euro; Option 3: None of the above."
-        for text in self.each(CALL):
-            for part in (said, options, "The code is no part of your ballot", "Whoever sees your code can see how you voted."):
+        said = "Vote untilFriday, 4 December 2026, 18:00 (UTC+01:00) Send your ballot tov@example.org "
+        options = "_,_,_ 1 is the best, - is last. Equal ranks are allowed. 1 At the lake 2 72 Euro 3 None of the above "
+        for row, text in zip(ELECTORS, self.each(CALL), strict=True):
+            for part in (said, f"A rank for each _{row.name} {options}", "The code is no part of your ballot", "whoever sees it can see how you voted."):
                 self.assertIn(part, text)
         for text in self.each(dataclasses.replace(CALL, at="https://example.org/vote/")):
             self.assertIn(f"{said}At the end of the subject{CALL.mark} The page of the votehttps://example.org/vote/ ", text)
         for text in self.each(dataclasses.replace(CALL, until=None, to=None)):
-            self.assertIn("Until whenas the call for votes says Send your ballot toas the call for votes says", text)
+            self.assertIn("Vote untilas the call for votes says Send your ballot toas the call for votes says", text)
         shown = dataclasses.replace(POLL, shown_title="Wohin?", shown_options=("Am See", "72 \u20ac", "Keine"))
         for text in self.each(dataclasses.replace(CALL, poll=shown)):
-            self.assertIn("Option 1: Am See; Option 2: 72 \u20ac; Option 3: Keine.", text)
+            self.assertIn("1 Am See 2 72 \u20ac 3 Keine", text)
             self.assertIn("L. Wohin? Name", text)
 
     def test_with_codes_on_the_roll_nobody_has_a_name(self) -> None:
         for code, text in zip(CODES.values(), self.each(WITH_CODES, CODES_ON_ROLL), strict=True):
-            self.assertIn(f"Where we meet Code{code} Until when", text)
+            self.assertIn(f"Where we meet Code{code} Vote until", text)
             self.assertIn(f"{code} _,_,_", text)
-            self.assertIn("find your ballot with this code, under Find your ballot, in a copy of the page", text)
+            self.assertIn("under Find your ballot, type the code into a copy of the page", text)
             self.assertNotRegex(text, r"(?i)\bname\b|alias|hmac")
             self.assertEqual([other for other in CODES.values() if other in text], [code])
         self.assertIn("let each elector draw one", slips(WITH_CODES, CODES_ON_ROLL).decode())
@@ -213,16 +213,18 @@ class Slips(unittest.TestCase):
                     window.open(file)
                     self.assertEqual(window.ask("document.documentElement.scrollWidth"), 390)
             style = "getComputedStyle(document.querySelector('.slip'))"
-            # eight on a side of A4, with margins of 8 mm
+            # eight on a side of A4, with margins of 5 mm, in words of nine points at least
             window.for_paper()
-            window.resize(733, 1000)
+            window.resize(756, 1000)
             for code in LANGUAGES:
                 call = dataclasses.replace(CALL, at="https://example.org/vote/", language=language_of(code), has_lapsed_codes=True)
                 file = pathlib.Path(folder) / f"{code}-paper.html"
                 file.write_bytes(slips(call, ELECTORS))
                 window.open(file)
                 heights = window.ask("[...document.querySelectorAll('.slip')].map((slip) => slip.getBoundingClientRect().height)")
-                self.assertLessEqual(max(heights) * 4, 281 / 25.4 * 96, (code, heights))
+                self.assertLessEqual(max(heights) * 4, 287 / 25.4 * 96, (code, heights))
+                sizes = "[...document.querySelectorAll('.slip *')].map((node) => parseFloat(getComputedStyle(node).fontSize))"
+                self.assertGreaterEqual(min(window.ask(sizes)), 12, code)
                 places = window.ask("[...document.querySelectorAll('.slip')].map((slip) => slip.getBoundingClientRect().top)")
                 self.assertEqual(places[0], places[1])
             self.assertEqual(window.ask(f"{style}.breakInside"), "avoid")

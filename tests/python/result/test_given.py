@@ -49,7 +49,7 @@ def try_names(expect, scratch):
     shown = page.partition('id="Poll-file"')[0]
     for name in ("Amend it", "Write guidelines", "Further discussion"):
         # in the picture each is a text of its own
-        found = re.finditer(f"(?<!>)(?<!>\\d )(?<!default option ){name}", shown)
+        found = re.finditer(f"(?<!>)(?<!>\\d: )(?<!default option ){name}", shown)
         expect(f"names: {name} once", [shown[match.start() - 40 : match.end()] for match in found][1:], [])
     expect("names: nothing runs", (page.count("<script"), "<script>alert" in page, "<img" in page), (1, False, False))
     expect("names: the sheet has none", "Satzung" in (room / "result" / "sheet.txt").read_text(), False)

@@ -25,9 +25,10 @@ from debvote_tools.cli import command_line
 from debvote_tools.commands import publish as command
 from debvote_tools.inbox.letter import as_json, parse
 from debvote_tools.inbox.mailbox import RawLetter
-from debvote_tools.result.facts import Act, Chronicle, Facts, told, told_acts
+from debvote_tools.result.facts import Act
 from debvote_tools.result.folder import Made
 from debvote_tools.text.language import ENGLISH
+from debvote_tools.text.rendering import templates_of
 
 from tests.support import page_parts as pages, publishing, reading
 
@@ -222,7 +223,8 @@ class OfOpenVotes(OfElections):
         done = [item.text().partition("): ")[2] for item in sections["What-was-done"].all("li")]
         struck = "The secretary struck envelope 3: its line does not count. The reason, in the secretary's words: Zoë has sent it <b>twice</b>"
         self.expect("what was done", done[:2], ["The call was made; it named no time until which one could vote.", struck])
-        tie = "Tie: Option 1: 72 Euro and Option 2: Größe. Option 1: 72 Euro against Option 2: Größe: 1 to 1."
+        tie = "No option has won yet: Option 1: 72 Euro and Option 2: Größe are tied. The casting vote has to choose one of them. "
+        tie += "Option 1: 72 Euro against Option 2: Größe: 1 to 1."
         self.expect("the letter has the numbers of a tie", tie in self.letter().replace("\n", " "), True)
         checksum = hashlib.sha256(files["ballots.txt"]).hexdigest()
         self.expect("the close", done[2:], [f"The vote was closed. Lines in time: 3. Checksum: {checksum}."])
@@ -455,11 +457,13 @@ class OfOpenVotes(OfElections):
         time = datetime.datetime(2026, 12, 4, tzinfo=datetime.UTC)
         plain = {"called", "called until", "taken back", "keyring"}
         places = {"until": time, "before": time, "number": 1, "envelope": 1, "noted": 1, "there": 1}
-        kinds = {*told(ENGLISH).DONE, "roll changed"}
+        told = templates_of("debvote_tools.result", ENGLISH, is_page=False).get_template("told.jinja").module
+        kinds = {*told.DONE, "roll changed"}
         self.expect("how many kinds", (len(kinds), plain <= kinds), (13, True))
         for done in kinds:
-            chronicle = Chronicle((Act(time, done, places),))
-            self.expect(done, len(told_acts(Facts(None, b"", chronicle=chronicle), ENGLISH)), 0 if done in plain else 1)
+            act = Act(time, done, places)
+            self.expect(done, act.is_quiet, done in plain)
+            self.expect(f"{done}, in words", told.dated(act).startswith("Friday, 4 December 2026, 00:00 (UTC): "), True)
 
     def test_what_was_done_after_the_close(self):
         self.say("call", "--until", "2099-12-04 18:00", "--zone", "Europe/Berlin")
