@@ -84,26 +84,19 @@ def try_recasts_and_a_last_envelope(expect, scratch):
         expect(f"{ends}: the checksums of the poll", named, [given != plain, True])
 
 
-class FoldersTest(publishing.PublishTest):
+class FoldersTest(looks.LooksTest):
     @classmethod
-    def setUpClass(cls):
-        super().setUpClass()
-        cls.facts = []
-        published = publishing.side_by_side(cls.publish, examples.elections(cls.scratch))
-        cls.castings = {folder: casting for folder, casting in published if folder.exists()}
-        cls.folders = list(cls.castings)
+    def made(cls):
+        cls.castings = {folder: casting for folder, casting in publishing.side_by_side(cls.publish, examples.elections(cls.scratch)) if folder.exists()}
+        cls.note("how many", len(cls.castings) > len(examples.CASES), True)
+        return list(cls.castings)
 
     @classmethod
     def publish(cls, election):
         """Publishes an election, notes what is to be said of its files, and returns its folder and what the casting vote is for."""
         name, poll, ballots, more = election
-        try_folder(lambda *fact: cls.facts.append(fact), name, poll, ballots, more, cls.scratch / name)
+        try_folder(cls.note, name, poll, ballots, more, cls.scratch / name)
         return cls.scratch / name, more[-1].removeprefix("--casting=") if more else None
-
-    def test_files(self):
-        self.assertGreater(len(self.folders), len(examples.CASES))
-        for fact in self.facts:
-            self.expect(*fact)
 
     def test_pages(self):
         for folder in self.folders:
@@ -116,19 +109,11 @@ class FoldersTest(publishing.PublishTest):
     def test_recasts_and_a_last_envelope(self):
         try_recasts_and_a_last_envelope(self.expect, self.scratch)
 
-    @looks.NEEDS_TIDY
-    def test_tidy(self):
-        looks.try_tidy(self.expect, self.folders)
-
-    @looks.NEEDS_BROWSER
-    def test_browser(self):
-        looks.try_pages(self.expect, self.folders, self.scratch)
-
     @looks.NEEDS_BROWSER
     def test_bars(self):
-        looks.try_bars(self.expect, self.folders, self.scratch)
+        self.check_bars()
 
     @looks.NEEDS_BROWSER
     @looks.NEEDS_PICTURES
     def test_pictures(self):
-        looks.try_pictures(self.expect, self.folders, self.scratch, {True, False})
+        self.check_pictures({True, False})

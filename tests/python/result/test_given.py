@@ -228,26 +228,12 @@ def try_commands(expect, scratch):
     expect("commands: the folder is as it was, its picture too", after, before)
 
 
-class GivenTest(publishing.PublishTest):
+class GivenTest(looks.LooksTest):
     """What stands on a page beside the count; the page is read in a browser too."""
 
     @classmethod
-    def setUpClass(cls):
-        super().setUpClass()
-        cls.facts = []
-        cls.folders = [try_names(lambda *fact: cls.facts.append(fact), cls.scratch)]
-
-    def test_names(self):
-        for fact in self.facts:
-            self.expect(*fact)
-
-    @looks.NEEDS_TIDY
-    def test_tidy(self):
-        looks.try_tidy(self.expect, self.folders)
-
-    @looks.NEEDS_BROWSER
-    def test_browser(self):
-        looks.try_pages(self.expect, self.folders, self.scratch)
+    def made(cls):
+        return [try_names(cls.note, cls.scratch)]
 
 
 class WordsTest(publishing.PublishTest):

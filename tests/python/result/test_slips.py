@@ -78,24 +78,14 @@ def try_secret(expect, scratch):
     expect("those who did not vote", [item.text() for item in sections["Find-your-ballot"].all("li")], [roll[3]])
 
 
-class SlipsTest(publishing.PublishTest):
+class SlipsTest(looks.LooksTest):
     @classmethod
-    def setUpClass(cls):
-        super().setUpClass()
-        cls.facts = []
-        cls.folders = publishing.side_by_side(lambda name: try_slip(lambda *fact: cls.facts.append(fact), name, cls.scratch), SLIPS)
-
-    def test_slips(self):
-        for fact in self.facts:
-            self.expect(*fact)
-
-    @looks.NEEDS_TIDY
-    def test_tidy(self):
-        looks.try_tidy(self.expect, self.folders)
+    def made(cls):
+        return publishing.side_by_side(lambda name: try_slip(cls.note, name, cls.scratch), SLIPS)
 
     @looks.NEEDS_BROWSER
     def test_doubts_are_seen(self):
-        looks.try_doubts(self.expect, self.folders[:3], self.scratch)
+        self.check_doubts(self.folders[:3])
 
 
 class NoPublicationTest(publishing.PublishTest):
