@@ -62,28 +62,6 @@ def plain_bytes(poll_bytes):
     return "".join(lines).replace("\x7f", "\\u007f").encode()
 
 
-def try_recasts_and_a_last_envelope(expect, scratch):
-    """The words for electors who voted again, and for a poll that has a last envelope."""
-    room = scratch / "recasts"
-    room.mkdir()
-    for ends, ballots, last, said in [
-        ("plain", "ada 1,2,3\n", "", ""),
-        ("one", "ada 1,2,3\nada 2,1,3\n", "last_envelope = 2\n", "1 voter has 2 valid lines: electors who voted again "),
-        ("late", "ada 1,2,3\nben 2,1,3\nada 2,1,3\nben 1,2,3\n", "last_envelope = 3\n", "2 voters have 3 valid lines: electors who"),
-    ]:
-        (room / "poll.toml").write_text(publishing.PLAIN_POLL + last)
-        (room / "ballots").write_text(ballots)
-        found = publishing.publish_files(room / "poll.toml", room / "ballots", room / ends)
-        expect(f"{ends}: its status", found[2], 0)
-        reading.try_page(expect, ends, room / ends)
-        page = (room / ends / "index.html").read_text()
-        expect(f"{ends}: its words", (said in page, "voted again" in page), (True, bool(said)))
-        given = hashlib.sha256((room / "poll.toml").read_bytes()).hexdigest()
-        plain = hashlib.sha256((room / ends / "poll.toml").read_bytes()).hexdigest()
-        named = [f"has the checksum (SHA-256) <code>{given}</code>" in page, f"have this checksum, the poll's? <code>{plain}</code>" in page]
-        expect(f"{ends}: the checksums of the poll", named, [given != plain, True])
-
-
 class FoldersTest(looks.LooksTest):
     @classmethod
     def made(cls):
@@ -107,7 +85,25 @@ class FoldersTest(looks.LooksTest):
             result_checks.try_published(self.expect, folder.name, folder, casting)
 
     def test_recasts_and_a_last_envelope(self):
-        try_recasts_and_a_last_envelope(self.expect, self.scratch)
+        """The words for electors who voted again, and for a poll that has a last envelope."""
+        room = self.scratch / "recasts"
+        room.mkdir()
+        for ends, ballots, last, said in [
+            ("plain", "ada 1,2,3\n", "", ""),
+            ("one", "ada 1,2,3\nada 2,1,3\n", "last_envelope = 2\n", "1 voter has 2 valid lines: electors who voted again "),
+            ("late", "ada 1,2,3\nben 2,1,3\nada 2,1,3\nben 1,2,3\n", "last_envelope = 3\n", "2 voters have 3 valid lines: electors who"),
+        ]:
+            (room / "poll.toml").write_text(publishing.PLAIN_POLL + last)
+            (room / "ballots").write_text(ballots)
+            found = publishing.publish_files(room / "poll.toml", room / "ballots", room / ends)
+            self.expect(f"{ends}: its status", found[2], 0)
+            reading.try_page(self.expect, ends, room / ends)
+            page = (room / ends / "index.html").read_text()
+            self.expect(f"{ends}: its words", (said in page, "voted again" in page), (True, bool(said)))
+            given = hashlib.sha256((room / "poll.toml").read_bytes()).hexdigest()
+            plain = hashlib.sha256((room / ends / "poll.toml").read_bytes()).hexdigest()
+            named = [f"has the checksum (SHA-256) <code>{given}</code>" in page, f"have this checksum, the poll's? <code>{plain}</code>" in page]
+            self.expect(f"{ends}: the checksums of the poll", named, [given != plain, True])
 
     @looks.NEEDS_BROWSER
     def test_bars(self):
