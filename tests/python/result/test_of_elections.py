@@ -29,7 +29,7 @@ from debvote_tools.result.folder import Made
 from debvote_tools.text.language import ENGLISH
 from debvote_tools.text.rendering import templates_of
 
-from tests.support import elections, expecting, page_parts as pages, reading
+from tests.support import elections, expecting, page_parts as pages
 
 POLL = """title = "Wo wir uns treffen: Größe"
 options = ["72 Euro", "Größe"]
@@ -693,7 +693,7 @@ class OfOpenVotes(OfElections):
         (self.folder / "about").write_text(f"about {hostile}")
         cast = ("--casting", hostile_name(self.folder), "--cast-by", f"by {hostile}", "--cast-on", "2026-11-20")
         self.say("publish", *cast, "--about", "about", "--force", "--because", f"force {hostile}", "--language", "en")
-        reading.try_page(self.expect, "hostile", self.folder / "result")
+        pages.try_page(self.expect, "hostile", self.folder / "result")
         seen = ["Result", "Why", "Find-your-ballot", "Check-it", "About-this-vote"]
         self.expect("the text about the vote stands above what is folded", list(self.sections())[: len(seen)], seen)
         page = pages.tree_of((self.folder / "result" / "index.html").read_text())

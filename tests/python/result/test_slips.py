@@ -3,7 +3,7 @@
 import os
 import sys
 
-from tests.support import looks, page_parts, publishing, reading
+from tests.support import looks, page_parts, publishing, result_checks
 
 NOBODY = "No elector has a ballot that counts: nobody's vote has decided this."
 NOBODY_TOLD = "no elector has a ballot that counts; check that these are the ballots of this poll"
@@ -40,7 +40,8 @@ def try_slip(expect, name, scratch):
     expect(f"{name}: what the page says", page_parts.doubts_of(text), shown)
     is_below = "doubts" in text.partition("<body>")[2].partition("</section>")[2].partition("<script>")[0]
     expect(f"{name}: doubts stand in the part of the result alone", is_below, False)
-    reading.try_page(expect, name, room / "result")
+    page_parts.try_page(expect, name, room / "result")
+    result_checks.try_published(expect, name, room / "result", None)
     return room / "result"
 
 
