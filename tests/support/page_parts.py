@@ -20,9 +20,13 @@ class Wrong(Exception):
     """A part that does not hold."""
 
 
+def demand(holds, why):
+    if not holds:
+        raise Wrong(why)
+
+
 def demand_equal(what, found, wanted):
-    if found != wanted:
-        raise Wrong(f"{what}: {str(found)[:600]} in place of {str(wanted)[:600]}")
+    demand(found == wanted, f"{what}: {str(found)[:600]} in place of {str(wanted)[:600]}")
 
 
 def escaped(text):

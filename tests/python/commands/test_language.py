@@ -9,7 +9,7 @@ class Folder(languages.LanguageTest):
         return text.partition('<html lang="')[2].partition('"')[0]
 
     def test_the_book_keeps_it_and_all_commands_follow_it(self) -> None:
-        said = self.run_program("debvote-election", "new", "--language", "es", "other")
+        said = self.program("debvote-election", "new", "--language", "es", "other")
         self.assertIn("Pages and letters for electors will be in Spanish.\n", said)
         place = self.begun("german", "de")
         said = self.election("german", "call", "--until", "2031-12-01 18:00", "--zone", "Europe/Berlin")
@@ -29,4 +29,4 @@ class Folder(languages.LanguageTest):
             ("debvote-election", ("new", "--language", "it", "other")),
             ("debvote-publish", ("--poll", "p", "--ballots", "b", "--language", "it", "f")),
         ):
-            self.assertIn("--language: invalid choice: 'it'", self.run_program(program, *words, status=2))
+            self.assertIn("--language: invalid choice: 'it'", self.program(program, *words, status=2))

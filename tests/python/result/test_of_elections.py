@@ -19,9 +19,7 @@ from time import sleep
 from debvote_tools import files
 from debvote_tools.book import queries
 from debvote_tools.book.book import open_book
-from debvote_tools.book.election import Election
 from debvote_tools.cli import command_line
-from debvote_tools.commands import publish as command
 from debvote_tools.inbox.letter import as_json, parse
 from debvote_tools.inbox.mailbox import RawLetter
 from debvote_tools.result.facts import Act
@@ -595,28 +593,12 @@ class OfOpenVotes(OfElections):
         self.say("publish")
         self.expect("and again", self.files() == files, True)
 
-    def test_a_kill_between_act_and_folder(self):
-        self.closed()
-        election = Election(self.folder, elections.PROGRAM.parent)
-        given = {field: None for owner in command.Arguments.__mro__ for field in vars(owner).get("__annotations__", {})}
-        arguments = command.Arguments(**given | {"language": "en"})
-        killed = unittest.mock.patch.object(Made, "take_place", side_effect=KeyboardInterrupt)
-        with self.state_of_this(), killed, self.assertRaises(KeyboardInterrupt):
-            command.run(election, arguments)
-        election.book.connection.close()
-        acts = self.acts()
-        self.expect("the book knows it, and no folder is there", (acts[-1].name, (self.folder / "result").exists()), ("publish", False))
-        self.say("publish")
-        sums = {name: hashlib.sha256((self.folder / "result" / name).read_bytes()).hexdigest() for name in acts[-1].detail["checksums"]}
-        self.expect("the same folder, and no act", (sums, len(self.acts())), (acts[-1].detail["checksums"], len(acts)))
-
     def left(self):
         return [name for name in os.listdir(self.folder) if name.startswith(".")]
 
     def test_a_publication_that_is_killed_after_its_act(self):
         """Made again it comes back in its place, whatever a kill has left there, and nothing else is left."""
         self.closed()
-        self.say("publish")
         rename, moved = pathlib.Path.rename, []
 
         def kill(*_):
@@ -626,10 +608,11 @@ class OfOpenVotes(OfElections):
             moved.append(kill() if moved else rename(file, target))
 
         for language, patch, is_there, left in [
+            ("de", unittest.mock.patch.object(Made, "take_place", kill), False, 1),
             ("en", unittest.mock.patch.object(Made, "take_place", kill), True, 1),
             ("fr", unittest.mock.patch.object(pathlib.Path, "rename", kill_between), False, 2),
         ]:
-            before, acts = self.files(), len(self.acts())
+            before, acts = {} if language == "de" else self.files(), len(self.acts())
             self.expect(f"{language}: killed", self.in_child(patch, "publish", "--language", language), -signal.SIGKILL)
             self.expect(f"{language}: what is left", ((self.folder / "result").exists(), len(self.left())), (is_there, left))
             self.say("publish")
