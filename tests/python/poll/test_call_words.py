@@ -5,7 +5,6 @@ import dataclasses
 import datetime
 import hashlib
 import html
-import html.parser
 import itertools
 import re
 import shutil
@@ -19,6 +18,7 @@ from debvote_tools.poll.call import CallData, call_files, call_letter, demand_ma
 from debvote_tools.poll.sealed import read_plain, with_roll
 from debvote_tools.text.language import LANGUAGES, language_of
 
+from tests.support import page_parts
 from tests.support.calls import ADDRESS, CALL, CODES, KINDS, PAGE, POLL, ROLL, SECRET, UNTIL, WITH_CODES
 
 LATER = UNTIL + datetime.timedelta(days=2)
@@ -41,32 +41,18 @@ def as_read(text: str) -> str:
     return " ".join(text.split())
 
 
-class Elements(html.parser.HTMLParser):
-    """The elements of a page, each with its attributes and the text within it."""
+def read(data: CallData) -> page_parts.Builder:
+    """The elements of the page."""
+    return page_parts.built(call_files(data)["index.html"].decode())
 
-    def __init__(self, page: bytes) -> None:
-        super().__init__()
-        self.found: list[tuple[str, dict[str, str | None]]] = []
-        self.open: list[str] = []
-        self.texts: dict[str, list[str]] = {}
-        self.feed(page.decode())
 
-    def handle_starttag(self, tag: str, attributes: list[tuple[str, str | None]]) -> None:
-        self.found.append((tag, dict(attributes)))
-        if tag not in ("meta", "input", "br"):
-            self.open.append(tag)
+def elements_of(data: CallData) -> list[page_parts.Node]:
+    return list(read(data).root.within())
 
-    def handle_endtag(self, tag: str) -> None:
-        if self.open.pop() != tag:
-            raise AssertionError(f"{tag} ends, and is not the last that began")
 
-    def handle_data(self, data: str) -> None:
-        if self.open:
-            self.texts.setdefault(self.open[-1], []).append(data)
-
-    def attributes_of(self, name: str) -> dict[str, str | None]:
-        """Those of the element with an id."""
-        return next(attributes for _, attributes in self.found if attributes.get("id") == name)
+def data_of(data: CallData) -> dict[str, str]:
+    """What the page tells its script."""
+    return next(node.attributes for node in elements_of(data) if node.attributes.get("id") == "Ballot")
 
 
 class Files(unittest.TestCase):
@@ -126,23 +112,22 @@ class Files(unittest.TestCase):
         self.assertIn("Send your ballot as the secretary announces. ", page_of(dataclasses.replace(CALL, at=None, to=None)))
         self.assertIn(f"your ballot, and below it the mark of this vote, {mark}, so that", page_of(KINDS["signed"]))
         self.assertIn("In a web form an empty field is a hyphen", page_of(KINDS["signed"]))
-        page = Elements(call_files(CALL)["index.html"])
-        links = [attributes["href"] or "" for tag, attributes in page.found if tag == "a" and "href" in attributes]
+        links = [node.attributes["href"] for node in elements_of(CALL) if node.tag == "a" and "href" in node.attributes]
         [letter] = [urllib.parse.urlsplit(link) for link in links if link.startswith("mailto:")]
         self.assertEqual(letter.path, "vote%2Bclub@example.org")
         self.assertEqual(urllib.parse.parse_qs(letter.query)["subject"], [f"Ballot: Where we meet {mark}"])
-        self.assertEqual(page.attributes_of("Ballot")["data-mark"], POLL.mark)
+        self.assertEqual(data_of(CALL)["data-mark"], POLL.mark)
 
     def test_options_have_their_numbers_and_what_they_need(self) -> None:
         shown = dataclasses.replace(POLL, shown_title="Wohin?", shown_options=("Am See", "72 \u20ac", "Verkaufen", "Keine"))
         for poll, names in ((POLL, POLL.plain_names), (shown, shown.shown_options)):
-            text = page_of(dataclasses.replace(CALL, poll=poll))
+            data = dataclasses.replace(CALL, poll=poll)
+            text, root = page_of(data), read(data).root
             numbered = [f"Option {number}: {name}" for number, name in enumerate(names, start=1)]
             ratios = [f"majority ratio {ratio}" for ratio in (1, 1, 3)] + ["the default option"]
             rules = "Majority ratio 3: at least 3 times as many electors", "The quorum is 2 votes: at least 2 electors", "The roll has 4 electors."
-            page = Elements(call_files(dataclasses.replace(CALL, poll=poll))["index.html"])
-            self.assertIn(f"Ballot%3A%20{urllib.parse.quote(poll.name)}%20%5B{poll.mark}%5D", str(page.found))
-            self.assertEqual((page.texts["title"], page.texts["h1"]), ([f"Vote: {poll.name}"], [poll.name]))
+            self.assertIn(f"Ballot%3A%20{urllib.parse.quote(poll.name)}%20%5B{poll.mark}%5D", call_files(data)["index.html"].decode())
+            self.assertEqual([root.one(tag).text() for tag in ("title", "h1")], [f"Vote: {poll.name}", poll.name])
             for part in (*map("{}, {}".format, numbered, ratios), *rules, f"The default option is {numbered[3]}.", "NAME _,_,_,_ "):
                 self.assertIn(part, text)
         more_than = page_of(dataclasses.replace(CALL, poll=dataclasses.replace(POLL, wording="more_than", quorum=0)))
@@ -227,16 +212,16 @@ class Hostile(unittest.TestCase):
     """Texts that would be markup, or turn what stands around them, in each place where a text can be."""
 
     def test_they_are_texts(self) -> None:
-        plain = Elements(call_files(self.hostile(["x"] * 3))["index.html"])
+        plain = elements_of(self.hostile(["x"] * 3))
         for language in LANGUAGES:
             data = dataclasses.replace(self.hostile(HOSTILE), language=language_of(language))
-            page = Elements(call_files(data)["index.html"])
+            page, found = read(data), elements_of(data)
             # the same elements as with harmless texts, each with the same attributes
-            found = [(tag, sorted(attributes)) for tag, attributes in page.found]
-            self.assertEqual(found, [(tag, sorted(attributes)) for tag, attributes in plain.found])
-            self.assertEqual((page.open, page.texts["h1"], page.attributes_of("Ballot")["data-title"]), ([], [HOSTILE[0]], HOSTILE[0]))
+            self.assertEqual(*([(node.tag, sorted(node.attributes)) for node in nodes] for nodes in (found, plain)))
+            self.assertEqual((page.faults, page.open[1:], page.root.one("h1").text()), ([], [], HOSTILE[0]))
+            self.assertEqual(data_of(data)["data-title"], HOSTILE[0])
             # each stands by itself, so that one from right to left turns nothing around it
-            self.assertTrue(set(HOSTILE) <= set(page.texts["bdi"]))
+            self.assertTrue(set(HOSTILE) <= {node.text() for node in page.root.all("bdi")})
             for text in HOSTILE:
                 self.assertIn(" ".join(text.split()), " ".join(call_letter(data).split()))
 

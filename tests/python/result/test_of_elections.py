@@ -375,45 +375,49 @@ class OfOpenVotes(OfElections):
         """Each kind of act is told on the page, and all but what is plain in the letters of the result."""
         self.say("call")
         self.say("call", "--take-back")
-        self.say("call", "--until", "2099-12-04 18:00", "--zone", "Europe/Berlin", "--at", "https://x.example/")
+        for day in (4, 5):
+            self.say("call", "--until", f"2099-12-0{day} 18:00", "--zone", "Europe/Berlin", "--at", "https://x.example/")
         self.add("ada-lovelace 1,2,3\n")
-        checksum = hashlib.sha256(b"ada-lovelace 1,2,3\n").hexdigest()
-        plain = {"lines": 1, "checksum": checksum, "early": False, "waiting": 0, "after_end": 0}
+        members = MEMBERS
+        for before, after in (("zoe@x", "zoe@y"), ("@x.example", "@z.example")):
+            members = members.replace(before, after)
+            (self.folder / "members.csv").write_text(members)
+            self.say("roll", "--yes")
+        self.say("close", "--early")
+        self.add("zoe-mueller 1,2,3\ncleo 1,2,3\n")
+        self.say("reopen", "--because", "Zoë's letter lay in the <hall>", "--in-time", "2", "3")
+        self.say("strike", "1", "--because", "wrong hand")
+        checksum = hashlib.sha256(b"zoe-mueller 1,2,3\ncleo 1,2,3\n").hexdigest()
+        close = {"lines": 2, "checksum": checksum, "early": True, "waiting": 2, "after_end": 1, "because": "in a hurry"}
         book = open_book(self.folder / "election.db")
         with self.state_of_this(), contextlib.closing(book.connection):
-            for name, detail in [
-                ("addresses", {"electors": 1}),
-                ("addresses", {"electors": 2}),
-                ("extend", {"keyring": "a checksum"}),
-                ("moved", {"noted": {"act": 7}, "there": {"act": 5}, "because": "an old copy"}),
-                ("close", plain),
-                ("reopen", {"because": "a look"}),
-                ("close", plain | {"early": True, "waiting": 2, "after_end": 1, "because": "in a hurry"}),
-            ]:
+            for name, detail in [("extend", {"keyring": "a checksum"}), ("close", close)]:
                 with book.act(name, detail):
                     pass
         self.say("publish", "--language", "en")
         because = " The reason, in the secretary's words:"
         end = "one could vote until Friday, 4 December 2099, 18:00 (UTC+01:00)."
-        closed = f"The vote was closed. Lines in time: 1. Checksum: {checksum}."
-        between = "Since the close before this one, lines that came in: 0; lines that were struck: 0."
+        first = next(act.detail["checksum"] for act in self.acts() if act.name == "close")
+        early = "That was before the time until which one could vote."
         quiet = ["The call was made; it named no time until which one could vote.", "This call was taken back, before any ballot had come."]
-        quiet += [f"The call was made; {end}", "The secretary took newer keys of the electors.", closed]
+        quiet += [f"The call was made; {end}", "The secretary took newer keys of the electors."]
         told = [
+            "The time was extended: one could vote until Saturday, 5 December 2099, 18:00 (UTC+01:00).",
             "1 elector got another address or key.",
             "2 electors got other addresses or keys.",
-            "The secretary went on with a book of this election in which act 5 was the last, though this computer had noted act 7 of it."
-            f"{because} an old copy",
-            f"The vote was opened again, for what had come before the first close.{because} a look",
-            f"{closed} That was before the time until which one could vote. 2 letters that had arrived in time were left waiting. "
-            f"1 letter that had arrived after the end did not go in. {between}{because} in a hurry",
+            f"The vote was closed. Lines in time: 1. Checksum: {first}. {early}",
+            f"The vote was opened again, for what had come before the first close.{because} Zoë's letter lay in the <hall>",
+            f"The secretary struck envelope 1: its line does not count.{because} wrong hand",
+            f"The vote was closed. Lines in time: 2. Checksum: {checksum}. {early} 2 letters that had arrived in time were left waiting. "
+            "1 letter that had arrived after the end did not go in. "
+            f"Since the close before this one, lines that came in: 2; lines that were struck: 1.{because} in a hurry",
         ]
-        done = self.what_was_done()
-        self.expect("on the page", done, [*quiet[:3], *told[:2], quiet[3], told[2], quiet[4], *told[3:]])
+        self.expect("on the page", self.what_was_done(), [*quiet[:3], *told[:-1], quiet[3], told[-1]])
+        self.expect("the late ones stay late", self.files()["late.txt"], b"zoe-mueller 1,2,3\ncleo 1,2,3\n")
+        self.expect("the times are in one zone", self.sections()["What-was-done"].text().count("(UTC+01:00): "), 11)
         self.say("publish", "--language", "de")
         letters = self.texts_of_messages()
-        text = letters[0].partition("WAS GESCHEHEN IST\n\n")[2]
-        acts = re.findall(r"(?m)^- ((?:.+\n)+(?:  .+\n)*)", text)
+        acts = re.findall(r"(?m)^- ((?:.+\n)+(?:  .+\n)*)", letters[0].partition("WAS GESCHEHEN IST\n\n")[2])
         self.expect("in the letters", (len(letters), len(acts)), (3, len(told)))
         close = " ".join(acts[-1].split())
         words = ("2 rechtzeitig eingetroffene Schreiben", "1 Schreiben, das nach dem Ende", "(in a hurry)")
@@ -431,32 +435,6 @@ class OfOpenVotes(OfElections):
             act = Act(time, done, places)
             self.expect(done, act.is_quiet, done in plain)
             self.expect(f"{done}, in words", told.dated(act).startswith("Friday, 4 December 2026, 00:00 (UTC): "), True)
-
-    def test_what_was_done_after_the_close(self):
-        self.say("call", "--until", "2099-12-04 18:00", "--zone", "Europe/Berlin")
-        self.say("call", "--until", "2099-12-05 18:00", "--zone", "Europe/Berlin")
-        self.add("ada-lovelace 1,2,3\n")
-        self.say("close", "--early")
-        self.add("zoe-mueller 1,2,3\ncleo 1,2,3\n")
-        self.say("reopen", "--because", "Zoë's letter lay in the <hall>", "--in-time", "2", "3")
-        self.say("strike", "1", "--because", "wrong hand")
-        self.say("close", "--early")
-        self.say("publish", "--language", "en")
-        done = self.what_was_done()
-        sums = [act.detail["checksum"] for act in self.acts() if act.name == "close"]
-        early = "That was before the time until which one could vote."
-        because = "The reason, in the secretary's words:"
-        wanted = [
-            "The call was made; one could vote until Friday, 4 December 2099, 18:00 (UTC+01:00).",
-            "The time was extended: one could vote until Saturday, 5 December 2099, 18:00 (UTC+01:00).",
-            f"The vote was closed. Lines in time: 1. Checksum: {sums[0]}. {early}",
-            f"The vote was opened again, for what had come before the first close. {because} Zoë's letter lay in the <hall>",
-            f"The secretary struck envelope 1: its line does not count. {because} wrong hand",
-            f"The vote was closed. Lines in time: 2. Checksum: {sums[1]}. {early} Since the close before this one, lines that came in: 2; lines that were struck: 1.",
-        ]
-        self.expect("what was done", done, wanted)
-        self.expect("the late ones stay late", (self.folder / "result" / "late.txt").read_bytes(), b"zoe-mueller 1,2,3\ncleo 1,2,3\n")
-        self.expect("the times are in one zone", self.sections()["What-was-done"].text().count("(UTC+01:00): "), 6)
 
     def test_a_moved_book(self):
         self.closed()
