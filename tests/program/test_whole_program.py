@@ -72,87 +72,6 @@ def end_of(program):
         return *program.communicate(), None
 
 
-def try_files_stay(expect, folder):
-    """A run leaves the files that it reads, and the folder around them, as they are."""
-    for name in ("poll.toml", "ballots", "sheet"):
-        (folder / name).write_bytes((EXAMPLE / name).read_bytes())
-    words = files_of(folder)
-
-    def as_it_is():
-        files = {file.name: (file.stat(), file.read_bytes()) for file in sorted(folder.iterdir())}
-        return {name: (found.st_mode, found.st_mtime_ns, found.st_ino, data) for name, (found, data) in files.items()}
-
-    before = as_it_is()
-    for command in (["count"], ["verify", "--sheet", folder / "sheet"], ["explain"]):
-        status = run([command[0], *words, *command[1:]])[2]
-        expect(f"{command[0]}: the files are as they were", (status, as_it_is() == before), (0, True))
-
-
-def try_limits(expect, folder):
-    """Files of the greatest size and of one byte more, and as many lines."""
-    poll, ballots = EXAMPLE / "poll.toml", EXAMPLE / "ballots"
-    poll_text = poll.read_bytes()
-
-    def file(name, content):
-        (folder / name).write_bytes(content)
-        return folder / name
-
-    def count(poll, ballots, *words):
-        return run(["count", "--poll", poll, "--ballots", ballots, *words])
-
-    longest = file("longest.toml", poll_text + b"#" * (POLL_LIMIT - len(poll_text)))
-    sheet = (EXAMPLE / "sheet").read_bytes()
-    expect("a poll of the greatest size", count(longest, ballots), (sheet, b"", 0))
-    longer = file("longer.toml", poll_text + b"#" * (POLL_LIMIT - len(poll_text) + 1))
-    expect("a poll of one byte more", count(longer, ballots), (b"", fault("poll too long"), 3))
-    expect("a poll too long and no ballots", count(longer, folder / "none"), (b"", fault("poll too long"), 3))
-    most = file("most", b"x" * BALLOTS_LIMIT)
-    lines = b"Lines: 1\nValid: 0\nRefused: 1\nVoters: 0\n"
-    output, faults, status = count(poll, most)
-    expect("ballots of the greatest size", (lines in output, faults, status), (True, b"", 0))
-    more = file("more", b"x" * (BALLOTS_LIMIT + 1))
-    expect("ballots of one byte more", count(poll, more), (b"", fault("ballots too long"), 4))
-    long_lines = file("long_lines", (b"x" * 334 + b"\n") * 100_000)
-    output, faults, status = count(poll, long_lines)
-    expect("100,000 long lines", (b"Refused: 100000\n" in output, faults, status), (True, b"", 0))
-    empty = file("empty", b"\n" * 100_000)
-    output, faults, status = count(poll, empty)
-    expect("100,000 empty lines", (b"Refused: 100000\n" in output, faults, status), (True, b"", 0))
-    many = file("many", b"\n" * 100_001)
-    expect("a line too many", count(poll, many), (b"", fault("ballots refused: too many lines"), 4))
-    for command in ("steps", "standing", "explain", "picture"):
-        answer = run([command, "--poll", poll, "--ballots", many])
-        expect(f"a line too many for {command}", answer, (b"", fault("ballots refused: too many lines"), 4))
-    refused = run(["explain", "--poll", file("refused.toml", b"title ="), "--ballots", many])
-    expect("a poll refused before the lines are read", refused[1:], (b"", 3))
-    files = ["--poll", poll, "--ballots", ballots, "--sheet"]
-    output, faults, status = run(["verify", *files, file("longest_sheet", b"x" * SHEET_LIMIT)])
-    expect("a sheet of the greatest size", (output[:26], faults, status), (b"differs at line 1\nsheet: x", b"", 9))
-    longer_sheet = file("longer_sheet", b"x" * (SHEET_LIMIT + 1))
-    expect("a sheet of one byte more", run(["verify", *files, longer_sheet]), (b"", fault("sheet too long"), 10))
-    for name, words, wanted in [
-        ("poll and ballots", ["--poll", longer, "--ballots", more, "--sheet", EXAMPLE / "sheet"], ("poll too long", 3)),
-        ("poll and sheet", ["--poll", longer, "--ballots", ballots, "--sheet", longer_sheet], ("poll too long", 3)),
-        ("ballots and sheet", ["--poll", poll, "--ballots", more, "--sheet", longer_sheet], ("ballots too long", 4)),
-        ("a poll too long before no sheet", ["--poll", longer, "--ballots", ballots, "--sheet", folder / "none"], ("poll too long", 3)),
-        ("no ballots before a sheet too long", ["--poll", poll, "--ballots", folder / "none", "--sheet", longer_sheet], ("ballots unreadable", 4)),
-    ]:
-        expect(f"too long: {name}", run(["verify", *words]), (b"", fault(wanted[0]), wanted[1]))
-    expect("no sheet", run(["verify", *files, folder / "none"]), (b"", fault("sheet unreadable"), 10))
-    expect("a sheet", run(["verify", *files, EXAMPLE / "sheet"]), (b"verified\n", b"", 0))
-    nobody = count(poll, many, "--casting", "Zed")
-    expect("the casting vote before the lines", nobody, (b"", fault("casting option is not in the poll"), 8))
-    broken = count(file("broken.toml", b"title ="), many, "--casting", "Zed")
-    expect("the poll before the casting vote and the lines", broken, (b"", fault("poll refused: syntax"), 3))
-    joined = poll_text + b"%%\n"
-    joined += b"x" * (JOINED_LIMIT - len(joined))
-    expect("a joined input of the greatest size", run([], joined), (b"1 bad shape\n", b"", 0))
-    expect("one byte more", run([], joined + b"x"), (b"", fault("ballots too long"), 4))
-    odd = file("odd", bytes(range(256)) * 1000)
-    output, faults, status = count(poll, odd)
-    expect("bytes of all kinds", (b"Valid: 0\n" in output, faults, status), (True, b"", 0))
-
-
 # what `explain` says about a poll that is no TOML: what it is, or the position, the message, and the line there with a mark below
 NO_TOML = re.compile(rb"the poll file is no text; a poll is plain text in UTF-8\n|poll:\d+:\d+: [^\n]+\n[^\n]{0,240}\n *\^\n")
 
@@ -302,7 +221,19 @@ class WordsTest(WholeTest):
         self.expect("a terminal: what is said then", (output, faults, status), (b"", fault("poll refused: key title"), 3))
 
     def test_files_stay(self):
-        try_files_stay(self.expect, self.folder)
+        """A run leaves the files that it reads, and the folder around them, as they are."""
+        for name in ("poll.toml", "ballots", "sheet"):
+            (self.folder / name).write_bytes((EXAMPLE / name).read_bytes())
+        words = files_of(self.folder)
+
+        def as_it_is():
+            files = {file.name: (file.stat(), file.read_bytes()) for file in sorted(self.folder.iterdir())}
+            return {name: (found.st_mode, found.st_mtime_ns, found.st_ino, data) for name, (found, data) in files.items()}
+
+        before = as_it_is()
+        for command in (["count"], ["verify", "--sheet", self.folder / "sheet"], ["explain"]):
+            status = run([command[0], *words, *command[1:]])[2]
+            self.expect(f"{command[0]}: the files are as they were", (status, as_it_is() == before), (0, True))
 
     def test_streams(self):
         """A full disk, a closed pipe and a closed output end with a fault line and status 7, and not by a signal."""
@@ -335,7 +266,68 @@ class WordsTest(WholeTest):
 
 class LimitsTest(WholeTest):
     def test_limits_of_files(self):
-        try_limits(self.expect, self.folder)
+        """Files of the greatest size and of one byte more, and as many lines."""
+        poll, ballots = EXAMPLE / "poll.toml", EXAMPLE / "ballots"
+        poll_text = poll.read_bytes()
+
+        def file(name, content):
+            (self.folder / name).write_bytes(content)
+            return self.folder / name
+
+        def count(poll, ballots, *words):
+            return run(["count", "--poll", poll, "--ballots", ballots, *words])
+
+        longest = file("longest.toml", poll_text + b"#" * (POLL_LIMIT - len(poll_text)))
+        sheet = (EXAMPLE / "sheet").read_bytes()
+        self.expect("a poll of the greatest size", count(longest, ballots), (sheet, b"", 0))
+        longer = file("longer.toml", poll_text + b"#" * (POLL_LIMIT - len(poll_text) + 1))
+        self.expect("a poll of one byte more", count(longer, ballots), (b"", fault("poll too long"), 3))
+        self.expect("a poll too long and no ballots", count(longer, self.folder / "none"), (b"", fault("poll too long"), 3))
+        most = file("most", b"x" * BALLOTS_LIMIT)
+        lines = b"Lines: 1\nValid: 0\nRefused: 1\nVoters: 0\n"
+        output, faults, status = count(poll, most)
+        self.expect("ballots of the greatest size", (lines in output, faults, status), (True, b"", 0))
+        more = file("more", b"x" * (BALLOTS_LIMIT + 1))
+        self.expect("ballots of one byte more", count(poll, more), (b"", fault("ballots too long"), 4))
+        long_lines = file("long_lines", (b"x" * 334 + b"\n") * 100_000)
+        output, faults, status = count(poll, long_lines)
+        self.expect("100,000 long lines", (b"Refused: 100000\n" in output, faults, status), (True, b"", 0))
+        empty = file("empty", b"\n" * 100_000)
+        output, faults, status = count(poll, empty)
+        self.expect("100,000 empty lines", (b"Refused: 100000\n" in output, faults, status), (True, b"", 0))
+        many = file("many", b"\n" * 100_001)
+        self.expect("a line too many", count(poll, many), (b"", fault("ballots refused: too many lines"), 4))
+        for command in ("steps", "standing", "explain", "picture"):
+            answer = run([command, "--poll", poll, "--ballots", many])
+            self.expect(f"a line too many for {command}", answer, (b"", fault("ballots refused: too many lines"), 4))
+        refused = run(["explain", "--poll", file("refused.toml", b"title ="), "--ballots", many])
+        self.expect("a poll refused before the lines are read", refused[1:], (b"", 3))
+        files = ["--poll", poll, "--ballots", ballots, "--sheet"]
+        output, faults, status = run(["verify", *files, file("longest_sheet", b"x" * SHEET_LIMIT)])
+        self.expect("a sheet of the greatest size", (output[:26], faults, status), (b"differs at line 1\nsheet: x", b"", 9))
+        longer_sheet = file("longer_sheet", b"x" * (SHEET_LIMIT + 1))
+        self.expect("a sheet of one byte more", run(["verify", *files, longer_sheet]), (b"", fault("sheet too long"), 10))
+        for name, words, wanted in [
+            ("poll and ballots", ["--poll", longer, "--ballots", more, "--sheet", EXAMPLE / "sheet"], ("poll too long", 3)),
+            ("poll and sheet", ["--poll", longer, "--ballots", ballots, "--sheet", longer_sheet], ("poll too long", 3)),
+            ("ballots and sheet", ["--poll", poll, "--ballots", more, "--sheet", longer_sheet], ("ballots too long", 4)),
+            ("a poll too long before no sheet", ["--poll", longer, "--ballots", ballots, "--sheet", self.folder / "none"], ("poll too long", 3)),
+            ("no ballots before a sheet too long", ["--poll", poll, "--ballots", self.folder / "none", "--sheet", longer_sheet], ("ballots unreadable", 4)),
+        ]:
+            self.expect(f"too long: {name}", run(["verify", *words]), (b"", fault(wanted[0]), wanted[1]))
+        self.expect("no sheet", run(["verify", *files, self.folder / "none"]), (b"", fault("sheet unreadable"), 10))
+        self.expect("a sheet", run(["verify", *files, EXAMPLE / "sheet"]), (b"verified\n", b"", 0))
+        nobody = count(poll, many, "--casting", "Zed")
+        self.expect("the casting vote before the lines", nobody, (b"", fault("casting option is not in the poll"), 8))
+        broken = count(file("broken.toml", b"title ="), many, "--casting", "Zed")
+        self.expect("the poll before the casting vote and the lines", broken, (b"", fault("poll refused: syntax"), 3))
+        joined = poll_text + b"%%\n"
+        joined += b"x" * (JOINED_LIMIT - len(joined))
+        self.expect("a joined input of the greatest size", run([], joined), (b"1 bad shape\n", b"", 0))
+        self.expect("one byte more", run([], joined + b"x"), (b"", fault("ballots too long"), 4))
+        odd = file("odd", bytes(range(256)) * 1000)
+        output, faults, status = count(poll, odd)
+        self.expect("bytes of all kinds", (b"Valid: 0\n" in output, faults, status), (True, b"", 0))
 
 
 class RollsTest(WholeTest):
