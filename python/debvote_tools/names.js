@@ -1,20 +1,26 @@
 // Finds the electors that somebody may mean by a name, as it is typed. The pages of the call and of the result share it.
 "use strict";
 
-// if more names begin with what is typed, none of them is suggested
+// if more names begin with what is typed, none of them is suggested; nor if so many have it as their family name
 const NEAR_LIMIT = 8;
+const SAME_LIMIT = 50;
 
 // letters that Unicode does not take apart into a letter and its accent
 const LETTERS_APART = { ø: "o", ł: "l", đ: "d", ð: "d", þ: "th", æ: "ae", œ: "oe", ı: "i", ħ: "h", ŧ: "t", ß: "ss" };
 
 // The letters and digits of a name, small and without accents.
 function lettersOf(name) {
+  // most names, and quickly
+  if (/^[\x20-\x7e]*$/.test(name)) return name.toLowerCase().replace(/[^a-z0-9]/g, "");
   const plain = name.normalize("NFKD").toLowerCase().replace(/[øłđðþæœıħŧß]/g, (letter) => LETTERS_APART[letter]);
   return plain.replace(/[^\p{Letter}\p{Number}]/gu, "");
 }
 
 // A name as it is, and as German writes it without its dots: ä is ae.
-const spellings = (name) => [name, name.normalize("NFC").replace(/[äöü]/gi, "$&e")];
+function spellings(name) {
+  const spelled = name.normalize("NFC").replace(/[äöü]/gi, "$&e");
+  return spelled === name ? [name] : [name, spelled];
+}
 
 // The letters of a name from each of its words on: of Eve Arnold "evearnold" and "arnold".
 function endsOf(name) {
@@ -44,7 +50,8 @@ function finderOf(electors) {
     // the family name alone, or what a name or a part of it begins with
     const ending = known.filter(({ ends }) => ends.some(isForm));
     const begun = known.filter(({ wholes, ends }) => [...wholes, ...ends].some((key) => forms.some((form) => key.startsWith(form))));
-    return { whole: [], suggested: namesOf(begun.length <= NEAR_LIMIT ? begun : ending) };
+    const near = begun.length <= NEAR_LIMIT ? begun : ending;
+    return { whole: [], suggested: near.length <= SAME_LIMIT ? namesOf(near) : [] };
   };
 }
 

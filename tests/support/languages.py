@@ -10,6 +10,7 @@ import unittest
 from collections.abc import Iterator
 
 from debvote_tools.text.language import catalog_of, language_of
+from debvote_tools.text.rendering import templates_of
 
 from tests.support import elections, sentences
 from tests.support.program import ROOT
@@ -63,9 +64,17 @@ def marked_german() -> Iterator[None]:
     german = vars(language_of("de").catalog)
     before = dict(german)
     german.update(vars(catalog))
+    forget_german()
     yield
     german.clear()
     german.update(before)
+    forget_german()
+
+
+def forget_german() -> None:
+    """Forgets what other tests of this process have said in German: languages and templates keep some of it."""
+    vars(language_of("de")).pop("and_last", None)
+    templates_of.cache_clear()
 
 
 class LanguageTest(elections.ElectionTest):

@@ -20,9 +20,8 @@ from debvote_tools.inbox.waiting import in_time, waiting_letters
 from debvote_tools.cli.faults import Fault, Status
 from debvote_tools.text.language import LANGUAGES
 from debvote_tools.result import folder, publication
-from debvote_tools.result.facts import CHECKSUMS, Facts
+from debvote_tools.result.facts import CHECKSUMS, Facts, Words
 from debvote_tools.result.folder import NOTHING_DONE
-from debvote_tools.result.publication import Words
 
 # of the text for the page in bytes, and of the name of who gave the casting vote in characters
 TEXT_LIMIT, NAME_LIMIT = 65_536, 200
@@ -77,7 +76,7 @@ def run(election: Election, arguments: Arguments) -> int:
         doubt.stops and doubt.as_data() not in again.detail["doubts"] for doubt in facts.doubts
     ):
         # the reason of then is not one for what came since
-        facts = dataclasses.replace(facts, is_forced=False)
+        facts = dataclasses.replace(facts, words=dataclasses.replace(words, is_forced=False))
     agreed = agreed_in_secret(history, facts, is_agreed=arguments.yes) if facts.secret else []
     with folder.made(facts, target, election.program_folder) as made:
         sheet = made.answers.sheet
@@ -218,9 +217,9 @@ def agreed_in_secret(history: History, facts: Facts, *, is_agreed: bool) -> list
     """Asks before a secret vote is published: about texts that are new, by where they are from, and
     about what two results would show.
     """
-    acts = facts.chronicle.acts if facts.chronicle else ()
-    texts = {"--about": facts.about, "--because": facts.because}
-    texts["--cast-by"] = facts.casting.by if facts.casting else None
+    acts = facts.acts or ()
+    words = facts.words
+    texts = {"--about": words.about, "--because": words.because, "--cast-by": words.cast_by}
     texts |= {f"the reason for the act of {act_time(act.time)}": act.because for act in acts}
     given = {where: text for where, text in texts.items() if text is not None}
     agreed = publication.agreed_texts(
@@ -230,6 +229,6 @@ def agreed_in_secret(history: History, facts: Facts, *, is_agreed: bool) -> list
         done=NOTHING_DONE,
     )
     if facts.secret and facts.secret.compared and not is_agreed:
-        words = f"a comparison with the earlier result shows how these voted: {', '.join(facts.secret.compared)}"
-        publication.demand_yes(f"Publish it, although {words}?", words, NOTHING_DONE)
+        why = f"a comparison with the earlier result shows how these voted: {', '.join(facts.secret.compared)}"
+        publication.demand_yes(f"Publish it, although {why}?", why, NOTHING_DONE)
     return agreed

@@ -5,7 +5,7 @@ import datetime
 import functools
 import re
 import urllib.parse
-from collections.abc import Mapping
+from collections.abc import Iterable, Mapping
 
 from debvote_tools.text.ballots import IN_A_LIST, without_ballots
 from debvote_tools.cli.faults import Fault, Status
@@ -132,8 +132,7 @@ class CallData:
     @functools.cached_property
     def option_names(self) -> list[str]:
         """The options in plain text, each with its number."""
-        options = enumerate(self.poll.names, start=1)
-        return [self.language.say(OPTION, number=number, name=name) for number, name in options]
+        return list(numbered_options(self.poll.names, self.language).values())
 
     @property
     def has_greeting(self) -> bool:
@@ -155,6 +154,12 @@ class CallData:
     def gaps(self) -> str:
         """The text in place of the ranks, where an elector is to write them."""
         return ",".join("_" * len(self.poll.names))
+
+
+def numbered_options(names: Iterable[str], language: Language) -> dict[int, str]:
+    """Options as parts of a sentence, by their numbers."""
+    options = enumerate(names, start=1)
+    return {number: language.say(OPTION, number=number, name=name) for number, name in options}
 
 
 def explanations_of(poll: SealedPoll) -> list[tuple[int, list[str]]]:

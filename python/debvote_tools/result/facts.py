@@ -44,32 +44,42 @@ FOR_SECRETARY = {
 }
 
 
-class Told:
-    """What is told in a sentence that `places` fill."""
+# says a time
+Said = Callable[[datetime.datetime], Any]
 
-    places: Mapping[str, Any]
 
-    def shown(self, of_time: Callable[[datetime.datetime], Any]) -> dict[str, Any]:
-        """The places, with each time as it is shown."""
-        return {
-            key: of_time(value) if isinstance(value, datetime.datetime) else value
-            for key, value in self.places.items()
-        }
+def with_times(places: Mapping[str, Any], said: Said) -> dict[str, Any]:
+    """What fills a sentence, with each time as it is said."""
+    return {
+        key: said(value) if isinstance(value, datetime.datetime) else value
+        for key, value in places.items()
+    }
 
 
 @dataclasses.dataclass(frozen=True)
-class CastingVote:
-    """The plain name of the option that it chooses; whose it was and on which day, if that is said.
-    No count can show it.
+class Words:
+    """What the secretary says of a publication. The act keeps it, so that the same folder can be
+    made again.
     """
 
-    option: str
-    by: str | None = None
-    on: datetime.date | None = None
+    # the plain name of the option that the casting vote chooses; whose it was and on which day, if
+    # that is said. No count can show it
+    casting: str | None = None
+    cast_by: str | None = None
+    cast_on: str | None = None
+    about: str | None = None
+    # whether doubts stop nothing, which needs a reason
+    is_forced: bool = False
+    because: str | None = None
+    language: str | None = None
+
+    @property
+    def cast_day(self) -> datetime.date | None:
+        return datetime.date.fromisoformat(self.cast_on) if self.cast_on else None
 
 
 @dataclasses.dataclass(frozen=True)
-class Doubt(Told):
+class Doubt:
     """Something doubtful about a result. The page tells it, and most stop a publication until it is
     forced with a reason.
     """
@@ -86,6 +96,9 @@ class Doubt(Told):
     def for_secretary(self) -> str:
         return FOR_SECRETARY[self.kind].format(**self.as_data())
 
+    def shown(self, said: Said) -> dict[str, Any]:
+        return with_times(self.places, said)
+
 
 def doubts_about(sheet: Sheet) -> list[Doubt]:
     """The doubts about what came, by the sheet of all lines that came."""
@@ -96,7 +109,7 @@ def doubts_about(sheet: Sheet) -> list[Doubt]:
 
 
 @dataclasses.dataclass(frozen=True)
-class Act(Told):
+class Act:
     """Something that was done in an election, at a time by the clock of the secretary's computer.
 
     `places` fill its sentence; all times are in the zone in which the end was announced. `because`
@@ -108,28 +121,15 @@ class Act(Told):
     places: Mapping[str, Any] = dataclasses.field(default_factory=dict)
     because: str | None = None
 
+    def shown(self, said: Said) -> dict[str, Any]:
+        return with_times(self.places, said)
+
     @property
     def is_quiet(self) -> bool:
         if self.done != "closed":
             return self.done in QUIET
         more = (self.places[key] for key in ("early", "waiting", "after_end"))
         return not (any(more) or self.because or self.places["came"] is not None)
-
-
-@dataclasses.dataclass(frozen=True)
-class Chronicle:
-    """What the book of an election says of its course."""
-
-    acts: tuple[Act, ...] = ()
-    # lines that came after the end, and count since the vote was not closed
-    after_the_end: int = 0
-
-    @property
-    def days(self) -> list[datetime.date]:
-        """The day of the call that holds, and that of the first close."""
-        calls = [act for act in self.acts if act.done in ("called", "called until")]
-        closes = [act for act in self.acts if act.done == "closed" and act.time >= calls[-1].time]
-        return [act.time.date() for act in (*calls[-1:], *closes[:1])]
 
 
 @dataclasses.dataclass(frozen=True)
@@ -157,23 +157,21 @@ class Facts:
     # the lines in time; in a secret vote the ballots that stand, under aliases
     ballots: bytes
     language: Language = ENGLISH
-    casting: CastingVote | None = None
+    words: Words = Words()
     desks: int = 1
     # of two files: the checksum of the file that was given as the poll
     given_checksum: str | None = None
-    # None of two files
-    chronicle: Chronicle | None = None
+    # what was done, None of two files; and how many lines came after the end, and count since the
+    # vote was not closed
+    acts: tuple[Act, ...] | None = None
+    after_the_end: int = 0
     # in a vote that is not secret: the lines that were entered after the close
     late: bytes | None = None
     # the letter of the last close
     closed: bytes | None = None
     # by the names on the roll, if they are published
     real_names: Mapping[str, str] = dataclasses.field(default_factory=dict)
-    # texts of those who publish
-    about: str | None = None
-    because: str | None = None
-    # whether doubts stop nothing, and those that are known before the count
-    is_forced: bool = False
+    # those that are known before the count; in the end all
     doubts: tuple[Doubt, ...] = ()
     secret: SecretVote | None = None
     # whether the names on the roll are codes, and nobody has a list of them
@@ -184,6 +182,14 @@ class Facts:
     @property
     def has_aliases(self) -> bool:
         return self.poll.secret and not self.has_codes
+
+    @property
+    def days(self) -> list[datetime.date]:
+        """The day of the call that holds, and that of the first close."""
+        acts = self.acts or ()
+        calls = [act for act in acts if act.done in ("called", "called until")]
+        closes = [act for act in acts if act.done == "closed" and act.time >= calls[-1].time]
+        return [act.time.date() for act in (*calls[-1:], *closes[:1])]
 
     @property
     def late_number(self) -> int:
@@ -197,7 +203,7 @@ class Facts:
 
     @property
     def casting_words(self) -> list[str]:
-        return casting_words(self.casting.option if self.casting else None)
+        return casting_words(self.words.casting)
 
 
 @dataclasses.dataclass(frozen=True)

@@ -5,6 +5,8 @@
 (() => {
   const DIGITS = 32;
   const CODE = /^[0-9a-f]{32}$/;
+  // among more electors no name is suggested, since it would take seconds
+  const SUGGESTED_LIMIT = 20_000;
 
   // each id of the page itself has a capital letter, and no elector's name has one
   const byId = (id) => document.getElementById(id);
@@ -110,7 +112,9 @@
   let find;
   function suggested(name) {
     const namesIn = (item) => [item.firstChild.textContent.trim(), ...[...item.querySelectorAll("bdi")].map((node) => node.textContent)];
-    find ??= finderOf([...document.querySelectorAll(".roll li")].map(namesIn));
+    const items = [...document.querySelectorAll(".roll li")];
+    if (items.length > SUGGESTED_LIMIT) return [];
+    find ??= finderOf(items.map(namesIn));
     const { suggested: names } = find(name);
     if (names.length === 0) return [];
     const node = document.createElement("p");

@@ -29,8 +29,7 @@ from debvote_tools.result.facts import (
     Facts,
     doubts_about,
 )
-from debvote_tools.result.page import page_of, picture_of
-from debvote_tools.result.result_letter import letter_of
+from debvote_tools.result.page import letter_of, page_of, picture_of
 from debvote_tools.result.sheet import Sheet, result_json, sheet_in, votes_csv
 
 NOTHING_DONE = "nothing was published"
@@ -198,7 +197,7 @@ def fill(folder: pathlib.Path, given: Facts, program_folder: pathlib.Path | None
     lines = (f"{checksum}  {name}\n" for name, checksum in sorted(checksums.items()))
     write({CHECKSUMS: "".join(lines).encode()})
     letter = letter_of(full, sheet, checksums)
-    if full.chronicle is None:
+    if full.acts is None:
         # two files have no other folder for it
         write({facts.LETTER: letter})
     return Made(folder, answers, full, checksums, letter)
@@ -209,9 +208,10 @@ def demand_publishable(given: Facts, sheet: Sheet, sheet_text: str) -> Facts:
     never published.
     """
     left = {sheet.names[option]: option for option in sheet.left}
-    if given.casting is not None and given.casting.option not in left:
+    casting = given.words.casting
+    if casting is not None and casting not in left:
         shown = " and ".join(f"{option} {name}" for name, option in left.items())
-        words = f"no casting vote can choose {given.casting.option}, which is not left; left {'are' if len(left) > 1 else 'is'} {shown}"
+        words = f"no casting vote can choose {casting}, which is not left; left {'are' if len(left) > 1 else 'is'} {shown}"
         cure = "name an option that is left"
         raise Fault("--casting", words, cure, Status.CASTING_OUTSIDE, NOTHING_DONE)
     if given.poll.secret and not (
@@ -225,7 +225,7 @@ def demand_publishable(given: Facts, sheet: Sheet, sheet_text: str) -> Facts:
         sheet = given.secret.sheet
     doubts = (*doubts_about(sheet), *given.doubts)
     stopping = [doubt.for_secretary() for doubt in doubts if doubt.stops]
-    if stopping and given.chronicle is not None and not given.is_forced:
+    if stopping and given.acts is not None and not (given.words.is_forced and given.words.because):
         cure = 'put it right, or publish as it is with --force --because "TEXT" (the result page says so)'
         raise Fault(None, "; ".join(stopping), cure, Status.DOUBT, NOTHING_DONE)
     tell_aside(*(f"Note: {doubt.for_secretary()}; the result page says so" for doubt in doubts))

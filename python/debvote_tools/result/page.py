@@ -1,4 +1,4 @@
-"""The page of an election: what its templates are filled with."""
+"""The page and the letter of a result: what their templates are filled with."""
 
 import base64
 import html
@@ -15,14 +15,15 @@ from markupsafe import Markup
 from debvote_tools.cli.console import seen, tell_aside
 from debvote_tools.debvote import standing_in
 from debvote_tools.inbox.lines import ballot_lines
-from debvote_tools.poll.secret import ALIAS, BY_OPENSSL, BY_PYTHON, REMAINS, sealed_checksum
-from debvote_tools.poll.call import OPTION, explanations_of, paragraphs_of
+from debvote_tools.poll.secret import BY_OPENSSL, BY_PYTHON, sealed_checksum
+from debvote_tools.poll.call import explanations_of, numbered_options, paragraphs_of
 from debvote_tools.result import facts as files, scripts
 from debvote_tools.result.facts import Answers, Facts
+from debvote_tools.result.sheet import Sheet
 from debvote_tools.result.why import Why
 from debvote_tools.text.ballots import IN_A_LIST, BallotWords
 from debvote_tools.text.language import ENGLISH, Language
-from debvote_tools.text.rendering import InHtml, render_page, resources
+from debvote_tools.text.rendering import InHtml, render_letter, render_page, resources
 from debvote_tools.text.times import date_in_words
 
 # in bytes; larger files are not carried by the page, and the reader chooses them. Those of a secret
@@ -57,100 +58,88 @@ SPACE = "{http://www.w3.org/2000/svg}"
 SHAPES = {SPACE + name for name in ("svg", "g", "polygon", "polyline", "ellipse", "path", "text")}
 
 
-def page_of(given: Facts, answers: Answers, checksums: Mapping[str, str]) -> bytes:
-    """The page, whole. `checksums` are those of the files beside it, by their names."""
-    language, sheet, poll = given.language, answers.sheet, given.poll
+def letter_of(facts: Facts, sheet: Sheet, checksums: Mapping[str, str]) -> bytes:
+    """The letter of the result: what an elector compares with the web site, sent by a way that does
+    not lead over it. `checksums` are those of the published files, by their names.
+    """
+    why = Why(sheet, numbered_options(facts.poll.names, facts.language))
+    values = {"facts": facts, "sheet": sheet, "why": why, "checksums": checksums}
+    return render_letter(__package__, "letter.txt", facts.language, **values).encode()
+
+
+def page_of(facts: Facts, answers: Answers, checksums: Mapping[str, str]) -> bytes:
+    """The page, whole."""
+    language, sheet, poll = facts.language, answers.sheet, facts.poll
     in_html = InHtml(language.code, language.catalog)
     # a name that is not plain may be written from right to left, and turns nothing around it
     pairs = enumerate(zip(poll.names, poll.plain_names), start=1)
     names = {
         option: name if name == plain else in_html.given(name) for option, (name, plain) in pairs
     }
-    named, bold = named_options(names, in_html), Markup('<b data-option="{}">{}</b>').format
-    standing, late = standing_in(answers.standing_text), ballot_lines(given.late or b"")
-    lines = ballot_lines(given.ballots)
+    named, bold = numbered_options(names.values(), in_html), Markup('<b data-option="{}">{}</b>')
+    standing, lines = standing_in(answers.standing_text), ballot_lines(facts.ballots)
     # many ballots are alike
     have_names = len(standing) * sum(map(len, named.values())) <= NAMES_LIMIT
     words = BallotWords(
-        [str(named[key] if have_names else key) for key in named], language, IN_A_LIST
+        [str(name if have_names else key) for key, name in named.items()], language, IN_A_LIST
     )
     style, picture = resources(__package__, "fields.css", "given.css", "page.css"), None
     if answers.picture is not None and len(names) <= MOST_IN_PAGE:
-        in_words = language.say("The defeats as a graph. The list above says the same in words.")
-        picture, least_width = picture_in_page(answers.picture, in_words, language)
+        picture, least_width = picture_in_page(answers.picture, language)
         style += f".picture svg {{ min-width: {least_width}px; }}\n"
+    refused = ((one.envelope, f"{one.word}: {one.hint}") for one in answers.refused)
     return render_page(
         __package__,
         "page.html",
         language,
         style=style,
-        script=resources(__package__, files.SCRIPT, "names.js", "count_again.js", "find.js", "fold.js"),
+        script=resources(
+            __package__, files.SCRIPT, "names.js", "count_again.js", "find.js", "fold.js"
+        ),
         head=in_html.say("Result: {title}", title=poll.name),
         title=poll.name,
-        days=[date_in_words(day, language) for day in given.chronicle.days]
-        if given.chronicle
-        else [],
+        days=[date_in_words(day, language) for day in facts.days],
         colon=language.between(scripts.COLON),
         plain_name=scripts.PLAIN_NAME,
-        facts=given,
+        facts=facts,
         poll=poll,
         sheet=sheet,
         answers=answers,
         names=names,
         named=named,
-        framed=framed_options(names, in_html),
-        why=Why(sheet, {option: bold(option, name) for option, name in named.items()}),
+        why=Why(sheet, {option: bold.format(option, name) for option, name in named.items()}),
         share=share(sheet.voters, sheet.electors, language),
-        because=paragraphs_of(given.because or ""),
-        about=paragraphs_of(given.about or ""),
+        because=paragraphs_of(facts.words.because or ""),
+        about=paragraphs_of(facts.words.about or ""),
         given_checksum=None
-        if given.given_checksum == checksums[files.POLL]
-        else given.given_checksum,
+        if facts.given_checksum == checksums[files.POLL]
+        else facts.given_checksum,
         explanations=explanations_of(poll),
         picture=picture,
         picture_command=shlex.join(drawing_words(len(names))),
         ballot_words={ranks: Markup(words.of(ranks)) for ranks in set(standing.values())},
         have_names=have_names,
         standing=standing,
-        refused=runs_of(
-            (
-                (one.envelope, lines[one.envelope - 1], f"{one.word}: {one.hint}")
-                for one in answers.refused
-            ),
+        refused=runs_of(((at, lines[at - 1], cause) for at, cause in refused), in_html),
+        late=runs_of(
+            ((at, line, "") for at, line in enumerate(ballot_lines(facts.late or b""), start=1)),
             in_html,
         ),
-        late=runs_of(((number, line, "") for number, line in enumerate(late, start=1)), in_html),
-        remains=[language.say(text) for text in REMAINS] if given.has_aliases else [],
-        alias=language.say(ALIAS),
         by_python=BY_PYTHON,
         by_openssl=BY_OPENSSL,
         checksums=checksums,
         # in a secret vote that of the close has the line of the seal, too
-        sealed_checksum=given.seal and sealed_checksum(given.seal, given.ballots),
-        files=sorted({*checksums, files.CHECKSUMS, *([] if given.chronicle else [files.LETTER])}),
-        casting="".join(f" {word}" for word in map(shlex.quote, given.casting_words)),
+        sealed_checksum=facts.seal and sealed_checksum(facts.seal, facts.ballots),
+        files=sorted(
+            {*checksums, files.CHECKSUMS, *([files.LETTER] if facts.acts is None else [])}
+        ),
+        casting="".join(f" {word}" for word in map(shlex.quote, facts.casting_words)),
         example=next(iter(standing), "NAME"),
-        find_words=scripts.find_words(given),
+        find_words=scripts.find_words(facts),
         find_letters=scripts.find_letters(language),
         again_words=scripts.again_words(language),
-        carried=carried_files(poll.as_bytes(), given.ballots, answers.sheet_text.encode()),
+        carried=carried_files(poll.as_bytes(), facts.ballots, answers.sheet_text.encode()),
     )
-
-
-def named_options(names: Mapping[int, str], language: Language) -> dict[int, str]:
-    """The options with their numbers, as in a sentence."""
-    return {key: language.say(OPTION, number=key, name=name) for key, name in names.items()}
-
-
-def framed_options(names: Mapping[int, str], language: InHtml) -> dict[int, str]:
-    """The same where the number is in a frame of its own, and a reader sees no other sign."""
-    number = Markup('</span><span class="number">{}</span><span class="unseen">').format
-    unseen = Markup('<span class="unseen">{}</span>').format
-    said = {key: language.say(OPTION, number=number(key), name="{}") for key in names}
-    return {
-        key: unseen(Markup(said[key].removesuffix("{}"))) + Markup("<b>{}</b>").format(name)
-        for key, name in names.items()
-    }
 
 
 def share(voters: int, electors: int, language: Language = ENGLISH) -> str:
@@ -242,9 +231,8 @@ def picture_of(graph: str, options: int) -> bytes | None:
         return None
 
 
-def picture_in_page(picture: bytes, words: str, language: Language) -> tuple[Markup, int]:
-    """The picture within the page, and its least width there. The words are for those who do not
-    see it.
+def picture_in_page(picture: bytes, language: Language) -> tuple[Markup, int]:
+    """The picture within the page, and its least width there.
 
     It has shapes and texts alone, without the names by which Graphviz calls them: as node1, they
     may be those of electors. The number of an option stands apart from its name, and why it was
@@ -266,7 +254,9 @@ def picture_in_page(picture: bytes, words: str, language: Language) -> tuple[Mar
     for side in ("width", "height"):
         svg.set(side, svg.get(side, "0").removesuffix("pt"))
     svg.set("role", "img")
-    svg.set("aria-label", words)
+    svg.set(
+        "aria-label", language.say("The defeats as a graph. The list above says the same in words.")
+    )
     xml.register_namespace("", SPACE[1:-1])
     return Markup(xml.tostring(svg, encoding="unicode")), round(
         LEAST_SHARE * float(svg.get("width", "0"))

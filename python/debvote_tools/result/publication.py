@@ -26,35 +26,14 @@ from debvote_tools.result.facts import (
     PAGE,
     POLL,
     Act,
-    CastingVote,
-    Chronicle,
     Doubt,
     Facts,
     SecretVote,
+    Words,
 )
 from debvote_tools.text.ballots import in_normal_form
 from debvote_tools.text.language import Language, language_of
 from debvote_tools.text.rendering import render_letter
-
-
-@dataclasses.dataclass(frozen=True)
-class Words:
-    """What the secretary says of a publication. The act keeps it, so that the same folder can be
-    made again.
-    """
-
-    casting: str | None = None
-    cast_by: str | None = None
-    cast_on: str | None = None
-    about: str | None = None
-    is_forced: bool = False
-    because: str | None = None
-    language: str | None = None
-
-    @property
-    def vote(self) -> CastingVote | None:
-        on = datetime.date.fromisoformat(self.cast_on) if self.cast_on else None
-        return None if self.casting is None else CastingVote(self.casting, self.cast_by, on)
 
 
 def current_data(
@@ -132,7 +111,7 @@ def facts_of(election: Election, words: Words, waiting: Sequence[int]) -> Facts:
         )
         is_secret, has_names = sealed.counted.secret, history.announced("names")
         electors = queries.electors(book) if has_names or is_secret else []
-        chronicle = chronicle_of(book, history, is_secret=is_secret)
+        acts, late_count = acts_of(book, history, is_secret=is_secret), after_the_end(book, history)
         doubts = doubts_of(book, history, sealed.public, words.casting, waiting)
     secret = None
     if is_secret:
@@ -152,16 +131,14 @@ def facts_of(election: Election, words: Words, waiting: Sequence[int]) -> Facts:
         poll=sealed.public,
         ballots=ballots,
         language=election.language if words.language is None else language_of(words.language),
-        casting=words.vote,
-        chronicle=chronicle,
+        words=words,
+        acts=acts,
+        after_the_end=late_count,
         late=None if is_secret else late,
         closed=closing_letter(history, sealed.public, election.language)
         if history.closes
         else None,
         real_names={elector.name: elector.who for elector in electors} if has_names else {},
-        about=words.about,
-        because=words.because,
-        is_forced=words.is_forced and words.because is not None,
         doubts=tuple(doubts),
         secret=secret,
         has_codes=history.has_codes_on_roll,
@@ -273,29 +250,30 @@ def late_letters_in_time(book: Book, history: History) -> list[Doubt]:
 
 
 # ---------------------------------------------------------------- what was done
-def chronicle_of(book: Book, history: History, *, is_secret: bool) -> Chronicle:
+def acts_of(book: Book, history: History, *, is_secret: bool) -> tuple[Act, ...]:
+    """What the page tells, with its times in the zone in which the end was announced."""
+    zone = zone_of(history)
+
+    def in_zone(time: datetime.datetime) -> datetime.datetime:
+        return time.astimezone(zone)
+
     acts: list[Act] = []
     for before, act in zip([None, *history.acts], history.acts):
         if before is not None and act.went_back(before):
             acts.append(Act(act.time, "clock", {"before": before.time}))
         acts += acts_of_page(act, book, history, is_secret=is_secret)
-    # lines, rows and ballots of desks that came after the end, and count; what came in after a
-    # close had come before it, as its act says
-    after_the_end = 0
-    if history.until is not None:
-        condition = f"{queries.IN_TIME} AND letter IS NULL AND time > ? AND act < ?"
-        first_close = history.closes[0].number if history.closes else history.last.number + 1
-        after_the_end = len(queries.lines(book, condition, as_text(history.until), first_close))
-    zone = zone_of(history)
+    return tuple(Act(in_zone(act.time), act.done, act.shown(in_zone), act.because) for act in acts)
 
-    def in_zone(time: Any) -> Any:
-        return time.astimezone(zone)
 
-    shown = (
-        dataclasses.replace(act, time=in_zone(act.time), places=act.shown(in_zone))
-        for act in acts
-    )
-    return Chronicle(tuple(shown), after_the_end)
+def after_the_end(book: Book, history: History) -> int:
+    """How many lines, rows and ballots of desks came after the end, and count. What came in after a
+    close had come before it, as its act says.
+    """
+    if history.until is None:
+        return 0
+    condition = f"{queries.IN_TIME} AND letter IS NULL AND time > ? AND act < ?"
+    first_close = history.closes[0].number if history.closes else history.last.number + 1
+    return len(queries.lines(book, condition, as_text(history.until), first_close))
 
 
 def acts_of_page(act: DoneAct, book: Book, history: History, *, is_secret: bool) -> Iterator[Act]:

@@ -86,10 +86,6 @@ class Why:
 
         return sorted(self.sheet.names, key=rank)
 
-    def others(self, option: int) -> list[int]:
-        """The other options that were not dropped."""
-        return [one for one in self.sheet.names if one not in (option, *self.sheet.dropped)]
-
     def beaten(self, option: int) -> list[Row]:
         """The defeats by an option that were not removed, the narrowest first."""
         pairs = [pair for pair in self.sheet.defeats if pair[0] == option]

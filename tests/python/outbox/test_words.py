@@ -189,6 +189,23 @@ class CallLetter(unittest.TestCase):
         # a letter that does not remind does not begin so
         self.assertNotIn("friends", now.reminder(ADA, [WAITS]))
 
+    def test_a_letter_greets_once(self) -> None:
+        """By the secretary's own words, or by the name where these do not greet."""
+        greeting = (
+            "Dear all", "Hello members!", "Liebe Mitglieder,", "Sehr geehrte Damen und Herren,", "Chers membres,", "Bonjour \u00e0 tous",
+            "Estimados socios:", "\u00a1Hola a todos!", "Mitglieder des TSV,",
+        )  # fmt: skip
+        for first in (*greeting, "Paper goes into the box.", "Das Wichtige steht unten."):
+            for text in self.asking(vote(letter_text=f"{first}\n\nMore.\n"))[:3]:
+                begin = first if first in greeting else f"Dear Ada L.,\n\n{first}"
+                self.assertTrue(text.startswith(f"{begin}\n\nMore.\n\nThe words above"), text)
+
+    def test_a_letter_with_a_code_has_no_command(self) -> None:
+        for code in LANGUAGES:
+            text = vote(code, has_aliases=True).call_letter(ADA._replace(code="c0de" * 8), is_extension=False)
+            self.assertIn("  c0dec0de", text)
+            self.assertNotRegex(text, "python|sha256")
+
     def test_with_marked_it_says_to_answer_or_to_use_the_link(self) -> None:
         for text in self.asking(vote(is_marked=True)):
             self.assertIn("Open the link in your letter, or answer that letter: then the subject has your own mark", " ".join(text.split()))
