@@ -567,6 +567,8 @@ class CutOff(BookTest):
                 self.assertRegex(ended.output, r"(?m)^\d+ (counted|replaced)  (ada|ben): ", (signal, words))
         ended = self.traced("-P", journal, "-e", "inject=unlink:signal=INT", words=("close",))
         self.assert_fault(ended, 130, f"interrupted; act {self.last_act()} (close) was done, and nothing else")
+        ended = self.traced("-P", journal, "-e", "inject=unlink:signal=INT", words=("publish",))
+        self.assertTrue((self.folder / "result" / "index.html").exists(), ended)
 
 
 class OnTheDisk(BookTest):
