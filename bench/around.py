@@ -152,6 +152,8 @@ def many_letters(folder: pathlib.Path, path: str) -> Iterator[tuple[str, float, 
     texts = (f"{name} {'1,2,3,4' if number % 10 else '1,2,3'}" for number, name in enumerate(names))
     (room / "inbox").write_text("".join(letter_of(number, name, text, mark) for number, (name, text) in enumerate(zip(names, texts))))
     for name, words, most in [
+        ("letters, 10,000 calls", ["letters", "call"], 30),
+        ("status, after these", ["status"], 0.5),
         ("add, 10,000 letters", ["add", "--yes", "inbox"], 30),
         ("add, all of them again", ["add", "--yes", "inbox"], 30),
         ("held, of 1,000", ["held"], 5),

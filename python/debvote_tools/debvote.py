@@ -8,11 +8,17 @@ import subprocess
 from typing import NamedTuple
 
 from debvote_tools.cli.faults import Fault, Status, other_format
-from debvote_tools.files import BALLOTS_LIMIT, LINES_LIMIT, OWN_FILES, POLL_LIMIT, in_memory
+from debvote_tools.files import (
+    BALLOTS_LIMIT,
+    LINES_LIMIT,
+    POLL_LIMIT,
+    demand_own_files,
+    in_memory,
+)
 
 
 class Answer(NamedTuple):
-    """What a run wrote on standard output and on standard error, and its exit status."""
+    """What a run wrote on both outputs, and its exit status."""
 
     text: str
     faults: str
@@ -20,9 +26,8 @@ class Answer(NamedTuple):
 
 
 class Finding(NamedTuple):
-    """What `explain` says of a line: the number of its envelope, the word of `steps`, and what is
-    wrong; the names on the roll that may have been meant, and a remark on their ballots in other
-    lines.
+    """What `explain` says of a line: its envelope, the word of `steps`, what is wrong, the names on
+    the roll that may have been meant, and a remark on their ballots in other lines.
     """
 
     envelope: int
@@ -37,25 +42,20 @@ class Finding(NamedTuple):
         return f"{self.said}{question}{self.remark}"
 
 
-class Totals(NamedTuple):
-    """The last line of `explain`. Late lines are among the refused ones."""
-
-    lines: int
-    valid: int
-    refused: int
-    late: int
-    voters: int
-    electors: int
-
-
 class Findings(NamedTuple):
+    """What `explain` says of each refused line, also those that are late, and the numbers of its
+    last line.
+    """
+
     refused: list[Finding]
-    totals: Totals
+    lines: int = 0
+    valid: int = 0
+    voters: int = 0
 
 
 class Debvote:
-    """Runs debvote in a folder; the names of its files are relative to this folder. debvote may be
-    in `program_folder`, beside the program that runs it.
+    """Runs debvote in a folder, to which file names are relative. It may be in `program_folder`,
+    beside the program that runs this.
     """
 
     def __init__(self, folder: pathlib.Path, program_folder: pathlib.Path | None = None) -> None:
@@ -68,19 +68,15 @@ class Debvote:
 
     def run(self, *words: str | os.PathLike[str], given: bytes = b"") -> Answer:
         """Runs debvote, with these bytes as its standard input."""
-        if given and not os.path.isdir(OWN_FILES):
-            reason = "it is missing, and debvote gets its input through it"
-            cure = "mount /proc, then run the command again"
-            raise Fault(OWN_FILES, reason, cure, Status.BAD_OUTPUT, "nothing was counted")
+        if given:
+            demand_own_files()
         try:
             ended = subprocess.run(
                 [self.path, *words], cwd=self.folder, capture_output=True, input=given
             )
         except OSError as error:
-            reason = f"it can't be started ({error.strerror})"
-            done = "nothing was counted, and no file was changed"
-            cure = "run the command again"
-            raise Fault(self.path, reason, cure, Status.BAD_OUTPUT, done) from None
+            reason, cure = f"it can't be started ({error.strerror})", "run the command again"
+            raise Fault(self.path, reason, cure, Status.BAD_OUTPUT) from None
         status = ended.returncode if ended.returncode >= 0 else 128 - ended.returncode
         text, faults = ended.stdout.decode("ascii", "replace"), ended.stderr
         return Answer(text, faults.decode("utf-8", "replace"), status)
@@ -88,15 +84,15 @@ class Debvote:
     def answer(
         self, task: str, poll_bytes: bytes, ballots_bytes: bytes = b"", *words: str
     ) -> Answer:
-        """What debvote writes about a poll and ballots in memory. Stops if it refuses them as a
+        """What debvote writes about a poll and ballots in memory, unless it refuses them as a
         whole.
         """
         with in_memory(poll_bytes) as poll_path:
             files = ("--poll", poll_path, "--ballots", "/dev/stdin")
             answer = self.run(task, *files, *words, given=ballots_bytes)
-        if answer.text or not answer.faults:
-            return answer
-        raise refusal(answer)
+        if answer.faults and not answer.text:
+            raise refusal(answer)
+        return answer
 
     def replies(self, poll_bytes: bytes, ballots_bytes: bytes) -> list[str]:
         """The reply of the box to each line, that to line i at index i - 1."""
@@ -110,7 +106,6 @@ class Debvote:
         return standing_in(self.answer("standing", poll_bytes, ballots_bytes).text)
 
     def version(self) -> str:
-        """As `debvote 1.1.0`."""
         return self.run("--version").text.strip()
 
 
@@ -125,9 +120,7 @@ def refusal(answer: Answer) -> Fault:
 
 
 def casting_words(name: str | None) -> list[str]:
-    """The arguments for a casting vote. As an argument of its own, a name that begins with a hyphen
-    would be read as another option.
-    """
+    """The arguments for a casting vote: a name with a hyphen would be read as an option."""
     if name is None:
         return []
     return [f"--casting={name}"] if name.startswith("-") else ["--casting", name]
@@ -136,7 +129,7 @@ def casting_words(name: str | None) -> list[str]:
 FINDING = re.compile(r"ballots:(\d+): (late|bad shape|bad rank count|bad not on roll): (.*)")
 NEAR = re.compile(r"(\S+ is not on the roll); did you mean (\S+(?: or \S+)*)\?(.*)")
 TOTALS = re.compile(
-    r"(\d+) lines: (\d+) valid, (\d+) refused, (\d+) of them late; (\d+) of (\d+) electors have a ballot"
+    r"(\d+) lines: (\d+) valid, \d+ refused, \d+ of them late; (\d+) of \d+ electors have a ballot"
 )
 
 
@@ -152,7 +145,7 @@ def findings_in(text: str) -> Findings:
             near = tuple(found[2].split(" or "))
             finding = finding._replace(said=found[1], near=near, remark=found[3])
         refused.append(finding)
-    return Findings(refused, Totals(*map(int, totals.groups())))
+    return Findings(refused, *map(int, totals.groups()))
 
 
 def standing_in(text: str) -> dict[str, str]:

@@ -7,6 +7,7 @@ import os
 import pathlib
 import shutil
 import signal
+import stat
 import tempfile
 from collections.abc import Collection, Iterator, Mapping
 from typing import BinaryIO
@@ -39,40 +40,57 @@ def read_at_most(file: pathlib.Path | str, limit: int) -> bytes:
         return source.read(limit + 1)
 
 
-def read_whole(file: pathlib.Path | str, limit: int, unread: str, then: str = "") -> bytes:
-    """The bytes of a file. `unread` is the cure if it can't be read; `then` follows each cure."""
+def bad_file(file: object, reason: object, cure: str) -> Fault:
+    return Fault(file, reason, cure, Status.BAD_WORDS, None)
+
+
+def read_whole(
+    file: pathlib.Path | str, limit: int, unread: str, then: str = "", *, may_wait: bool = False
+) -> bytes:
+    """The bytes of a file. `unread` is the cure if it can't be read; `then` follows each cure. A
+    pipe keeps its reader waiting, and is refused unless the command line names it.
+    """
     try:
+        mode = os.stat(file).st_mode
+        if not (may_wait or stat.S_ISREG(mode) or stat.S_ISDIR(mode)):
+            raise bad_file(file, "it is no plain file", unread + then)
         data = read_at_most(file, limit)
     except OSError as error:
-        raise Fault(file, error.strerror, unread + then, Status.BAD_WORDS, None) from None
+        raise bad_file(file, error.strerror, unread + then) from None
     if len(data) > limit:
-        raise Fault(
-            file, f"it is longer than {limit} bytes", f"shorten it{then}", Status.BAD_WORDS, None
-        )
+        raise bad_file(file, f"it is longer than {limit} bytes", f"shorten it{then}")
     return data
 
 
-def file_text(
-    data: bytes, file: pathlib.Path | str, empty: str, then: str = "", refused: str = ""
+def read_text(
+    file: pathlib.Path | str,
+    limit: int,
+    unread: str,
+    empty: str,
+    then: str = "",
+    *,
+    refused: str = "",
+    may_wait: bool = False,
 ) -> str:
     """The text of a file in UTF-8, without its byte-order mark, and with line feeds alone.
 
-    `empty` is the cure of an empty one; `then` follows each cure. Characters that no plain text has
-    are `refused` too.
+    `empty` is the cure of an empty one; for the others see `read_whole`. Characters that no plain
+    text has are `refused` too.
     """
+    data = read_whole(file, limit, unread, then, may_wait=may_wait)
     try:
         text = data.decode().removeprefix("\ufeff").replace("\r\n", "\n")
     except UnicodeDecodeError as error:
         line = data.count(b"\n", 0, error.start) + 1
         cure = f"save it as plain text in UTF-8{then}"
-        raise Fault(f"{file}:{line}", "it is not in UTF-8", cure, Status.BAD_WORDS, None) from None
+        raise bad_file(f"{file}:{line}", "it is not in UTF-8", cure) from None
     odd = odd_sign(text, allowed="\t\n", refused=refused)
     if odd is not None:
         line = text.count("\n", 0, text.index(odd)) + 1
         words = f"it has the character {number_of(odd)}, which no plain text has"
-        raise Fault(f"{file}:{line}", words, f"take it out{then}", Status.BAD_WORDS, None)
+        raise bad_file(f"{file}:{line}", words, f"take it out{then}")
     if not text.strip():
-        raise Fault(file, "it is empty", empty + then, Status.BAD_WORDS, None)
+        raise bad_file(file, "it is empty", empty + then)
     return text
 
 
@@ -86,8 +104,8 @@ def sync_folder(folder: pathlib.Path) -> None:
 
 
 def write_whole(file: pathlib.Path, data: bytes, mode: int) -> None:
-    """Writes a file with this mode, whole or not at all: a temporary beside it is brought to the
-    disk, and takes its place. Raises OSError, and then the file is as it was.
+    """Writes a file with this mode, whole or not at all: a temporary beside it takes its place.
+    Raises OSError, and then the file is as it was.
     """
     handle, name = tempfile.mkstemp(prefix=TEMPORARY, dir=file.parent)
     try:
@@ -110,15 +128,12 @@ def write_whole(file: pathlib.Path, data: bytes, mode: int) -> None:
 
 
 def temporary_folder(place: pathlib.Path) -> pathlib.Path:
-    """Makes a folder for files that are moved to this place, or away from it. Raises OSError."""
     return pathlib.Path(tempfile.mkdtemp(prefix=TEMPORARY, dir=place))
 
 
 @contextlib.contextmanager
 def whole_folder(place: pathlib.Path) -> Iterator[pathlib.Path]:
-    """A new folder, which takes its place when all is in it; if that fails, nothing of it is left.
-    Raises OSError.
-    """
+    """A new folder, which takes its place when all is in it; if that fails, nothing is left."""
     parent = place.absolute().parent
     made = temporary_folder(parent)
     try:
@@ -131,9 +146,7 @@ def whole_folder(place: pathlib.Path) -> Iterator[pathlib.Path]:
 
 
 def write_public(file: pathlib.Path, data: bytes) -> None:
-    """Writes a new file that everybody may read, whatever the umask, and brings it to the disk.
-    Raises OSError.
-    """
+    """Writes a new file that everybody may read, whatever the umask."""
     with open(file, "xb") as target:
         write_through(target, data, 0o644)
 
@@ -163,14 +176,16 @@ def locked(place: pathlib.Path, *, is_directory: bool = False) -> Iterator[None]
         os.close(handle)
 
 
-@contextlib.contextmanager
-def in_memory(data: bytes) -> Iterator[str]:
-    """A file in memory, which other programs can read by this path while it lasts; a kill leaves
-    nothing of it.
-    """
+def demand_own_files() -> None:
     if not os.path.isdir(OWN_FILES):
         words = "it is missing, and programs get their input through it"
         raise Fault(OWN_FILES, words, "mount /proc, then run the command again", Status.BAD_OUTPUT)
+
+
+@contextlib.contextmanager
+def in_memory(data: bytes) -> Iterator[str]:
+    """A file in memory, which other programs can read by this path while it lasts."""
+    demand_own_files()
     try:
         handle = os.memfd_create("debvote")
     except OSError as error:
@@ -184,7 +199,7 @@ def in_memory(data: bytes) -> Iterator[str]:
 
 @contextlib.contextmanager
 def uninterrupted() -> Iterator[None]:
-    """Interrupts wait until this is done, so that whatever is done is also reported."""
+    """Interrupts wait until this is done, so that what is done is also reported."""
     signals = {signal.SIGINT, signal.SIGTERM, signal.SIGHUP}
     before = signal.pthread_sigmask(signal.SIG_BLOCK, signals)
     try:
@@ -204,9 +219,7 @@ def write_made(
     modes: tuple[int, int],
     outdated: Collection[str] = (),
 ) -> list[pathlib.Path]:
-    """Writes the files that are missing or differ, and returns them. Removes outdated files, and
-    leaves all others alone.
-    """
+    """Writes the files that are missing or differ, and returns them. Outdated files are removed."""
     folder_mode, file_mode = modes
     folder.mkdir(exist_ok=True)
     folder.chmod(folder_mode)

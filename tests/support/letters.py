@@ -9,12 +9,12 @@ from collections.abc import Collection, Mapping, Sequence
 
 from debvote_tools.book.queries import Elector
 from debvote_tools.debvote import findings_in
-from debvote_tools.inbox.candidates import read_all
-from debvote_tools.inbox.known import Ballot, Known, Names
-from debvote_tools.inbox.letter import ParsedLetter, as_json, from_json, parse
-from debvote_tools.inbox.mailbox import RawLetter
+from debvote_tools.inbox.judging import Ballot, judge_all
+from debvote_tools.inbox.letter import ParsedLetter, parse
+from debvote_tools.inbox.letter_lines import Names, ReadLetter, as_json, from_json, with_lines
+from debvote_tools.inbox.mailbox import NotRead, RawLetter
 from debvote_tools.inbox.reasons import Because
-from debvote_tools.inbox.rules import JudgedLetter, Outcome, judge_all
+from debvote_tools.inbox.rules import JudgedLetter, Known, Outcome
 
 from tests.support.program import PROGRAM, ROOT
 
@@ -68,7 +68,7 @@ class DebvoteReader:
         text = subprocess.run(words, input=given, capture_output=True, check=False).stdout.decode("ascii")
         os.close(handle)
         findings = findings_in(text)
-        assert findings.totals.lines == len(lines), text
+        assert findings.lines == len(lines), text
         found: dict[bytes, str | None] = dict.fromkeys(lines)
         for finding in findings.refused:
             found[lines[finding.envelope - 1]] = f"{finding.word}: {finding._replace(remark='').hint}"
@@ -157,19 +157,18 @@ def mailbox(*letters: bytes) -> bytes:
 
 
 def parsed(data: bytes, where: str = "letter", *, is_parted_off: bool = False) -> ParsedLetter:
-    """A letter that was read, as the book gives it back."""
-    found = parse(RawLetter(where, data, is_parted_off))
-    kept = from_json(as_json(found))
-    assert kept == found, (kept, found)
-    return kept
+    """A letter as its bytes alone say it."""
+    return parse(RawLetter(where, data, is_parted_off))
 
 
-def read(*letters: bytes | ParsedLetter, reader: DebvoteReader | None = None, **of_names: object) -> list[ParsedLetter]:
+def read(*letters: bytes | ParsedLetter, reader: DebvoteReader | None = None, **of_names: object) -> list[ReadLetter]:
     """Letters with what their lines may be, as the book gives them back."""
     given = [
         one if isinstance(one, ParsedLetter) else parsed(one, f"letter {number}") for number, one in enumerate(letters, start=1)
     ]
-    found = read_all(given, names(**of_names), reader or DebvoteReader())
+    new = [one for one in given if not isinstance(one, ReadLetter)]
+    fresh = iter(with_lines(new, names(**of_names), (reader or DebvoteReader()).answers))
+    found = [one if isinstance(one, ReadLetter) else next(fresh) for one in given]
     kept = [from_json(as_json(one)) for one in found]
     assert kept == found and len(found) == len(given)
     return kept
@@ -208,6 +207,16 @@ def outcomes(*letters: bytes | ParsedLetter, **other: object) -> list[str]:
 def lines_in(*letters: bytes | ParsedLetter, **other: object) -> list[str]:
     """The ballots that go in, in their order."""
     return [one.ballots[0].ballot for one in judged(*letters, **other) if one.outcome is Outcome.GOES_IN]
+
+
+def read_in(found: Sequence[RawLetter]) -> list[RawLetter]:
+    """The letters among what a mailbox gives."""
+    return [one for one in found if one.why_not_read is None]
+
+
+def passed_over_in(found: Sequence[RawLetter]) -> list[tuple[str, NotRead]]:
+    """What is passed over of a mailbox, and why."""
+    return [(one.where, one.why_not_read) for one in found if one.why_not_read is not None]
 
 
 def with_time(one: ParsedLetter, time: datetime.datetime) -> ParsedLetter:

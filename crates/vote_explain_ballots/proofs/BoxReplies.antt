@@ -1,16 +1,9 @@
 -- What the box replies to the lines that one desk casts in their order.
-use Rattle.std.proofs.Common.{◌≡◌, ◌+◌, ◌≤◌, ◌++◌, ◌∙◌, ℕ, zero, suc, List, [], ◌∷◌, drop, length, take, refl, ap, sym, Some, false, arith, slice_get, take-append-drop}
-use Rattle.std.specs.Prelude.{option_and_then}
-use Rattle.std.proofs.lemmas.Bool.Decides.{nat_tests}
-use Rattle.std.proofs.lemmas.List.{drop_more, take-append-le}
-use Rattle.std.proofs.lemmas.Option.{get_or_from_slice_get, slice_get_within}
-use Rattle.vote_poll.specs.Readings.{reading}
-use Rattle.vote_poll.specs.declared.Reading.{Reading}
-use Rattle.vote_steps.specs.History.{before_close, is_closed, reply_to}
+use Rattle.vote_explain_ballots.proofs.Words.{◌≡◌, ◌+◌, ◌≤◌, ◌++◌, ◌∙◌, ℕ, zero, suc, List, [], ◌∷◌, drop, length, take, refl, ap, sym, Some, false, arith, slice_get, take-append-drop, option_and_then, nat_tests, drop_more, take-append-le}
+use Rattle.vote_explain_ballots.proofs.Words.{get_or_from_slice_get, slice_get_within, reading, Reading, before_close, is_closed, reply_to, RefusedAsBySteps, if_refusing, refusing_reply, reply_to_cast}
 use Rattle.vote_steps.specs.declared.Step.{Step}
 use Rattle.vote_steps.specs.declared.Step.TheVariants.{Cast, Close}
 use Rattle.vote_steps.proofs.CastLemmas.{read_at}
-use Rattle.vote_explain_ballots.specs.Refusals.{RefusedAsBySteps, if_refusing, refusing_reply, reply_to_cast}
 
 -- ---- the reply of an open box refuses the line that is late or no ballot
 refuses_as_read : (last : ℕ) (before : List Step) (stamp : ℕ) (read : Reading) → is_closed before ≡ false → if_refusing (reply_to last before stamp read) ≡ refusing_reply last stamp read

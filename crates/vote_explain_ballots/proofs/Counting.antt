@@ -1,15 +1,8 @@
 -- How many lines are refused.
-use Rattle.std.proofs.Common.{◌≡◌, ◌+◌, ◌-◌, ◌∙◌, ℕ, zero, suc, List, [], ◌∷◌, length, drop, take, refl, ap, Bool, not, arith, filter}
-use Rattle.std.specs.List.{enumerate_from, flat_map}
-use Rattle.std.proofs.lemmas.Bool.Decides.{nat_tests}
-use Rattle.std.proofs.lemmas.Grind.{common_steps}
+use Rattle.vote_explain_ballots.proofs.Words.{◌≡◌, ◌+◌, ◌-◌, ◌∙◌, ℕ, zero, suc, List, [], ◌∷◌, length, drop, take, refl, ap, Bool, not, arith, filter, enumerate_from, flat_map, nat_tests, common_steps, PollContent, last_in_time, is_ballot}
+use Rattle.vote_explain_ballots.proofs.Words.{readings, Reading, Text, EachRefusalIsListed, refusal_of}
 use Rattle.std.proofs.lemmas.List.Sums.{length-filter}
-use Rattle.vote_poll.specs.PollContent.{PollContent, last_in_time}
-use Rattle.vote_poll.specs.Readings.{is_ballot, readings}
-use Rattle.vote_poll.specs.declared.Reading.{Reading}
 use Rattle.vote_sheet.specs.LastBallots.{readings_in_time}
-use Rattle.vote_sheet.specs.Texts.{Text}
-use Rattle.vote_explain_ballots.specs.Refusals.{EachRefusalIsListed, refusal_of}
 
 abbrev is_no_ballot : Reading → Bool
 is_no_ballot read = not (is_ballot read)

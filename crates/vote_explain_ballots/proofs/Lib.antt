@@ -1,3 +1,4 @@
+pub mod Words
 pub mod Scanning
 pub mod Nearest
 pub mod Listing

@@ -1,29 +1,13 @@
 -- The findings of refused lines, one after another.
-use Rattle.std.proofs.Common.{◌≡◌, ◌+◌, ◌++◌, ◌∙◌, ℕ, List, [], take, refl, ap, sym, Some, Bool, true, false, arith, append_assoc, append-nil, slice_get}
-use Rattle.std.specs.List.{enumerate_from, flat_map}
-use Rattle.std.proofs.lemmas.List.{flat_map_more, take_more}
-use Rattle.std.proofs.lemmas.List.FromFn.{get_or-enumerate_from, length-enumerate_from}
-use Rattle.std.proofs.lemmas.Option.{get_or_from_slice_get, slice_get_within}
-use Rattle.vote_poll.specs.PollContent.{PollContent, last_in_time}
-use Rattle.vote_poll.specs.Readings.{reading}
+use Rattle.vote_explain_ballots.proofs.Words.{◌≡◌, ◌+◌, ◌++◌, ◌∙◌, ℕ, List, [], take, refl, ap, sym, Some, Bool, false, arith, append_assoc, append-nil, slice_get, enumerate_from, flat_map, flat_map_more, take_more, get_or-enumerate_from}
+use Rattle.vote_explain_ballots.proofs.Words.{length-enumerate_from, get_or_from_slice_get, slice_get_within, PollContent, last_in_time, reading, is_valid, Text, AreLinesFor, Adding, IsRemark, IsLineHint, IsRemarked, SaysRefusal, finding}
+use Rattle.vote_explain_ballots.proofs.Words.{finding_head, Refusal, if_refusing, refusal, refusal_by, refusal_of, refusing_reply}
 use Rattle.vote_poll_text.specs.Lines.{line_feed}
-use Rattle.vote_steps.specs.History.{is_valid}
 use Rattle.vote_steps.specs.declared.Reply.{Reply}
-use Rattle.vote_sheet.specs.Texts.{Text}
-use Rattle.vote_explain_poll.specs.Findings.{AreLinesFor}
-use Rattle.vote_explain_poll.specs.Hints.{Adding}
-use Rattle.vote_explain_ballots.specs.Remarks.{IsRemark}
-use Rattle.vote_explain_ballots.specs.Explained.{IsLineHint, IsRemarked, SaysRefusal, finding, finding_head}
-use Rattle.vote_explain_ballots.specs.Refusals.{Refusal, if_refusing, refusal, refusal_by, refusal_of, refusing_reply}
 
--- ---- the finding of a line
 -- words were added, and then a remark
 pub remarked : (words t0 t1 t2 : Text) → t1 ≡ t0 ++ words → Adding IsRemark t1 t2 → Adding (IsRemarked words) t0 t2
 remarked words t0 t1 t2 e (remark, is, e2) = (words ++ remark, (remark, is, refl), e2 ∙ ap (λ t. t ++ remark) e ∙ append_assoc t0 words remark)
-
--- a valid line has none
-pub no_finding : (is_text : Bool) (poll : PollContent) (number : ℕ) (bytes : Text) (reply : Reply) (text : Text) → is_valid reply ≡ true → Adding (AreLinesFor (SaysRefusal is_text poll) (refusal number bytes reply)) text text
-no_finding is_text poll number bytes reply text valid = rw valid ([], refl, sym (append-nil text))
 
 -- its words were added, then its hint, and a line feed
 pub one_finding : (is_text : Bool) (poll : PollContent) (number : ℕ) (bytes : Text) (reply : Reply) (t0 t1 t2 t3 : Text) → is_valid reply ≡ false
@@ -32,7 +16,6 @@ one_finding is_text poll number bytes reply t0 t1 t2 t3 refused e1 (hint, is, e2
     let one : Refusal = record { number = number; bytes = bytes; reply = reply } in
     rw refused (finding one hint, (finding one hint, [], (hint, is, refl), refl, sym (append-nil (finding one hint))), rw (e3, e2, e1) (simp append_assoc))
 
--- ---- one after another
 -- the refusals of the lines before a place
 abbrev pub refusals_before : PollContent → ℕ → List Text → List Refusal
 refusals_before poll place lines = flat_map (refusal_of poll) (take place (enumerate_from 1 lines))

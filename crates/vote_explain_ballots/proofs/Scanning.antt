@@ -1,21 +1,13 @@
 -- Reading a line from the left finds where it leaves the grammar.
-use Rattle.std.proofs.Common.{◌≡◌, ◌+◌, ◌-◌, ◌<◌, ◌≤◌, ◌++◌, inl, inr, ℕ, zero, List, [], ◌∷◌, map, length, take, drop, refl, ap, sym, subst, ◌∙◌, Option, Some, None, true, false, nat_le, suc, ◌&&◌, ◌==◌, get_or, arith, append_assoc, append-nil, take-append-drop}
-use Rattle.std.specs.Prelude.{Bool, is_some, ◌↔◌, cond}
-use Rattle.std.specs.List.{list_all, before_first, after_first, position_or_len, slice_split, onto_first}
+use Rattle.vote_explain_ballots.proofs.Words.{◌≡◌, ◌+◌, ◌-◌, ◌<◌, ◌≤◌, ◌++◌, inl, inr, ℕ, zero, List, [], ◌∷◌, map, length, take, drop, refl, ap, sym, subst, ◌∙◌, Option, Some, None, true, false, nat_le, suc, ◌&&◌, ◌==◌, get_or, arith}
+use Rattle.vote_explain_ballots.proofs.Words.{append_assoc, append-nil, take-append-drop, Bool, is_some, ◌↔◌, cond, list_all, before_first, after_first, position_or_len, slice_split, onto_first, nat_tests, common_steps, take-take, take_more}
+use Rattle.vote_explain_ballots.proofs.Words.{PollContent, IsReading, ballot_in, is_space, rank_in, reading, reading_of, Reading, is_voter_byte, is_within, IsColumn, IsExit, IsLinePrefix, IsPartAfter, has_byte, may_end, next_part}
 use Rattle.std.proofs.lemmas.Bool.{cases_Bool, and_parts}
-use Rattle.std.proofs.lemmas.Bool.Decides.{nat_tests}
-use Rattle.std.proofs.lemmas.Grind.{common_steps}
-use Rattle.std.proofs.lemmas.List.{take-take, take_more}
 use Rattle.vote_poll.specs.BallotLine.{IsBallotText}
-use Rattle.vote_poll.specs.PollContent.{PollContent}
-use Rattle.vote_poll.specs.Readings.{IsReading, ballot_in, is_space, rank_in, reading, reading_of}
-use Rattle.vote_poll.specs.declared.reading.Reading.{Reading}
 use Rattle.vote_poll.specs.declared.reading.Reading.TheVariants.{Bad, Ballot}
 use Rattle.vote_poll.specs.declared.reading.LineFault.TheVariants.{RankCount, Roll, Shape}
 use Rattle.vote_poll.specs.declared.wording.Wording.TheVariants.{AtLeast}
 use Rattle.vote_poll_keys.specs.Lists.{all_some}
-use Rattle.vote_poll_text.specs.Names.{is_voter_byte, is_within}
-use Rattle.vote_explain_ballots.specs.Places.{IsColumn, IsExit, IsLinePrefix, IsPartAfter, has_byte, may_end, next_part}
 use Rattle.vote_explain_ballots.specs.declared.places.Part.{Part}
 use Rattle.vote_explain_ballots.specs.declared.places.Part.TheVariants as part
 
@@ -44,7 +36,6 @@ goes_on part.RankEnd count rest = nat_le (count + length rest) 200 && are_ranks 
 ballot_goes_on : (line : List ℕ) → is_some (ballot_in line) ≡ goes_on part.Name 0 line
 ballot_goes_on line = grind (arith, nat_tests, ranks_are (texts_in (after_first is_space line)))
 
--- ---- one byte more
 some_rest : (rest : List ℕ) → are_ranks (texts_in rest) ≡ true → 1 ≤ length rest
 some_rest [] is = cc
 some_rest (b ∷ rest) is = omega arith
@@ -56,11 +47,8 @@ most_before part.Rank = 199
 most_before part.Digit = 200
 most_before part.RankEnd = 200
 
-abbrev Step : Part → ℕ → ℕ → List ℕ → Type 0
-Step p count b rest = goes_on p count (b ∷ rest) ≡ has_byte p count b && goes_on (next_part p b) (count + 1) rest
-
-name_step : (count b : ℕ) (rest : List ℕ) → count ≤ 32 → Step part.Name count b rest
-name_step count b rest room = elim (cases_Bool (b == 32)) [
+step : (p : Part) (count b : ℕ) (rest : List ℕ) → count ≤ most_before p → goes_on p count (b ∷ rest) ≡ has_byte p count b && goes_on (next_part p b) (count + 1) rest
+step part.Name count b rest room = elim (cases_Bool (b == 32)) [
   | inl space ↦ let none : is_voter_byte b ≡ false = grind (arith, nat_tests) in rw (space, none) (grind (arith, nat_tests))
   | inr other ↦
       let before = position_or_len is_space rest in
@@ -68,9 +56,6 @@ name_step count b rest room = elim (cases_Bool (b == 32)) [
       let past : 1 + before + 1 ≡ suc (before + 1) = omega arith in
       rw (other, past, next) (grind (arith, nat_tests))
 ]
-
-step : (p : Part) (count b : ℕ) (rest : List ℕ) → count ≤ most_before p → goes_on p count (b ∷ rest) ≡ has_byte p count b && goes_on (next_part p b) (count + 1) rest
-step part.Name count b rest room = name_step count b rest room
 step part.Rank count b rest room = grind (arith, nat_tests)
 step part.Digit count b rest room = grind (arith, nat_tests, some_rest rest)
 step part.RankEnd count b rest room = grind (arith, nat_tests, some_rest rest)
@@ -78,15 +63,10 @@ step part.RankEnd count b rest room = grind (arith, nat_tests, some_rest rest)
 room_kept : (p : Part) (count b : ℕ) → count ≤ most_before p → has_byte p count b ≡ true → count + 1 ≤ most_before (next_part p b)
 room_kept p count b room here = grind (arith, nat_tests, common_steps)
 
--- ---- after a front
 -- what makes the front a ballot line is what goes on in this part, after this number of bytes
 pub record IsAfter (front : List ℕ) (count : ℕ) (p : Part) : Type 0 where
   pub room : count ≤ most_before p
   pub left : (rest : List ℕ) → IsBallotText (front ++ rest) ↔ (goes_on p count rest ≡ true)
-
--- each line is read by the grammar
-abbrev pub LinesAreRead : Type 0
-LinesAreRead = (poll : PollContent) (line : List ℕ) → IsReading poll line (reading poll line)
 
 -- a poll without options, of which each ballot line has too many ranks
 abbrev some_poll : PollContent
@@ -106,7 +86,8 @@ text_by line (Some ballot) is = (λ text. refl, λ some. is_text line (reading_o
     shape_of true same = cc
     shape_of false same = cc
 
-pub after_none : LinesAreRead → IsAfter [] 0 part.Name
+-- before the first byte a name comes, since each line is read by the grammar
+pub after_none : ((poll : PollContent) (line : List ℕ) → IsReading poll line (reading poll line)) → IsAfter [] 0 part.Name
 after_none law = record {
   room = omega arith;
   left = λ line.

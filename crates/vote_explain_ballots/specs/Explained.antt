@@ -1,9 +1,8 @@
 -- What `explain` says of the lines of a ballot file. Which lines are listed, where each leaves the grammar, what a ballot has there, and
 -- all numbers are fixed here. What a remark says is open.
-use Rattle.std.specs.Prelude.{◌≡◌, ℕ, ◌+◌, ◌≤◌, ◌==◌, ◌&&◌, ◌⊎◌, if◌then◌else◌, nat_le, nat_lt, Bool, true, false, option_map, unwrap_or, List, [], ◌∷◌, ◌++◌, count_by, drop, length, IsTrue, codes, decimal, string_bytes}
+use Rattle.std.specs.Prelude.{◌≡◌, ℕ, ◌+◌, ◌≤◌, ◌==◌, ◌&&◌, ◌⊎◌, if◌then◌else◌, nat_le, nat_lt, Bool, true, false, option_map, unwrap_or, List, [], ◌∷◌, ◌++◌, count_by, drop, length, IsTrue, codes, decimal}
 use Rattle.std.specs.List.{All, before_first, concat, flat_map}
 use Rattle.std.specs.Str.{byte}
-use Rattle.std.specs.declared.string.String.{String}
 use Rattle.vote_poll.specs.PollContent.{PollContent, elector_count, last_in_time, option_count}
 use Rattle.vote_poll.specs.Readings.{is_ballot, is_space, reading}
 use Rattle.vote_poll.specs.declared.LineFault.TheVariants.{Shape, RankCount, Roll}
@@ -17,19 +16,14 @@ use Rattle.vote_sheet.specs.Steps.{reply_words}
 use Rattle.vote_sheet.specs.Texts.{Text, line}
 use Rattle.vote_explain_poll.specs.Findings.{AreLinesFor}
 use Rattle.vote_explain_ballots.specs.Places.{IsExit, place_words}
-use Rattle.vote_explain_ballots.specs.NearNames.{IsNearest}
-use Rattle.vote_explain_ballots.specs.Remarks.{IsFileText, IsRemark, can_be_ballots}
+use Rattle.vote_explain_ballots.specs.Remarks.{IsFileText, IsNearest, IsRemark, can_be_ballots}
 use Rattle.vote_explain_ballots.specs.declared.TheConstants.{MOST_SHOWN}
 use Rattle.vote_explain_ballots.specs.Refusals.{Refusal, refusals}
 use Rattle.vote_explain_ballots.specs.declared.places.Exit.{Exit}
 
--- ---- of each refused line
 -- these words, and then a remark
 abbrev pub IsRemarked : Text → Text → Type 0
 IsRemarked words text = (remark : Text) × IsRemark remark × (text ≡ words ++ remark)
-
-abbrev pub column_words : ℕ → Text
-column_words column = codes "column " ++ decimal column ++ codes ": "
 
 -- what a ballot has where a line leaves the grammar, said of a file that can be ballots
 unfoldable pub sentence : Bool → Exit → Text
@@ -40,7 +34,7 @@ sentence false exit = []
 abbrev pub IsShapeHint : Bool → Text → Text → Type 0
 IsShapeHint is_text bytes hint =
     (exit : Exit) × (character : Text) × IsExit bytes exit × IsRemark character
-    × (hint ≡ column_words (exit.before + 1) ++ character ++ sentence is_text exit)
+    × (hint ≡ codes "column " ++ decimal (exit.before + 1) ++ codes ": " ++ character ++ sentence is_text exit)
 
 -- how many ranks a ballot line has, one more than commas, and how many it is to have
 abbrev pub rank_count : Text → ℕ
@@ -60,16 +54,15 @@ abbrev pub stranger_words : Text → List Text → Text
 stranger_words name near = shown MOST_SHOWN name ++ codes " is not on the roll" ++ question near
 
 -- a name that is not on the roll, the names on it that are suggested, and a remark on their ballots
-abbrev pub IsStrangerHint : PollContent → Text → Text → Type 0
-IsStrangerHint poll bytes hint =
-    (near : List Text) × All (IsNearest (before_first is_space bytes) poll.roll) near × IsRemarked (stranger_words (before_first is_space bytes) near) hint
+abbrev pub IsStrangerHint : List Text → Text → Text → Type 0
+IsStrangerHint roll name hint = (near : List Text) × All (IsNearest name roll) near × IsRemarked (stranger_words name near) hint
 
 -- What is said after the words of the reply: where a line leaves the grammar; its number of ranks; its name, and those that are near;
 -- the last envelope. No other reply refuses a line.
 abbrev pub IsLineHint : Bool → PollContent → Text → Reply → Text → Type 0
 IsLineHint is_text poll bytes (BadLine Shape) hint = IsShapeHint is_text bytes hint
 IsLineHint is_text poll bytes (BadLine RankCount) hint = hint ≡ rank_count_words (rank_count bytes) (option_count poll)
-IsLineHint is_text poll bytes (BadLine Roll) hint = IsStrangerHint poll bytes hint
+IsLineHint is_text poll bytes (BadLine Roll) hint = IsStrangerHint poll.roll (before_first is_space bytes) hint
 IsLineHint is_text poll bytes Late hint = hint ≡ codes "the last envelope is " ++ decimal (last_in_time poll)
 IsLineHint is_text poll bytes other hint = hint ≡ []
 
@@ -84,16 +77,11 @@ finding refusal hint = finding_head refusal.number refusal.reply ++ hint ++ line
 abbrev pub SaysRefusal : Bool → PollContent → Refusal → Text → Type 0
 SaysRefusal is_text poll refusal line = (hint : Text) × IsLineHint is_text poll refusal.bytes refusal.reply hint × (line ≡ finding refusal hint)
 
--- ---- an example
-abbrev pub example_line : Text → Text
-example_line ballot = line (codes "a ballot line of this poll: " ∷ ballot ∷ [])
-
 -- nothing, or a line with a ballot of this poll
 abbrev pub IsExample : PollContent → Text → Type 0
 IsExample poll text =
-    (text ≡ []) ⊎ ((ballot : Text) × IsTrue (is_ballot (reading poll ballot)) × (text ≡ example_line ballot))
+    (text ≡ []) ⊎ ((ballot : Text) × IsTrue (is_ballot (reading poll ballot)) × (text ≡ line (codes "a ballot line of this poll: " ∷ ballot ∷ [])))
 
--- ---- the numbers
 -- what a box that holds the lines counts, in the words of the result sheet
 pub record AreTotals (poll : PollContent) (lines : List Text) (totals : Totals) : Type 0 where
   pub valid : totals.valid ≡ valid_count poll lines
@@ -107,25 +95,22 @@ numbers_text poll lines = line (
     ∷ codes " refused, " ∷ decimal (length (drop (last_in_time poll) lines)) ∷ codes " of them late; " ∷ decimal (voter_count poll lines) ∷ codes " of "
     ∷ decimal (elector_count poll) ∷ codes " electors have a ballot" ∷ [])
 
--- ---- before the lines
 abbrev pub order_text : ℕ → Text
 order_text number = line (
     codes "line " ∷ decimal number ∷ codes " names options of the poll in another order than the poll has them: the ranks below it may stand in that order" ∷ [])
 
-abbrev pub table_text : Text
-table_text = line (codes "the lines look like a table; its columns may stand in another order than the options" ∷ [])
-
 -- the columns may be in another order by one of the lines, or by all, or nothing is said of it
 abbrev pub IsColumnsText : List Text → Text → Type 0
-IsColumnsText lines text = (text ≡ []) ⊎ ((text ≡ table_text) ⊎ ((number : ℕ) × (1 ≤ number) × (number ≤ length lines) × (text ≡ order_text number)))
-
-abbrev pub counted_line : ℕ → Text
-counted_line last = line (codes "lines are counted: taking one out, or adding one above line " ∷ decimal last ∷ codes ", changes which ballots are late" ∷ [])
+IsColumnsText lines text =
+    (text ≡ []) ⊎ ((text ≡ line (codes "the lines look like a table; its columns may stand in another order than the options" ∷ []))
+    ⊎ ((number : ℕ) × (1 ≤ number) × (number ≤ length lines) × (text ≡ order_text number)))
 
 -- that lines are counted, if the line with the number of the last envelope is there, and a line is refused that is not late
 abbrev pub counted_text : PollContent → List Text → Text
 counted_text poll lines =
-    unwrap_or (option_map (λ last. if nat_le last (length lines) && nat_lt (length (drop last lines)) (refused_count poll lines) then counted_line last else []) poll.last_envelope) []
+    unwrap_or (option_map (λ last.
+    if nat_le last (length lines) && nat_lt (length (drop last lines)) (refused_count poll lines)
+    then line (codes "lines are counted: taking one out, or adding one above line " ∷ decimal last ∷ codes ", changes which ballots are late" ∷ []) else []) poll.last_envelope) []
 
 abbrev pub AreWarnings : PollContent → List Text → Text → Type 0
 AreWarnings poll lines text = (columns : Text) × IsColumnsText lines columns × (text ≡ columns ++ counted_text poll lines)
@@ -135,7 +120,6 @@ abbrev pub IsIfText : Bool → (Text → Type 0) → Text → Type 0
 IsIfText true Says text = Says text
 IsIfText false Says text = text ≡ []
 
--- ---- the whole
 -- what is remarked on the file, a line for each line that is refused, an example, and the numbers
 pub record IsExplained (poll : PollContent) (file : Text) (lines : List Text) (text : Text) : Type 0 where
   pub of_file : Text
@@ -147,7 +131,3 @@ pub record IsExplained (poll : PollContent) (file : Text) (lines : List Text) (t
   pub example : Text
   pub is_example : IsExample poll example
   pub is_said : text ≡ of_file ++ warnings ++ findings ++ example ++ numbers_text poll lines
-
--- the text says it
-abbrev pub SaysAll : {Z : Type 0} → PollContent → Text → List Text → String Z → Type 0
-SaysAll poll file lines text = IsExplained poll file lines (string_bytes text)

@@ -46,7 +46,6 @@ refusals poll lines = flat_map (refusal_of poll) (enumerate_from 1 lines)
 abbrev pub EachRefusalIsListed : Type 0
 EachRefusalIsListed = (poll : PollContent) (lines : List Text) → length (refusals poll lines) ≡ refused_count poll lines
 
--- ---- what the box replies
 -- the reply, where it refuses a line
 abbrev pub if_refusing : Reply → Option Reply
 if_refusing reply = if is_valid reply then None else Some reply

@@ -1,10 +1,7 @@
 //! Signs that the ranks of a ballot file may stand in another order than the options of the poll.
-
-ghost use Rattle.std.specs.Prelude.{◌≡◌, ◌≤◌, IfSome, length};
-ghost use Rattle.vote_poll_text.specs.Adding.{Adds};
-ghost use Rattle.vote_explain_ballots.specs.Explained.{order_text, table_text};
-ghost use Rattle.vote_explain_poll.specs.Hints.{Tells};
+ghost use Rattle.std.specs.Prelude.{◌≤◌, IfSome, length};
 ghost use Rattle.vote_explain_ballots.specs.Explained.{IsColumnsText};
+ghost use Rattle.vote_explain_poll.specs.Hints.{Tells};
 
 use crate::MARK;
 use std::alloc::AllocError;
@@ -75,13 +72,10 @@ fn has_other_order(poll: &Poll, begins: &[bool; 256], line: &[u8]) -> bool {
 
 /// Whether a step refuses its line for its shape.
 pub(crate) fn is_of_bad_shape(step: &Step) -> bool {
-    matches!(
-        step,
-        Step::Cast {
-            reply: Reply::BadLine(LineFault::Shape),
-            ..
-        }
-    )
+    match step {
+        Step::Cast { reply, .. } => matches!(reply, Reply::BadLine(LineFault::Shape)),
+        Step::Close => false,
+    }
 }
 
 /// The number of the first line of bad shape that names options in another order than the poll has them.
@@ -99,17 +93,13 @@ fn line_of_names(poll: &Poll, lines: &Lines<'_>, steps: &[Step]) -> Option<usize
     None
 }
 
-/// Whether a byte can be of a name, in small letters or capitals.
-fn is_name_byte(byte: u8) -> bool {
-    byte.is_ascii_alphanumeric() || matches!(byte, b'.' | b'-')
-}
-
 /// The sign, no comma and no space, that parts a name from ranks, and the ranks from each other, in a line that has nothing else.
 fn sign_of(line: &[u8]) -> Option<u8> {
     let (mut sign, mut has_name, mut is_repeated) = (0, false, false);
     for byte in line.strip_prefix(MARK).unwrap_or(line) {
         let byte = *byte;
-        if sign == 0 && is_name_byte(byte) {
+        // a name may be in capitals
+        if sign == 0 && (byte.is_ascii_alphanumeric() || matches!(byte, b'.' | b'-')) {
             has_name = true;
         } else if matches!(byte, b'"' | b'\r') {
             continue;
@@ -141,16 +131,6 @@ fn look_like_table(lines: &Lines<'_>) -> bool {
     common.is_some()
 }
 
-/// Adds that a line names options in another order.
-fn push_order(text: &mut String, number: usize) -> Result<(), AllocError>
-    ensures { Adds result text.old (order_text number) text.new }
-{
-    writeln!(
-        text,
-        "line {number} names options of the poll in another order than the poll has them: the ranks below it may stand in that order"
-    )
-}
-
 /// Adds whether the ranks may stand in another order than the options, once for the file.
 pub(crate) fn push_columns(
     text: &mut String,
@@ -161,7 +141,10 @@ pub(crate) fn push_columns(
     ensures { Tells result text.old (IsColumnsText lines.now) text.new }
 {
     if let Some(number) = line_of_names(poll, lines, steps) {
-        return push_order(text, number);
+        return writeln!(
+            text,
+            "line {number} names options of the poll in another order than the poll has them: the ranks below it may stand in that order"
+        );
     }
     if look_like_table(lines) {
         return text.push_str(

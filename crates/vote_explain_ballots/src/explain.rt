@@ -1,14 +1,13 @@
 //! What is wrong with the lines of a ballot file, as a text.
-
-ghost use Rattle.std.specs.Prelude.{◌≡◌, IfOk, OnOk, drop, length};
+ghost use Rattle.std.specs.Prelude.{◌≡◌, IfOk, drop, length, string_bytes};
 ghost use Rattle.vote_poll.specs.PollContent.{last_in_time};
 ghost use Rattle.vote_poll.specs.Readings.{is_ballot, reading};
 ghost use Rattle.vote_poll_text.specs.Adding.{Adds};
 ghost use Rattle.vote_steps.specs.HeldLines.{HoldsLines};
 ghost use Rattle.vote_sheet.specs.LastBallots.{refused_count};
 ghost use Rattle.vote_explain_poll.specs.Hints.{Tells};
-ghost use Rattle.vote_explain_ballots.specs.Explained.{AreTotals, AreWarnings, IsExample, IsIfText, SaysAll, counted_text, example_line, numbers_text};
-ghost use Rattle.vote_explain_ballots.specs.Refusals.{AreReplies, EachRefusalIsListed, RefusedAsBySteps};
+ghost use Rattle.vote_explain_ballots.specs.Explained.{AreTotals, AreWarnings, IsExample, IsExplained, IsIfText, counted_text, numbers_text};
+ghost use Rattle.vote_explain_ballots.specs.Refusals.{EachRefusalIsListed, RefusedAsBySteps};
 
 use crate::columns::{is_of_bad_shape, push_columns};
 use crate::findings::Findings;
@@ -56,21 +55,11 @@ fn example(alloc: Global, poll: &Poll) -> Result<String, AllocError> {
     Ok(ballot)
 }
 
-/// Adds a line with an example.
-fn push_line(text: &mut String, example: &str) -> Result<(), AllocError>
-    ensures { Adds result text.old (example_line example.now) text.new }
-{
-    writeln!(text, "a ballot line of this poll: {example}")
-}
-
 /// Whether the poll reads a ballot in a line.
 fn is_ballot(poll: &Poll, line: &[u8]) -> bool
     ensures { result ≡ is_ballot (reading poll.now line.now) }
 {
-    match read_line(poll, line) {
-        Reading::Ballot { .. } => true,
-        Reading::Bad(_) => false,
-    }
+    matches!(read_line(poll, line), Reading::Ballot { .. })
 }
 
 /// Adds an example if it is wanted, and if it is a ballot of the poll.
@@ -89,8 +78,7 @@ fn push_example(
     if !is_ballot(poll, example.as_bytes()) {
         return Ok(());
     }
-    push_line(text, example.as_str())?;
-    Ok(())
+    writeln!(text, "a ballot line of this poll: {}", example.as_str())
 }
 
 /// Adds how many lines are valid, refused and late, and how many electors have a ballot.
@@ -164,7 +152,7 @@ pub fn explain_ballots(
     text: &[u8],
     file: Option<&str>,
 ) -> Result<Explained, AllocError>
-    ensures text { IfOk result (λ said. SaysAll poll.now text.now lines.now said.text) }
+    ensures text { IfOk result (λ said. IsExplained poll.now text.now lines.now (string_bytes said.text)) }
     ensures refused { IfOk result (λ said. said.refused ≡ refused_count poll.now lines.now) }
 {
     let ballot_box = cast_all(alloc, poll, lines)?;
@@ -183,11 +171,13 @@ pub fn explain_ballots(
 }
 
 /// A law: as many lines are listed as the result sheet has refused lines.
+#[tactic(auto, using(crate::proofs::Counting::each_is_listed))]
 pub fn each_refusal_is_listed()
     ensures { EachRefusalIsListed }
 {}
 
 /// A law: the box of `steps` refuses the lines that are listed, and no others, each with the reply that is told.
+#[tactic(auto, using(crate::proofs::BoxReplies::replies_of_box))]
 pub fn refused_as_by_steps()
     ensures { RefusedAsBySteps }
 {}

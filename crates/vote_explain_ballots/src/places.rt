@@ -1,5 +1,4 @@
 //! What a ballot line has at each place, and where another line leaves the grammar.
-
 ghost use Rattle.std.specs.Prelude.{◌≡◌, List, ℕ};
 ghost use Rattle.vote_explain_ballots.specs.Places.{IsColumn, IsExit, has_byte, next_part, place_words};
 

@@ -1,12 +1,10 @@
 //! What lets only remarks through, one line of printable text each; and what is remarked on a whole ballot file: what it is if it is
 //! no ballots, and how the ends of its lines are mended.
-
 ghost use Rattle.std.specs.Prelude.{◌≡◌, IfOk, IsTrue};
 ghost use Rattle.std.specs.List.{list_all, list_any};
-ghost use Rattle.vote_poll_text.specs.Adding.{Adds};
 ghost use Rattle.vote_poll_text.specs.Names.{is_printable};
 ghost use Rattle.vote_explain_poll.specs.Hints.{Tells};
-ghost use Rattle.vote_explain_ballots.specs.Remarks.{IsFileText, IsRemark, can_be_ballots, file_line, is_title};
+ghost use Rattle.vote_explain_ballots.specs.Remarks.{IsFileText, IsRemark, can_be_ballots, is_title};
 
 use crate::columns::is_of_bad_shape;
 use crate::{MARK, MOST_REMARK};
@@ -56,13 +54,6 @@ pub(crate) fn push_remark(text: &mut String, remark: &str) -> Result<(), AllocEr
     text.push_str(remark)
 }
 
-/// Adds a line on the file.
-fn push_line(text: &mut String, remark: &str) -> Result<(), AllocError>
-    ensures { Adds result text.old (file_line remark.now) text.new }
-{
-    writeln!(text, "the ballot file {remark}")
-}
-
 /// Adds a line with a remark on the file, if it is one.
 fn push_file_line(text: &mut String, remark: &str) -> Result<(), AllocError>
     ensures { Tells result text.old IsFileText text.new }
@@ -70,7 +61,7 @@ fn push_file_line(text: &mut String, remark: &str) -> Result<(), AllocError>
     if remark.is_empty() || !is_remark(remark) {
         return Ok(());
     }
-    push_line(text, remark)
+    writeln!(text, "the ballot file {remark}")
 }
 
 /// Whether a line begins as that of the title of a poll.
@@ -87,12 +78,10 @@ fn has_title(lines: &Lines<'_>) -> bool
 
 /// Adds what a file is that is no ballots: another kind of file, by its first bytes, or else a poll.
 fn push_kind(words: &mut String, text: &[u8]) -> Result<(), AllocError> {
-    let Some(kind) = file_kind(text) else {
-        return words.push_str("looks like a poll: are the files exchanged?");
-    };
-    words.push_str("is ")?;
-    words.push_str(kind)?;
-    words.push_str("; ballots are plain text in UTF-8")
+    match file_kind(text) {
+        Some(kind) => write!(words, "is {kind}; ballots are plain text in UTF-8"),
+        None => words.push_str("looks like a poll: are the files exchanged?"),
+    }
 }
 
 /// Whether no line feed is in the file, and a space is after a carriage return: so old Macs end lines.

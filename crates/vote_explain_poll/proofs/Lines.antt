@@ -1,8 +1,5 @@
 -- Lines of findings, one after another.
-use Rattle.std.proofs.Common.{◌≡◌, ◌+◌, ◌<◌, ◌∷◌, ◌++◌, [], ℕ, List, length, take, refl, ap, sym, subst, ◌∙◌, append_assoc, append-nil, get_or}
-use Rattle.std.proofs.lemmas.List.{take_more}
-use Rattle.vote_explain_poll.specs.Hints.{Adding}
-use Rattle.vote_explain_poll.specs.Findings.{AreLinesFor}
+use Rattle.vote_explain_poll.proofs.Words.{◌≡◌, ◌+◌, ◌<◌, ◌∷◌, ◌++◌, [], ℕ, List, length, take, refl, ap, sym, subst, ◌∙◌, append_assoc, append-nil, get_or, take_more, Adding, AreLinesFor}
 
 lines_append : {X : Type 0} (Says : X → List ℕ → Type 0) (xs ys : List X) (s t : List ℕ) → AreLinesFor Says xs s → AreLinesFor Says ys t → AreLinesFor Says (xs ++ ys) (s ++ t)
 lines_append Says [] ys s t none more = subst (λ (u : List ℕ). AreLinesFor Says ys (u ++ t)) (sym none) more
@@ -19,7 +16,3 @@ pub one_more : {X : Type 0} (Says : X → List ℕ → Type 0) (xs : List X) (i 
 one_more Says xs i d x before between after within at first (line, says, e) =
     subst (λ ys. Adding (AreLinesFor Says ys) before after) (sym (take_more xs i d within ∙ ap (λ y. take i xs ++ y ∷ []) at))
     (lines_on Says (take i xs) (x ∷ []) before between after first (line, (line, [], says, refl, sym (append-nil line)), e))
-
--- what an empty text became by what was added
-pub from_nothing : (Says : List ℕ → Type 0) (before after : List ℕ) → before ≡ [] → Adding Says before after → Says after
-from_nothing Says before after none (added, says, is) = subst Says (sym (is ∙ ap (λ t. t ++ added) none)) says

@@ -8,18 +8,12 @@ use Rattle.vote_poll.specs.PollFaults.{faults_in}
 use Rattle.vote_poll_keys.specs.FaultWords.{fault_words}
 use Rattle.vote_poll_keys.specs.declared.fault.PollFault.{PollFault}
 use Rattle.vote_explain_poll.specs.Hints.{IsHintLine}
-use Rattle.vote_explain_poll.specs.UnreadKeys.{KeyPlace, path_of}
-use Rattle.vote_explain_poll.specs.Remarks.{IsKeyRemark}
+use Rattle.vote_explain_poll.specs.UnreadKeys.{IsKeyRemark, KeyPlace, path_of, unread_in}
 use Rattle.vote_explain_poll.specs.declared.TheConstants.{MAX_SHOWN}
 use Rattle.vote_explain_poll.specs.Syntax.{IsSyntaxFinding}
-use Rattle.vote_explain_poll.specs.UnreadKeys.{unread_in}
-
--- ---- a line
-abbrev pub fault_head : PollFault → List ℕ
-fault_head e = codes "poll: " ++ fault_words e ++ codes ": "
 
 abbrev pub SaysFault : PollFault → List ℕ → Type 0
-SaysFault e line = (hint : List ℕ) × IsHintLine hint × (line ≡ fault_head e ++ hint)
+SaysFault e line = (hint : List ℕ) × IsHintLine hint × (line ≡ codes "poll: " ++ fault_words e ++ codes ": " ++ hint)
 
 abbrev pub key_head : List ℕ → List ℕ
 key_head path = codes "poll: key " ++ shown MAX_SHOWN path ++ codes " is not read"
@@ -27,7 +21,6 @@ key_head path = codes "poll: key " ++ shown MAX_SHOWN path ++ codes " is not rea
 abbrev pub SaysKey : Members → KeyPlace → List ℕ → Type 0
 SaysKey file place line = (remark : List ℕ) × IsKeyRemark file place.name remark × (line ≡ key_head (path_of place) ++ remark ++ line_feed)
 
--- ---- the text
 -- a line that says each of these, in their order
 abbrev pub AreLinesFor : {X : Type 0} → (X → List ℕ → Type 0) → List X → List ℕ → Type 0
 AreLinesFor Says [] text = text ≡ []

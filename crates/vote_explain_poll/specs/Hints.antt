@@ -1,9 +1,15 @@
--- What a hint is, and what calls say that add to a text.
+-- What a hint is, its limits, and what calls say that add to a text.
 use Rattle.std.specs.Prelude.{◌≡◌, ◌≤◌, ◌/◌, ℕ, List, ◌++◌, Result, OnOk, length, string_bytes}
 use Rattle.std.specs.declared.string.String.{String}
 use Rattle.vote_poll_text.specs.Lines.{IsUnbroken, line_feed}
 use Rattle.vote_poll_text.specs.Shown.{shown}
-use Rattle.vote_explain_poll.specs.declared.TheConstants.{MAX_HINT}
+use Rattle.vote_explain_poll.specs.declared.TheConstants.{MAX_EDITS, MAX_HINT, MAX_SHOWN}
+
+-- the limits of what is said, as docs/FORMATS.md writes them
+pub record LimitsAreAsWritten : Type 0 where
+  pub shown : MAX_SHOWN ≡ 60
+  pub hint : MAX_HINT ≡ 4_000
+  pub edits : MAX_EDITS ≡ 2
 
 -- a hint is what is shown of some words, so it is printable; it is one line, and not long
 pub record IsHint (hint : List ℕ) : Type 0 where

@@ -1,12 +1,11 @@
 -- What is said of a poll file that is no TOML, by the place of an error in it: how many bytes stand before the error.
-use Rattle.std.specs.Prelude.{◌≡◌, ◌⊎◌, ℕ, ◌+◌, ◌-◌, ◌≤◌, not, Bool, List, [], ◌++◌, Option, Some, None, count_by, length, slice_index_or, take, codes, decimal}
+use Rattle.std.specs.Prelude.{◌≡◌, ◌⊎◌, ℕ, ◌+◌, ◌-◌, ◌≤◌, not, Bool, List, [], ◌++◌, Option, Some, None, count_by, length, slice_index_or, take, codes, decimal, ◌==◌, ◌||◌, if◌then◌else◌, ◌∷◌, nat_eq}
+use Rattle.std.specs.List.{list_any, starts_with}
 use Rattle.vote_poll_text.specs.Lines.{feed_count, parts_of}
 use Rattle.vote_poll_text.specs.Names.{is_within}
 use Rattle.vote_poll.specs.BallotLine.{IsBallotText}
-use Rattle.vote_explain_poll.specs.FileKinds.{file_kind}
 use Rattle.vote_explain_poll.specs.Hints.{IsHintLine}
 
--- ---- lines
 -- the first line of a text, and what stands after its last line feed
 abbrev pub first_line : List ℕ → List ℕ
 first_line text = slice_index_or (parts_of text) 0 []
@@ -14,7 +13,7 @@ first_line text = slice_index_or (parts_of text) 0 []
 abbrev pub last_line : List ℕ → List ℕ
 last_line text = slice_index_or (parts_of text) (length (parts_of text) - 1) []
 
--- ---- the line and the column after a text, from 1
+-- the line after a text, from 1
 abbrev pub line_number : List ℕ → ℕ
 line_number before = feed_count before + 1
 
@@ -22,11 +21,10 @@ line_number before = feed_count before + 1
 abbrev pub begins_character : ℕ → Bool
 begins_character b = not (is_within 0x80 0xBF b)
 
--- in the last line, of which this stands before the place
+-- the column, from 1, in the last line, of which this stands before the place
 abbrev pub column_number : List ℕ → ℕ
 column_number before = count_by begins_character before + 1
 
--- ---- the whole
 -- the place as it is written
 abbrev pub place_words : List ℕ → List ℕ
 place_words before = codes "poll:" ++ decimal (line_number before) ++ codes ":" ++ decimal (column_number (last_line before)) ++ codes ": "
@@ -43,21 +41,26 @@ pub record IsPlaceFinding (text finding : List ℕ) : Type 0 where
   pub is_mark : IsHintLine mark
   pub is_text : finding ≡ place_words (take place text) ++ hint ++ line ++ mark
 
-abbrev pub exchanged_text : List ℕ
-exchanged_text = codes "the poll file looks like ballots: are the files exchanged?\n"
+-- What the file is with whose sign the text begins, or that has a zero among its first bytes. The sign of UTF-32 may begin with that of UTF-16.
+abbrev pub file_kind : List ℕ → Option (List ℕ)
+file_kind text =
+    let begins : List ℕ → Bool = starts_with nat_eq text in
+    if begins (0xFF ∷ 0xFE ∷ 0 ∷ 0 ∷ []) || begins (0 ∷ 0 ∷ 0xFE ∷ 0xFF ∷ []) then Some (codes "UTF-32")
+    else if begins (0xFF ∷ 0xFE ∷ []) || begins (0xFE ∷ 0xFF ∷ []) then Some (codes "UTF-16")
+    else if begins (codes "PK" ++ 3 ∷ 4 ∷ []) then Some (codes "a ZIP file, as of word processors and spreadsheets")
+    else if begins (codes "%PDF") then Some (codes "a PDF file")
+    else if begins (codes "{\\rtf") then Some (codes "an RTF file")
+    else if begins (0xD0 ∷ 0xCF ∷ 0x11 ∷ 0xE0 ∷ []) then Some (codes "an old Word or Excel file")
+    else if list_any (λ b. b == 0) (take 16 text) then Some (codes "no text")
+    else None
 
--- the files may be exchanged if the first line is that of a ballot; else there is a place
-abbrev pub IsPlainFinding : List ℕ → List ℕ → Type 0
-IsPlainFinding text finding =
-    (IsBallotText (first_line text) × (finding ≡ exchanged_text)) ⊎ (¬ IsBallotText (first_line text) × IsPlaceFinding text finding)
-
--- what is said of a file that is this
-abbrev pub file_text : List ℕ → List ℕ
-file_text kind = codes "the poll file is " ++ kind ++ codes "; a poll is plain text in UTF-8\n"
-
+-- What is said of a file that is this; and of plain text that the files may be exchanged if the first line is that of a ballot, or else
+-- the place.
 abbrev pub IsFindingOf : Option (List ℕ) → List ℕ → List ℕ → Type 0
-IsFindingOf (Some kind) text finding = finding ≡ file_text kind
-IsFindingOf None text finding = IsPlainFinding text finding
+IsFindingOf (Some kind) text finding = finding ≡ codes "the poll file is " ++ kind ++ codes "; a poll is plain text in UTF-8\n"
+IsFindingOf None text finding =
+    (IsBallotText (first_line text) × (finding ≡ codes "the poll file looks like ballots: are the files exchanged?\n"))
+    ⊎ (¬ IsBallotText (first_line text) × IsPlaceFinding text finding)
 
 -- what the file is, if it is no plain text
 abbrev pub IsSyntaxFinding : List ℕ → List ℕ → Type 0

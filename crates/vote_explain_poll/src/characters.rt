@@ -1,5 +1,4 @@
 //! A character of a file, by its name.
-ghost use Rattle.std.specs.Prelude.{◌<◌};
 ghost use Rattle.vote_explain_poll.specs.Hints.{IsHint, Tells};
 
 use crate::push_hint;
@@ -67,20 +66,14 @@ fn first_character(text: &[u8]) -> Option<char> {
     std::str::from_utf8(bytes).unwrap_or("").chars().next()
 }
 
-/// The hexadecimal digit of a number at the place with this value.
-fn digit(number: u32, value: u32) -> u8
-    requires { 0 < value }
-{
-    hex_digit((number / value % 16) as u8)
-}
-
 /// Appends the number of a character, as `U+00E9`.
 fn push_number(text: &mut String, number: u32) -> Result<(), AllocError>
     ensures { Tells result text.old IsHint text.new }
 {
-    let (a, b) = (digit(number, 0x10_0000), digit(number, 0x1_0000));
-    let (c, d) = (digit(number, 0x1000), digit(number, 0x100));
-    let (e, f) = (digit(number, 0x10), digit(number, 1));
+    let bytes = number.to_be_bytes();
+    let (a, b) = (hex_digit(bytes[1] / 16), hex_digit(bytes[1] % 16));
+    let (c, d) = (hex_digit(bytes[2] / 16), hex_digit(bytes[2] % 16));
+    let (e, f) = (hex_digit(bytes[3] / 16), hex_digit(bytes[3] % 16));
     match number {
         0..=0xFFFF => push_hint(text, &[b'U', b'+', c, d, e, f]),
         0x1_0000..=0xF_FFFF => push_hint(text, &[b'U', b'+', b, c, d, e, f]),

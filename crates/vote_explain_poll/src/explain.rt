@@ -1,11 +1,9 @@
 //! A poll file read once, for the poll and for all that is wrong with it.
 ghost use Rattle.std.specs.Prelude.{◌≡◌, ◌≢◌, Ok, Err, IfOk, string_bytes};
-ghost use Rattle.toml.specs.Data.{Members};
 ghost use Rattle.toml.specs.View.{table_view};
-ghost use Rattle.vote_poll_keys.specs.FoundView.{found_view};
 ghost use Rattle.vote_poll_keys.specs.Keys.{document};
-ghost use Rattle.vote_poll.specs.PollFaults.{IsJudged, faults_in};
-ghost use Rattle.vote_poll.specs.PollFile.{IsPollOrFirst, poll_in, poll_in_table};
+ghost use Rattle.vote_poll.specs.PollFaults.{faults_in};
+ghost use Rattle.vote_poll.specs.PollFile.{poll_in, poll_in_table};
 ghost use Rattle.vote_explain_poll.specs.Findings.{AreFindings, AreFindingsOf};
 ghost use Rattle.vote_poll_keys.specs.declared.fault.PollFault.TheVariants.{Memory, Syntax};
 
@@ -47,41 +45,6 @@ fn findings_of(
     Ok(findings)
 }
 
-/// The poll of a table, or its first fault, where memory was not what was wrong.
-fn outcome_of(
-    alloc: Global,
-    keys: &FoundKeys<'_>,
-    faults: &[PollFault],
-) -> Result<Result<Poll, PollFault>, AllocError>
-    requires { (table : Members) × IsJudged table (found_view keys.now) faults.now }
-    ensures read { IfOk result (λ outcome. IsPollOrFirst (found_view keys.now) faults.now outcome) }
-    ensures known { IfOk result (λ outcome. outcome ≢ Err Memory) }
-{
-    match Poll::unless_faulty(alloc, keys, faults) {
-        Ok(poll) => Ok(Ok(poll)),
-        Err(PollFault::Memory) => Err(AllocError),
-        Err(fault) => Ok(Err(fault)),
-    }
-}
-
-/// What a table says of which the keys were found and all faults.
-fn explain_judged(
-    alloc: Global,
-    table: &Table,
-    keys: &FoundKeys<'_>,
-    faults: &[PollFault],
-) -> Result<ExplainedPoll, AllocError>
-    requires { IsJudged (table_view table.now) (found_view keys.now) faults.now }
-    ensures findings { IfOk result (λ told. AreFindings (faults_in (Ok (table_view table.now))) (table_view table.now) (string_bytes told.findings)) }
-    ensures outcome { IfOk result (λ told. told.outcome ≡ poll_in_table (table_view table.now)) }
-    ensures known { IfOk result (λ told. told.outcome ≢ Err Memory) }
-{
-    Ok(ExplainedPoll {
-        findings: findings_of(alloc, table, keys, faults)?,
-        outcome: outcome_of(alloc, keys, faults)?,
-    })
-}
-
 /// What the table of a poll file says, and all that is wrong with it: it is judged as [`Poll::from_text`] judges it.
 fn explain_table(alloc: Global, table: &Table) -> Result<ExplainedPoll, AllocError>
     ensures findings { IfOk result (λ told. AreFindings (faults_in (Ok (table_view table.now))) (table_view table.now) (string_bytes told.findings)) }
@@ -91,7 +54,11 @@ fn explain_table(alloc: Global, table: &Table) -> Result<ExplainedPoll, AllocErr
     let keys = FoundKeys::of_table(alloc, table)?;
     let mut faults = keys.key_faults(alloc, table)?;
     push_faults(alloc, &mut faults, &keys)?;
-    explain_judged(alloc, table, &keys, &faults)
+    let findings = findings_of(alloc, table, &keys, &faults)?;
+    match Poll::unless_faulty(alloc, &keys, &faults) {
+        Err(PollFault::Memory) => Err(AllocError),
+        outcome => Ok(ExplainedPoll { findings, outcome }),
+    }
 }
 
 /// Reads a poll file as [`Poll::from_text`] does, and says all that is wrong with it: each fault, judged by itself, with what was

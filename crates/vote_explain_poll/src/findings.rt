@@ -1,10 +1,9 @@
 //! The lines of findings: of a fault, with what was found and what is wanted, and of a key that is not read.
 ghost use Rattle.std.specs.Prelude.{◌≡◌, IfOk};
 ghost use Rattle.toml.specs.View.{table_view};
-ghost use Rattle.vote_poll_text.specs.Adding.{Adds};
-ghost use Rattle.vote_explain_poll.specs.Findings.{SaysFault, SaysKey, fault_head};
-ghost use Rattle.vote_explain_poll.specs.Hints.{IsHintLine, Tells};
-ghost use Rattle.vote_explain_poll.specs.Remarks.{IsKeyRemark, suggestion};
+ghost use Rattle.vote_explain_poll.specs.Findings.{SaysFault, SaysKey};
+ghost use Rattle.vote_explain_poll.specs.Hints.{Tells};
+ghost use Rattle.vote_explain_poll.specs.UnreadKeys.{IsKeyRemark};
 
 use crate::characters::push_character;
 use crate::near::near_key;
@@ -151,10 +150,7 @@ fn with_first_places<'t>(
     let mut seen = IndexMap::new(alloc);
     let mut placed = Vec::new(alloc);
     for (place, name) in names.iter().enumerate() {
-        let first = seen.get(*name).copied().unwrap_or(place);
-        if first == place {
-            seen.insert(*name, place)?;
-        }
+        let first = *seen.entry(*name)?.or_insert(place);
         placed.push((*name, first))?;
     }
     Ok(placed)
@@ -163,13 +159,6 @@ fn with_first_places<'t>(
 /// The entries of a list that was found, or none.
 fn entries<T>(list: &Option<Vec<T>>) -> &[T] {
     list.as_deref().unwrap_or(&[])
-}
-
-/// Adds a key that may be meant.
-fn push_suggestion(text: &mut String, meant: PollKey) -> Result<(), AllocError>
-    ensures { Adds result text.old (suggestion meant) text.new }
-{
-    write!(text, "; did you mean {meant}?")
 }
 
 /// What hints on a poll file are made of.
@@ -194,29 +183,13 @@ impl<'f> Hints<'f> {
         ensures { IfOk result (λ hints. table_view hints.file.now ≡ table_view file.now) }
     {
         let names = keys.option_names(alloc)?;
-        let options = with_first_places(alloc, entries(&names))?;
-        let roll = with_first_places(alloc, entries(&keys.roll))?;
         Ok(Hints {
             file,
             keys,
             unread,
-            options,
-            roll,
+            options: with_first_places(alloc, entries(&names))?,
+            roll: with_first_places(alloc, entries(&keys.roll))?,
         })
-    }
-
-    /// Adds what was found where the file has a fault, and what is wanted there.
-    fn push_found(
-        &self,
-        alloc: Global,
-        text: &mut String,
-        fault: PollFault,
-    ) -> Result<(), AllocError>
-        ensures { Tells result text.old IsHintLine text.new }
-    {
-        let mut words = String::new(alloc);
-        self.push_fault(&mut words, fault)?;
-        push_hint_line(text, words.as_bytes())
     }
 
     /// Adds what is said of a key that is not read: where a key of its name is read, or a missing key that is near to it, or nothing.
@@ -228,16 +201,16 @@ impl<'f> Hints<'f> {
     ) -> Result<(), AllocError>
         ensures { Tells result text.old (IsKeyRemark (table_view self.now.file.now) key.now.name) text.new }
     {
-        if PollKey::named(key.name).is_some() {
+        let None = PollKey::named(key.name) else {
             return text.push_str("; it is read above all tables alone");
-        }
+        };
         match near_key(alloc, self.file, key.name)? {
-            Some(near) => push_suggestion(text, near),
+            Some(near) => write!(text, "; did you mean {near}?"),
             None => Ok(()),
         }
     }
 
-    /// The same as `push_found`, in words that may be longer than a hint.
+    /// Adds what was found where the file has a fault, and what is wanted there, in words that may be longer than a hint.
     fn push_fault(&self, words: &mut String, fault: PollFault) -> Result<(), AllocError> {
         let keys = self.keys;
         let others = entries(&keys.options).len();
@@ -311,11 +284,10 @@ impl<'f> Hints<'f> {
             return push_wanted(words, key, self.roll.len());
         };
         words.push_str(kind_words(value))?;
-        match (value, key) {
-            (Value::Array(entries), PollKey::Options | PollKey::Ratios | PollKey::Roll) => {
-                push_wrong_entry(words, key, entries)?
-            }
-            _ => {}
+        if let Value::Array(entries) = value
+            && matches!(key, PollKey::Options | PollKey::Ratios | PollKey::Roll)
+        {
+            push_wrong_entry(words, key, entries)?;
         }
         push_wanted(words, key, self.roll.len())
     }
@@ -336,14 +308,7 @@ impl<'f> Hints<'f> {
     }
 }
 
-/// Adds the words of a fault, which are those of its fault line.
-fn push_fault_head(text: &mut String, fault: PollFault) -> Result<(), AllocError>
-    ensures { Adds result text.old (fault_head fault) text.new }
-{
-    write!(text, "poll: {}: ", fault.words())
-}
-
-/// Adds the line of a fault, with what was found.
+/// Adds the line of a fault: the words of its fault line, and what was found.
 pub(crate) fn push_fault_line(
     alloc: Global,
     text: &mut String,
@@ -352,8 +317,10 @@ pub(crate) fn push_fault_line(
 ) -> Result<(), AllocError>
     ensures { Tells result text.old (SaysFault fault) text.new }
 {
-    push_fault_head(text, fault)?;
-    hints.push_found(alloc, text, fault)?;
+    write!(text, "poll: {}: ", fault.words())?;
+    let mut words = String::new(alloc);
+    hints.push_fault(&mut words, fault)?;
+    push_hint_line(text, words.as_bytes())?;
     Ok(())
 }
 

@@ -10,15 +10,14 @@
 //! - Each fault of the file has a line, judged by itself, in the order of the faults, with the words of its fault line. So the first one
 //!   ([`first_fault_is_told`](vote_poll::first_fault_is_told)) is the fault beside the text, and without a fault there is a poll.
 //! - After the faults each key that is not read has a line, in the order of the tables, with its path, as far as it is shown. A key that
-//!   is suggested for it is missing, few edits lead to it, and no other missing one is nearer (`specs/Remarks.antt`).
+//!   is suggested for it is missing, few edits lead to it, and no other missing one is nearer (`specs/UnreadKeys.antt`).
 //! - Of a text that is no TOML it says what kind of file it is, or that the files may be exchanged, or else the line and the column of
 //!   the place that `toml` tells (`specs/Syntax.antt`).
 //! - What else a line says is a hint: one line of printable text of at most [`MAX_HINT`] bytes, whatever is in the file. Its words are
 //!   open.
 #![tactic(auto)]
 
-ghost use Rattle.vote_explain_poll.specs.Hints.{IsHint, IsHintLine, Tells};
-ghost use Rattle.vote_explain_poll.specs.Limits.{LimitsAreAsWritten};
+ghost use Rattle.vote_explain_poll.specs.Hints.{IsHint, IsHintLine, LimitsAreAsWritten, Tells};
 
 mod characters;
 mod explain;

@@ -2,7 +2,6 @@
 //! finds the error no contract says.
 ghost use Rattle.std.specs.Prelude.{◌≡◌, ◌≤◌, ◌++◌, IfOk, codes, decimal, length, string_bytes, take};
 ghost use Rattle.vote_poll_text.specs.Adding.{Adds};
-ghost use Rattle.vote_explain_poll.specs.Hints.{IsHintLine, Tells};
 ghost use Rattle.vote_explain_poll.specs.Syntax.{IsPlaceFinding, IsSyntaxFinding, begins_character, column_number, first_line, last_line, line_number};
 
 use crate::characters::push_character;
@@ -87,10 +86,8 @@ fn place_at(text: &[u8], at: usize) -> Place<'_>
 fn index_of(text: &[u8], error: &toml::de::Error) -> usize
     ensures { result ≤ length text.now }
 {
-    match error.span() {
-        Some(span) => span.start.min(text.len()),
-        None => 0,
-    }
+    let start = error.span().map_or(0, |span| span.start);
+    start.min(text.len())
 }
 
 /// Adds that a finding is at this line and column of the poll.
@@ -171,31 +168,14 @@ fn push_facts(
     push_unfinished(words, place)
 }
 
-/// Adds the words of `toml` on a place, and what stands there. `file` is the name of the file for a command that mends it, if it has one.
-fn push_syntax_hint(
-    alloc: Global,
-    text: &mut String,
-    place: &Place<'_>,
-    said: &str,
-    file: Option<&str>,
-) -> Result<(), AllocError>
-    ensures { Tells result text.old IsHintLine text.new }
-{
-    let mut words = String::from_str(alloc, said)?;
-    push_facts(&mut words, place, said, file)?;
-    push_hint_line(text, words.as_bytes())
-}
-
-/// Adds a line with a mark below the byte that follows these in what is shown of a line.
-fn push_mark(alloc: Global, text: &mut String, bytes: &[u8]) -> Result<(), AllocError>
-    ensures { Tells result text.old IsHintLine text.new }
-{
+/// A mark below the byte that follows these in what is shown of a line.
+fn mark_below(alloc: Global, bytes: &[u8]) -> Result<String, AllocError> {
     let mut mark = String::new(alloc);
     for byte in bytes {
         mark.push_str(if is_printable(*byte) { " " } else { "    " })?;
     }
     mark.push_str("^")?;
-    push_hint_line(text, mark.as_bytes())
+    Ok(mark)
 }
 
 /// What is shown of the line of a place: its part around the place, and what of this stands before the place.
@@ -223,10 +203,12 @@ fn place_finding(
     let place = place_at(text, index_of(text, error));
     let mut finding = String::new(alloc);
     push_place(&mut finding, place.number, column_number(place.left))?;
-    push_syntax_hint(alloc, &mut finding, &place, error.message(), file)?;
+    let mut words = String::from_str(alloc, error.message())?;
+    push_facts(&mut words, &place, error.message(), file)?;
     let (line, before) = part_around(&place);
+    push_hint_line(&mut finding, words.as_bytes())?;
     push_hint_line(&mut finding, line)?;
-    push_mark(alloc, &mut finding, before)?;
+    push_hint_line(&mut finding, mark_below(alloc, before)?.as_bytes())?;
     Ok(finding)
 }
 
@@ -241,14 +223,11 @@ pub(crate) fn syntax_finding(
     ensures { IfOk result (λ finding. IsSyntaxFinding text.now (string_bytes finding)) }
 {
     if let Some(kind) = file_kind(text) {
-        let mut finding = String::from_str(alloc, "the poll file is ")?;
-        finding.push_str(kind)?;
-        finding.push_str("; a poll is plain text in UTF-8\n")?;
-        return Ok(finding);
+        return format!(in alloc; "the poll file is {kind}; a poll is plain text in UTF-8\n");
     }
     if is_ballot_line(first_line(text)) {
         let exchanged = "the poll file looks like ballots: are the files exchanged?\n";
-        return Ok(String::from_str(alloc, exchanged)?);
+        return String::from_str(alloc, exchanged);
     }
     place_finding(alloc, text, error, file)
 }

@@ -14,40 +14,38 @@ import os
 import pathlib
 import sqlite3
 from collections.abc import Iterable, Iterator, Sequence
-from typing import Any, Final, Literal, NamedTuple, TypedDict
+from typing import Any, Final, Literal, NamedTuple
 
 from debvote_tools.book import chain
 from debvote_tools.book.machine_note import MachineNote, Note, machine_of
-from debvote_tools.cli.faults import Fault, Status
+from debvote_tools.cli.faults import Fault, Status, bad_words, kept_in
 from debvote_tools.files import read_at_most, uninterrupted
 from debvote_tools.text import times
 
 NAME = "election.db"
 
+AGAIN = "run the command again"
+
 # the act that takes another book than that of the note, and why if it is that of the note
 MOVED: Final = "moved"
 RESTORED = "it was restored, as the secretary says"
 
-# "dbvt"; the version of the schema, and of what is kept of letters as JSON
+# "dbvt"; the version of the schema, and of what is kept of letters as JSON; and the program that
+# wrote the books of an earlier version
 APPLICATION_ID, VERSION = 0x64627674, 4
-
-# the program that wrote the books of an earlier version
 PROGRAMS = {3: "debvote-election 2.0.0"}
 
 # how a database of SQLite begins, and where its head has the version and the application id
 SQLITE, HEAD = b"SQLite format 3\0", 72
 VERSION_AT, ID_AT = slice(60, 64), slice(68, 72)
 
-# how many seconds an act waits for those of others
-PATIENCE = 120
-
 SETTINGS = "foreign_keys=ON recursive_triggers=ON journal_mode=DELETE synchronous=EXTRA".split()
+
+# the byte of the file that SQLite locks for an act, and how many seconds an act waits for others
+RESERVED_BYTE, PATIENCE = 0x40000001, 120
 
 # how many rows one statement adds: one for each row takes twice the time
 ROWS_AT_ONCE = 100
-
-# the byte of the file that SQLite locks for an act
-RESERVED_BYTE = 0x40000001
 
 # the clock was put back if an act is earlier than the one before by more: clocks are set by some
 SECONDS_BACK = 60
@@ -62,86 +60,33 @@ ActName = (
 )
 
 
-class Detail(TypedDict, total=False):
-    """What the log keeps of an act, beside the rows that it added."""
-
-    # the reason, where one was given
-    because: str
-    # new
-    language: str
-    # roll and addresses: how many electors there are, or were changed; codes: how many, and whether
-    # they replace the names on the roll
-    electors: int
-    codes: int
-    on_roll: bool
-    # call, extend and announce; times, the zone of --until and addresses as the command line names
-    # them
-    until: str
-    zone: str
-    to: str
-    to_name: str
-    at: str
-    form: bool
-    names: bool
-    marked: bool
-    codes_on_roll: bool
-    quorum_votes: int
-    signed: bool
-    keyring: bool
-    # call and publish, in a secret vote: the checksums of the texts that somebody agreed to make
-    # public
-    agreed: list[str]
-    # take back: the act of the call; its `codes` have lapsed
-    call: int
-    # what comes: how many letters and lines; of set aside, put back and enter their numbers (of enter
-    # `letter` if it is one; a ballot that was typed has no line)
-    letter: int
-    letters: Any
-    lines: Any
-    # add: the files, how many lines came before, and the envelopes of those that were entered again
-    files: list[str]
-    passed_over: int
-    again: list[int]
-    unsigned: bool
-    # add and desk, after reopen
-    came_before_close: bool | None
-    # undo: the act that it takes back; strike: the envelope
-    act: int
-    envelope: int
-    # close and publish: the letters that had arrived in time and were left waiting
-    left: list[int]
-    # close
-    checksum: str
-    seal: str
-    early: bool
-    waiting: int
-    after_end: int
-    before_call: int
-    # reopen: the late envelopes that were entered anew, and whether although there are later
-    # ballots
-    in_time: list[int]
-    force: bool
-    # publish
-    words: dict[str, Any]
-    casting: str | None
-    checksums: dict[str, str]
-    doubts: list[Any]
-    # letters out, letter sent; the server that got the letter, and the user on it
-    kind: str
-    server: str
-    user: str
-    # moved: the act that was noted, and the one that is there
-    why: str
-    noted: Any
-    there: dict[str, Any]
+# what the log keeps of an act, beside the rows that it added and `because`, the reason if one was
+# given. `letters` and `lines` are how many came; of set aside, put back and enter their numbers
+#   new: language
+#   roll, addresses: electors, how many; codes: codes, how many, and on_roll
+#   call, extend, announce: until, zone, to, to_name, at, as the command line names them; form,
+#     names, marked, signed, keyring, codes_on_roll, quorum_votes
+#   call, announce, publish: agreed, the checksums of texts that a secret vote may make public
+#   take back: call, its act; codes, how many have lapsed
+#   letters: letters; add: files, lines, letters, unsigned, passed_over, how many came before, and
+#     again, the envelopes of those that were entered again; desk: lines
+#   add, desk: came_before_close, after reopen
+#   enter, set aside, put back: letter or letters, lines
+#   undo: act, that it takes back; strike: envelope
+#   close: lines, checksum, seal, early, waiting, after_end, before_call; left, the letters that had
+#     arrived in time and wait
+#   reopen: in_time, the late envelopes that were entered anew; force
+#   publish: words, casting, checksums, doubts, left
+#   letters out: kind, letters; letter sent: kind, server, user
+#   moved: why; noted, the act that was noted, and there, the one that is there
+Detail = dict[str, Any]
 
 
 class Overtaken(Fault):
-    """Another act came between, and may have changed what this act was decided by."""
+    """Another act came between, which may have changed what this one was decided by."""
 
     def __init__(self) -> None:
-        words = "another command changed the election meanwhile"
-        super().__init__(None, words, "run the command again")
+        super().__init__(None, "another command changed the election meanwhile", AGAIN)
 
 
 class DoneAct(NamedTuple):
@@ -163,7 +108,7 @@ class DoneAct(NamedTuple):
 
 
 class NewAct(NamedTuple):
-    """An act while it is written. Its rows are in the book when it is committed, all or none."""
+    """An act while it is written."""
 
     connection: sqlite3.Connection
     number: int
@@ -174,12 +119,12 @@ class NewAct(NamedTuple):
     def insert_all(
         self, table: str, columns: Sequence[str], rows: Iterable[Sequence[object]]
     ) -> None:
-        """Adds many rows of this act, each with its values in these columns."""
-        words = f"INSERT INTO {table} (act, {', '.join(columns)}) VALUES "
-        row_words, waiting = f"({self.number}{', ?' * len(columns)})", iter(rows)
+        """Adds rows of this act, each with its values in these columns."""
+        row, waiting = f"({self.number}{', ?' * len(columns)})", iter(rows)
         while part := list(itertools.islice(waiting, ROWS_AT_ONCE)):
+            words = f"INSERT INTO {table} (act, {', '.join(columns)}) VALUES {row}"
             values = list(itertools.chain.from_iterable(part))
-            self.connection.execute(words + ", ".join([row_words] * len(part)), values)
+            self.connection.execute(words + f", {row}" * (len(part) - 1), values)
 
     def insert(self, table: str, **values: object) -> int:
         """Adds a row of this act, and returns its number."""
@@ -196,9 +141,8 @@ class Book:
     ) -> None:
         self.path, self.connection, self.is_read_only = path, connection, is_read_only
         self.file, self.read_acts = file_at(path), list[DoneAct]()
-        # what `queries.all_electors` has read, and when
+        # what `queries.all_electors` has read, and when; the acts of this process, as `act 7 (add)`
         self.electors_at: tuple[object, list[Any]] = (None, [])
-        # the acts of this process, each as `act 7 (add)`
         self.own_acts: list[str] = []
 
     # ------------------------------------------------------------ reading
@@ -225,14 +169,13 @@ class Book:
         return self.last_act().number
 
     def size(self) -> int:
-        """How many bytes its file has."""
         words = "SELECT page_count * page_size FROM pragma_page_count, pragma_page_size"
         return int(self.rows(words)[0][0])
 
     def digest_at(self, act: int) -> str | None:
-        """The digest of an act; None if the book has no such act."""
-        found = self.rows("SELECT digest FROM act WHERE act = ?", act)
-        return str(found[0][0]) if found else None
+        """The digest of an act; None if there is no such act."""
+        [(digest,)] = self.rows("SELECT max(digest) FROM act WHERE act = ?", act)
+        return None if digest is None else str(digest)
 
     def demand_whole(self) -> None:
         """Stops if anything in the book is not as its acts wrote it."""
@@ -260,10 +203,9 @@ class Book:
     def act(
         self, name: ActName, detail: Detail | None = None, *, seen: int | None = None
     ) -> Iterator[NewAct]:
-        """One act: its rows are committed at the end, and an exception leaves the book as it was.
-
-        `seen` is the last act that was known when this act was decided; if others came since, it is
-        `Overtaken`. Within the act nobody is asked and no program runs.
+        """One act: its rows are committed at the end, or none after an exception. `seen` is the
+        last act that was known when this one was decided; if others came since, it is `Overtaken`.
+        Within the act nobody is asked and no program runs.
         """
         note = self.note()
         note.make_ready()
@@ -274,8 +216,7 @@ class Book:
             if file_at(self.path) != self.file:
                 # what is written into the open file, nobody finds again
                 words = "another file took its place while this command was running"
-                cure = "find out which of both is right, then run the command again"
-                raise Fault(self.path, words, cure)
+                raise Fault(self.path, words, f"find out which of both is right, then {AGAIN}")
             if name != MOVED:
                 self.demand_noted()
             if not chain.is_whole(self.connection, before.number):
@@ -300,19 +241,16 @@ class Book:
         except sqlite3.Error as error:
             if not self.is_there(act.number):
                 raise
-            raise Fault(
-                self.path,
-                f"the commit failed ({error})",
-                "see debvote-election status, which tells the last act",
-                Status.BAD_OUTPUT,
-                f"nobody knows whether act {act.number} was done",
-            ) from None
+            words = f"the commit failed ({error})"
+            cure = "see debvote-election status, which tells the last act"
+            done = f"nobody knows whether act {act.number} was done"
+            raise Fault(self.path, words, cure, Status.BAD_OUTPUT, done) from None
         self.own_acts.append(f"act {act.number} ({act.name})")
         return digest
 
     def is_there(self, act: int) -> bool:
-        """Whether an act is in the book although SQLite says that its commit failed. Then nobody
-        knows whether it stays.
+        """Whether an act is in the book although its commit failed; then nobody knows whether it
+        stays.
         """
         try:
             self.connection.rollback()
@@ -341,12 +279,12 @@ class Book:
     def strangeness(self) -> str | None:
         """Why this is not the book that this machine knows; None if it is."""
         noted, last = self.note().read(), self.last_act()
+        digest = noted and self.digest_at(noted.act)
         if noted is None:
             return "this computer has never seen this election in this folder"
-        digest = self.digest_at(noted.act)
         if digest is None:
-            seen = f"this computer has seen act {noted.act}: it is an older copy"
-            return f"it ends with act {last.number}, and {seen}"
+            ends = f"it ends with act {last.number}, and this computer has seen act {noted.act}"
+            return f"{ends}: it is an older copy"
         if digest != noted.digest:
             how = "somebody went on from a copy, or made the book anew"
             return f"its act {noted.act} is not the one that this computer saw: {how}"
@@ -362,8 +300,8 @@ class Book:
             raise Fault(self.path, why, f"find out how that came about; {right}, {repeat}")
 
     def accept(self, because: str) -> None:
-        """The act `moved`: from now on this machine takes this book for the right one. If the whole
-        disk was put back, with the note, only who did it knows.
+        """The act `moved`: this machine takes this book for the right one. If the whole disk was
+        put back, with the note, only who did it knows.
         """
         noted, last, why = self.note().read(), self.last_act(), self.strangeness() or RESTORED
         self.demand_locks()
@@ -379,16 +317,14 @@ class Book:
     # ------------------------------------------------------------ the file
     def doubts(self, *, is_accepted: bool = False) -> list[Fault]:
         """Why this may not be the book to work on: a copy lies beside it, or this machine knows
-        another one and this one is not accepted now.
+        another one, and this one is not accepted now.
         """
         words = f"it is another book of this election, with acts that {NAME} lacks; a sync tool may have left it"
         cure = "find out which book is right, and move the other out of the folder"
         found = [Fault(file, words, cure) for file in self.other_books()]
-        try:
-            if not is_accepted:
+        if not is_accepted:
+            with kept_in(found):
                 self.demand_noted()
-        except Fault as fault:
-            found.append(fault)
         return found
 
     def demand_locks(self) -> None:
@@ -408,7 +344,7 @@ class Book:
                     yield file
 
     def begins_with(self, file: pathlib.Path) -> bool:
-        """Whether this book has all acts of another book. False if the other book can't be read."""
+        """Whether this book has all acts of another one; False if that can't be read."""
         try:
             with contextlib.closing(connected(file, "ro")) as other:
                 words = "SELECT act, digest FROM act ORDER BY act DESC LIMIT 1"
@@ -428,8 +364,7 @@ def is_locked_for_others(path: pathlib.Path) -> bool:
     """Whether a second process is refused the lock of SQLite that an act holds."""
     second = os.fork()
     if second == 0:
-        # only the second process may open the file: a process that closes it loses all its locks on
-        # it
+        # a process that closes the file loses all its locks on it
         status = 1
         try:
             handle = os.open(path, os.O_RDWR)
@@ -444,7 +379,7 @@ def is_locked_for_others(path: pathlib.Path) -> bool:
 
 # ---------------------------------------------------------------- making and opening
 def create(path: pathlib.Path, detail: Detail, final_path: pathlib.Path) -> None:
-    """Makes a new book with the act `new`, which lies at `final_path` once its folder is moved."""
+    """Makes a new book with the act `new`; its folder is moved, so that it lies at `final_path`."""
     os.close(os.open(path, os.O_RDWR | os.O_CREAT | os.O_EXCL, 0o600))
     connection = connected(path, "rw")
     book = Book(path, connection)
@@ -460,7 +395,7 @@ def create(path: pathlib.Path, detail: Detail, final_path: pathlib.Path) -> None
 
 
 def open_book(path: pathlib.Path) -> Book:
-    """Opens a book. Stops if the file is none of this version, or its schema is another one."""
+    """Opens a book. Stops at a file that is none of this version, and at another schema."""
     demand_version(path)
     is_read_only = not (os.access(path, os.W_OK) and os.access(path.parent, os.W_OK))
     with sqlite_faults(path):
@@ -473,7 +408,8 @@ def open_book(path: pathlib.Path) -> Book:
         except sqlite3.Error as error:
             if is_read_only and "unable to open" in str(error) or "readonly" in str(error):
                 words = "a command was cut off in its act, and the act can be taken back only in a folder that is writable"
-                cure = f"copy {NAME} and {NAME}-journal together into a folder of your own, and work there"
+                both = f"{NAME} and {NAME}-journal together"
+                cure = f"copy {both} into a folder of your own, and work there"
                 raise Fault(path, words, cure, done=None) from None
             raise
         if differing is not None:
@@ -485,19 +421,21 @@ def open_book(path: pathlib.Path) -> Book:
 
 
 def demand_version(path: pathlib.Path) -> None:
-    """Stops at a file that is no book of this version; it is not opened, so it does not change."""
+    """Stops at a file that is no book of this version, which is not opened, so that it stays as it
+    is.
+    """
     head = head_of(path)
     if not head.startswith(SQLITE):
         raise damaged(path, "it is no database of SQLite")
     if not has_our_id(head):
         cure = "name the folder of an election with --folder"
-        raise Fault(path, "it is a database of another program", cure, Status.BAD_WORDS, None)
+        raise bad_words(path, "it is a database of another program", cure, None)
     version = int.from_bytes(head[VERSION_AT], "big")
     if version != VERSION:
         whose = f" of {PROGRAMS[version]}" if version in PROGRAMS else ""
-        words = f"it is a book{whose} (version {version}), and this program writes version"
-        cure = "use the debvote-election that began this election"
-        raise Fault(path, f"{words} {VERSION}", cure, Status.BAD_WORDS)
+        this = f"this program writes version {VERSION}"
+        words = f"it is a book{whose} (version {version}), and {this}"
+        raise bad_words(path, words, "use the debvote-election that began this election")
 
 
 def connected(path: pathlib.Path, mode: str) -> sqlite3.Connection:
@@ -510,30 +448,27 @@ def connected(path: pathlib.Path, mode: str) -> sqlite3.Connection:
 
 
 # what SQLite says if not the book is at fault, but its place: the words, and the cure
-READ, WRITE, DISK = "it can't be read", "it can't be written", "check that the disk is in order"
-BUSY = "other commands have worked on it for two minutes"
+WRITE, DISK = "it can't be written", "check that the disk is in order"
+BUSY, OPEN = "other commands have worked on it for two minutes", "make the file and its folder"
 PLACES = {
     ("BUSY", "LOCKED"): (BUSY, "wait until they are done"),
-    ("IOERR_READ", "IOERR_SHORT_READ"): (READ, DISK),
+    ("IOERR_READ", "IOERR_SHORT_READ"): ("it can't be read", DISK),
     ("FULL", "IOERR"): (WRITE, f"make room on the disk, or {DISK}"),
-    ("READONLY", "CANTOPEN", "PERM", "AUTH"): (
-        WRITE,
-        "make the file and its folder writable for you",
-    ),
+    ("READONLY", "CANTOPEN", "PERM", "AUTH"): (WRITE, f"{OPEN} writable for you"),
     ("NOMEM", "INTERRUPT"): ("SQLite gave up", "make room in memory"),
 }
 
 
 @contextlib.contextmanager
 def sqlite_faults(path: pathlib.Path) -> Iterator[None]:
-    """An error of SQLite is raised as a fault of the file."""
+    """Raises an error of SQLite as a fault of the file."""
     try:
         yield
     except sqlite3.Error as error:
         kind = getattr(error, "sqlite_errorname", "").removeprefix("SQLITE_")
         for kinds, (words, cure) in PLACES.items():
             if kind.startswith(kinds):
-                cure += ", then run the command again"
+                cure += f", then {AGAIN}"
                 raise Fault(path, f"{words} ({error})", cure, Status.BAD_OUTPUT) from None
         raise damaged(path, str(error)) from None
 
@@ -544,7 +479,7 @@ def damaged(path: pathlib.Path, how: str) -> Fault:
 
 
 def file_at(path: pathlib.Path) -> tuple[int, int] | None:
-    """What tells the file at a path from each other one; None if there is none."""
+    """What tells the file at a path from others; None if there is none."""
     try:
         found = path.stat()
     except OSError:
@@ -558,7 +493,7 @@ def head_of(file: pathlib.Path) -> bytes:
 
 
 def has_our_id(head: bytes) -> bool:
-    """Whether a file that begins so is a database of SQLite with the number of our books."""
+    """Whether a file that begins so is a database with the number of our books."""
     return head.startswith(SQLITE) and head[ID_AT] == APPLICATION_ID.to_bytes(4, "big")
 
 

@@ -15,8 +15,8 @@ import json
 import operator
 import pathlib
 import sqlite3
-from collections.abc import Iterator, Sequence
-from typing import Any, NamedTuple
+from collections.abc import Iterable, Iterator, Sequence
+from typing import Any
 
 # the table of the acts themselves; each row of all others belongs to an act
 ACT = "act"
@@ -33,15 +33,11 @@ ACT_OF = operator.itemgetter(0)
 
 
 # ---------------------------------------------------------------- the schema
-class Schema(NamedTuple):
-    # each table, index, view and trigger: its kind, its name, its table, and what makes it
-    entries: frozenset[tuple[str, str, str, str | None]]
-    # of each table the SQL that makes a row of it a line
-    lines: dict[str, str]
+# each table, index, view and trigger: its kind, its name, its table, and what makes it
+Entries = frozenset[tuple[str, str, str, str | None]]
 
 
 def write_schema(connection: sqlite3.Connection) -> None:
-    """Makes the tables, indexes, views and triggers of a new book."""
     for statement in pathlib.Path(__file__).with_name("schema.sql").read_text().split(";\n"):
         connection.execute(statement)
     for table in tables_of(connection):
@@ -54,13 +50,13 @@ def tables_of(connection: sqlite3.Connection) -> list[str]:
     return [name for name, in connection.execute(words)]
 
 
-def entries_of(connection: sqlite3.Connection) -> frozenset[tuple[str, str, str, str | None]]:
+def entries_of(connection: sqlite3.Connection) -> Entries:
     return frozenset(connection.execute("SELECT type, name, tbl_name, sql FROM sqlite_schema"))
 
 
 @functools.cache
-def schema() -> Schema:
-    """The schema that `new` writes."""
+def schema() -> tuple[Entries, dict[str, str]]:
+    """The schema that `new` writes, and of each table the SQL that makes a row of it a line."""
     with contextlib.closing(sqlite3.connect(":memory:")) as empty:
         write_schema(empty)
         lines = {}
@@ -69,7 +65,11 @@ def schema() -> Schema:
             left_out = "digest" if table == ACT else "act"
             parts = (as_json(name, kind) for name, kind in columns if name != left_out)
             lines[table] = f"json_array({', '.join(parts)})"
-        return Schema(entries_of(empty), lines)
+        return entries_of(empty), lines
+
+
+def line_of() -> dict[str, str]:
+    return schema()[1]
 
 
 def as_json(column: str, kind: str) -> str:
@@ -79,8 +79,8 @@ def as_json(column: str, kind: str) -> str:
 
 
 def other_schema(connection: sqlite3.Connection) -> str | None:
-    """A table, index, view or trigger that is not as `new` writes it; None if there is none."""
-    differing = sorted(entries_of(connection) ^ schema().entries, key=str)
+    """What is not as `new` writes it; None if all is."""
+    differing = sorted(entries_of(connection) ^ schema()[0], key=str)
     return f"the {differing[0][0]} {differing[0][1]}" if differing else None
 
 
@@ -93,18 +93,24 @@ def prepare(connection: sqlite3.Connection) -> None:
 
 
 def digest_of(connection: sqlite3.Connection, before: str, act: Sequence[object]) -> str:
-    """The digest of an act (its row without the digest) by the rows that the book has of it, which
-    are found by an index.
+    """The digest of an act (its row without the digest), with the rows that the book has of it,
+    which are found by an index.
     """
     row = [hashlib.sha256(one).hexdigest() if isinstance(one, bytes) else one for one in act]
     line = json.dumps(row, ensure_ascii=False, separators=(",", ":"))
-    digest = hashlib.sha256(f"{before}\n{line}".encode())
-    for table in schema().lines:
-        if table != ACT:
-            name = f"\n{table}\n".encode()
-            for piece in pieces_of(connection, table, act[0]):
-                digest.update(name + piece)
-                name = b"\n"
+    tables = (table for table in line_of() if table != ACT)
+    rows = ((table, pieces_of(connection, table, act[0])) for table in tables)
+    return digest_over(before, line.encode(), rows)
+
+
+def digest_over(before: str, line: bytes, rows: Iterable[tuple[str, Iterable[bytes]]]) -> str:
+    """The digest over the one before, the line of an act, and by table its rows, some at once."""
+    digest = hashlib.sha256(before.encode() + b"\n" + line)
+    for table, pieces in rows:
+        name = f"\n{table}\n".encode()
+        for piece in pieces:
+            digest.update(name + piece)
+            name = b"\n"
     return digest.hexdigest()
 
 
@@ -112,7 +118,7 @@ def pieces_of(connection: sqlite3.Connection, table: str, act: object) -> Iterat
     """The rows of an act in a table, as lines, some at once: SQLite joins them faster than Python."""
     at_once = 1 if table in LONG_ROWS else ROWS_AT_ONCE
     next_row = f"SELECT min(rowid) FROM {table} WHERE act = ? AND rowid >= ?"
-    rows = f"SELECT {schema().lines[table]} AS line FROM {table} WHERE rowid BETWEEN ? AND ? AND +act = ? ORDER BY rowid"
+    rows = f"SELECT {line_of()[table]} AS line FROM {table} WHERE rowid BETWEEN ? AND ? AND +act = ? ORDER BY rowid"
     joined = f"SELECT CAST(group_concat(line, char(10)) AS BLOB) FROM ({rows})"
     [(first,)] = connection.execute(next_row, (act, -(2**63)))
     while first is not None:
@@ -134,7 +140,7 @@ def broken(act: int) -> str:
 
 
 def damage(connection: sqlite3.Connection) -> list[str]:
-    """What is not as the acts of a book wrote it; empty if the book is whole."""
+    """What is not as the acts of a book wrote it."""
     order = "".join(words for words, in connection.execute("PRAGMA integrity_check(1)"))
     if order != "ok":
         # in the rows of such a file there may be anything
@@ -149,29 +155,30 @@ def damage(connection: sqlite3.Connection) -> list[str]:
 
 def break_in(connection: sqlite3.Connection) -> str | None:
     """The first act at which the chain is broken, and how; None if it is whole."""
-    before, tables = BEGINNING, list(schema().lines)
+    before, tables = BEGINNING, list(line_of())
     found = heapq.merge(*(acts_in(connection, table) for table in tables), key=ACT_OF)
     for act, by_table in itertools.groupby(found, key=ACT_OF):
         _, table, rows = next(by_table)
         if table != ACT:
             return f"it has rows of act {act}, and no such act"
         [(_, line, digest)] = rows
-        computed = hashlib.sha256(b"%b\n%b" % (before.encode(), line))
-        for _, table, rows in by_table:
-            computed.update(b"\n%b" % table.encode())
-            while piece := list(itertools.islice(rows, ROWS_AT_ONCE)):
-                computed.update(b"\n%b" % b"\n".join([line for _, line, _ in piece]))
-        before = computed.hexdigest()
+        others = ((table, joined(rows)) for _, table, rows in by_table)
+        before = digest_over(before, line, others)
         if before != digest:
             return broken(act)
     return None
 
 
+def joined(rows: Iterator[tuple[Any, ...]]) -> Iterator[bytes]:
+    while piece := list(itertools.islice(rows, ROWS_AT_ONCE)):
+        yield b"\n".join([line for _, line, _ in piece])
+
+
 def acts_in(
     connection: sqlite3.Connection, table: str
 ) -> Iterator[tuple[int, str, Iterator[tuple[Any, ...]]]]:
-    """The acts that have rows in a table, in their order, each with the table and the rows: act,
-    line, and digest if the row is that of the act.
+    """The acts that have rows in a table, each with the table and the rows: act, line, and the
+    digest if the row is that of the act.
     """
     for act, rows in itertools.groupby(connection.execute(query_of_all(table)), key=ACT_OF):
         yield act, table, rows
@@ -179,6 +186,6 @@ def acts_in(
 
 def query_of_all(table: str) -> str:
     """It reads the table, once, and no index in place of it."""
-    line, digest = schema().lines[table], "digest" if table == ACT else "NULL"
+    line, digest = line_of()[table], "digest" if table == ACT else "NULL"
     order = "act" if table == ACT else "act, rowid"
     return f"SELECT act, CAST({line} AS BLOB), {digest} FROM {table} NOT INDEXED ORDER BY {order}"

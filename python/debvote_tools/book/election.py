@@ -2,13 +2,12 @@
 
 import contextlib
 import datetime
-import enum
 import functools
 import os
 import pathlib
 import shlex
 from collections.abc import Sequence
-from typing import Any, NamedTuple
+from typing import Any, Literal, NamedTuple
 
 from debvote_tools.book import queries
 from debvote_tools.book.book import NAME, ActName, Book, DoneAct, damaged, from_text, open_book
@@ -31,22 +30,12 @@ RESULT_LETTER = "result.txt"
 # in the file of the same name
 POLL, POLL_WITH_NAMES, KEYRING, LETTER_TEXT = "poll", "poll with names", "keyring", "letter.txt"
 
-# what an election of version 1 has in its folder
-OF_VERSION_1 = ("journal", "ballots", "received")
 
-
-class Stage(enum.StrEnum):
-    """How far the election is. After `reopen` it is called again."""
-
-    NEW = "new"
-    CALLED = "called"
-    CLOSED = "closed"
-    PUBLISHED = "published"
+# how far the election is; after `reopen` it is called again
+Stage = Literal["new", "called", "closed", "published"]
 
 
 class History(NamedTuple):
-    """The acts of a book, in their order."""
-
     acts: Sequence[DoneAct]
 
     def named(self, *names: ActName) -> list[DoneAct]:
@@ -54,8 +43,8 @@ class History(NamedTuple):
 
     def since_call(self, *names: ActName) -> list[DoneAct]:
         """The acts of these names from the call that holds on, with the call; empty before it."""
-        call = self.call
-        return [act for act in self.named(*names) if call is not None and act.number >= call.number]
+        first = len(self.acts) + 1 if self.call is None else self.call.number
+        return [act for act in self.named(*names) if act.number >= first]
 
     def act(self, number: int) -> DoneAct:
         return self.acts[number - 1]
@@ -71,10 +60,9 @@ class History(NamedTuple):
         return next((act for act in self.named("call") if act.number > taken_back), None)
 
     def announced(self, key: str) -> Any:
-        """What the call, or a later act that adds to it, says last of something, as `address`."""
-        acts = reversed(self.since_call("call", "extend", "announce"))
-        said = (act.detail.get(key) for act in acts)
-        return next((value for value in said if value is not None), None)
+        """What the call, or a later act that adds to it, says last of something, as `at`."""
+        said = [act.detail.get(key) for act in self.since_call("call", "extend", "announce")]
+        return next((value for value in reversed(said) if value is not None), None)
 
     @property
     def has_codes_on_roll(self) -> bool:
@@ -88,7 +76,7 @@ class History(NamedTuple):
 
     @property
     def until(self) -> datetime.datetime | None:
-        """Until when one can vote, with the offset in which it was announced, if it was."""
+        """Until when one can vote, with the offset in which it was announced."""
         until = self.announced("until")
         return None if until is None else from_text(until)
 
@@ -104,7 +92,7 @@ class History(NamedTuple):
 
     @property
     def is_reopened(self) -> bool:
-        """Whether the vote is open again: then only what came before the first close is in time."""
+        """Whether the vote is open again: only what came before the first close is in time."""
         return bool(self.closes) and not self.is_closed
 
     def is_late(self, came_before_close: bool | None) -> bool:
@@ -117,16 +105,13 @@ class History(NamedTuple):
 
     @property
     def stage(self) -> Stage:
-        if self.call is None:
-            return Stage.NEW
         if not self.is_closed:
-            return Stage.CALLED
-        published = any(act.number > self.closes[-1].number for act in self.since_call("publish"))
-        return Stage.PUBLISHED if published else Stage.CLOSED
+            return "new" if self.call is None else "called"
+        return "closed" if self.since_call("close", "publish")[-1].name == "close" else "published"
 
 
 class Sealed(NamedTuple):
-    """The poll as everybody sees it, and as ballots are counted; they differ if there are aliases."""
+    """The poll as everybody sees it, and as ballots are counted: they differ by aliases."""
 
     public: SealedPoll
     counted: SealedPoll
@@ -137,9 +122,7 @@ class Sealed(NamedTuple):
 
 
 class Election:
-    """An election in a folder, by default the current one. What it says of the book is read anew
-    each time, since others may work on it.
-    """
+    """An election in a folder. The book is read anew each time, since others may work on it."""
 
     def __init__(self, folder: pathlib.Path | None, program_folder: pathlib.Path | None) -> None:
         self.folder, self.program_folder = folder or pathlib.Path(), program_folder
@@ -154,7 +137,7 @@ class Election:
 
     @functools.cached_property
     def opened(self) -> Book:
-        """The book, of which nothing is said yet: commands use `book` or `book_for`."""
+        """The book, of which nothing is said: commands use `book` or `book_for`."""
         if not self.path(NAME).is_file():
             raise no_book(self.folder)
         book = open_book(self.path(NAME))
@@ -163,20 +146,18 @@ class Election:
 
     @functools.cached_property
     def book(self) -> Book:
-        """The book for reading. It says on standard error why this may not be the book that this
-        machine worked on last.
-        """
+        """The book for reading. Says on standard error why it may not be the right one."""
         tell_aside(*(f"Note: {doubt.file}: {doubt.reason}." for doubt in self.opened.doubts()))
         return self.opened
 
     def whole_book(self) -> Book:
-        """The book for reading. Stops if anything in it is not as its acts wrote it."""
+        """The book for reading, of which all digests are computed anew."""
         self.book.demand_whole()
         return self.book
 
     def book_for(self, arguments: Acting) -> Book:
         """The book for an act, and for what others rely on. Stops if it is not the one that this
-        machine knows, unless --moved says that it is the right one.
+        machine knows, unless --moved says that it is right.
         """
         book = self.opened
         if arguments.writes:
@@ -198,11 +179,10 @@ class Election:
 
     @property
     def own_acts(self) -> list[str]:
-        """The acts that this command has done, in words."""
         return self.opened.own_acts if "opened" in vars(self) else []
 
     def demand_undamaged(self) -> None:
-        """Stops if the book, which is opened anew, is damaged."""
+        """Opens the book anew, and stops if it is damaged."""
         if self.path(NAME).is_file():
             book = open_book(self.path(NAME))
             with contextlib.closing(book.connection):
@@ -231,13 +211,20 @@ class Election:
             raise Fault(None, "there is no call for votes yet", f"run {self.command('call')} first")
         return history.call
 
+    def to_all(self, kind: str, file: pathlib.Path) -> str:
+        """How a letter goes to all: where nobody knows whose each code is, none can be written to an
+        elector.
+        """
+        by_hand = f"send {file} to all electors"
+        return by_hand if self.history().has_codes_on_roll else self.command("letters", kind)
+
     def command(self, *words: str) -> str:
         folder = [] if self.folder == pathlib.Path() else ["--folder", str(self.folder)]
         return shlex.join(["debvote-election", *words[:1], *folder, *words[1:]])
 
 
 def no_book(folder: pathlib.Path) -> Fault:
-    """The fault of a folder without a book: what it is instead, as far as that can be seen."""
+    """The fault of a folder without a book, with what it is instead."""
     words = f"there is no {NAME} in it, so it is not an election"
     cure = "go to the folder of the election, or name it with --folder; new makes one"
     place = folder.absolute()
@@ -246,7 +233,7 @@ def no_book(folder: pathlib.Path) -> Fault:
     elif (place.parent / NAME).is_file() and place.name in MADE:
         words = "the election is one folder up"
         cure = "go there with cd .., then run the command again"
-    elif any(os.path.lexists(folder / name) for name in OF_VERSION_1):
+    elif any(os.path.lexists(folder / name) for name in ("journal", "ballots", "received")):
         words = "it is an election of debvote-election 1.x, which only 1.x can finish"
         cure = "install the version that began it, or begin anew in another folder"
     return Fault(folder, words, cure, Status.BAD_WORDS, None)

@@ -20,13 +20,13 @@ from debvote_tools.files import locked, sync_folder
 MACHINE_ID = pathlib.Path("/etc/machine-id")
 MACHINE_DIGITS = 16
 
-# digits of the number of an act, and of its digest, for which a note has room
-NUMBER_DIGITS, DIGEST_DIGITS = 20, 64
+# how much longer a note may be than one of act 0 without a digest
+ROOM = 20 + 64
 
 
 def machine_of(salt: bytes) -> str:
-    """This machine as the acts of a book name it, by the random bytes of the first act: two books do
-    not show that they are of one machine.
+    """This machine as the acts of a book name it. It differs by the random bytes of the first act,
+    so that two books do not show that they are of one machine.
     """
     try:
         machine_id = MACHINE_ID.read_bytes()
@@ -59,12 +59,12 @@ class MachineNote:
         except FileNotFoundError:
             return None
         except (OSError, ValueError, LookupError, TypeError) as error:
-            cure = "remove it, then repeat the command with --moved --because TEXT"
             words = f"this computer's note of the election can't be read ({error})"
-            raise Fault(self.file, words, cure, Status.DOUBT, None) from None
+            cure = "remove it, then repeat the command with --moved --because TEXT"
+            raise Fault(self.file, words, cure, done=None) from None
 
     def make_ready(self) -> None:
-        """Makes room on the disk for the next note. Stops if there is none."""
+        """Makes room on the disk for the next note."""
         with self.under_lock():
             self.write_next(b"")
 
@@ -79,10 +79,9 @@ class MachineNote:
 
     def write_next(self, content: bytes) -> None:
         """Writes over what is to take the place of the note, with the room of the longest note."""
-        room = len(self.as_bytes(Note(0, ""))) + NUMBER_DIGITS + DIGEST_DIGITS
         handle = os.open(self.next, os.O_WRONLY | os.O_CREAT | os.O_CLOEXEC, 0o600)
         with open(handle, "wb") as target:
-            target.write(content.ljust(room))
+            target.write(content.ljust(len(self.as_bytes(Note(0, ""))) + ROOM))
             target.flush()
             os.fsync(handle)
 

@@ -6,16 +6,14 @@ import collections
 import datetime
 import json
 from collections.abc import Collection, Iterable
-from typing import Final, NamedTuple
+from typing import Final, Literal, NamedTuple
 
 from debvote_tools.book.book import Book, NewAct, as_text, from_text
 
 
 # ---------------------------------------------------------------- electors
 class Elector(NamedTuple):
-    """An elector as the book has them now. `position` is that in the list of members; None if they
-    are no longer on it.
-    """
+    """An elector as the book has them now. `position` is that in the list of members, if any."""
 
     number: int
     name: str
@@ -29,13 +27,15 @@ class Elector(NamedTuple):
 
 
 def all_electors(book: Book) -> list[Elector]:
-    """All electors that the book knows, those who are no longer on the list first. They are read
-    again only if somebody has changed the book.
+    """All whom the book knows, those who are no longer on the list first. They are read again only
+    if somebody has changed the book.
     """
     state = book.last_number(), book.connection.total_changes
     if book.electors_at[0] != state:
         rows = book.rows("SELECT * FROM elector_now ORDER BY position")
-        found = [Elector._make([*row[:4], tuple(json.loads(row[4])), *row[5:]]) for row in rows]
+        # all lists of addresses at once: one after the other takes five times as long
+        mails = json.loads(f"[{','.join(row[4] for row in rows)}]")
+        found = [Elector._make([*row[:4], tuple(mail), *row[5:]]) for row, mail in zip(rows, mails)]
         book.electors_at = state, found
     return list(book.electors_at[1])
 
@@ -46,9 +46,7 @@ def electors(book: Book) -> list[Elector]:
 
 
 def public_names(electors: Iterable[Elector]) -> dict[str, str]:
-    """What the public of a secret vote sees in place of each name: the alias, or the name itself if
-    it is a code of the roll.
-    """
+    """What a secret vote shows in place of each name: the alias, or a code of the roll itself."""
     return {elector.name: elector.alias or elector.name for elector in electors}
 
 
@@ -105,8 +103,9 @@ class Envelope(NamedTuple):
 
 
 # conditions on envelopes, with the acts that no `undo` took back
-NOT_STRUCK = "struck IS NULL"
-IN_TIME, LATE = f"late = 0 AND {NOT_STRUCK}", f"late = 1 AND {NOT_STRUCK}"
+LATE = "late AND struck IS NULL"
+# the elector has no later ballot that counts
+NOT_REPLACED = "NOT EXISTS (SELECT 1 FROM ballot WHERE ballot.elector = entered.elector AND (ballot.time, ballot.envelope) > (entered.time, entered.envelope))"
 NOT_UNDONE = "act NOT IN (SELECT json_extract(detail, '$.act') FROM act WHERE name = 'undo')"
 
 # the envelopes that were entered anew: late ones as in time, and others by `add --again`
@@ -121,16 +120,22 @@ IN_FILES = f"source IS NOT NULL AND letter IS NULL AND {NOT_UNDONE} AND envelope
 COLUMNS = "envelope, act, elector, line, source, letter, place, time, late, struck"
 
 
-def envelopes(book: Book, condition: str = "1", *values: object) -> list[Envelope]:
+# the views of what was entered: all envelopes, and those that are counted
+View = Literal["entered", "ballot"]
+
+
+def envelopes(
+    book: Book, condition: str = "1", *values: object, view: View = "entered"
+) -> list[Envelope]:
     """The envelopes that meet a condition, in their order."""
-    words = f"SELECT {COLUMNS} FROM entered AS envelope WHERE {condition} ORDER BY envelope"
+    words = f"SELECT {COLUMNS} FROM {view} WHERE {condition} ORDER BY envelope"
     rows = book.rows(words, *values)
     return [Envelope._make([*row[:7], from_text(row[7]), bool(row[8]), row[9]]) for row in rows]
 
 
-def lines(book: Book, condition: str, *values: object) -> list[bytes]:
+def lines(book: Book, condition: str = "1", *values: object, view: View = "entered") -> list[bytes]:
     """The line of each envelope that meets a condition, in their order."""
-    words = f"SELECT line FROM entered AS envelope WHERE {condition} ORDER BY envelope"
+    words = f"SELECT line FROM {view} WHERE {condition} ORDER BY envelope"
     return [line for line, in book.rows(words, *values)]
 
 
@@ -138,7 +143,7 @@ def lines_in_time(book: Book) -> list[bytes]:
     """The ballots that are counted: the line of each envelope that came in time and is not struck,
     in their order.
     """
-    return lines(book, IN_TIME)
+    return lines(book, view="ballot")
 
 
 def numbered_lines_in_time(book: Book) -> list[tuple[int, bytes]]:
@@ -214,11 +219,13 @@ def lines_after(
     condition = "late = 0 AND (struck IS NULL OR struck > ?1) AND act <= ?1 AND act <> ?2"
     if electors is None:
         return lines(book, condition, act, without)
-    condition, numbers = f"{condition} AND {of_electors(electors)}", json.dumps(list(electors))
+    condition, numbers = f"{condition} AND {elector_condition(electors)}", json.dumps(
+        list(electors)
+    )
     return lines(book, condition, act, without, numbers)
 
 
-def of_electors(electors: Collection[int]) -> str:
+def elector_condition(electors: Collection[int]) -> str:
     """The condition that an envelope is of one of these electors, who are the last value, as JSON."""
     # with the sign SQLite uses no index: to look for the lines of each of many takes longer than to
     # look at all lines
@@ -227,7 +234,9 @@ def of_electors(electors: Collection[int]) -> str:
 
 def envelopes_of(book: Book, electors: Collection[int]) -> list[Envelope]:
     """The envelopes of some electors that are not struck, also those that are late."""
-    return envelopes(book, f"{NOT_STRUCK} AND {of_electors(electors)}", json.dumps(list(electors)))
+    return envelopes(
+        book, f"struck IS NULL AND {elector_condition(electors)}", json.dumps(list(electors))
+    )
 
 
 def lines_of_electors(book: Book, electors: Collection[int], *, without: int = 0) -> list[bytes]:
@@ -299,8 +308,8 @@ class KeptLetter(NamedTuple):
     source: int
     # what a copy of it has in common with it
     identity: str
-    # what its bytes, the keyring and the sealed poll alone decide, as JSON
-    known: str
+    # what its bytes, the keyring and the sealed poll alone decide
+    parsed_json: str
     state: str
 
     @property
@@ -309,15 +318,15 @@ class KeptLetter(NamedTuple):
 
 
 def letters(book: Book) -> list[KeptLetter]:
-    words = "SELECT letter, act, source, identity, known, state FROM letter_now ORDER BY letter"
+    words = (
+        "SELECT letter, act, source, identity, parsed_json, state FROM letter_now ORDER BY letter"
+    )
     return [KeptLetter(*row) for row in book.rows(words)]
 
 
-def known_digests(book: Book) -> set[tuple[str, bool]]:
+def kept_digests(book: Book) -> set[tuple[str, bool]]:
     """The digests of the letters that came, each with whether it was parted off."""
-    words = (
-        "SELECT json_extract(known, '$.digest'), json_extract(known, '$.is_parted_off') FROM letter"
-    )
+    words = "SELECT json_extract(parsed_json, '$.digest'), json_extract(parsed_json, '$.is_parted_off') FROM letter"
     return {(str(digest), bool(is_parted_off)) for digest, is_parted_off in book.rows(words)}
 
 
@@ -330,8 +339,8 @@ def returned_letters(book: Book) -> list[tuple[int, str, list[str]]]:
     sender, and the own marks in it.
     """
     words = (
-        "SELECT act, json_extract(known, '$.sender'), json_extract(known, '$.returned') FROM letter "
-        "WHERE json_array_length(known, '$.returned') > 0 ORDER BY letter"
+        "SELECT act, json_extract(parsed_json, '$.sender'), json_extract(parsed_json, '$.returned') FROM letter "
+        "WHERE json_array_length(parsed_json, '$.returned') > 0 ORDER BY letter"
     )
     return [(act, sender, json.loads(marks)) for act, sender, marks in book.rows(words)]
 
@@ -342,10 +351,10 @@ def undecided(kept: list[KeptLetter]) -> list[KeptLetter]:
     return [letter for letter in kept if letter.identity in identities]
 
 
-def keep_letter(act: NewAct, where: str, data: bytes, identity: str, known: str) -> int:
+def keep_letter(act: NewAct, where: str, data: bytes, identity: str, parsed_json: str) -> int:
     """Keeps a letter, byte for byte, and returns its number."""
     return act.insert(
-        "letter", source=keep_source(act, where, data), identity=identity, known=known
+        "letter", source=keep_source(act, where, data), identity=identity, parsed_json=parsed_json
     )
 
 

@@ -34,13 +34,16 @@ class SentLetter(NamedTuple):
     # what the server said when it refused the letter
     reply: str = ""
 
+    @property
+    def is_refused_for_good(self) -> bool:
+        """Whether the server said that it never takes it, and not that it does not take it now."""
+        return self.state == REFUSED and not self.reply.startswith("4")
+
 
 def sent_letters(
     book: Book, kind: str | None = None, elector: int | None = None
 ) -> list[SentLetter]:
-    """The letters of a kind, if one is given, and to an elector, if one is given, in the order in
-    which they were written.
-    """
+    """The letters of a kind and to an elector, where these are given, in the order of writing."""
     found: dict[object, SentLetter] = {}
     words = (
         "SELECT sent, elector, kind, state, detail FROM sent "
@@ -50,33 +53,23 @@ def sent_letters(
         detail = json.loads(text)
         key = detail["message_id"] or row
         if state == WRITTEN:
+            where = detail["for_act"], detail["address"], detail["message_id"]
             about = tuple((what, number, is_struck) for what, number, is_struck in detail["about"])
-            found[key] = SentLetter(
-                number,
-                its_kind,
-                detail["for_act"],
-                detail["address"],
-                detail["message_id"],
-                from_text(detail["time"]),
-                about,
-            )
+            time = from_text(detail["time"])
+            found[key] = SentLetter(number, its_kind, *where, time, about)
         else:
             found[key] = found[key]._replace(state=state, reply=detail.get("reply", ""))
     return list(found.values())
 
 
 def note(act: NewAct, letters: Iterable[SentLetter]) -> None:
-    """Notes the state of each letter."""
     rows = ((letter.elector, letter.kind, letter.state, detail_of(letter)) for letter in letters)
     act.insert_all("sent", ["elector", "kind", "state", "detail"], rows)
 
 
 def detail_of(letter: SentLetter) -> str:
-    detail: dict[str, Any] = {
-        "message_id": letter.message_id,
-        "address": letter.address,
-        "for_act": letter.for_act,
-    }
+    detail: dict[str, Any] = {"message_id": letter.message_id, "address": letter.address}
+    detail["for_act"] = letter.for_act
     if letter.state == WRITTEN:
         detail |= {"time": letter.time.isoformat(), "about": letter.about}
     elif letter.reply:

@@ -26,9 +26,7 @@ LONGEST_REASON = 2_000
 
 
 class Options:
-    """The values of the options, by their fields. On the class itself a field has what the parser
-    needs.
-    """
+    """The values of the options, by their fields. On the class a field has what the parser needs."""
 
     def __init__(self, **values: Any) -> None:
         self.__dict__.update(values)
@@ -116,7 +114,6 @@ def given(arguments: Options, *names: str) -> list[str]:
 
 
 def arguments_of(kind: type[Arguments], namespace: argparse.Namespace) -> Arguments:
-    """The values of the options, which have their types from here on."""
     return kind(**vars(namespace))
 
 

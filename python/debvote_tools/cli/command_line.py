@@ -29,8 +29,8 @@ QUIET = ("check", "show", "status", "count", "log")
 
 
 def parser(words: Sequence[str] = ()) -> argparse.ArgumentParser:
-    """The parser of the command line. If these words begin with a command, it knows only this
-    command, since the module of each command takes a while to be read.
+    """The parser of the command line. If these words begin with a command, it knows this one alone,
+    since the module of each takes a while to be read.
     """
     # --folder may come before the command and after it
     folder = argparse.ArgumentParser(add_help=False)

@@ -23,8 +23,8 @@ LINES_AT_ONCE = 1_000
 
 
 class OutputFailed(Fault):
-    """Standard output takes nothing more. What was printed before is done. Somebody who reads the
-    first lines alone, as `head` does, closes the pipe, and has what was asked for.
+    """Standard output takes nothing more. Who reads the first lines alone, as `head` does, closes
+    the pipe, and has what was asked for.
     """
 
     def __init__(self, *, is_closed_pipe: bool = False) -> None:
@@ -34,15 +34,13 @@ class OutputFailed(Fault):
 
 
 def prepare() -> None:
-    """Runs before anything is printed. A character that the terminal can't show must not stop the
-    program.
-    """
+    """Runs first. A character that the terminal can't show must not stop the program."""
     if isinstance(sys.stdout, io.TextIOWrapper):
         sys.stdout.reconfigure(errors="backslashreplace")
 
 
 def has_output() -> bool:
-    """Whether standard output was open when the program was started."""
+    """Whether standard output was open at the start."""
     return sys.stdout is not None
 
 
@@ -52,7 +50,6 @@ def is_terminal() -> bool:
 
 
 def shows() -> bool:
-    """Whether standard output is a terminal."""
     return sys.stdout is not None and sys.stdout.isatty()
 
 
@@ -62,7 +59,7 @@ def tell(*lines: str) -> None:
 
 
 def tell_many(lines: Iterable[str]) -> None:
-    """Writes many lines, in parts, so that they are not all in memory."""
+    """Writes lines in parts, so that they are not all in memory."""
     waiting = iter(lines)
     while part := list(itertools.islice(waiting, LINES_AT_ONCE)):
         tell(*part)
@@ -78,9 +75,7 @@ def tell_as_it_is(text: str) -> None:
 
 
 def tell_aside(*lines: str) -> None:
-    """Writes lines to standard error, at once. If that fails, the exit status still says how the
-    run ended.
-    """
+    """Writes lines to standard error, at once. Its failure changes no exit status."""
     tell_aside_as_it_is("".join(f"{written(line)}\n" for line in lines))
 
 
@@ -91,8 +86,8 @@ def tell_aside_as_it_is(text: str) -> None:
 
 
 def write(output: TextIO, text: str) -> None:
-    """Writes a text at once. If this fails, the rest of the text is dropped. Otherwise Python would
-    try again at its end, and exit with a status of its own.
+    """Writes a text at once, or drops its rest: Python would try again at its end, and exit with a
+    status of its own.
     """
     try:
         output.write(text)
@@ -111,9 +106,7 @@ def failed(program: str, words: str, status: int) -> int:
 
 
 def typed(question: str) -> bytes | None:
-    """The line that is typed as the answer to a question, with its line end; None at the end of the
-    input.
-    """
+    """The answer to a question, with its line end; None at the end of the input."""
     tell_as_it_is(written(question))
     line = sys.stdin.buffer.readline()
     if not line:
@@ -122,8 +115,8 @@ def typed(question: str) -> bytes | None:
 
 
 def is_yes(question: str, how: str = "Type y for yes, or n for no.") -> bool | None:
-    """Whether the answer is yes or no; None at the end of the input. After any other answer it says
-    `how` to answer, and asks again.
+    """Whether the answer is yes; None at the end of the input. After another answer it says `how`,
+    and asks again.
     """
     while (answer := typed(f"{question} [y/n] ")) is not None:
         word = answer.strip().lower()
@@ -210,19 +203,26 @@ def listed(names: Sequence[str], most: int) -> str:
     return ", ".join(names[:most]) + (f" and {len(names) - most} more" if len(names) > most else "")
 
 
+def bar(part: int, whole: int, width: int) -> str:
+    """How many of all are done; it is full only if all are, and empty only if none is."""
+    full = part * width // whole if part in (0, whole) else max(part * width // whole, 1)
+    full = min(full, width - (part < whole))
+    return f"[{'#' * full}{'.' * (width - full)}]"
+
+
 def act_time(time: datetime.datetime) -> str:
-    """When an act was done, as `2026-12-04 17:00:00 UTC`."""
+    """A time as `2026-12-04 17:00:00 UTC`."""
     return f"{time.astimezone(datetime.UTC):%Y-%m-%d %H:%M:%S} UTC"
 
 
 def wrapped(names: Iterable[str]) -> str:
-    """Names with spaces between, in lines that a terminal shows whole."""
+    """Names in lines that a terminal shows whole."""
     wrapper = textwrap.TextWrapper(WIDTH, "  ", "  ", break_on_hyphens=False)
     return wrapper.fill(" ".join(names))
 
 
 def quorum_words(multiple: int, votes: int) -> str:
-    """What a quorum of a number of times Q, which is a number of votes, asks for."""
+    """What a quorum asks for: a number of times Q, which is a number of votes."""
     if multiple == 0:
         return "Quorum: none"
     least = f"at least {count_of(votes, 'elector')} must prefer an option to the default option"

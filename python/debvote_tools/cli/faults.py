@@ -29,7 +29,7 @@ NOTHING_CHANGED = f"{NOTHING}changed"
 
 class Fault(Exception):
     """Ends a run: the file, if the fault is in one, the reason, the cure, the exit status, and what
-    was done or was not, which is None if the reason says it. `others` stop the same act.
+    was done or was not, None if the reason says it. `others` stop the same act.
     """
 
     others: tuple["Fault", ...] = ()
@@ -47,7 +47,6 @@ class Fault(Exception):
 
     @property
     def words(self) -> str:
-        """The fault in one line."""
         where = "" if self.file is None else f"{self.file}: "
         done = "; " if self.done is None else f"; {self.done}: " if self.done else ": "
         return f"{where}{self.reason}{done}{self.cure}"
@@ -66,6 +65,13 @@ class Fault(Exception):
         """The same fault, if this was done, too."""
         self.done = "; ".join(filter(None, [self.done, done]))
         return self
+
+
+def bad_words(
+    option: object, reason: object, cure: str, done: str | None = NOTHING_CHANGED
+) -> Fault:
+    """The fault of an option, or of what it names."""
+    return Fault(option, reason, cure, Status.BAD_WORDS, done)
 
 
 def acts_in_words(acts: Sequence[str]) -> str:
@@ -92,6 +98,5 @@ def kept_in(faults: list[Fault]) -> Iterator[None]:
 
 
 def other_format(what: str) -> Fault:
-    """The fault of an output of debvote that does not have its format."""
     cure = "install debvote and these programs from one package"
     return Fault(None, f"{what} has an unknown format", cure, Status.BAD_SHEET, None)

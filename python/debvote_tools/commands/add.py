@@ -2,6 +2,7 @@
 
 import collections
 import itertools
+import operator
 import os
 import re
 from collections.abc import Iterable, Iterator, Mapping, Sequence
@@ -13,24 +14,25 @@ from debvote_tools.book.book import Book, Detail, NewAct
 from debvote_tools.book.election import Election, History
 from debvote_tools.book.queries import Envelope, NewEnvelope
 from debvote_tools.cli.console import count_of, shown_line, tell, tell_many
-from debvote_tools.cli.faults import Fault, Status, stop_at
-from debvote_tools.inbox import files as came, plan as plans
-from debvote_tools.inbox.files import HYPHEN, CameFile
-from debvote_tools.inbox.lines import MARK, NOTHING_ADDED, Line, lines_in
-from debvote_tools.inbox.tables import Columns, OptionNames, are_table, columns_of, lines_of_table
+from debvote_tools.cli.faults import Fault, stop_at
+from debvote_tools.inbox import came, entering
+from debvote_tools.inbox.came import HYPHEN, CameFile
+from debvote_tools.inbox.lines import MARK, NOTHING_ADDED, Line, bad_words, doubt, lines_in
+from debvote_tools.inbox.tables import OptionNames, are_table, heads_of, lines_of_table
 from debvote_tools.inbox.vote import LATE_REPLY, JudgedLine, Vote, summary
-from debvote_tools.poll.sealed import read_plain
 
 FORCE = "add it anyway with --force"
 
 # how many lines are shown that are no ballots, and how many that came before and no longer count
 MAX_REFUSED, MAX_REPEATED = 10, 20
 
+is_ballot = operator.attrgetter("is_ballot")
+
 # the heads of a list of members
 MEMBERS_HEADS = {"who", "mail"}
 
 
-class Arguments(plans.Arguments):
+class Arguments(entering.Arguments):
     files: list[str] = positional(
         "FILE",
         "Letters (a mailbox, a Maildir, a folder of .eml), or ballots, one on each line, or tables (--csv); - or no FILE: standard input",
@@ -76,54 +78,51 @@ def run(election: Election, arguments: Arguments) -> None:
         return
     if of_lines := given(arguments, "csv", "again", "force"):
         words = "only for lines and tables, and these are letters"
-        raise Fault(", ".join(of_lines), words, "leave this out", Status.BAD_WORDS, NOTHING_ADDED)
+        raise bad_words(", ".join(of_lines), words, "leave this out")
     # what reads letters takes a while to be imported
-    from debvote_tools.inbox.letters_in import take_letters
+    from debvote_tools.inbox.taking import take_letters
 
     take_letters(vote, found, is_look=arguments.look, is_agreed=arguments.yes)
 
 
 def demand_words(arguments: Arguments) -> None:
-    of_table = given(
-        arguments, "name", "ranks", "blank_is_unranked", "oldest_first", "newest_first"
-    )
-    if of_table and not arguments.csv:
-        cure = "give --csv too, or leave this out"
-        raise Fault(", ".join(of_table), "only for tables", cure, Status.BAD_WORDS, NOTHING_ADDED)
+    names = ("name", "ranks", "blank_is_unranked", "oldest_first", "newest_first")
+    if (of_table := given(arguments, *names)) and not arguments.csv:
+        raise bad_words(", ".join(of_table), "only for tables", "give --csv too, or leave this out")
     if arguments.csv and (arguments.name is None or arguments.ranks is None):
         words = "it needs --name COLUMN and --ranks COLUMN,COLUMN,.., with one column for each rank"
-        raise Fault("--csv", words, "give both", Status.BAD_WORDS, NOTHING_ADDED)
+        raise bad_words("--csv", words, "give both")
     # the shell cuts heads without quotes at their spaces, and the rest looks like files
     gone = [name for name in arguments.files if name != HYPHEN and not os.path.lexists(name)]
     if arguments.ranks is not None and (gone or arguments.ranks.rstrip().endswith(",")):
         comma = f"the list of columns ends with a comma: {arguments.ranks}"
         reason = f"there is no file {came.safe(gone[0])}" if gone else comma
         cure = "name the file, and put single quotes around headers with spaces, as in --ranks 'First, Second'"
-        raise Fault("--csv", reason, cure, Status.BAD_WORDS, NOTHING_ADDED)
+        raise bad_words("--csv", reason, cure)
 
 
-# ---------------------------------------------------------------- lines
+# ---- lines
 class FileLines(NamedTuple):
     """A file and its lines in the order of entering, the new ones, and those that came before."""
 
     came: CameFile
-    lines: tuple[JudgedLine, ...]
-    empty: tuple[Line, ...]
-    new: tuple[JudgedLine, ...] = ()
+    lines: Sequence[JudgedLine]
+    empty: Sequence[Line]
+    new: Sequence[JudgedLine] = ()
     # each with what has happened since, if it no longer counts: then `--again` takes it
-    repeated: tuple[tuple[JudgedLine, str | None], ...] = ()
+    repeated: Sequence[tuple[JudgedLine, str | None]] = ()
     # the envelopes of lines that go in again: from then on such a line is known by its new envelope
-    again: tuple[int, ...] = ()
+    again: Sequence[int] = ()
 
 
-class Plan(NamedTuple):
+class NewLines(NamedTuple):
     """Which lines would be entered, by the book as it is now."""
 
     openness: History
-    files: tuple[FileLines, ...]
+    files: list[FileLines]
 
     @property
-    def new_lines(self) -> list[JudgedLine]:
+    def lines(self) -> list[JudgedLine]:
         return [line for file in self.files for line in file.new]
 
     def envelopes(self, act: NewAct) -> Iterator[NewEnvelope]:
@@ -135,87 +134,79 @@ class Plan(NamedTuple):
 
 def take_lines(vote: Vote, came_files: Sequence[CameFile], arguments: Arguments) -> None:
     """Enters the lines that are new, and prints the replies; or tells what would become of them."""
-    files, book = read_lines(vote, came_files, arguments), vote.book
+    files, book, command = file_lines(vote, came_files, arguments), vote.book, vote.election.command
     answer: bool | None = None
 
-    def plan() -> Plan:
+    def plan() -> NewLines:
         """It asks nothing of debvote, so it is made again within the act."""
         history = History(book.acts())
-        plans.demand_same_call(vote, history, "run the command again", NOTHING_ADDED)
-        takes_again, is_reopened = arguments.again, history.is_reopened
-        found = sorted_out(book, files, takes_again=takes_again, is_reopened=is_reopened)
-        return Plan(history.openness(), found)
+        vote.demand_same_call(history, NOTHING_ADDED)
+        return NewLines(history.openness(), sorted_out(book, files, history, arguments.again))
 
-    def show(found: Plan) -> bool:
+    def show(new: NewLines) -> bool:
         nonlocal answer
-        stop_at(list(doubts(vote, found, arguments)))
-        if not found.new_lines:
-            tell(*report(vote, found, (), ()))
-            tell("There is nothing new, and nothing was added.")
+        stop_at(list(doubts(vote, new, arguments)))
+        if not new.lines:
+            tell(*report(vote, new, (), ()), "There is nothing new, and nothing was added.")
             return False
         said = arguments.came_before_close
-        answer = plans.came_before_close(found.openness, said, NOTHING_ADDED)
+        answer = entering.came_before_close(new.openness, said, NOTHING_ADDED)
         return True
 
-    def act(found: Plan, seen: int) -> None:
+    def act(new: NewLines, seen: int) -> None:
         def told(numbers: range, replies: Sequence[str]) -> Iterator[str]:
-            yield from report(vote, found, numbers, replies)
+            yield from report(vote, new, numbers, replies)
             yield f"Added {summary(replies)}."
 
-        plans.enter(
+        entering.enter_lines(
             vote,
             "add",
-            detail_of(vote, found, arguments, answer),
-            found.envelopes,
+            detail_of(vote, new, arguments, answer),
+            new.envelopes,
             told,
             seen,
-            is_late=found.openness.is_late(answer),
-            is_same=lambda: plan() == found,
+            is_late=new.openness.is_late(answer),
+            is_same=lambda: plan() == new,
         )
 
     if arguments.look:
         with book.snapshot():
-            found, lines, first = plan(), queries.lines_in_time(book), queries.last_envelope(book)
-        look(vote, found, lines, first + 1, arguments)
-    elif plans.agreed_act(vote, plan, show, act).openness.is_closed:
-        tell(f"Next: {vote.election.command('count')}")
+            new, lines, first = plan(), queries.lines_in_time(book), queries.last_envelope(book)
+        look(vote, new, lines, first + 1, arguments)
+    elif entering.agreed_act(vote, plan, show, act).openness.is_closed:
+        tell(f"Next: {command('count')}")
     else:
-        command = vote.election.command
         more = f"add more ballots with {command('add', 'FILE')}"
         tell(f"Next: {command('status')}; {more}, and when the vote is over: {command('close')}")
 
 
-def read_lines(vote: Vote, files: Sequence[CameFile], arguments: Arguments) -> list[FileLines]:
-    columns: Columns | None = None
-    if arguments.name is not None and arguments.ranks is not None:
-        poll, names = read_plain(vote.poll_bytes), vote.names_on_roll
-        is_blank = arguments.blank_is_unranked
-        columns = columns_of(arguments.name, arguments.ranks, poll, names, is_blank)
-    is_sorted = arguments.newest_first or arguments.oldest_first
-    is_newest_first = arguments.newest_first if is_sorted else None
-    lists = [
-        lines_in(file.data, file.name)
-        if columns is None
-        else lines_of_table(file.data, file.name, columns, is_newest_first=is_newest_first)
-        for file in files
-    ]
-    what = "it has only empty lines" if columns is None else "it has no row with a ballot"
+def file_lines(vote: Vote, files: Sequence[CameFile], arguments: Arguments) -> list[FileLines]:
+    """The lines of each file, with what debvote says of them."""
+    if arguments.name is None or arguments.ranks is None:
+        lists = [lines_in(file.data, file.name) for file in files]
+        what = "it has only empty lines"
+    else:
+        heads = heads_of(arguments.name, arguments.ranks, vote.poll)
+        is_sorted = arguments.newest_first or arguments.oldest_first
+        how = arguments.blank_is_unranked, arguments.newest_first if is_sorted else None
+        lists = [lines_of_table(file.data, file.name, heads, vote.poll, *how) for file in files]
+        what = "it has no row with a ballot"
     empty = [file for file, lines in zip(files, lists) if all(line.is_empty for line in lines)]
     stop_at([doubt(file.name, what, "write one ballot on each line") for file in empty])
     if arguments.newest_first:
         lists = [lines[::-1] for lines in lists]
-    read = iter(vote.read([line for lines in lists for line in lines if not line.is_empty]))
+    judged = iter(vote.judge([line for lines in lists for line in lines if not line.is_empty]))
     found = []
     for file, lines in zip(files, lists):
-        left_out = tuple(line for line in lines if line.is_empty)
-        judged = tuple(itertools.islice(read, len(lines) - len(left_out)))
-        found.append(FileLines(file, judged, left_out))
+        left_out = [line for line in lines if line.is_empty]
+        read = [*itertools.islice(judged, len(lines) - len(left_out))]
+        found.append(FileLines(file, read, left_out))
     return found
 
 
 def sorted_out(
-    book: Book, files: Sequence[FileLines], *, takes_again: bool, is_reopened: bool
-) -> tuple[FileLines, ...]:
+    book: Book, files: Sequence[FileLines], history: History, takes_again: bool
+) -> list[FileLines]:
     """The files, with the new lines of each. If n copies of a line came in earlier files, its first
     n copies in this file are duplicates, whether those were counted, refused, struck or late. Files
     that an `undo` took back do not count. A file that goes in now is an earlier one for the next.
@@ -223,44 +214,43 @@ def sorted_out(
     counts = queries.lines_that_came(book)
     is_known = any(line.as_entered in counts for file in files for line in file.lines)
     if not is_known and len(files) == 1:
-        return (files[0]._replace(new=files[0].lines),)
-    by_line = queries.came_in_files(book) if is_known else {}
-    with_envelopes = [list(envelopes_of(file.lines, by_line)) for file in files]
+        return [files[0]._replace(new=files[0].lines)]
+    before = queries.came_in_files(book) if is_known else {}
+    last = queries.last_numbers(book) if is_known else {}
+    copies = [list(copies_of(file.lines, before)) for file in files]
     # a later row of the same file did not come since
-    own = {envelope.number for lines in with_envelopes for _, envelope, _ in lines if envelope}
-    numbers = queries.last_numbers(book).items() if is_known else ()
-    last = {elector: (number, line) for elector, (number, line) in numbers if number not in own}
-    going_in: set[bytes] = set()
-    found = []
-    for file, lines in zip(files, with_envelopes):
-        new, repeated, again, came_first = [], [], [], []
-        for nth, envelope, line in lines:
+    own = {envelope.number for lines in copies for _, _, envelope in lines if envelope}
+    last = {elector: since for elector, since in last.items() if since[0] not in own}
+    going_in, found = set[bytes](), []
+    for file, lines in zip(files, copies):
+        new, repeated, again, first_ones = [], [], [], []
+        for line, nth, envelope in lines:
             change = None
             if envelope is not None and line.as_entered not in going_in:
-                change = change_since(envelope, line, last, is_reopened)
+                change = change_since(envelope, line, last, history.is_reopened)
             if nth > counts[line.as_entered]:
-                new.append(line)
-                came_first.append(line.as_entered)
+                first_ones.append(line.as_entered)
             elif takes_again and envelope is not None and change is not None:
-                new.append(line)
                 again.append(envelope.number)
             else:
                 repeated.append((line, change))
-        counts.update(came_first)
+                continue
+            new.append(line)
+        counts.update(first_ones)
         going_in.update(line.as_entered for line in new)
-        found.append(file._replace(new=tuple(new), repeated=tuple(repeated), again=tuple(again)))
-    return tuple(found)
+        found.append(file._replace(new=new, repeated=repeated, again=again))
+    return found
 
 
-def envelopes_of(
-    lines: Iterable[JudgedLine], by_line: Mapping[bytes, Sequence[Envelope]]
-) -> Iterator[tuple[int, Envelope | None, JudgedLine]]:
+def copies_of(
+    lines: Iterable[JudgedLine], before: Mapping[bytes, Sequence[Envelope]]
+) -> Iterator[tuple[JudgedLine, int, Envelope | None]]:
     """Each line with its number among its copies, and with its envelope if it came before."""
     counts: collections.Counter[bytes] = collections.Counter()
     for line in lines:
         counts[line.as_entered] += 1
-        nth, envelopes = counts[line.as_entered], by_line.get(line.as_entered, ())
-        yield nth, envelopes[nth - 1] if nth <= len(envelopes) else None, line
+        nth, envelopes = counts[line.as_entered], before.get(line.as_entered, ())
+        yield line, nth, envelopes[nth - 1] if nth <= len(envelopes) else None
 
 
 def change_since(
@@ -277,13 +267,13 @@ def change_since(
     return f"{line.voter} has voted since (envelope {number})"
 
 
-def detail_of(vote: Vote, plan: Plan, arguments: Arguments, answer: bool | None) -> Detail:
+def detail_of(vote: Vote, new: NewLines, arguments: Arguments, answer: bool | None) -> Detail:
     detail: Detail = {
-        "files": [file.came.kept_name for file in plan.files],
-        "lines": len(plan.new_lines),
-        "passed_over": sum(len(file.repeated) for file in plan.files),
+        "files": [file.came.kept_name for file in new.files],
+        "lines": len(new.lines),
+        "passed_over": sum(len(file.repeated) for file in new.files),
     }
-    if again := [number for file in plan.files for number in file.again]:
+    if again := [number for file in new.files for number in file.again]:
         detail["again"] = again
     if answer is not None:
         detail["came_before_close"] = answer
@@ -293,46 +283,43 @@ def detail_of(vote: Vote, plan: Plan, arguments: Arguments, answer: bool | None)
     return detail
 
 
-def look(vote: Vote, plan: Plan, lines: Sequence[bytes], first: int, arguments: Arguments) -> None:
+def look(
+    vote: Vote, new: NewLines, lines: Sequence[bytes], first: int, arguments: Arguments
+) -> None:
     """Says what would become of the lines, and stops if `add` would."""
-    numbers = range(first, first + len(plan.new_lines))
-    replies = [LATE_REPLY] * len(numbers)
-    if numbers and not plan.openness.is_late(arguments.came_before_close != "no"):
-        replies = vote.replies(lines, [line.as_entered for line in plan.new_lines])
-    if plan.openness.is_reopened and arguments.came_before_close is None:
-        came = "whether these lines came before the close"
-        tell(f"Note: add will ask {came}; this preview assumes that they did.")
-    tell_many(report(vote, plan, numbers, replies))
-    stop_at(list(doubts(vote, plan, arguments)))
+    numbers, replies = range(first, first + len(new.lines)), [LATE_REPLY] * len(new.lines)
+    if numbers and not new.openness.is_late(arguments.came_before_close != "no"):
+        replies = vote.replies(lines, [line.as_entered for line in new.lines])
+    if new.openness.is_reopened and arguments.came_before_close is None:
+        asks = "Note: add will ask whether these lines came before the close"
+        tell(f"{asks}; this preview assumes that they did.")
+    tell_many(report(vote, new, numbers, replies))
+    stop_at(list(doubts(vote, new, arguments)))
     tell(f"These would be {summary(replies)}. Nothing was changed.")
 
 
-# ---------------------------------------------------------------- what a person has to look at first
-def doubt(where: object, words: str, cure: str) -> Fault:
-    return Fault(where, words, cure, Status.DOUBT, NOTHING_ADDED)
-
-
-def doubts(vote: Vote, plan: Plan, arguments: Arguments) -> Iterator[Fault]:
-    """All that stands against a plan."""
+# ---- what a person has to look at first
+def doubts(vote: Vote, new: NewLines, arguments: Arguments) -> Iterator[Fault]:
+    """All that stands against entering these lines."""
     is_unsorted = arguments.csv and not arguments.oldest_first and not arguments.newest_first
-    for file in plan.files:
-        if is_unsorted and (pair := of_unknown_order(file)):
+    for file in new.files if is_unsorted else ():
+        if pair := of_unknown_order(file):
             rows = " and ".join(map(place_in, pair))
             words = f"it has two different ballots of {pair[0].voter} ({rows}), and the one that is entered last counts"
             cure = "say how its rows are sorted: --oldest-first or --newest-first"
             yield doubt(file.came.name, words, cure)
     is_reasoned = arguments.force and has_reason(arguments.because)
-    if plan.new_lines and vote.is_signed and not is_reasoned:
+    if new.lines and vote.is_signed and not is_reasoned:
         words = "in this vote letters must be signed, and nothing shows who sent a line of a file"
         cure = "add the letters themselves; or, if you know by other means who sent each line, give --force --because TEXT"
-        yield doubt(plan.files[0].came.name, words, cure)
+        yield doubt(new.files[0].came.name, words, cure)
     if arguments.force:
         return
-    for file in plan.files:
-        long_lines = ((line.line.where, plans.too_long(line.line)) for line in file.new)
-        for where, why in itertools.islice((one for one in long_lines if one[1]), 1):
-            yield doubt(where, str(why), f"take the line out if it is not a ballot, or {FORCE}")
-    with_new_lines = [file for file in plan.files if file.new]
+    for file in new.files:
+        for line in itertools.islice((one.line for one in file.new if one.line.why_too_long), 1):
+            cure = f"take the line out if it is not a ballot, or {FORCE}"
+            yield doubt(line.where, str(line.why_too_long), cure)
+    with_new_lines = [file for file in new.files if file.new]
     tables = [] if arguments.csv else [file for file in with_new_lines if is_table(file)]
     for file in tables:
         words = (
@@ -343,12 +330,12 @@ def doubts(vote: Vote, plan: Plan, arguments: Arguments) -> Iterator[Fault]:
     if not arguments.csv:
         yield from under_other_names(vote, with_new_lines)
     yield from few_ballots(vote, [file for file in with_new_lines if file not in tables], arguments)
-    for file in plan.files:
-        if not is_unsorted and (pair := new_one_above(file)):
-            words = f"the ballot of {pair[0].voter} in {place_in(pair[0])} is older than that in {place_in(pair[1])}, which came before"
-            cure = f"take the older ballot out, or {FORCE}"
-            yield doubt(file.came.name, f"{words}, and would replace it", cure)
-    if plan.new_lines and arguments.blank_is_unranked and not vote.has_form:
+    for file in new.files if not is_unsorted else ():
+        if pair := new_one_above(file):
+            older, newer = map(place_in, pair)
+            words = f"the ballot of {pair[0].voter} in {older} is older than that in {newer}, which came before, and would replace it"
+            yield doubt(file.came.name, words, f"take the older ballot out, or {FORCE}")
+    if new.lines and arguments.blank_is_unranked and not vote.has_form:
         words = "the call does not say that an empty cell counts as a hyphen, so electors may have meant something else"
         cure = "ask the electors whose rows have empty cells; if they knew it from elsewhere"
         yield doubt("--blank-is-unranked", words, f"{cure}, {FORCE}")
@@ -361,7 +348,7 @@ def is_table(file: FileLines) -> bool:
 
 def under_other_names(vote: Vote, files: Sequence[FileLines]) -> Iterator[Fault]:
     """A fault for each file with a line that names options in another order."""
-    options = OptionNames(read_plain(vote.poll_bytes))
+    options = OptionNames(vote.poll)
     for file in files:
         for line in file.lines:
             if not line.is_ballot and options.are_in_another_order(line.line.unframed):
@@ -373,30 +360,25 @@ def under_other_names(vote: Vote, files: Sequence[FileLines]) -> Iterator[Fault]
 
 
 def of_unknown_order(file: FileLines) -> tuple[JudgedLine, JudgedLine] | None:
-    """Two different ballots of one elector, at least one of them new. Nobody has said which is
-    newer.
-    """
+    """Two different ballots of one elector, one of them new, and nobody said which is newer."""
     new = {line.line.place for line in file.new}
     above: dict[str, list[JudgedLine]] = collections.defaultdict(list)
-    for line in file.lines:
-        if line.is_ballot:
-            for other in above[line.voter]:
-                if other.ranks != line.ranks and new & {other.line.place, line.line.place}:
-                    return other, line
-            above[line.voter].append(line)
+    for line in filter(is_ballot, file.lines):
+        for other in above[line.voter]:
+            if other.ranks != line.ranks and new & {other.line.place, line.line.place}:
+                return other, line
+        above[line.voter].append(line)
     return None
 
 
 def new_one_above(file: FileLines) -> tuple[JudgedLine, JudgedLine] | None:
-    """A new ballot, and a different ballot of the same elector below it that came before. By the
-    order of the file the new ballot is older, but it would count.
-    """
+    """A new ballot, and one of its elector below it that came before, which it would replace."""
     new = {line.line.place for line in file.new} if file.repeated else set()
     above: dict[str, JudgedLine] = {}
-    for line in file.lines if new else ():
-        if line.is_ballot and line.line.place in new:
+    for line in filter(is_ballot, file.lines if new else ()):
+        if line.line.place in new:
             above[line.voter] = line
-        elif line.is_ballot and above.get(line.voter, line).ranks != line.ranks:
+        elif above.get(line.voter, line).ranks != line.ranks:
             return above[line.voter], line
     return None
 
@@ -435,31 +417,33 @@ def has_few_ballots(lines: Sequence[JudgedLine]) -> bool:
 def cure_of(file: FileLines, refused: JudgedLine, arguments: Arguments) -> str:
     if arguments.csv:
         return "check that --name and --ranks name the right columns, and the ranks in the order of the options"
-    head = file.came.data.removeprefix(MARK).lstrip().split(b"\n", 1)[0].decode("utf-8", "replace")
+    head = file.came.data.removeprefix(MARK).lstrip().partition(b"\n")[0].decode("utf-8", "replace")
     if MEMBERS_HEADS <= {cell.strip(' \t\r"').casefold() for cell in re.split("[,;\t]", head)}:
         return "it looks like the list of members: name the file of ballots"
-    findings = [line.finding for line in file.lines if line.finding is not None]
-    shapeless = sum(finding.word == "bad shape" for finding in findings)
-    counts = [
-        {line.line.unframed.count(sign) for line in file.lines} for sign in (b",", b";", b"\t")
-    ]
+    words = [line.finding.word for line in file.lines if line.finding is not None]
+    lines = [line.line.unframed for line in file.lines]
+    counts = [{line.count(sign) for line in lines} for sign in (b",", b";", b"\t")]
     # most have no shape of a ballot, and all the same number of delimiters
-    if shapeless * 2 > len(file.lines) and any(len(one) == 1 and one != {0} for one in counts):
+    if words.count("bad shape") * 2 > len(lines) and any(
+        len(one) == 1 and one != {0} for one in counts
+    ):
         return "it looks like a table: add it with --csv --name COLUMN --ranks COLUMN,COLUMN,.."
     why = "" if refused.finding is None else f", {refused.finding.word}: {refused.finding.hint}"
     which = "its first line is" if refused is file.lines[0] else "one of its lines is"
     return f"look at the file ({which} `{shown_line(refused.as_entered)}`{why})"
 
 
-# ---------------------------------------------------------------- what is printed
-def report(vote: Vote, plan: Plan, numbers: Sequence[int], replies: Sequence[str]) -> Iterator[str]:
+# ---- what is printed
+def report(
+    vote: Vote, new: NewLines, numbers: Sequence[int], replies: Sequence[str]
+) -> Iterator[str]:
     if numbers:
-        yield from plans.notes(vote.election, plan.openness, "what is added")
-    for file in plan.files:
+        yield from entering.late_notes(vote.election, new.openness, "what is added")
+    for file in new.files:
         yield from (f"{line.where}: it is empty, and was left out" for line in file.empty)
         yield from repeated_words(file)
-    yield from vote.report(plan.new_lines, numbers, replies)
-    for file in plan.files:
+    yield from vote.report(new.lines, numbers, replies)
+    for file in new.files:
         yield from duplicate_words(file)
 
 

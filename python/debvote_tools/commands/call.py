@@ -1,21 +1,13 @@
 """Make the call for votes, a page and a letter; from then on the poll cannot change."""
 
 import dataclasses
-import pathlib
 import shutil
-from collections.abc import Mapping
 
-from debvote_tools.cli.arguments import Acting, flag, option
+from debvote_tools.cli.arguments import Acting, flag, given, option
 from debvote_tools.text import times
 from debvote_tools.book import queries
-from debvote_tools.book.book import Detail
-from debvote_tools.poll.call import (
-    call_files,
-    CallData,
-    demand_web_address,
-    extension_letter,
-    named_address,
-)
+from debvote_tools.book.book import ActName, Detail
+from debvote_tools.poll.call import CallData, call_files, extension_letter
 from debvote_tools.cli.console import act_time, tell
 from debvote_tools.result.publication import agreed_texts, current_data, texts_of_poll, until_of
 from debvote_tools.commands.codes import CODES, SLIPS, write_slips
@@ -32,13 +24,18 @@ from debvote_tools.book.election import (
     History,
     Sealed,
 )
-from debvote_tools.files import OWN, PUBLIC, read_at_most, write_made
+from debvote_tools.files import OWN, PUBLIC, read_whole, write_made
 from debvote_tools.poll.draft import checked, lacks_codes, letter_text_in, tell_checked
-from debvote_tools.poll.until import demand_future, parse_until
-from debvote_tools.cli.faults import Fault, Status, kept_in, stop_at
+from debvote_tools.poll.announced import (
+    demand_future,
+    demand_web_address,
+    named_address,
+    parse_until,
+)
+from debvote_tools.cli.faults import NOTHING_CHANGED, Fault, bad_words, kept_in, stop_at
 from debvote_tools.inbox.signature import read_keyring
 from debvote_tools.poll.secret import aliased_poll, demand_no_code
-from debvote_tools.poll.marks import new_own_mark
+from debvote_tools.poll.sealed import new_own_mark
 
 EXTENSION = "extension.txt"
 
@@ -101,7 +98,7 @@ def call(election: Election, arguments: Arguments) -> None:
     said, is_on_roll = announced(arguments, None, faults), history.has_codes_on_roll
     if is_on_roll and arguments.marked:
         reason = "codes are on the roll, so no elector can be given an own mark"
-        faults.append(Fault("--marked", reason, "leave it out", Status.BAD_WORDS))
+        faults.append(bad_words("--marked", reason, "leave it out"))
     with kept_in(faults):
         demand_read(election, history)
     with kept_in(faults):
@@ -109,17 +106,16 @@ def call(election: Election, arguments: Arguments) -> None:
         poll = found.poll
         if poll.secret and arguments.names:
             cure = "leave it out: in a secret vote no names are published"
-            faults.append(Fault("--names", "the vote is secret", cure, Status.BAD_WORDS))
+            faults.append(bad_words("--names", "the vote is secret", cure))
         if lacks_codes(election, history, poll):
             cure = f"run {election.command('codes')} first"
             raise Fault(None, "the vote is secret, and electors have no codes", cure)
     stop_at(faults)
-    electors = queries.electors(election.book)
-    public = poll
+    electors, public = queries.electors(election.book), poll
     if poll.secret and not is_on_roll:
         public = aliased_poll(poll, queries.public_names(electors))
-    said.update({"form": arguments.form, "names": arguments.names, "marked": arguments.marked})
-    said.update({"codes_on_roll": is_on_roll, "quorum_votes": found.sheet.quorum})
+    said |= {"form": arguments.form, "names": arguments.names, "marked": arguments.marked}
+    said |= {"codes_on_roll": is_on_roll, "quorum_votes": found.sheet.quorum}
     said["signed"] = arguments.keyring is not None
     keyring = keyring_in(election, arguments.keyring)
     files = sealed_by(election, said, found.letter_text, keyring, Sealed(public, poll))
@@ -127,32 +123,19 @@ def call(election: Election, arguments: Arguments) -> None:
     if public != poll:
         files[POLL_WITH_NAMES] = poll.as_bytes()
     if poll.secret:
-        said["agreed"] = agreed(history, texts_of_poll(poll), found.letter_text, arguments)
+        # letter.txt begins the letter to all
+        texts = texts_of_poll(poll) | {LETTER_TEXT: found.letter_text}
+        said["agreed"] = agreed_texts(history, texts, is_agreed=arguments.yes, done=NOTHING_CHANGED)
     with election.book.act("call", said, seen=history.last.number) as act:
-        for name, data in files.items():
-            act.insert("sealed", name=name, data=data)
+        act.insert_all("sealed", ["name", "data"], files.items())
         if not is_on_roll:
             queries.put_electors(act, (one._replace(mark=new_own_mark()) for one in electors))
     tell_checked(found)
 
 
-def agreed(
-    history: History, texts: Mapping[str, str], letter_text: str, arguments: Arguments
-) -> list[str]:
-    """The checksums of the texts that everybody may read, those of the options and letter.txt,
-    which begins the letter to all.
-    """
-    return agreed_texts(
-        history,
-        {**texts, LETTER_TEXT: letter_text},
-        is_agreed=arguments.yes,
-        done="nothing was changed",
-    )
-
-
 def call_again(election: Election, arguments: Arguments) -> None:
     """Extends the vote, or adds what the call did not say yet. A new end is refused after a close,
-    and if it is not later than the end that electors know.
+    and if it is not later than the one that electors know.
     """
     history, faults = election.history(), list[Fault]()
     said = announced(arguments, history.announced("zone"), faults)
@@ -172,18 +155,17 @@ def call_again(election: Election, arguments: Arguments) -> None:
         raise Fault("--until", words, cure)
     if until is not None and history.until is not None and until <= history.until:
         words = f"electors rely on {times.time_in_words(history.until)}, and {times.time_in_words(until)} is not later"
-        raise Fault("--until", words, "name a later time", Status.BAD_WORDS)
+        raise bad_words("--until", words, "name a later time")
     keyring = keyring_in(election, arguments.keyring)
     files = sealed_by(election, said, letter_text, keyring)
     if election.sealed().counted.secret and LETTER_TEXT in files:
-        said["agreed"] = agreed(history, {}, letter_text, arguments)
+        new = {LETTER_TEXT: letter_text}
+        said["agreed"] = agreed_texts(history, new, is_agreed=arguments.yes, done=NOTHING_CHANGED)
     if keyring is not None:
         said["keyring"] = True
-    with election.book.act(
-        "announce" if until is None else "extend", said, seen=history.last.number
-    ) as act:
-        for name, data in files.items():
-            act.insert("sealed", name=name, data=data)
+    name: ActName = "announce" if until is None else "extend"
+    with election.book.act(name, said, seen=history.last.number) as act:
+        act.insert_all("sealed", ["name", "data"], files.items())
 
 
 def take_back(election: Election) -> None:
@@ -228,9 +210,8 @@ def sealed_by(
     keyring: bytes | None,
     sealed: Sealed | None = None,
 ) -> dict[str, bytes]:
-    """What an act seals, by its name in the book: the files of the call, so that they can be made
-    again with the same bytes, the text of the letters if it is new, and the keyring. Stops if a
-    text would have the code of an elector.
+    """What an act seals: the files of the call, so that they can be made again with the same bytes,
+    the text of the letters if it is new, and the keyring.
     """
     data = dataclasses.replace(
         current_data(election, said=said, sealed=sealed), letter_text=letter_text
@@ -244,14 +225,14 @@ def sealed_by(
     if data.poll.secret:
         codes = {elector.code or elector.name for elector in queries.electors(election.book)}
         for name, content in files.items():
-            demand_no_code(name, content, codes, "nothing was changed")
+            demand_no_code(name, content, codes, NOTHING_CHANGED)
     return files if keyring is None else {**files, KEYRING: keyring}
 
 
 # ---------------------------------------------------------------- the words of the command line
 def announced(arguments: Arguments, earlier_zone: str | None, faults: list[Fault]) -> Detail:
-    """What the act keeps of these options, if they are right. An extension is in the zone of the
-    end before, unless it names another.
+    """What the act keeps of these options. An extension is in the zone of the end before, unless it
+    names another.
     """
     said: Detail = {}
     with kept_in(faults):
@@ -274,11 +255,8 @@ def announced(arguments: Arguments, earlier_zone: str | None, faults: list[Fault
 def demand_no_change(
     election: Election, history: History, arguments: Arguments, said: Detail
 ) -> None:
-    changed = [
-        f"--{name}"
-        for name in ("form", "names", "marked")
-        if getattr(arguments, name) and not history.announced(name)
-    ]
+    flags = given(arguments, "form", "names", "marked")
+    changed = [flag for flag in flags if not history.announced(flag.removeprefix("--"))]
     if said.get("to") not in (None, history.announced("to")):
         changed.append("--to")
     if arguments.keyring is not None and not history.announced("signed"):
@@ -286,20 +264,16 @@ def demand_no_change(
     if changed:
         is_address = changed == ["--to"]
         words = "the call has sealed the address" if is_address else "the call was made without it"
-        again = election.command("call", "--take-back")
-        cure = f"as long as nothing has come, take the call back and call anew: {again}"
-        raise Fault(", ".join(changed), words, cure)
+        again = f"take the call back and call anew: {election.command('call', '--take-back')}"
+        raise Fault(", ".join(changed), words, f"as long as nothing has come, {again}")
 
 
 def keyring_in(election: Election, file: str | None) -> bytes | None:
     """The keyring, as gpgv reads it. Stops if the key of an elector is not in it."""
     if file is None:
         return None
-    try:
-        data = read_at_most(pathlib.Path(file), KEYRING_LIMIT)
-    except OSError as error:
-        cure = "name the file that gpg --export wrote"
-        raise Fault(file, error.strerror, cure, Status.BAD_WORDS) from None
+    unread = "name the file that gpg --export wrote"
+    data = read_whole(file, KEYRING_LIMIT, unread, may_wait=True)
     keyring, electors = read_keyring(file, data), queries.electors(election.book)
     missing = [one.name for one in electors if one.key and one.key not in keyring.fingerprints]
     if missing:
@@ -325,7 +299,6 @@ def make_folders(election: Election) -> None:
 
 def report(election: Election, data: CallData) -> None:
     folder, slips = election.path(CALL), election.path(PRIVATE) / SLIPS
-    letters = election.command("letters", "call")
     lines = [f"Made the folder {folder} with the page index.html and the letter call.txt."]
     if data.has_aliases:
         lines += [
@@ -333,7 +306,6 @@ def report(election: Election, data: CallData) -> None:
             f"Print {slips}, cut the slips out, and give each elector their own.",
         ]
     if data.has_codes_on_roll:
-        letters = f"send {folder / 'call.txt'} to all electors"
         lines += [
             "Codes are on the roll: the call has the checksum of the poll, but no poll.toml.",
             f"Print {slips}, cut the slips out, and let each elector draw one.",
@@ -354,6 +326,6 @@ def report(election: Election, data: CallData) -> None:
     enter = f"{election.command('add', 'FILE')} or {election.command('desk')}"
     lines += [
         "The poll is sealed: poll.toml and texts/ of this folder are no longer read; roll still reads addresses and keys.",
-        f"Next: put {folder} on the web site, and write to the electors: {letters}; enter the ballots that come: {enter}",
+        f"Next: put {folder} on the web site, and write to the electors: {election.to_all('call', folder / 'call.txt')}; enter the ballots that come: {enter}",
     ]
     tell(*lines)

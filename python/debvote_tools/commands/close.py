@@ -13,7 +13,7 @@ from debvote_tools.files import OWN, sha256_of, write_made
 from debvote_tools.inbox.waiting import Arrived, in_time, stopping, waiting_letters, why_they_stop
 from debvote_tools.result.publication import closing_letter
 from debvote_tools.cli.faults import Fault, stop_at
-from debvote_tools.inbox.lines import ballot_file
+from debvote_tools.text.ballots import ballot_file
 from debvote_tools.result.facts import CLOSED
 from debvote_tools.poll.secret import aliased_ballots, seal_line, sealed_checksum
 
@@ -74,8 +74,8 @@ def tell_closed(detail: Detail) -> None:
 
 
 def close(election: Election, sealed: Sealed, arguments: Arguments) -> None:
-    """The act that closes the vote. It is asked once whether all is in; what busy desks enter
-    meanwhile is closed, too.
+    """The act that closes the vote. What busy desks enter while it is asked whether all is in, is
+    closed, too.
     """
     is_asked = is_terminal() and not arguments.yes
     for tried in range(TRIES):
@@ -93,8 +93,8 @@ def close(election: Election, sealed: Sealed, arguments: Arguments) -> None:
 
 
 def came_last(history: History, lines: int) -> str:
-    """How many lines there are, and when the last ones came: who has put back a disk sees here what
-    is missing.
+    """How many lines there are, and when the last ones came: who has put back a disk sees what is
+    missing.
     """
     added, at_desks = (
         act_time(acts[-1].time) if acts else "never"
@@ -106,9 +106,7 @@ def came_last(history: History, lines: int) -> str:
 def what_is_closed(
     election: Election, sealed: Sealed, arguments: Arguments
 ) -> tuple[Detail, History]:
-    """What the act of the close keeps, and the acts that this was decided by. Stops at what stands
-    against it.
-    """
+    """What the act keeps, and the acts that this was decided by. Stops at what stands against it."""
     history, now = election.history(), times.now()
     letters = waiting_letters(election, history)
     left, stops = in_time(letters), stopping(letters, history)
@@ -136,8 +134,8 @@ def what_is_closed(
 
 
 def fixed(election: Election, sealed: Sealed) -> Detail:
-    """What the close fixes: the number of lines, and the checksum of the ballots; in a secret vote
-    of a random line and those that are published.
+    """What the close fixes: how many lines, and the checksum of the ballots; in a secret vote of a
+    random line and those that are published.
     """
     lines = queries.lines_in_time(election.book)
     ballots = ballot_file(lines)

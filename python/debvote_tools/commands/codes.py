@@ -50,10 +50,9 @@ def run(election: Election, arguments: Arguments) -> None:
 
 
 def make_codes(election: Election, arguments: Arguments) -> tuple[SealedPoll, int]:
-    """The act that makes a code for each elector who has none. The code is added to the name or
-    takes its place, and then nothing ties it to a person.
-
-    Returns the poll as it would be sealed, and how many codes were made.
+    """The act that makes a code for each elector who has none, beside the name or in its place:
+    then nothing ties it to a person. Returns the poll as it would be sealed, and how many codes
+    were made.
     """
     book, history = election.book, election.history()
     demand_read(election, history)
@@ -86,9 +85,7 @@ def make_codes(election: Election, arguments: Arguments) -> tuple[SealedPoll, in
 
 
 def write_slips(election: Election, history: History, poll: SealedPoll) -> None:
-    """Makes the folder `private`, with what the call says if there is one. With codes on the roll
-    the names are the codes.
-    """
+    """Makes the folder `private`, with what the call says if there is one."""
     is_on_roll, lapsed = history.has_codes_on_roll, history.has_lapsed_codes
     call = CallData(
         election.language, poll, 0, has_codes_on_roll=is_on_roll, has_lapsed_codes=lapsed

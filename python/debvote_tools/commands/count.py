@@ -10,7 +10,7 @@ from debvote_tools.debvote import casting_words
 from debvote_tools.book.election import Election, History, Sealed
 from debvote_tools.inbox.waiting import how_to_go_on, stopping, waiting_letters, why_they_stop
 from debvote_tools.cli.faults import Fault, Status
-from debvote_tools.inbox.lines import ballot_file
+from debvote_tools.text.ballots import ballot_file
 from debvote_tools.poll.sealed import SealedPoll
 from debvote_tools.result.sheet import Sheet, sheet_in
 
@@ -47,9 +47,7 @@ def run(election: Election, arguments: Arguments) -> int:
 
 
 def demand_countable(election: Election, history: History, sealed: Sealed) -> None:
-    """Stops at a secret vote that is not closed: a person who sees its numbers grow sees who voted
-    what.
-    """
+    """Stops at a secret vote that is not closed: whoever sees its numbers grow sees who voted what."""
     if sealed.counted.secret and not history.is_closed:
         words = "the vote is secret, and can be counted only after the close"
         raise Fault(None, words, f"close it first: {election.command('close')}", done=NOTHING_DONE)

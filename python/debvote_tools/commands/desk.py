@@ -11,12 +11,12 @@ from collections.abc import Callable, Iterator, Sequence
 from debvote_tools.book import queries
 from debvote_tools.book.book import Detail
 from debvote_tools.book.election import Election, History
+from debvote_tools.book.queries import Elector, Envelope, NewEnvelope
 from debvote_tools.cli.console import is_yes, shown_line, shown_text, tell, typed
 from debvote_tools.cli.faults import Fault, Status
 from debvote_tools.files import BALLOTS_LIMIT
-from debvote_tools.inbox import plan as plans
+from debvote_tools.inbox import entering
 from debvote_tools.inbox.lines import Line, lines_in
-from debvote_tools.inbox.plan import agreed_act, electors_of
 from debvote_tools.inbox.vote import JudgedLine, Vote, change_words, summary
 from debvote_tools.poll.plain_names import alike
 
@@ -31,7 +31,10 @@ TYPED = re.compile(r"(.+?)\s+([\d-].*)")
 # how many names are listed to choose from
 MAX_NAMES = 9
 
-Arguments = plans.Arguments
+Arguments = entering.Arguments
+
+# when the vote is open, and what came of the elector whose ballot is shown
+Seen = tuple[History, list[Envelope]]
 
 
 class Desk:
@@ -46,7 +49,7 @@ class Desk:
         self.next_line = 1
 
     @functools.cached_property
-    def texts(self) -> list[tuple[queries.Elector, str]]:
+    def texts(self) -> list[tuple[Elector, str]]:
         """The electors, each with what a part of a name is looked for in."""
         electors = queries.electors(self.vote.book)
         return [(one, f"{alike(one.name)}\n{alike(one.who)}") for one in electors]
@@ -54,15 +57,12 @@ class Desk:
     def ask_if_reopened(self, history: History, done: str = REPORTED) -> None:
         """If the vote was opened again, asks once whether what is cast came before the first close."""
         if self.came_before_close is None:
-            self.came_before_close = plans.came_before_close(history, self.answer, done)
+            self.came_before_close = entering.came_before_close(history, self.answer, done)
 
     def lines_of(self, data: bytes) -> list[Line]:
         lines = lines_in(data, "desk", self.next_line)
         self.next_line += len(lines)
         return lines
-
-    def is_late(self, history: History) -> bool:
-        return history.is_late(self.came_before_close)
 
     def enter(
         self,
@@ -70,40 +70,39 @@ class Desk:
         show: Callable[[History], bool] = lambda _: True,
         elector: int | None = None,
     ) -> None:
-        """Casts lines if `show` says so. It shows one anew if another act changed whether the vote
-        is open, or what came of its elector.
-        """
+        """Casts lines if `show` says so; it is asked anew if another act changed what it saw."""
+        vote = self.vote
 
-        def plan() -> tuple[History, list[queries.Envelope]]:
-            history = History(self.vote.book.acts())
-            plans.demand_same_call(self.vote, history, "start the desk again", NOTHING_CAST)
-            return history.openness(), queries.envelopes(self.vote.book, "elector = ?", elector)
+        def plan() -> Seen:
+            history = History(vote.book.acts())
+            vote.demand_same_call(history, NOTHING_CAST, "start the desk again")
+            return history.openness(), queries.envelopes(vote.book, "elector = ?", elector)
 
-        def show_all(now: tuple[History, list[queries.Envelope]]) -> bool:
+        def show_all(now: Seen) -> bool:
             self.ask_if_reopened(now[0])
             return show(now[0])
 
-        def act(now: tuple[History, list[queries.Envelope]], seen: int) -> None:
+        def report(numbers: range, replies: Sequence[str]) -> Iterator[str]:
+            self.replies += replies
+            return vote.report(lines, numbers, replies)
+
+        def act(now: Seen, seen: int) -> None:
             detail: Detail = {"lines": len(lines)}
             if now[0].is_reopened:
                 detail["came_before_close"] = self.came_before_close
-            plans.enter(
-                self.vote,
+            entering.enter_lines(
+                vote,
                 "desk",
                 detail,
-                lambda _: [queries.NewEnvelope(one.as_entered, one.line.place) for one in lines],
+                lambda _: [NewEnvelope(one.as_entered, one.line.place) for one in lines],
                 report,
                 seen,
-                is_late=self.is_late(now[0]),
+                is_late=now[0].is_late(self.came_before_close),
                 is_same=lambda: plan() == now,
                 what="ballots to be reported",
             )
 
-        def report(numbers: range, replies: Sequence[str]) -> Iterator[str]:
-            self.replies += replies
-            return self.vote.report(lines, numbers, replies)
-
-        agreed_act(self.vote, plan, show_all, act)
+        entering.agreed_act(vote, plan, show_all, act)
 
 
 def run(election: Election, arguments: Arguments) -> None:
@@ -113,22 +112,20 @@ def run(election: Election, arguments: Arguments) -> None:
     election.book_for(arguments)
     desk = Desk(election, arguments.came_before_close)
     history = election.history()
-    tell(*plans.notes(election, history, "what is entered"))
+    tell(*entering.late_notes(election, history, "what is entered"))
     if desk.vote.is_signed:
         words = "in this vote letters must be signed, and a desk checks no signature"
         tell(f"Note: {words}: enter only ballots on paper or by word of mouth.")
     try:
         desk.ask_if_reopened(history, NOTHING_CAST)
-        if sys.stdin.isatty():
-            at_terminal(desk)
-        else:
-            from_pipe(desk)
+        cast = at_terminal if sys.stdin.isatty() else from_pipe
+        cast(desk)
     except KeyboardInterrupt:
         tell("")
     tell(f"This desk has entered {summary(desk.replies)}.", f"Next: {election.command('status')}")
 
 
-# ---------------------------------------------------------------- from a pipe
+# ---- from a pipe
 def from_pipe(desk: Desk) -> None:
     """Casts without asking what comes: the whole lines that each read brings."""
     for data in whole_lines():
@@ -136,19 +133,17 @@ def from_pipe(desk: Desk) -> None:
         for line in desk.lines_of(data):
             if line.is_empty:
                 tell(f"{line.where}: it is empty, and was left out")
-            elif why := plans.too_long(line):
+            elif why := line.why_too_long:
                 add = desk.vote.election.command("add", "--force", "FILE")
                 tell(f"{line.where}: {why}; it was not entered.", f"  To add it from a file: {add}")
             else:
                 lines.append(line)
         if lines:
-            desk.enter(desk.vote.read(lines))
+            desk.enter(desk.vote.judge(lines))
 
 
 def whole_lines() -> Iterator[bytes]:
-    """The lines that each read of standard input completes. A carriage return and a line feed are
-    one line end, even if they come in two reads.
-    """
+    """The lines that each read completes. A line end of Windows may come in two reads."""
     waiting, ended_with_return = bytearray(), False
     while data := os.read(sys.stdin.fileno(), READ):
         waiting += data.removeprefix(b"\n") if ended_with_return else data
@@ -164,7 +159,7 @@ def whole_lines() -> Iterator[bytes]:
         yield bytes(waiting)
 
 
-# ---------------------------------------------------------------- at a terminal
+# ---- at a terminal
 def at_terminal(desk: Desk) -> None:
     tell(*(f"  {number} {name}" for number, name in enumerate(desk.vote.option_names, start=1)))
     who = "the code" if desk.vote.has_codes else "the elector"
@@ -184,15 +179,14 @@ def ask_and_cast(desk: Desk, line: Line) -> bool:
     if (meant := completed(desk, line)) is None:
         tell("It was not entered.")
         return True
-    [read] = desk.vote.read([meant])
-    [elector] = electors_of(desk.vote, [read.as_entered])
+    [read] = desk.vote.judge([meant])
+    [elector] = desk.vote.electors_of([read.as_entered])
     answer: bool | None = None
 
     def show(history: History) -> bool:
         nonlocal answer
-        answer = is_yes(
-            question(desk, read, history, elector), "Type y to enter it, or n to drop it."
-        )
+        asked = question(desk, read, history, elector)
+        answer = is_yes(asked, "Type y to enter it, or n to drop it.")
         if answer is False:
             tell("It was not entered.")
         return bool(answer)
@@ -230,9 +224,7 @@ def completed(desk: Desk, line: Line) -> Line | None:
 
 
 def question(desk: Desk, line: JudgedLine, history: History, elector: int | None) -> str:
-    """Shows what a ballot would be, in words, or why debvote would refuse it. Returns the question
-    whether to cast it.
-    """
+    """Shows what a ballot would be, or why it would be refused. Returns what is asked."""
     tell(*change_words(line))
     if not line.is_ballot:
         # the one reason that stays after the changes that are allowed
@@ -241,7 +233,7 @@ def question(desk: Desk, line: JudgedLine, history: History, elector: int | None
         tell(f"It would be refused: {shown_line(line.as_entered)}{why}", desk.vote.right_words())
         return "It would not count. Enter it anyway?"
     tell(desk.vote.in_words(line))
-    if desk.is_late(history):
+    if history.is_late(desk.came_before_close):
         tell("It is late, and will not count.")
     elif elector is not None:
         lines = queries.lines_of_electors(desk.vote.book, {elector})

@@ -2,7 +2,6 @@
 
 import collections
 from collections.abc import Iterator, Sequence
-from typing import NamedTuple
 
 from debvote_tools.cli.arguments import Acting, flag, given, option, positional
 from debvote_tools.book import queries
@@ -10,12 +9,13 @@ from debvote_tools.book.book import ActName, Detail
 from debvote_tools.book.election import Election, History
 from debvote_tools.cli.console import count_of, is_terminal, is_yes, shown_line, shown_text, tell
 from debvote_tools.cli.faults import Fault, Status, stop_at
-from debvote_tools.inbox import letter_words, letters_in
-from debvote_tools.inbox.known import Decision
-from debvote_tools.inbox.rules import JudgedLetter, Outcome
-from debvote_tools.inbox.letters_in import Plan
+from debvote_tools.inbox import letter_words
+from debvote_tools.inbox.letter_words import name_of
+from debvote_tools.inbox.judging import ballots_in, judged
+from debvote_tools.inbox.rules import BallotLine, JudgedLetter, Outcome
+from debvote_tools.inbox.taking import NewBallots, enter_ballots, envelope_of
 from debvote_tools.inbox.lines import lines_in, name_in
-from debvote_tools.inbox.plan import agreed_act
+from debvote_tools.inbox.entering import agreed_act
 from debvote_tools.inbox.vote import Vote
 
 # what --enter has without lines
@@ -88,7 +88,7 @@ def demand_words(arguments: Arguments) -> bool:
 
 def all_letters(vote: Vote) -> list[JudgedLetter]:
     kept, history = queries.letters(vote.book), vote.election.history()
-    return letters_in.judged(vote.election, history, kept, vote=vote)
+    return judged(vote, history, kept)
 
 
 def chosen_letters(found: Sequence[JudgedLetter], numbers: Sequence[int]) -> list[JudgedLetter]:
@@ -107,7 +107,7 @@ def decide(vote: Vote, arguments: Arguments) -> None:
         chosen = chosen_letters(all_letters(vote), arguments.numbers)
         if entered := [letter for letter in chosen if letter.outcome is Outcome.ENTERED]:
             cure = "strike takes out one envelope, undo takes back the last act"
-            raise Fault(f"letter {entered[0].number}", "its ballot was entered", cure)
+            raise Fault(name_of(entered[0]), "its ballot was entered", cure)
         return [letter.number for letter in chosen]
 
     def act(numbers: list[int], seen: int) -> None:
@@ -118,17 +118,9 @@ def decide(vote: Vote, arguments: Arguments) -> None:
     agreed_act(vote, plan, lambda _: True, act)
 
 
-# ---------------------------------------------------------------- entering
-class Chosen(NamedTuple):
-    """A ballot of a letter; `line` is its number in the letter, 0 if it was typed."""
-
-    letter: JudgedLetter
-    line: int
-    ballot: str
-
-    @property
-    def elector(self) -> str:
-        return self.ballot.partition(" ")[0]
+# ---- entering
+# a ballot of a letter; its line is 0 if it was typed
+Chosen = tuple[JudgedLetter, BallotLine]
 
 
 def enter(vote: Vote, arguments: Arguments) -> None:
@@ -139,60 +131,65 @@ def enter(vote: Vote, arguments: Arguments) -> None:
     chosen: list[Chosen] = []
     faults: dict[int, Fault] = {}
 
-    def plan() -> Plan:
+    def plan() -> NewBallots:
         nonlocal chosen
         history, found = vote.election.history(), all_letters(vote)
         wanted = chosen_letters(found, arguments.numbers)
         if not arguments.numbers:
-            wanted = [one for one in found if one.decision is Decision.TAKEN_BACK]
+            wanted = [one for one in found if one.decision == queries.TAKEN_BACK]
         chosen = []
         faults.clear()
         for letter in sorted(wanted, key=lambda one: (one.time is None, one.time or one.number)):
             try:
                 demand_not_entered(vote, history, letter)
-                forced = arguments.force
-                chosen += chosen_in(letter, arguments.enter, typed, is_forced=forced)
+                lines = chosen_lines(letter, arguments.enter, typed, is_forced=arguments.force)
+                chosen += [(letter, line) for line in lines]
                 if letter.outcome is Outcome.COPY:
                     cure = "to enter its ballot once more, have the letter wait first with --wait"
-                    name = f"letter {letter.number}"
-                    raise Fault(name, "it is a copy of another letter", cure)
+                    raise Fault(name_of(letter), "it is a copy of another letter", cure)
             except Fault as fault:
                 faults[letter.number] = fault
         if not arguments.force:
-            faults.update(voted_since(vote, found, chosen))
+            faults.update(voted_since(vote, chosen))
         if arguments.numbers:
             stop_at(list(faults.values()))
-        chosen = [one for one in chosen if one.letter.number not in faults]
+        chosen = [one for one in chosen if one[0].number not in faults]
         if not chosen:
             words = "no letter was taken back that has one ballot"
             raise Fault("--enter", words, "name letters by their numbers, as held lists them")
         demand_one_order(chosen)
-        late = {letters_in.is_late(history, one.letter) for one in chosen}
+        late = {is_late(history, letter) for letter, _ in chosen}
         if len(late) > 1:
             words = "some of these letters arrived before the first close, and some after it"
             raise Fault("--enter", words, "enter those that arrived before it apart")
-        new = [letters_in.envelope_of(one.letter, one.ballot) for one in chosen]
-        return Plan(new, done_with(vote, chosen), late.pop())
+        new = [envelope_of(letter, line.ballot) for letter, line in chosen]
+        return NewBallots(new, done_with(vote, chosen), late.pop())
 
-    def show(_: Plan) -> bool:
-        who = letter_words.who_and_when
-        tell(*(f"{who(one.letter)}: {vote.ballot_in_words(one.ballot)}" for one in chosen))
+    def show(_: NewBallots) -> bool:
+        for letter, line in chosen:
+            tell(f"{letter_words.who_and_when(letter)}: {vote.ballot_in_words(line.ballot)}")
         tell(*(f"Waits on: {fault.file}: {fault.reason}" for fault in faults.values()))
         question = f"Enter {count_of(len(chosen), 'ballot')}?"
         if is_terminal() and not arguments.yes and not is_yes(question):
             raise Fault("held", "you did not say yes", "run the command again when you agree")
         return True
 
-    def act(now: Plan, seen: int) -> None:
-        numbers = list(dict.fromkeys(one.letter.number for one in chosen))
-        detail: Detail = {"lines": [one.line for one in chosen if one.line]}
+    def act(new: NewBallots, seen: int) -> None:
+        numbers = list(dict.fromkeys(letter.number for letter, _ in chosen))
+        detail: Detail = {"lines": [line.number for _, line in chosen if line.number]}
         if len(numbers) == 1:
             detail["letter"] = numbers[0]
         else:
             detail["letters"] = numbers
-        letters_in.enter(vote, "enter", detail, now, seen)
+        enter_ballots(vote, "enter", detail, new, seen)
 
     agreed_act(vote, plan, show, act)
+
+
+def is_late(history: History, letter: JudgedLetter) -> bool:
+    """Whether what is entered of a letter now is late: the vote is closed, or was as it arrived."""
+    arrived, closes = letter.parsed.arrived, history.closes
+    return history.is_late(arrived is not None and bool(closes) and arrived <= closes[0].time)
 
 
 def ballot_of(vote: Vote, text: str) -> str:
@@ -209,96 +206,84 @@ def ballot_of(vote: Vote, text: str) -> str:
 
 
 def demand_not_entered(vote: Vote, history: History, letter: JudgedLetter) -> None:
-    """Stops at a letter that was entered."""
-    name = f"letter {letter.number}"
-    if letter.outcome is Outcome.ENTERED:
-        late = queries.envelopes(vote.book, f"letter = ? AND {queries.LATE}", letter.number)
-        anew = queries.entered_anew(vote.book)
-        numbers = [str(envelope.number) for envelope in late if envelope.number not in anew]
-        if not numbers:
-            raise Fault(name, "it was entered", "there is nothing to do")
-        reopen = vote.election.command("reopen", "--in-time", *numbers, "--because", "TEXT")
-        close = "" if history.is_closed else "close again and "
-        cure = f"if it came in time, {close}run {reopen}"
-        raise Fault(name, "it was entered, and is late", cure)
+    if letter.outcome is not Outcome.ENTERED:
+        return
+    late = queries.envelopes(vote.book, f"letter = ? AND {queries.LATE}", letter.number)
+    anew = queries.entered_anew(vote.book)
+    numbers = [str(envelope.number) for envelope in late if envelope.number not in anew]
+    if not numbers:
+        raise Fault(name_of(letter), "it was entered", "there is nothing to do")
+    reopen = vote.election.command("reopen", "--in-time", *numbers, "--because", "TEXT")
+    cure = f"if it came in time, {'' if history.is_closed else 'close again and '}run {reopen}"
+    raise Fault(name_of(letter), "it was entered, and is late", cure)
 
 
-def chosen_in(
+def chosen_lines(
     letter: JudgedLetter, lines: str | None, typed: str | None, *, is_forced: bool
-) -> list[Chosen]:
+) -> list[BallotLine]:
     """The ballots of a letter to enter: what was typed, the lines that were named, or its only one."""
-    name = f"letter {letter.number}"
+    name = name_of(letter)
     if typed is not None:
-        known, marked = letter.known, letter.known.marked_elector(letter.parsed)
-        sharing = known.electors_by_address.get(letter.parsed.sender, ())
-        possible = {*letter.electors, *sharing, *filter(None, [marked])}
-        chosen = Chosen(letter, 0, typed)
-        if possible and chosen.elector not in possible and not is_forced:
-            words = f"neither its sender nor a line of {name} is of {chosen.elector}"
+        possible = {*letter.electors, *letter.sharing, *filter(None, [letter.marked_elector])}
+        line = BallotLine(0, typed)
+        if possible and line.elector not in possible and not is_forced:
+            words = f"neither its sender nor a line of {name} is of {line.elector}"
             cure = "check the name; if this ballot is theirs, repeat the command with --force"
             raise Fault("--as", words, cure)
-        return [chosen]
-    there = {line.number: line.ballot for line in (*letter.offered, *letter.ballots)}
+        return [line]
+    there = {str(line.number): line for line in (*letter.offered, *letter.ballots)}
     if lines == THE_ONE:
-        if len({*there.values()}) != 1:
+        if len({line.ballot for line in there.values()}) != 1:
             words = f"it has {count_of(len(there), 'line')} that can be entered"
             cure = "name its lines with --enter LINE, or type the ballot with --as LINE"
             raise Fault(name, words, cure)
-        return [Chosen(letter, *next(iter(there.items())))]
-    by_text = {str(number): Chosen(letter, number, ballot) for number, ballot in there.items()}
+        return [*there.values()][:1]
     texts = [text.strip() for text in (lines or "").split(",")]
-    if wrong := [text for text in texts if text not in by_text]:
-        can = f"these lines are: {', '.join(map(str, sorted(there)))}" if there else ""
+    if wrong := [text for text in texts if text not in there]:
+        can = f"these lines are: {', '.join(sorted(there, key=int))}" if there else ""
         words = f"line {shown_text(wrong[0])} of {name} is not a ballot of this poll"
         cure = "if you know which ballot is meant, type it with --as LINE"
         raise Fault("--enter", words, can or cure)
-    found = [by_text[text] for text in texts]
-    twice, count = collections.Counter(one.elector for one in found).most_common(1)[0]
+    found = [there[text] for text in texts]
+    twice, count = collections.Counter(line.elector for line in found).most_common(1)[0]
     if count > 1:
         words = f"{count} of these lines are ballots of {twice}"
         raise Fault("--enter", words, "name the one that counts")
     return found
 
 
-def voted_since(
-    vote: Vote, found: Sequence[JudgedLetter], chosen: Sequence[Chosen]
-) -> Iterator[tuple[int, Fault]]:
-    """A fault for each letter with a ballot of an elector who has a later one, or another one of
-    the same time, as from the same letter.
-    """
-    parsed = [letter.parsed for letter in found]
-    ballots = letters_in.ballots_in(vote, {one.elector for one in chosen}, parsed)
-    for letter, _, ballot in chosen:
-        time, later = letter.time, ballots.get(ballot.partition(" ")[0], [])
-        name, cure = f"letter {letter.number}", "if this ballot must count, repeat it with --force"
-        if any(time is None or one.time > time for one in later):
-            yield letter.number, Fault(name, "its elector has voted since", cure)
-        elif any(one.time == time and one.line != ballot for one in later):
+def voted_since(vote: Vote, chosen: Sequence[Chosen]) -> Iterator[tuple[int, Fault]]:
+    """A fault for each ballot whose elector has a later one, or another one of its time."""
+    ballots = ballots_in(vote, {line.elector for _, line in chosen})
+    cure = "if this ballot must count, repeat it with --force"
+    for letter, line in chosen:
+        time, there = letter.time, ballots.get(line.elector, [])
+        if any(time is None or one.time > time for one in there):
+            yield letter.number, Fault(name_of(letter), "its elector has voted since", cure)
+        elif any(one.time == time and one.line != line.ballot for one in there):
             words = "another ballot of its elector with the same time was entered"
-            yield letter.number, Fault(name, words, cure)
+            yield letter.number, Fault(name_of(letter), words, cure)
 
 
 def demand_one_order(chosen: Sequence[Chosen]) -> None:
     """Stops at two ballots of an elector of one time: nobody knows which is the later one."""
     last: dict[str, Chosen] = {}
-    for one in chosen:
-        before = last.setdefault(one.elector, one)
-        if before.letter.time == one.letter.time and before.ballot != one.ballot:
-            name = f"letters {before.letter.number} and {one.letter.number}"
-            words = f"they have different ballots of {one.elector}, and the same time"
+    for letter, line in chosen:
+        other, other_line = last.get(line.elector, (letter, line))
+        if other.time == letter.time and other_line.ballot != line.ballot:
+            name = f"letters {other.number} and {letter.number}"
+            words = f"they have different ballots of {line.elector}, and the same time"
             raise Fault(name, words, "enter the one that counts")
-        last[one.elector] = one
+        last[line.elector] = letter, line
 
 
 def done_with(vote: Vote, chosen: Sequence[Chosen]) -> list[int]:
-    """The letters in which each elector who has a ballot then has one entered, also if that was
-    struck.
-    """
+    """The letters in which each elector who has a ballot then has one entered, perhaps struck."""
     electors: dict[int, set[str]] = collections.defaultdict(set)
-    for one in chosen:
-        electors[one.letter.number].add(one.elector)
+    for letter, line in chosen:
+        electors[letter.number].add(line.elector)
     done = []
-    for letter in {one.letter.number: one.letter for one in chosen}.values():
+    for letter in {letter.number: letter for letter, _ in chosen}.values():
         names, entered = {line.elector for line in letter.ballots}, electors[letter.number]
         if not names <= entered:
             condition = f"letter = ? AND {queries.NOT_UNDONE}"

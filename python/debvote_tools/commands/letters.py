@@ -18,10 +18,11 @@ from debvote_tools.cli import console
 from debvote_tools.cli.faults import Fault, Status
 from debvote_tools.files import locked, uninterrupted
 from debvote_tools.outbox import files, smtp
-from debvote_tools.outbox.due import WAS_REFUSED, LettersDue, unreached
+from debvote_tools.outbox.due import LettersDue
+from debvote_tools.outbox.reached import WAS_REFUSED, reached_by_call
 from debvote_tools.outbox.smtp import Server
 from debvote_tools.outbox.words import SUBJECTS
-from debvote_tools.poll.call import demand_mail_address, demand_web_address
+from debvote_tools.poll.announced import demand_mail_address, demand_web_address
 
 # how many electors without an address are named
 MOST = 20
@@ -60,9 +61,11 @@ def run(election: Election, arguments: Arguments) -> int:
     book = election.book_for(arguments)
     election.called(election.history())
     server = server_of(election.history(), named, arguments) if arguments.send else None
-    if arguments.at is not None:
-        announce(election, book, arguments.at)
-    sender = arguments.sender or election.history().announced("to")
+    history = election.history()
+    if arguments.at not in (None, history.announced("at")):
+        with book.act("announce", {"at": arguments.at}, seen=history.last.number):
+            pass
+    sender = arguments.sender or history.announced("to")
     if sender is None:
         raise bad_words("--from", "the call names no address", "give the sender's address with it")
     demand_mail_address(sender, "--from")
@@ -114,8 +117,10 @@ def tell_files(
     if written:
         host = [] if remembered(due.history) else ["--server", "HOST"]
         command = due.election.command("letters", due.kind, "--send", *host)
+        new = sum(bool(letter.address) for letter in due.new)
+        of_them = "" if new == written else f", {new or 'none'} of them new"
         tell(
-            f"Wrote {count_of(written, 'letter')}: {place}",
+            f"Wrote {count_of(written, 'letter')}{of_them}: {place}",
             f"Next: send them with your mail program, or by {command}",
         )
     else:
@@ -123,7 +128,6 @@ def tell_files(
 
 
 def tell_sent(due: LettersDue, tried: Sequence[SentLetter]) -> None:
-    """Says what the server took, and what it did not."""
     refused = [letter for letter in tried if letter.state != TAKEN]
     if tried:
         tell(f"Sent {len(tried) - len(refused)} of {count_of(len(tried), 'letter')}.")
@@ -139,9 +143,10 @@ def tell_sent(due: LettersDue, tried: Sequence[SentLetter]) -> None:
 
 def tell_unreached(election: Election) -> None:
     """Names those whom the call has not reached, until a letter to them is taken."""
+    unreached, _ = reached_by_call(election, election.history())
     found = [
         f"{elector.name} ({why}{f': {shown_text(reply)}' if why == WAS_REFUSED else ''})"
-        for elector, why, reply in unreached(election, election.history())
+        for elector, why, reply in unreached
     ]
     if found:
         tell(f"Not reached by the call: {listed(found, MOST)}")
@@ -159,18 +164,20 @@ def demand_words(arguments: Arguments) -> None:
     for option, kind in (("at", "result"), ("yes", "reminders")):
         if arguments.kind != kind and given(arguments, option):
             raise bad_words(f"--{option}", f"only with {kind}", "leave it out")
+    if arguments.at is not None:
+        demand_web_address(arguments.at)
 
 
 def remembered(history: History) -> Detail | None:
-    """The detail of the last act of a letter that was sent, which names the server; None if there
-    is none since the election was moved: a copy for a rehearsal sends no real letters.
+    """The detail of the last act of a letter that was sent, which names the server; None since a
+    move: a copy for a rehearsal sends no real letters.
     """
     acts = history.named("letter sent", "moved")
     return acts[-1].detail if acts and acts[-1].name == "letter sent" else None
 
 
 def server_of(history: History, server: Server | None, arguments: Arguments) -> Server:
-    """The server that is named, or that of the last letters, which is shown; with the password."""
+    """The server that is named, or that of the last letters, with the password."""
     user = arguments.user
     if server is None:
         detail = remembered(history)
@@ -199,21 +206,9 @@ def server_of(history: History, server: Server | None, arguments: Arguments) -> 
     return dataclasses.replace(server, user=user, password=password)
 
 
-def announce(election: Election, book: Book, address: str) -> None:
-    """The act that says where the page of the vote is, if it is not known already."""
-    demand_web_address(address)
-    history = election.history()
-    election.called(history)
-    if history.announced("at") != address:
-        with book.act("announce", {"at": address}, seen=history.last.number):
-            pass
-
-
 # ---------------------------------------------------------------- the acts
 def write(book: Book, due: LettersDue, place: pathlib.Path) -> int:
-    """Writes and notes the letters that are due; returns how many files there are for a mail
-    program.
-    """
+    """Writes and notes the letters that are due; returns how many a mail program can send."""
     made = files.letter_files(due, [*due.written, *due.new])
     with files.in_place(made, place):
         if due.new:
@@ -224,9 +219,8 @@ def write(book: Book, due: LettersDue, place: pathlib.Path) -> int:
 
 
 def write_lost(due: LettersDue, kind_folder: pathlib.Path) -> dict[pathlib.Path, list[SentLetter]]:
-    """Makes the folders of earlier receipts that are not there; returns them, each with its
-    letters. What they say holds now. A folder from which files were taken out is left alone: they
-    may have been sent.
+    """Makes the folders of earlier receipts that are not there, as they hold now; returns their
+    letters. A folder from which files were taken out is left alone: they may have been sent.
     """
     lost = {}
     for act, letters in itertools.groupby(due.earlier, key=lambda letter: letter.for_act):
@@ -239,9 +233,7 @@ def write_lost(due: LettersDue, kind_folder: pathlib.Path) -> dict[pathlib.Path,
 
 
 def send_waiting(book: Book, due: LettersDue, server: Server) -> list[SentLetter]:
-    """Sends the letters that wait, and returns them with what the server said. The act of each
-    names the server.
-    """
+    """Sends the letters that wait, and returns them with what the server said."""
     letters, tried = due.waiting, list[SentLetter]()
     if not letters:
         return tried
@@ -271,5 +263,4 @@ def send_waiting(book: Book, due: LettersDue, server: Server) -> list[SentLetter
 
 def show_progress(count: int, total: int) -> None:
     if console.shows():
-        done = BAR * count // total
-        console.tell_as_it_is(f"\r[{'#' * done}{'.' * (BAR - done)}] {count} of {total}")
+        console.tell_as_it_is(f"\r{console.bar(count, total, BAR)} {count} of {total}")

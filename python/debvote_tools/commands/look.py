@@ -14,7 +14,7 @@ from debvote_tools.cli.console import act_time, count_of, tell
 from debvote_tools.cli.arguments import Options, flag, positional
 from debvote_tools.cli.faults import Fault, Status
 from debvote_tools.files import whole_folder, write_whole
-from debvote_tools.inbox.lines import ballot_file
+from debvote_tools.text.ballots import ballot_file
 
 # what a file name keeps of the name under which something came
 UNSAFE = re.compile(r"[^A-Za-z0-9._-]+")
@@ -93,7 +93,7 @@ def backup(election: Election, arguments: BackupArguments) -> None:
 
 
 def demand_new(election: Election, target: pathlib.Path, what: str) -> None:
-    """Stops if there is something, or if it would be in a folder for electors or the web site."""
+    """Stops if there is something, or a folder for others above it."""
     words, cure, place = "it exists already", f"name a new {what}", target.absolute().resolve()
     for name in (CALL, LETTERS, RESULT, PRIVATE):
         if place.is_relative_to(election.path(name).absolute().resolve()):

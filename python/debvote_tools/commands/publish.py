@@ -15,7 +15,7 @@ from debvote_tools.cli.console import act_time, odd_sign, tell
 from debvote_tools.debvote import casting_words
 from debvote_tools.commands import count
 from debvote_tools.book.election import LETTERS, RESULT, RESULT_LETTER, Election, History
-from debvote_tools.files import OWN, file_text, locked, read_whole, uninterrupted, write_made
+from debvote_tools.files import OWN, locked, read_text, uninterrupted, write_made
 from debvote_tools.inbox.waiting import in_time, waiting_letters
 from debvote_tools.cli.faults import Fault, Status
 from debvote_tools.text.language import LANGUAGES
@@ -106,21 +106,18 @@ def run(election: Election, arguments: Arguments) -> int:
         ask = "it is a tie: ask for the casting vote, and then give its option, its holder and its day"
         tell(f"Next: {ask}: {election.command('publish', *cast)}")
     else:
-        send = election.command("letters", "result")
-        if history.has_codes_on_roll:
-            send = f"send {election.path(LETTERS) / RESULT_LETTER} to all electors"
+        send = election.to_all("result", election.path(LETTERS) / RESULT_LETTER)
         tell(f"Next: put the folder {target} on the web site as it is, then {send}")
     return made.answers.status
 
 
 def demand_place(target_folder: pathlib.Path, history: History) -> None:
     """Stops unless the place is free, or has what was published last: an earlier result, or that of
-    another election, stays.
-
-    A run that was killed after its act has left its folder beside the place; then the place has
+    another election, stays. After a run that was killed, its folder is beside the place, which has
     what was published before.
     """
     place = folder.real_place(target_folder)
+    folder.demand_outside(target_folder)
     if folder.is_free(place):
         return
     sums = [act.detail["checksums"][CHECKSUMS] for act in publication.publications(history)]
@@ -176,8 +173,11 @@ def words_of(arguments: Arguments) -> Words:
     if reason is not None:
         reason = demand_reason(reason, "--force", has_paragraphs=True)
     if arguments.about is not None:
-        data = read_whole(arguments.about, TEXT_LIMIT, "give a file that you may read with --about")
-        about = file_text(data, arguments.about, "write it, or leave --about out")
+        unread, empty = (
+            "give a file that you may read with --about",
+            "write it, or leave --about out",
+        )
+        about = read_text(arguments.about, TEXT_LIMIT, unread, empty, may_wait=True)
     return Words(
         casting=arguments.casting,
         cast_by=by,
@@ -190,7 +190,7 @@ def words_of(arguments: Arguments) -> Words:
 
 
 def holder_and_day(by: str | None, on: str | None) -> tuple[str, str]:
-    """Whose the casting vote was, and when it was given: a day that is not to come."""
+    """Whose the casting vote was, and on which day."""
     if by is None or on is None:
         cure = 'say it with --cast-by "NAME" --cast-on 2026-12-05'
         raise bad_words(

@@ -11,7 +11,7 @@ from debvote_tools.book.queries import Envelope, NewEnvelope
 from debvote_tools.cli.console import act_time, count_of, is_terminal, shown_line, tell, typed
 from debvote_tools.cli.faults import Fault, Status, stop_at
 from debvote_tools.commands.strike import without_code
-from debvote_tools.inbox import plan as plans
+from debvote_tools.inbox import entering
 from debvote_tools.inbox.vote import Vote
 
 # of the number of an envelope
@@ -31,17 +31,14 @@ class Arguments(Acting):
     force: bool = flag("Enter them although their electors have later ballots that count")
 
 
-# the late envelopes that are entered anew, and whether later ballots stand against it
-Plan = tuple[list[Envelope], bool]
-
-
 def run(election: Election, arguments: Arguments) -> None:
     because = demand_reason(arguments.because, "reopen")
     book = election.book_for(arguments)
     history, numbers = election.history(), arguments.in_time
     vote = Vote(election, history)
 
-    def plan() -> Plan:
+    def plan() -> tuple[list[Envelope], bool]:
+        """The late envelopes that are entered anew, and whether later ballots stand against it."""
         nonlocal history, numbers
         history = election.history()
         demand_closed(election, history)
@@ -53,10 +50,9 @@ def run(election: Election, arguments: Arguments) -> None:
             stop_at(older)
         return offered, bool(older)
 
-    def act(found: Plan, seen: int) -> None:
+    def act(found: tuple[list[Envelope], bool], seen: int) -> None:
         offered, is_forced = found
-        in_time = [envelope.number for envelope in offered]
-        detail: Detail = {"because": because, "in_time": in_time}
+        detail: Detail = {"because": because, "in_time": [one.number for one in offered]}
         if is_forced:
             detail["force"] = True
 
@@ -67,24 +63,16 @@ def run(election: Election, arguments: Arguments) -> None:
                 line = without_code(envelope.line, has_codes=vote.has_codes)
                 yield f"Envelope {number}, entered anew from late envelope {envelope.number}: {line}"
 
-        plans.enter(
-            vote,
-            "reopen",
-            detail,
-            lambda _: [
-                NewEnvelope(late.line, late.place, late.source, late.letter, late.time)
-                for late in offered
-            ],
-            report,
-            seen,
-            is_late=False,
-        )
+        anew = [
+            NewEnvelope(one.line, one.place, one.source, one.letter, one.time) for one in offered
+        ]
+        entering.enter_lines(vote, "reopen", detail, lambda _: anew, report, seen, is_late=False)
 
-    plans.agreed_act(vote, plan, lambda _: True, act)
-    if left := [envelope.number for envelope in late_left(book)]:
-        again_command = election.command("reopen", "--in-time", "NUMBER", "--because", "TEXT")
-        cure = f"if one of them came before the first close, close again and run {again_command}"
-        tell(f"Note: still late: {', '.join(map(str, left))}; {cure}")
+    entering.agreed_act(vote, plan, lambda _: True, act)
+    if left := ", ".join(str(envelope.number) for envelope in late_left(book)):
+        again = election.command("reopen", "--in-time", "NUMBER", "--because", "TEXT")
+        cure = f"if one of them came before the first close, close again and run {again}"
+        tell(f"Note: still late: {left}; {cure}")
     tell("Of new ballots only those that arrived before the first close count: add and desk ask.")
     tell(f"Next: {election.command('add', 'FILE')}, then {election.command('close')}")
 
@@ -135,15 +123,12 @@ def asked(book: Book, *, has_codes: bool) -> list[int]:
 
 
 def faults_of_older(book: Book, offered: Sequence[Envelope]) -> Iterator[Fault]:
-    """A fault for each envelope that would replace a later ballot of its elector, since the last
-    one that is entered counts.
-    """
+    """A fault for each envelope that would replace a later ballot of its elector."""
     last = {late.elector: late for late in offered if late.elector is not None}
+    cure = "leave it out; or, if it must count, repeat the command with --force"
     for elector, late in last.items():
-        in_time = queries.envelopes(book, f"elector = ? AND {queries.IN_TIME}", elector)
+        in_time = queries.envelopes(book, "elector = ?", elector, view="ballot")
         newest = max(in_time, key=ORDER, default=late)
         if ORDER(newest) > ORDER(late):
             later = f"envelope {newest.number}, a later ballot of the same elector"
-            cure = "leave it out; or, if it must count, repeat the command with --force"
-            words = f"envelope {late.number} would replace {later}"
-            yield Fault("--in-time", words, cure)
+            yield Fault("--in-time", f"envelope {late.number} would replace {later}", cure)

@@ -2,27 +2,22 @@
 
 import operator
 import re
-from collections.abc import Sequence
+from collections.abc import Iterator, Sequence
 
 from debvote_tools.cli.arguments import Acting, flag
 from debvote_tools.inbox.mime import address_key
 from debvote_tools.book import queries
 from debvote_tools.book.book import Book
-from debvote_tools.poll.call import is_mail_address
+from debvote_tools.poll.announced import address_in
 from debvote_tools.cli.console import count_of, is_terminal, is_yes, listed, shown_text, tell
 from debvote_tools.book.election import MEMBERS_FILE, Election, History
-from debvote_tools.poll.marks import new_own_mark
+from debvote_tools.poll.sealed import new_own_mark
 from debvote_tools.poll.members import Member, Roll, members_in, roll_of, several
 from debvote_tools.cli.faults import Fault, stop_at
 from debvote_tools.poll.plain_names import ELECTOR_LIMIT, alike, similar_names
 
 # `Eve & Dan`, `Eve und Dan`, `Eve/Dan`
 SEVERAL_PEOPLE = re.compile(r"\w ?[&+/] ?\w|\w (?:and|und|et) \w", re.IGNORECASE)
-
-SIMILAR = "Note: these names are easily mistaken for each other: {}"
-COUPLES = "Note: these look like several people, who have one ballot together: {}. Give each a line of their own."
-WITHOUT = "Without an address (letters in their names wait, letters to them are printed): {}"
-WITHOUT_PLAIN = "Without an address that every mail server takes (letters to them are printed): {}"
 
 # how many electors are printed: of more the list itself is easier to read
 MAX_SHOWN = 200
@@ -61,7 +56,7 @@ def read_roll(election: Election, history: History) -> Roll:
 
 def demand_read(election: Election, history: History) -> None:
     """Stops if the list of members is not the one that `roll` read. Codes on the roll come from no
-    list, so nothing is compared then.
+    list.
     """
     if not history.has_codes_on_roll and not is_kept(election.book, read_roll(election, history)):
         cure = f"run {election.command('roll')} first"
@@ -76,7 +71,7 @@ def is_kept(book: Book, roll: Roll) -> bool:
 
 # ---------------------------------------------------------------- the acts
 def keep_electors(book: Book, roll: Roll, seen: int) -> None:
-    """The act after which the electors are those of the list. If they already are, there is no act."""
+    """The act after which the electors are those of the list, if they are not already."""
     if is_kept(book, roll):
         return
     before = {elector.name: elector for elector in queries.all_electors(book)}
@@ -92,8 +87,8 @@ def keep_electors(book: Book, roll: Roll, seen: int) -> None:
 
 
 def change_addresses(book: Book, changed: Sequence[Member], seen: int) -> None:
-    """The act after the call: new addresses and keys of the same people. A new address makes a new
-    own mark: who reads the old one knows the mark.
+    """The act after the call. A new address makes a new own mark: who reads the old one knows the
+    mark.
     """
     if not changed:
         tell("Nothing was changed.")
@@ -128,38 +123,43 @@ def report(roll: Roll, *, has_all: bool) -> None:
     shown = electors if has_all else electors[:MAX_SHOWN]
     lines = [f"{count_of(len(electors), 'elector')}, each with the name on the roll:"]
     for one in shown:
-        line = f"  {one.name}: {shown_text(one.who)} {', '.join(one.addresses)}"
-        lines.append(line.rstrip())
+        who = f"  {one.name}: {shown_text(one.who)} {', '.join(one.addresses)}"
+        lines.append(who.rstrip())
     if len(shown) < len(electors):
         lines.append(f"  and {len(electors) - len(shown)} more (--all prints them)")
-    proposed = [elector for elector in electors if elector.proposal]
-    if proposed:
+    if proposed := sum(bool(one.proposal) for one in electors):
         how = f"To change a name, write it into a column `name` of {MEMBERS_FILE}, and run this again."
-        lines.append(f"{count_of(len(proposed), 'name was', 'names were')} proposed. {how}")
-    by_address = [
-        (key, one.name)
-        for one in electors
-        for key in dict.fromkeys(map(address_key, one.addresses))
-    ]
-    for sharing in several(by_address, operator.itemgetter(0)):
-        names = listed([name for _, name in sharing], MAX_SHOWN)
-        words = f"several electors have the address {sharing[0][0]}: {names}"
-        lines.append(f"Note: {words}. Is that one person?")
-    for group in several(electors, lambda elector: alike(elector.who)):
-        names = listed([elector.name for elector in group], MAX_SHOWN)
-        lines.append(f"Note: these real names look alike: {names}. Is that one person?")
-    cut = f"Note: a name has at most {ELECTOR_LIMIT} characters, so these were cut: {{}}"
-    notes = {
-        cut: [one.label for one in proposed if not one.name.startswith(one.proposal)],
-        SIMILAR: [" and ".join(pair) for pair in similar_names(one.name for one in electors)],
-        COUPLES: [one.label for one in electors if SEVERAL_PEOPLE.search(one.who)],
-        WITHOUT: [one.name for one in electors if not one.addresses],
-        WITHOUT_PLAIN: [
-            one.name
-            for one in electors
-            if one.addresses and not any(map(is_mail_address, one.addresses))
-        ],
-    }
-    lines += [words.format(listed(names, MAX_SHOWN)) for words, names in notes.items() if names]
+        lines.append(f"{count_of(proposed, 'name was', 'names were')} proposed. {how}")
+    for words, names, after in notes_on(electors):
+        if names:
+            lines.append(f"{words}: {listed(names, MAX_SHOWN)}{after}")
     lines += [f"No longer on the list: {one.name} ({shown_text(one.who)})" for one in roll.gone]
     tell(*lines)
+
+
+def notes_on(electors: Sequence[Member]) -> Iterator[tuple[str, list[str], str]]:
+    """What may be wrong with the list: words, the names that they are about, and words after."""
+    with_address = [one for one in electors if one.addresses]
+    by_address = [
+        (key, one.name)
+        for one in with_address
+        for key in dict.fromkeys(map(address_key, one.addresses))
+    ]
+    is_one = ". Is that one person?"
+    for sharing in several(by_address, operator.itemgetter(0)):
+        words = f"Note: several electors have the address {sharing[0][0]}"
+        yield words, [name for _, name in sharing], is_one
+    for group in several(electors, lambda elector: alike(elector.who)):
+        yield "Note: these real names look alike", [one.name for one in group], is_one
+    cut = [one for one in electors if one.proposal and not one.name.startswith(one.proposal)]
+    words = f"Note: a name has at most {ELECTOR_LIMIT} characters, so these were cut"
+    yield words, [one.label for one in cut], ""
+    pairs = similar_names(one.name for one in electors)
+    yield "Note: these names are easily mistaken for each other", list(map(" and ".join, pairs)), ""
+    couples = [one.label for one in electors if SEVERAL_PEOPLE.search(one.who)]
+    words = "Note: these look like several people, who have one ballot together"
+    yield words, couples, ". Give each a line of their own."
+    words = "Without an address (letters in their names wait, letters to them are printed)"
+    yield words, [one.name for one in electors if not one.addresses], ""
+    words = "Without an address that every mail server takes (letters to them are printed)"
+    yield words, [one.name for one in with_address if not address_in(one.addresses)], ""

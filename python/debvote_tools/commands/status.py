@@ -3,13 +3,14 @@
 import json
 import re
 from collections.abc import Iterator
-from typing import Any, NamedTuple
+from typing import Any
 
 from debvote_tools.text import times
 from debvote_tools.cli.arguments import Options, flag
 from debvote_tools.book import queries
 from debvote_tools.cli.console import (
     act_time,
+    bar,
     count_of,
     quorum_words,
     shown_line,
@@ -17,10 +18,11 @@ from debvote_tools.cli.console import (
     tell,
     wrapped,
 )
-from debvote_tools.debvote import Finding, Findings, Totals
-from debvote_tools.book.election import LETTERS, RESULT_LETTER, Election, History, Stage
+from debvote_tools.debvote import Finding, Findings
+from debvote_tools.book.election import LETTERS, RESULT_LETTER, Election, History
 from debvote_tools.inbox.waiting import Arrived, stopping, waiting_letters
-from debvote_tools.inbox.lines import ballot_file
+from debvote_tools.outbox.reached import reached_by_call
+from debvote_tools.text.ballots import ballot_file
 
 # how many characters the bar of those who have voted has
 BAR = 50
@@ -29,27 +31,15 @@ BAR = 50
 # marks may precede it
 FIRST_WORD = re.compile(rb"(?:\xef\xbb\xbf)?[\s\"']*([A-Za-z0-9.-]{1,32})(?=[\s\"',;:]|$)")
 
-NO_FINDINGS = Findings([], Totals(lines=0, valid=0, refused=0, late=0, voters=0, electors=0))
+# how an election is, in numbers, as FORMATS has them; in a vote whose roll has codes nobody is named
+State = dict[str, Any]
+
+# a line that debvote refuses, with the number of its envelope, and why
+Refused = tuple[int, bytes, Finding]
 
 
 class Arguments(Options):
     json: bool = flag("Print the numbers as JSON, for programs")
-
-
-# how an election is, in numbers, as FORMATS has them; in a vote whose roll has codes nobody is named
-State = dict[str, Any]
-
-
-class Refused(NamedTuple):
-    envelope: int
-    line: bytes
-    finding: Finding
-
-    @property
-    def name(self) -> str | None:
-        """Whose it may be: the first word in small letters."""
-        word = FIRST_WORD.match(self.line)
-        return word[1].decode("ascii").lower() if word else None
 
 
 def run(election: Election, arguments: Arguments) -> None:
@@ -64,44 +54,48 @@ def run(election: Election, arguments: Arguments) -> None:
 
 def state_of(election: Election, history: History) -> tuple[State, list[Refused]]:
     """The numbers of an election, and the lines that debvote refuses, but for those of electors who
-    have a ballot; with codes on the roll all of them.
+    have a ballot; with codes on the roll all.
     """
-    book, has_codes = election.book, history.has_codes_on_roll
-    lines: list[tuple[int, bytes]] = []
-    findings, waiting = NO_FINDINGS, dict[int, Arrived]()
+    book, has_codes, found = election.book, history.has_codes_on_roll, Findings([])
+    lines, waiting = list[tuple[int, bytes]](), dict[int, Arrived]()
     if history.call is None:
         roll = tuple(elector.name for elector in queries.electors(book))
     else:
         poll, lines = election.sealed().counted, queries.numbered_lines_in_time(book)
         ballots, roll = ballot_file(line for _, line in lines), poll.roll
-        findings = election.debvote.findings(poll.as_bytes(), ballots)
+        found = election.debvote.findings(poll.as_bytes(), ballots)
         waiting = waiting_letters(election, history)
-    refused = [Refused(*lines[finding.envelope - 1], finding) for finding in findings.refused]
-    refused_numbers = {line.envelope for line in refused}
+    refused = [(*lines[finding.envelope - 1], finding) for finding in found.refused]
+    refused_numbers = {number for number, _, _ in refused}
     # who has a line that debvote does not refuse has a ballot
     names = {line.partition(b" ")[0] for number, line in lines if number not in refused_numbers}
     voters = {name.decode("ascii") for name in names}
-    totals = findings.totals
-    state: State = {"stage": history.stage, "electors": len(roll), "lines": totals.lines}
-    state |= {"valid": totals.valid, "refused": totals.refused, "voters": totals.voters}
-    state |= {"late": len(queries.late_lines(book)), "waiting": len(waiting)}
-    state["stopping"] = stopping(waiting, history)
-    without_ballot = [name for name in roll if name not in voters]
-    state["without_ballot"] = None if has_codes else without_ballot
-    state |= letters_of_call(election, history)
-    state |= {"act": history.last.number, "digest": history.last.digest}
-    return state, refused if has_codes else [line for line in refused if line.name not in voters]
+    unreached, printed = reached_by_call(election, history)
+    state = {
+        "stage": history.stage,
+        "electors": len(roll),
+        "lines": found.lines,
+        "valid": found.valid,
+        "refused": len(refused),
+        "voters": found.voters,
+        "late": len(queries.late_lines(book)),
+        "waiting": len(waiting),
+        "stopping": stopping(waiting, history),
+        "without_ballot": None if has_codes else [name for name in roll if name not in voters],
+        "not_reached": {elector.name: why for elector, why, _ in unreached},
+        "printed": printed,
+        "act": history.last.number,
+        "digest": history.last.digest,
+    }
+    return state, refused if has_codes else [
+        (number, line, finding) for number, line, finding in refused if name_in(line) not in voters
+    ]
 
 
-def letters_of_call(election: Election, history: History) -> State:
-    """Once `letters call` was run: whom it has not reached, each with why, and who gets it printed."""
-    if not any(act.detail["kind"] == "call" for act in history.since_call("letters out")):
-        return {"not_reached": {}, "printed": []}
-    # it takes a while to be imported
-    from debvote_tools.outbox import due
-
-    not_reached = dict(due.not_reached(election, history))
-    return {"not_reached": not_reached, "printed": due.printed(election, history)}
+def name_in(line: bytes) -> str | None:
+    """Whose a line may be: its first word in small letters."""
+    word = FIRST_WORD.match(line)
+    return word[1].decode("ascii").lower() if word else None
 
 
 def stage_words(election: Election, history: History) -> Iterator[str]:
@@ -132,7 +126,8 @@ def words_of(
         yield f"Late, and not counted: {state['late']}"
     yield f"Electors with a valid ballot: {state['voters']} of {state['electors']}"
     if shows() and state["electors"]:
-        yield f"  {bar_of(state['voters'], state['electors'])}"
+        voters, electors = state["voters"], state["electors"]
+        yield f"  {bar(voters, electors, BAR)} {voters * 100 // electors} %"
     yield from named("Electors without a ballot", state["without_ballot"])
     yield from refused_words(refused, state["without_ballot"])
     if state["waiting"]:
@@ -156,44 +151,28 @@ def named(what: str, names: list[str] | None) -> Iterator[str]:
 
 
 def refused_words(refused: list[Refused], without_ballot: list[str] | None) -> Iterator[str]:
-    """Lines, each with its envelope and what debvote says of it. With codes on the roll a line
-    would tell a code.
-    """
+    """Lines, each with what debvote says of it. With codes on the roll they would tell codes."""
     if without_ballot is None:
         if refused:
-            yield f"Refused: envelopes {', '.join(str(line.envelope) for line in refused)}"
+            yield f"Refused: envelopes {', '.join(str(number) for number, *_ in refused)}"
         return
-    known = set(without_ballot)
-    for whose, is_known in (
-        ("of electors without a ballot", True),
-        ("with no known elector", False),
-    ):
-        found = [line for line in refused if (line.name in known) == is_known]
+    known, whose = set(without_ballot), ("with no known elector", "of electors without a ballot")
+    for is_known in (True, False):
+        found = [one for one in refused if (name_in(one[1]) in known) == is_known]
         if found:
-            yield f"Refused lines {whose} ({len(found)}):"
+            yield f"Refused lines {whose[is_known]} ({len(found)}):"
         for envelope, line, finding in found:
             yield f"  envelope {envelope}: {shown_line(line) or '(empty)'}"
             yield f"    {finding.word}: {finding.hint}"
 
 
 def what_next(election: Election, state: State) -> str:
-    if state["stage"] is Stage.NEW:
+    if state["stage"] == "new":
         return f"{election.command('roll')}, then {election.command('check')}, then {election.command('call')}"
-    if state["stage"] is Stage.CALLED:
+    if state["stage"] == "called":
         add = f"{election.command('add', 'FILE')}, or {election.command('desk')}"
         return f"add the ballots as they come: {add}; when the vote is over: {election.command('close')}"
-    if state["stage"] is Stage.PUBLISHED and not state["stopping"]:
-        # where nobody knows whose each code is, no letter can be written to an elector
-        send = election.command("letters", "result")
-        if state["without_ballot"] is None:
-            send = f"send {election.path(LETTERS) / RESULT_LETTER} to all electors"
+    if state["stage"] == "published" and not state["stopping"]:
+        send = election.to_all("result", election.path(LETTERS) / RESULT_LETTER)
         return f"put the published folder on the web site as it is, then {send}"
     return f"{election.command('count')}, then {election.command('publish')}"
-
-
-def bar_of(part: int, whole: int) -> str:
-    """How many of all have voted, as a bar: it is full only if all have, and empty only if nobody
-    has.
-    """
-    full = part * BAR // whole if part in (0, whole) else min(max(part * BAR // whole, 1), BAR - 1)
-    return f"[{'#' * full}{'.' * (BAR - full)}] {part * 100 // whole} %"

@@ -6,14 +6,14 @@ import re
 
 from debvote_tools.cli.arguments import Acting, demand_reason, flag, positional
 from debvote_tools.book import queries
-from debvote_tools.book.book import Book, Detail
+from debvote_tools.book.book import Detail
 from debvote_tools.book.election import Election
 from debvote_tools.book.queries import Envelope
 from debvote_tools.cli.console import act_time, is_terminal, shown_line, tell
 from debvote_tools.cli.faults import Fault
 from debvote_tools.commands.undo import demand_open, demand_yes
 from debvote_tools.inbox.lines import name_in
-from debvote_tools.inbox.plan import agreed_act
+from debvote_tools.inbox.entering import agreed_act
 from debvote_tools.inbox.vote import Vote
 
 # what can be a code of the roll or the most of one, as if a digit was left out
@@ -43,13 +43,14 @@ def run(election: Election, arguments: Arguments) -> None:
         with book.act("strike", detail, seen=seen) as act:
             queries.strike_envelopes(act, [envelope.number])
             # a letter waits on if it has ballots of others that were not entered
-            states = {kept.number: kept.state for kept in queries.letters(book)}
-            letter = envelope.letter or 0
-            if states.get(letter) in (queries.ENTERED, queries.STRUCK):
-                queries.decide(act, letter, queries.STRUCK)
+            for kept in queries.letters(book) if envelope.letter else ():
+                if kept.number == envelope.letter and kept.state in (
+                    queries.ENTERED,
+                    queries.STRUCK,
+                ):
+                    queries.decide(act, kept.number, queries.STRUCK)
 
-    number = arguments.number
-    envelope = agreed_act(vote, lambda: demand_envelope(election, book, number), show, act)
+    envelope = agreed_act(vote, lambda: demand_envelope(vote, arguments.number), show, act)
     tell(f"Struck {in_words(envelope, vote)}, because: {because}")
     if envelope.elector is not None:
         elector = name_in(envelope.line).decode("ascii")
@@ -66,13 +67,13 @@ def in_words(envelope: Envelope, vote: Vote) -> str:
     return f"envelope {envelope.number}{' (late)' if envelope.is_late else ''}: `{line}`"
 
 
-def demand_envelope(election: Election, book: Book, number: int) -> Envelope:
+def demand_envelope(vote: Vote, number: int) -> Envelope:
     """The envelope of a number. Stops if there is none, if it is struck, or if the vote is closed."""
-    history = election.history()
-    demand_open(election, history)
-    found = queries.envelopes(book, "envelope = ?", number)
+    history = vote.election.history()
+    demand_open(vote.election, history)
+    found = queries.envelopes(vote.book, "envelope = ?", number)
     if not found:
-        last = queries.last_envelope(book)
+        last = queries.last_envelope(vote.book)
         there = f"there are envelopes 1 to {last}" if last else "no ballot has come yet"
         cure = "show NAME lists the envelopes of an elector"
         raise Fault(None, f"there is no envelope {number}; {there}", cure)
@@ -80,12 +81,10 @@ def demand_envelope(election: Election, book: Book, number: int) -> Envelope:
     if envelope.struck is not None:
         time = act_time(history.act(envelope.struck).time)
         words = f"envelope {number} is struck already, by act {envelope.struck} at {time}"
-        raise Fault(None, words, f"see {election.command('log')}")
+        raise Fault(None, words, f"see {vote.election.command('log')}")
     return envelope
 
 
 def without_code(line: bytes, *, has_codes: bool) -> str:
-    """A line as it is shown. A code of the roll that nobody typed is not shown, nor one with a
-    wrong digit.
-    """
+    """A line as it is shown: no code that nobody typed, nor one with a wrong digit."""
     return shown_line(LIKE_A_CODE.sub(b"CODE", line) if has_codes else line)

@@ -9,15 +9,15 @@ from debvote_tools.book.book import DoneAct
 from debvote_tools.book.election import Election, History
 from debvote_tools.cli.console import act_time, count_of, is_terminal, is_yes, tell
 from debvote_tools.cli.faults import Fault
-from debvote_tools.inbox.plan import agreed_act, envelope_words
-from debvote_tools.inbox.vote import Vote, standing_words
+from debvote_tools.inbox.entering import agreed_act
+from debvote_tools.inbox.vote import Vote, envelope_words, standing_words
 
 
 class Arguments(Acting):
     yes: bool = flag("Take it back without asking")
 
 
-class Plan(NamedTuple):
+class TakenBack(NamedTuple):
     """What an `undo` takes back, or would, and what it changes."""
 
     act: DoneAct
@@ -46,13 +46,13 @@ def run(election: Election, arguments: Arguments) -> None:
     vote = Vote(election, election.history())
     is_asked = is_terminal() and not arguments.yes
 
-    def show(found: Plan) -> bool:
+    def show(found: TakenBack) -> bool:
         if is_asked:
             tell(*consequences(vote, found, "no ballot would be left"))
             demand_yes("undo", f"Take back {found.what}?", "you want to take it back")
         return True
 
-    def act(found: Plan, seen: int) -> None:
+    def act(found: TakenBack, seen: int) -> None:
         with book.act("undo", {"act": found.act.number}, seen=seen) as act:
             queries.strike_envelopes(act, (envelope.number for envelope in found.envelopes))
             for letter in found.letters:
@@ -74,10 +74,8 @@ def demand_yes(command: str, question: str, when: str) -> None:
         raise Fault(command, "you did not say yes", f"run the command again when {when}")
 
 
-def what_is_taken_back(vote: Vote) -> Plan:
-    """The last act that entered lines, and what it changes to take it back. Stops if there is none,
-    or if the vote is closed.
-    """
+def what_is_taken_back(vote: Vote) -> TakenBack:
+    """The last act that entered lines, and what changes. Stops if there is none, or at a close."""
     book, election = vote.book, vote.election
     with book.snapshot():
         history = History(book.acts())
@@ -86,8 +84,7 @@ def what_is_taken_back(vote: Vote) -> Plan:
         if number is None:
             words = "there is nothing to take back"
             raise Fault("undo", words, f"see {election.command('status')}")
-        condition = f"act = ? AND {queries.NOT_STRUCK}"
-        envelopes = queries.envelopes(book, condition, number)
+        envelopes = queries.envelopes(book, "act = ? AND struck IS NULL", number)
         electors = {envelope.elector for envelope in envelopes if envelope.elector is not None}
         lines = queries.lines_of_electors(book, electors)
         lines_without = queries.lines_of_electors(book, electors, without=number)
@@ -96,7 +93,7 @@ def what_is_taken_back(vote: Vote) -> Plan:
     written = sent.sent_letters(book, "receipts")
     having = {letter.elector for letter in written if about & set(letter.about)}
     names = [elector.name for elector in queries.electors(book) if elector.number in having]
-    return Plan(history.act(number), envelopes, before, after, names)
+    return TakenBack(history.act(number), envelopes, before, after, names)
 
 
 def demand_open(election: Election, history: History) -> None:
@@ -105,7 +102,7 @@ def demand_open(election: Election, history: History) -> None:
         raise Fault(None, words, f"if they are wrong, see {election.command('reopen')}")
 
 
-def consequences(vote: Vote, found: Plan, none: str | None) -> Iterator[str]:
+def consequences(vote: Vote, found: TakenBack, none: str | None) -> Iterator[str]:
     """What changes: ballots, where `none` says that none is left; letters; receipts."""
     if none is not None:
         yield from standing_words(vote, found.before, found.after, none)

@@ -171,9 +171,7 @@ class HtmlText:
                 self.lines.append("")
 
     def end(self, tag: str) -> None:
-        """Ends an element. If it is not open, browsers begin a line for `br` and `p`, and it is not
-        plain.
-        """
+        """Ends an element. For `br` and `p` that are not open browsers begin a line."""
         is_open = self.open_count[tag] > 0
         if tag not in PLAIN or tag == "br" or (tag in BLOCKS and not is_open):
             self.found_other(f"/{tag}", may_be_below=tag in PLAIN or tag in BELOW)
@@ -185,9 +183,7 @@ class HtmlText:
             self.holder = ""
 
     def read_declaration(self, text: str) -> None:
-        """Reads a comment, a declaration, or what looks like a tag within a title. Some programs
-        show a comment, and what looks like a tag may end the title.
-        """
+        """Reads a comment, a declaration, or a tag within a title. Some programs show a comment."""
         if not DOCTYPE.fullmatch(text) or self.lines or self.parts:
             self.found_other(text, may_be_below=False)
         self.pieces += re.split(r"(?:[\n\r<>]|!?--|!)+", unescaped(text))

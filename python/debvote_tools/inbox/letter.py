@@ -6,20 +6,16 @@ import dataclasses
 import datetime
 import email.header
 import email.utils
-import functools
 import hashlib
 import itertools
-import json
 import re
-import typing
-from collections.abc import Callable, Sequence
-from typing import Any
+from collections.abc import Sequence
 
 from debvote_tools.inbox.html import read_html
 from debvote_tools.inbox.mailbox import RawLetter
 from debvote_tools.inbox.mime import MAX_PARTS, Part, address_key
 from debvote_tools.inbox.reasons import Because, Reason
-from debvote_tools.poll.marks import OWN_LENGTH, OWN_SIGNS, marks_in
+from debvote_tools.poll.sealed import OWN_LENGTH, OWN_SIGNS, marks_in
 
 # in bytes: a text, and all texts of a letter
 MAX_TEXT, MAX_TEXTS = 262_144, 1_048_576
@@ -106,35 +102,6 @@ class Signature:
 
 
 @dataclasses.dataclass(frozen=True)
-class Near:
-    """A line that is near to a ballot: its number in the letter, what may be the ballot, whether
-    that is within other words, and debvote's answer; None if it is a valid ballot.
-    """
-
-    number: int
-    ballot: str
-    is_within: bool
-    answer: str | None = None
-
-
-@dataclasses.dataclass(frozen=True)
-class ReadLine:
-    """What a line of a letter may be, by its number, from 1."""
-
-    number: int
-    # whose ballot: a name on the roll; or those whose name on the roll, or real name, may be meant
-    elector: str = ""
-    on_roll: tuple[str, ...] = ()
-    real: tuple[str, ...] = ()
-    # its ranks, and debvote's answer; None if they are valid
-    ranks: str = ""
-    answer: str | None = None
-    # why it is no ballot by itself, and is only offered to the secretary
-    offered_for: Reason | None = None
-    near: Near | None = None
-
-
-@dataclasses.dataclass(frozen=True)
 class ParsedLetter:
     """What the bytes of a letter say and, if letters have to be signed, what gpgv says of it."""
 
@@ -152,7 +119,7 @@ class ParsedLetter:
     subject: str
     # the marks of votes in its subject, each with the own mark of an elector or ""
     marks: tuple[tuple[str, str], ...]
-    # whether its head says that it answers a letter
+    # whether its head names no letter that it answers
     is_new: bool
     # by the mail server that received it last
     arrived: datetime.datetime | None
@@ -163,17 +130,10 @@ class ParsedLetter:
     # if letters have to be signed: the good signature, or why there is none
     signature: Signature | None = None
     why_unsigned: Because | None = None
-    # what its lines may be, or how many may be ballots if they are more than are read; and the
-    # lines with what looks like a code of a secret vote or an alias
-    read_lines: tuple[ReadLine, ...] = ()
-    crowd: int = 0
-    code_lines: tuple[int, ...] = ()
 
     @property
     def key(self) -> str:
-        """Identifies the letter by its bytes. If the same bytes come parted off, and later as a
-        letter of their own, these are two letters.
-        """
+        """Identifies the letter; the same bytes parted off, and on their own, are two letters."""
         return f"{self.digest}, parted off" if self.is_parted_off else self.digest
 
     @property
@@ -183,19 +143,21 @@ class ParsedLetter:
         return self.why_unsigned is not None and self.why_unsigned.reason in never
 
     @property
+    def is_slow(self) -> bool:
+        """Whether gpgv did not answer about it."""
+        return self.why_unsigned == Reason.SLOW_SIGNATURE()
+
+    @property
     def shown_lines(self) -> tuple[str, ...]:
-        """The lines by number, from 1: those of its text, then those of other parts that may be
-        ballots.
-        """
+        """The lines by number, from 1: those of its text, then those of other parts."""
         return self.body.lines + self.body.other_lines
 
 
 def parse(raw: RawLetter) -> ParsedLetter:
     letter = Part(raw.data)
     senders, subjects = letter.values("from"), letter.values("subject")
-    if (longest := max(map(len, subjects), default=0)) > MAX_FIELD:
-        what = "characters in its subject"
-        letter.found(Reason.TOO_LONG(length=longest, what=what, limit=MAX_FIELD))
+    longest = max(map(len, subjects), default=0)
+    letter.has_more(longest, "characters in its subject", MAX_FIELD)
     body, sender = body_of(letter), sender_of(senders)
     texts = (text for subject in subjects for text in (decoded(subject), subject))
     answered = letter.values("in-reply-to")
@@ -204,7 +166,7 @@ def parse(raw: RawLetter) -> ParsedLetter:
     is_automatic = any(map(AUTOMATIC.match, fields))
     return ParsedLetter(
         where=raw.where,
-        digest=hashlib.sha256(raw.data).hexdigest(),
+        digest=raw.digest,
         identity=identity_of(letter, sender or " ".join(senders), body),
         is_parted_off=raw.is_parted_off,
         in_reply_to=answered[0] if has_id else "",
@@ -239,7 +201,7 @@ def returned_in(data: bytes, sender: str) -> tuple[str, ...]:
     return tuple(itertools.islice(dict.fromkeys(found), MAX_OWN))
 
 
-# ---------------------------------------------------------------- the head
+# ---- the head
 def decoded(value: str) -> str:
     """A field as people read it, on one line."""
     return " ".join(words_in(value).split())
@@ -259,9 +221,7 @@ def words_in(value: str) -> str:
 
 
 def decoded_bytes(data: bytes, charset: str) -> str:
-    """A text in its character set, or in Latin-1. Lone surrogates, which some character sets have,
-    are replaced.
-    """
+    """A text in its character set, or in Latin-1. Lone surrogates of the set are replaced."""
     try:
         text = data.decode(charset if SHOWN_CHARSETS.fullmatch(charset) else "latin-1")
         text = text.encode("utf-8", "replace").decode("utf-8")
@@ -271,9 +231,7 @@ def decoded_bytes(data: bytes, charset: str) -> str:
 
 
 def sender_of(senders: Sequence[str]) -> str:
-    """The address of a letter that has exactly one, else empty. The name before it has to be
-    decodable, and printable on one line.
-    """
+    """The address of a letter that has exactly one, with a name that can be read; else empty."""
     value = senders[0].replace("\t", " ") if len(senders) == 1 else ""
     found, shown = SENDER.fullmatch(value[: MAX_FIELD + 1]), words_in(value)
     is_plain = len(value) <= MAX_FIELD and shown.isprintable() and "=?" not in shown
@@ -298,9 +256,7 @@ def arrival_of(received: str) -> datetime.datetime | None:
 
 
 def identity_of(letter: Part, sender: str, body: Body) -> str:
-    """What copies of a letter have in common, though mail programs and servers change its head, its
-    attachments and its line ends.
-    """
+    """What copies of a letter share, though servers change head, attachments and line ends."""
     lines = (line[line.startswith(">From ") :].rstrip() for line in body.lines)
     text = "\n".join(lines).rstrip("\n")
     if not body.lines:
@@ -309,7 +265,7 @@ def identity_of(letter: Part, sender: str, body: Body) -> str:
     return hashlib.sha256("\0".join(parts).encode("utf-8", "surrogatepass")).hexdigest()
 
 
-# ---------------------------------------------------------------- the body
+# ---- the body
 def body_of(letter: Part) -> Body:
     """The text of a letter, and the other lines of all its parts."""
     parts = list(itertools.islice(letter.walk(), MAX_PARTS))
@@ -317,18 +273,13 @@ def body_of(letter: Part) -> Body:
         letter.found(Reason.TOO_MANY_PARTS())
     texts = [(part, is_own) for part, is_own in parts if part.kind.startswith("text/")]
     lengths = [len(part.below) for part, _ in texts] + [len(part.around) for part, _ in parts]
-    for length, limit, what in (
-        (max(lengths, default=0), MAX_TEXT, "a text"),
-        (sum(lengths), MAX_TEXTS, "all its texts"),
-    ):
-        if length > limit:
-            letter.found(Reason.TOO_LONG(length=length, what=f"bytes in {what}", limit=limit))
-            return Body(trouble=letter.trouble)
+    is_long = letter.has_more(max(lengths, default=0), "bytes in a text", MAX_TEXT)
+    if is_long or letter.has_more(sum(lengths), "bytes in all its texts", MAX_TEXTS):
+        return Body(trouble=letter.trouble)
     payloads = [part.payload for part, _ in texts]
     count = sum(len(data) - len(data.translate(None, LINE_OR_MARK)) for data in payloads)
-    if count > MAX_LINES:
-        letter.found(Reason.TOO_LONG(length=count, what="lines and marks", limit=MAX_LINES))
-        shown = decoded_bytes(payloads[0][: SHOWN_LINES * MAX_LINE], "utf-8").splitlines()
+    if letter.has_more(count, "lines and marks", MAX_LINES):
+        shown = lines_of(payloads[0][: SHOWN_LINES * MAX_LINE])
         return Body(tuple(shown[:SHOWN_LINES]), trouble=letter.trouble)
     first, is_own = texts[0] if texts else (letter, False)
     is_html_alone = first.kind == "text/html" and len(texts) == 1
@@ -338,9 +289,8 @@ def body_of(letter: Part) -> Body:
     text, pieces = read[0] if read else (Body(), [])
     # no program shows text around the parts, but it may be a letter that a mailbox did not part
     # off; so may text below an encoded one
-    outside = [decoded_bytes(part.around, "utf-8").splitlines() for part, _ in parts]
-    around = list(itertools.chain.from_iterable(outside))
-    below = decoded_bytes(first.below, "utf-8").splitlines()
+    around = [line for part, _ in parts for line in lines_of(part.around)]
+    below = lines_of(first.below)
     trouble = next(filter(None, (part.trouble for part, _ in parts)), None)
     if letter.fields and any(map(RECEIVED.match, (*text.lines, *pieces, *around, *below))):
         trouble = Reason.PARTED_OFF()
@@ -350,6 +300,10 @@ def body_of(letter: Part) -> Body:
     others = dict.fromkeys(" ".join(line.split()) for line in lines)
     other_lines = tuple(line for line in others if line not in own and may_be_ballot(line))
     return dataclasses.replace(text, other_lines=other_lines, trouble=trouble)
+
+
+def lines_of(data: bytes) -> list[str]:
+    return decoded_bytes(data, "utf-8").splitlines()
 
 
 def may_be_ballot(line: str) -> bool:
@@ -363,9 +317,7 @@ def is_quoted(line: str) -> bool:
 
 
 def text_of(part: Part, *, is_first: bool) -> tuple[Body, list[str]]:
-    """The lines of a part as far as they can be read, and what else in it may be lines. All bytes
-    of the first part have to be in its character set.
-    """
+    """The lines of a part as far as they can be read, and what else in it may be lines."""
     charset = part.parameters.get("charset", "")
     named = charset or "us-ascii"
     try:
@@ -417,38 +369,3 @@ def joined(lines: Sequence[str], *, deletes_space: bool) -> tuple[list[int], lis
     several = [(indices, words) for indices, words in texts if len(indices) > 1]
     flowing += [index for indices, _ in several for index in indices]
     return flowing, ["".join(words) for _, words in several]
-
-
-# ---------------------------------------------------------------- as the book keeps it
-def as_json(letter: ParsedLetter) -> str:
-    return json.dumps(vars(letter), default=as_plain)
-
-
-def as_plain(value: object) -> object:
-    if isinstance(value, datetime.datetime):
-        return value.isoformat()
-    return value.name if isinstance(value, Reason) else vars(value)
-
-
-def from_json(text: str) -> ParsedLetter:
-    letter: ParsedLetter = reader_of(ParsedLetter)(json.loads(text))
-    return letter
-
-
-@functools.cache
-def reader_of(kind: Any) -> Callable[[Any], Any]:
-    """Makes a value of this type from what JSON has of it."""
-    if dataclasses.is_dataclass(kind):
-        of_fields = {name: reader_of(one) for name, one in typing.get_type_hints(kind).items()}
-        return lambda kept: kind(**{name: of_fields[name](kept[name]) for name in kept})
-    first, *others = *typing.get_args(kind), None
-    if type(None) in others or Ellipsis in others:
-        of_one = reader_of(first)
-        if Ellipsis in others:
-            return lambda kept: tuple(map(of_one, kept))
-        return lambda kept: kept if kept is None else of_one(kept)
-    if isinstance(kind, type) and issubclass(kind, datetime.date):
-        return datetime.datetime.fromisoformat
-    if kind is Reason:
-        return lambda kept: Reason[kept]
-    return lambda kept: tuple(kept) if isinstance(kept, list) else kept

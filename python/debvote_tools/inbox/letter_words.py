@@ -6,7 +6,8 @@ import re
 from collections.abc import Iterator, Sequence
 
 from debvote_tools.cli.console import act_time, count_of, shown_line, shown_text
-from debvote_tools.inbox.letter import Near, is_quoted
+from debvote_tools.inbox.letter import is_quoted
+from debvote_tools.inbox.letter_lines import Near
 from debvote_tools.inbox.rules import JudgedLetter, Outcome, above_end
 from debvote_tools.inbox.reasons import for_secretary
 from debvote_tools.inbox.vote import IS_CODE, Vote
@@ -59,15 +60,14 @@ def arrival_of(letter: JudgedLetter) -> str:
     return "at an unknown time" if arrived is None else act_time(arrived)
 
 
-# ---------------------------------------------------------------- what goes in
-def going_in(letters: Sequence[JudgedLetter], vote: Vote) -> Iterator[str]:
-    """One line a letter: whose ballot it is, and how it is read. Those with more to look at come
-    last.
-    """
+# ---- what goes in
+def going_in_words(letters: Sequence[JudgedLetter], vote: Vote) -> Iterator[str]:
+    """One line a letter: whose ballot it is, and how it is read. The last have more to look at."""
     said = [(ballot_words(letter, vote), more_words(letter)) for letter in letters]
     yield from (words for words, more in said if not more)
-    if worded := [f"{words}; {'; '.join(more)}" for words, more in said if more]:
-        yield from (READ_THESE, *worded)
+    if any(more for _, more in said):
+        yield READ_THESE
+    yield from (f"{words}; {'; '.join(more)}" for words, more in said if more)
 
 
 def ballot_words(letter: JudgedLetter, vote: Vote) -> str:
@@ -86,7 +86,7 @@ def more_words(letter: JudgedLetter) -> list[str]:
     return [*found, *(f"line {number}{IS_CODE}" for number in letter.code_lines)]
 
 
-# ---------------------------------------------------------------- what waits
+# ---- what waits
 def table(letters: Sequence[JudgedLetter]) -> Iterator[str]:
     """Letters that wait: a line for each, and below it why."""
     rows = [(arrival_of(letter), sender_of(letter)) for letter in letters]
@@ -133,7 +133,7 @@ def wait_words(number: int) -> str:
     return count_of(number, "letter waits", "letters wait")
 
 
-# ---------------------------------------------------------------- a letter line by line
+# ---- a letter line by line
 def whole(letter: JudgedLetter) -> Iterator[str]:
     """A letter line by line, each with the number by which it can be entered. What it quotes of our
     letters is left out, but for lines that may be ballots.
@@ -196,7 +196,7 @@ def quoted_of_ours(letter: JudgedLetter) -> set[int]:
     """
     lines, known, answered = letter.parsed.body.lines, letter.known, letter.parsed.in_reply_to
     is_answer = answered and any(answered in ids for ids in known.our_letters.values())
-    shown = candidates(letter, letter.near)
+    shown = indices_of_ballots(letter, letter.near)
     return {
         index
         for quotation in quotations(lines)
@@ -206,20 +206,18 @@ def quoted_of_ours(letter: JudgedLetter) -> set[int]:
     }
 
 
-def candidates(letter: JudgedLetter, near: Sequence[Near]) -> set[int]:
+def indices_of_ballots(letter: JudgedLetter, near: Sequence[Near]) -> set[int]:
     """The indices of the lines that can be entered, and of those near to a ballot."""
     lines = {line.number - 1 for line in (*letter.ballots, *letter.offered)}
     return lines | {one.number - 1 for one in near}
 
 
 def other_words(letter: JudgedLetter) -> str:
-    """The beginning of the sender's own words beside their ballots, without greetings, quotations,
-    and what a telephone adds.
-    """
+    """What the sender's own words begin with, without greetings and what a telephone adds."""
     lines, left_out = letter.parsed.body.lines, quoted_of_ours(letter)
     for quotation in quotations(lines):
         left_out.update(quotation if is_quoted(lines[quotation[-1]]) else ())
-    left_out |= candidates(letter, [near for near in letter.near if not near.is_within])
+    left_out |= indices_of_ballots(letter, [near for near in letter.near if not near.is_within])
     names = set(WORD.findall(letter.parsed.shown_sender.partition("<")[0].casefold()))
 
     def says_something(line: str) -> bool:

@@ -10,15 +10,16 @@ the cells of a table `tables.py` changes less. Nothing is guessed: no rank, no n
 
 import codecs
 import re
-from collections.abc import Iterable
 from typing import NamedTuple
 
-NOTHING_ADDED = "nothing was added"
+from debvote_tools.cli.faults import Fault, Status
 
 MARK, BLANKS = codecs.BOM_UTF8, b" \t"
 
 # in bytes; a longer line is no ballot, and nothing of it is repaired
 LONGEST_REPAIRED = 1_000
+# in bytes; no ballot has half as many
+LONGEST_LINE = 500
 NOTHING_TO_REPAIR = re.compile(rb"[a-z0-9.-]+ [0-9-][0-9,-]*")
 
 # what can be a name on a roll, at the start of a line
@@ -59,6 +60,21 @@ REPAIRED = {
 }
 
 
+NOTHING_ADDED = "nothing was added"
+
+
+def bad_words(where: object, reason: object, cure: str) -> Fault:
+    return Fault(where, reason, cure, Status.BAD_WORDS, NOTHING_ADDED)
+
+
+def bad_ballots(where: object, reason: object, cure: str) -> Fault:
+    return Fault(where, reason, cure, Status.BAD_BALLOTS, NOTHING_ADDED)
+
+
+def doubt(where: object, reason: str, cure: str) -> Fault:
+    return Fault(where, reason, cure, Status.DOUBT, NOTHING_ADDED)
+
+
 class Line(NamedTuple):
     """A line that came. `source` names the file, as `more.txt`, and `place` the line in it, as
     `:3`, or of a table as `: row 3`. If debvote refuses the repaired line, `unframed` is entered.
@@ -81,6 +97,11 @@ class Line(NamedTuple):
         return not self.repaired
 
     @property
+    def why_too_long(self) -> str | None:
+        words = f"the line has {len(self.came)} bytes, and a ballot has a few dozen"
+        return words if len(self.came) > LONGEST_LINE else None
+
+    @property
     def had_mark(self) -> bool:
         """Whether it lost only a byte-order mark, and perhaps a carriage return."""
         is_first = not self.unframed.startswith(MARK)
@@ -98,24 +119,13 @@ class Line(NamedTuple):
 
 
 def lines_in(data: bytes, name: str, first: int = 1) -> list[Line]:
-    """The lines of a file, numbered from `first`; a carriage return alone ends one, too. Line 1
-    loses its byte-order mark.
-    """
+    """The lines of a file, numbered from `first`; a carriage return alone ends one, too."""
     lines = []
     for number, line in enumerate(data.splitlines(keepends=True), start=first):
         came = line.removesuffix(b"\n")
         unframed = came.removesuffix(b"\r").removeprefix(MARK if number == 1 else b"")
         lines.append(Line(name, f":{number}", came, unframed, changed(unframed)))
     return lines
-
-
-def ballot_lines(ballots_bytes: bytes) -> list[bytes]:
-    """The lines of a ballot file; the last one may lack its line feed."""
-    return ballots_bytes.removesuffix(b"\n").split(b"\n") if ballots_bytes else []
-
-
-def ballot_file(lines: Iterable[bytes]) -> bytes:
-    return b"\n".join([*lines, b""])
 
 
 def name_in(line: bytes) -> bytes:

@@ -7,11 +7,13 @@ them is kept, or named as not read.
 
 import dataclasses
 import enum
+import functools
 import itertools
 import pathlib
 import re
 from collections.abc import Sequence
 
+from debvote_tools.files import sha256_of
 from debvote_tools.inbox.lines import MARK
 from debvote_tools.inbox.mime import END_OF_HEAD, MAX_HEAD, MAX_LETTER, Part
 
@@ -21,11 +23,11 @@ MAILDIR, UNFINISHED = ("new", "cur"), "tmp"
 
 # a field of a head, and fields that most heads have
 FIELD = re.compile(rb"[!-9;-~]+[ \t]*:")
-KNOWN = re.compile(
+USUAL = re.compile(
     rb"(?im)^(from|date|subject|to|message-id|received|mime-version|return-path|delivered-to|reply-to|content-type|x-mozilla-status|"
     rb"von|datum|betreff|an)[ \t]*:"
 )
-MIN_KNOWN = 2
+MIN_USUAL = 2
 
 # what editors put before the first line of a file, and the line that begins an mbox
 START = re.compile(rb"(?:%b)?[\r\n]*(From [^\r\n]*\r?\n[\r\n]*)?" % MARK)
@@ -80,30 +82,21 @@ class NotRead(enum.Enum):
 
 @dataclasses.dataclass(frozen=True)
 class RawLetter:
-    """A letter as it came. A letter that is parted off waits: it may be text of the letter above it
-    in the mailbox, or have other letters in it.
+    """A letter as it came, or why it is passed over. One that is parted off may be text of the
+    letter above it, and waits.
     """
 
     where: str
-    data: bytes
+    data: bytes = b""
     is_parted_off: bool = False
+    why_not_read: NotRead | None = None
+
+    @functools.cached_property
+    def digest(self) -> str:
+        return sha256_of(self.data)
 
 
-@dataclasses.dataclass(frozen=True)
-class PassedOver:
-    where: str
-    why: NotRead
-
-
-@dataclasses.dataclass(frozen=True)
-class Source:
-    """The letters of a file or folder in their order, and what was passed over."""
-
-    letters: list[RawLetter]
-    passed_over: list[PassedOver]
-
-
-# ---------------------------------------------------------------- files
+# ---- files
 def kind_not_read(data: bytes) -> NotRead | None:
     """What a file is that has no letters which this program reads; None if it may be read."""
     if data.startswith(b"!BDN"):
@@ -119,12 +112,12 @@ def are_letters(data: bytes) -> bool:
     """Whether a file begins as an mbox or a message does."""
     start = begin_of(data)
     head = END_OF_HEAD.split(data[start.end() : start.end() + MAX_HEAD], maxsplit=1)[0]
-    known = {name.lower() for name in KNOWN.findall(head)}
-    is_known = len(known) >= MIN_KNOWN or begins_mailbox(start)
-    return FIELD.match(head) is not None and is_known
+    usual = {name.lower() for name in USUAL.findall(head)}
+    is_usual = len(usual) >= MIN_USUAL or begins_mailbox(start)
+    return FIELD.match(head) is not None and is_usual
 
 
-def letters_of_file(name: str, data: bytes) -> Source:
+def letters_of_file(name: str, data: bytes) -> list[RawLetter]:
     """The letters of a file that was read whole.
 
     A letter is parted off if it has others in it, or may be text of the letter above it: no empty
@@ -134,24 +127,24 @@ def letters_of_file(name: str, data: bytes) -> Source:
     """
     kind = kind_not_read(data) or (None if are_letters(data) else NotRead.NO_LETTER)
     if kind is not None:
-        return Source([], [PassedOver(name, kind)])
-    found = Source([], [])
-    parts = parts_of(data)
+        return [RawLetter(name, why_not_read=kind)]
+    found, parts = list[RawLetter](), parts_of(data)
     possible_ends = ends_of(parts)
     place, reach, is_ended = 0, 0, True
     for number, (above, letter, below) in enumerate(parts, start=1):
         where = f"{name}, message {number}" if len(parts) > 1 else name
         if len(letter) > MAX_LETTER:
-            found.passed_over.append(PassedOver(where, NotRead.TOO_LONG))
+            found.append(RawLetter(where, why_not_read=NotRead.TOO_LONG))
         else:
             is_parted_off = place < reach or not is_ended or has_others(letter)
-            found.letters.append(RawLetter(where, letter, is_parted_off))
+            found.append(RawLetter(where, letter, is_parted_off))
         place += len(above + letter)
-        read = Part(letter)
-        lengths = map(re.compile(r"\d{1,15}").match, read.values("content-length"))
-        ends = {place - len(read.below) + int(length[0]) for length in lengths if length}
-        reach = max({reach, *ends & possible_ends})
-        is_ended = bool(below) and not read.is_open
+        if number < len(parts):
+            read = Part(letter)
+            lengths = map(re.compile(r"\d{1,15}").match, read.values("content-length"))
+            ends = {place - len(read.below) + int(length[0]) for length in lengths if length}
+            reach = max({reach, *ends & possible_ends})
+            is_ended = bool(below) and not read.is_open
         place += len(below)
     return found
 
@@ -168,22 +161,18 @@ def ends_of(parts: Sequence[tuple[bytes, bytes, bytes]]) -> set[int]:
     return ends | {place + missing for missing in range(LONGEST_EMPTY_LINE + 1)}
 
 
-def letters_of_folder(folder: pathlib.Path) -> Source:
+def letters_of_folder(folder: pathlib.Path) -> list[RawLetter]:
     """The letters of a Maildir or a folder of messages, by name. Raises OSError."""
     is_maildir = all((folder / part).is_dir() for part in MAILDIR)
     own = {folder / part for part in (*MAILDIR, UNFINISHED)} if is_maildir else set()
     files = [file for file in folder.iterdir() if file not in own]
     if is_maildir:
         files += itertools.chain.from_iterable((folder / part).iterdir() for part in MAILDIR)
-    found = Source([], [])
-    for file in sorted(files, key=lambda file: (file.name, file)):
-        one = letter_of_file(file)
-        found.letters.extend(one.letters)
-        found.passed_over.extend(one.passed_over)
-    return found
+    files.sort(key=lambda file: (file.name, file))
+    return [raw for file in files for raw in letter_of_file(file)]
 
 
-def letter_of_file(file: pathlib.Path) -> Source:
+def letter_of_file(file: pathlib.Path) -> list[RawLetter]:
     """The letter of a file of a folder. A mailbox of several letters is named, and not split."""
     why = None
     if file.is_dir():
@@ -195,14 +184,14 @@ def letter_of_file(file: pathlib.Path) -> Source:
     data = b"" if why else file.read_bytes()
     if why is None and are_letters(data) and len(parts_of(data)) > 1:
         why = NotRead.MAILBOX
-    return Source([], [PassedOver(str(file), why)]) if why else letters_of_file(str(file), data)
+    if why is not None:
+        return [RawLetter(str(file), why_not_read=why)]
+    return letters_of_file(str(file), data)
 
 
-# ---------------------------------------------------------------- the parts of a file
+# ---- the parts of a file
 def parts_of(data: bytes) -> list[tuple[bytes, bytes, bytes]]:
-    """The parts of a file: of each the line that begins it, the letter, and the empty line that
-    ends it. Joined they are the file. Only an mbox has several.
-    """
+    """The parts of a file: of each the line that begins it, the letter, and the empty line."""
     start = begin_of(data)
     is_mailbox = begins_mailbox(start)
     begins = [start.span()] + [
@@ -234,10 +223,7 @@ def parts_letters(line: bytes) -> bool:
 
 
 def has_others(letter: bytes) -> bool:
-    """Whether other letters may be in a letter: it has a line that may begin one, but parts none,
-    since it has no date, was changed, or is not in an mbox.
-    """
-    return any(
-        DATED.match(line[0]) or FIELD.match(letter, line.end())
-        for line in FROM_LINE.finditer(letter)
-    )
+    """Whether other letters may be in a letter: a line may begin one, but parts none."""
+    # the expression takes long, and few letters have the word
+    lines = FROM_LINE.finditer(letter) if b"from " in letter.lower() else ()
+    return any(DATED.match(line[0]) or FIELD.match(letter, line.end()) for line in lines)

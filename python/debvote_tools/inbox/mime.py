@@ -77,8 +77,7 @@ class Part:
             (name.decode().lower(), on_one_line(value)) for name, value in FIELD.findall(head)
         ]
         limit = MAX_HEAD if end is None else MAX_LETTER
-        if len(data) > limit:
-            self.found(Reason.TOO_LONG(length=len(data), what="bytes", limit=limit))
+        self.has_more(len(data), "bytes", limit)
         if LONE_RETURN.search(data):
             self.found(Reason.CONTROL(character="U+000D"))
         if not PLAIN_HEAD.fullmatch(head):
@@ -100,6 +99,12 @@ class Part:
 
     def found(self, trouble: Because) -> None:
         self.trouble = self.trouble or trouble
+
+    def has_more(self, length: int, what: str, limit: int) -> bool:
+        """Whether it has more of something than is read, which then is its trouble."""
+        if length > limit:
+            self.found(Reason.TOO_LONG(length=length, what=what, limit=limit))
+        return length > limit
 
     def found_ambiguous(self, what: str) -> None:
         self.found(Reason.AMBIGUOUS(what=what))
@@ -124,9 +129,7 @@ class Part:
         return kind, parameters
 
     def open(self) -> None:
-        """Splits it into its parts. Each line that begins like a boundary has to be one, and the
-        last has to end the parts.
-        """
+        """Splits it into its parts. Each line like a boundary is one, and the last ends them."""
         boundary = self.parameters.get("boundary", "").rstrip()
         if self.kind == "message/rfc822":
             self.inner = [self.below]
@@ -141,8 +144,10 @@ class Part:
         if not boundary:
             self.around = self.below
             return
-        line = rb"(?m)^--%b([^\n]*)\n?" % re.escape(boundary.encode("utf-8", "surrogateescape"))
-        lines = list(itertools.islice(re.finditer(line, self.below), MAX_PARTS))
+        # without a sign for the begin of a line, since that takes long in a long letter
+        line = rb"--%b([^\n]*)\n?" % re.escape(boundary.encode("utf-8", "surrogateescape"))
+        found_lines = filter(self.begins_line, re.finditer(line, self.below))
+        lines = list(itertools.islice(found_lines, MAX_PARTS))
         if len(lines) == MAX_PARTS:
             self.found(Reason.TOO_MANY_PARTS())
         ends = [found[1].strip(b" \t\r") for found in lines]
@@ -157,10 +162,11 @@ class Part:
                 part = self.below[found.end() : end]
                 self.inner.append(part[:-2] if part.endswith(b"\r\n") else part.removesuffix(b"\n"))
 
+    def begins_line(self, found: re.Match[bytes]) -> bool:
+        return found.start() == 0 or self.below[found.start() - 1 : found.start()] == b"\n"
+
     def walk(self, depth: int = 0, *, is_own: bool = True) -> Iterator[tuple["Part", bool]]:
-        """Yields the part and all parts within it, each with whether mail programs show it as the
-        text of the letter; others are attachments.
-        """
+        """Yields it and all parts in it, each with whether programs show it as the text."""
         has_name = any(name.startswith("name") for name in self.parameters)
         is_inline = self.value("content-disposition").lower() in ("", "inline")
         is_own = is_own and is_inline and not has_name

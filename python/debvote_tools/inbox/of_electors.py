@@ -8,7 +8,7 @@ from typing import NamedTuple
 from debvote_tools.book import queries
 from debvote_tools.book.election import Election, History
 from debvote_tools.book.queries import Elector, Envelope
-from debvote_tools.inbox import letters_in
+from debvote_tools.inbox.judging import judged
 from debvote_tools.inbox.mime import address_key
 from debvote_tools.inbox.rules import JudgedLetter, Outcome
 from debvote_tools.inbox.vote import Vote
@@ -71,7 +71,8 @@ def of_electors(
             for one in queries.envelopes(election.book, "elector = ?", number)
         ]
     )
-    answers = Vote(election, history).answers([envelope.line for envelope in envelopes])
+    vote = Vote(election, history)
+    answers = vote.answers([envelope.line for envelope in envelopes])
     counting = {
         envelope.elector: envelope.number
         for envelope in envelopes
@@ -97,10 +98,10 @@ def of_electors(
     addresses = {one.name: {*filter(None, map(address_key, one.addresses))} for one in electors}
     kept = queries.letters(election.book)
     kept_at = {letter.number: history.act(letter.act).time for letter in kept}
-    for letter in letters_in.judged(election, history, kept):
-        sender = letter.known.elector_of(letter.parsed)
+    for letter in judged(vote, history, kept):
         time = letter.parsed.arrived or kept_at[letter.number]
-        for name in dict.fromkeys([*letter.electors, *([sender] if sender else [])]) or [NOBODY]:
+        names_of = filter(None, (*letter.electors, letter.sending_elector))
+        for name in dict.fromkeys(names_of) or [NOBODY]:
             if name in found:
                 is_own = letter.parsed.sender in addresses.get(name, ())
                 found[name].append(Came(time, letter.outcome, letter=letter, is_own=is_own))

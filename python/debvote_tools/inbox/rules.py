@@ -1,26 +1,28 @@
-"""What becomes of each letter: it goes in by itself if all rules hold; else it waits, with the reason
-of the first rule that does not.
+"""The rules of a letter: it goes in by itself if all hold; else it waits, with the reason of the
+first that does not.
 
-The rules say what a letter has to be. No list of what may be wrong with a letter, or of what a
-quotation looks like, can be complete, so there is none.
+They say what a letter has to be. No list of what may be wrong with a letter, or of what a quotation
+looks like, can be complete, so there is none.
 """
 
-import bisect
 import collections
+import dataclasses
 import datetime
 import enum
 import functools
 import itertools
 import re
 import unicodedata
-from collections.abc import Callable, Collection, Mapping, Sequence
+from collections.abc import Collection, Mapping, Sequence
+from typing import NamedTuple
 
-from debvote_tools.inbox.candidates import MAX_BALLOTS, BallotLine, view_of
-from debvote_tools.inbox.known import Ballot, Decision, Known
-from debvote_tools.inbox.letter import END, Body, Near, ParsedLetter, is_quoted
+from debvote_tools.book import queries
+from debvote_tools.book.queries import Elector
+from debvote_tools.inbox.letter import END, is_quoted
+from debvote_tools.inbox.letter_lines import MAX_BALLOTS, MAX_NEAR, Near, ReadLetter, ReadLine
 from debvote_tools.inbox.mime import address_key
 from debvote_tools.inbox.reasons import Because, Reason
-from debvote_tools.poll.marks import marks_in
+from debvote_tools.poll.sealed import MARKS, marks_in
 
 # how far the clock of a mail server or of an elector may be ahead
 AHEAD = datetime.timedelta(minutes=10)
@@ -51,14 +53,124 @@ class Outcome(enum.Enum):
     SET_ASIDE = "set aside"
 
 
-# what an act decided holds, whatever the rules say; else a letter waits, as one that was put back
-DECIDED = {
-    Decision.ENTERED: Outcome.ENTERED,
-    Decision.SET_ASIDE: Outcome.SET_ASIDE,
-    Decision.STRUCK: Outcome.SET_ASIDE,
-}
+@dataclasses.dataclass(frozen=True)
+class Known:
+    """All that a letter is judged by, beside itself, as it is now. Times have a zone."""
+
+    # the mark of the poll, and the subject that the page of the call makes, without a mark
+    mark: str
+    subject: str
+    # the electors on the list, by name
+    electors: Mapping[str, Elector]
+    # whether letters need the own mark of their elector, and a signature
+    is_marked: bool
+    is_signed: bool
+    # the first call that was not taken back, the end as it is now, and the first close
+    called: datetime.datetime
+    end: datetime.datetime | None
+    first_close: datetime.datetime | None
+    now: datetime.datetime
+    # the Message-IDs of the letters that were written to each elector
+    our_letters: Mapping[str, Collection[str]]
+    # what acts decided, by the keys of the letters: states of the book
+    decisions: Mapping[str, str]
+
+    def is_mark(self, line: str) -> bool:
+        """Whether a line is the mark of the poll, alone or with an own one."""
+        mark = MARKS.fullmatch(line.strip())
+        return mark is not None and mark[1] == self.mark
+
+    def passes_over(self, line: str) -> bool:
+        """Whether a line may be anywhere in a letter: the mark may, if letters have to be signed."""
+        return self.is_signed and self.is_mark(line)
+
+    @functools.cached_property
+    def electors_by_mark(self) -> dict[str, str]:
+        return {elector.mark: name for name, elector in self.electors.items() if elector.mark}
+
+    @functools.cached_property
+    def electors_by_address(self) -> dict[str, list[str]]:
+        found: dict[str, list[str]] = collections.defaultdict(list)
+        for name, elector in self.electors.items():
+            for key in dict.fromkeys(filter(None, map(address_key, elector.addresses))):
+                found[key].append(name)
+        return dict(found)
 
 
+# ---- what the lines are
+@dataclasses.dataclass(frozen=True)
+class BallotLine:
+    """A line that reads as a ballot: its number, from 1, and the ballot as it would be entered."""
+
+    number: int
+    ballot: str
+
+    @property
+    def elector(self) -> str:
+        return self.ballot.partition(" ")[0]
+
+    @property
+    def ranks(self) -> list[str]:
+        return self.ballot.partition(" ")[2].split(",")
+
+    @property
+    def has_high_rank(self) -> bool:
+        """Whether a rank is above the number of options: `Lars Winter 12,50` may be money."""
+        return any(rank != "-" and int(rank) > len(self.ranks) for rank in self.ranks)
+
+
+class View(NamedTuple):
+    """What the lines of a letter are, by who sent it: the ballots; those with the real name of
+    somebody else, as in the letter of a family; what is offered to the secretary, with the reason
+    why it is no ballot by itself; and what is near to a ballot.
+    """
+
+    lines: Sequence[BallotLine]
+    others: Sequence[BallotLine]
+    offered: Mapping[BallotLine, Reason]
+    near: Sequence[Near]
+
+
+def view_of(lines: Sequence[ReadLine], sharing: Sequence[str], marked: str | None) -> View:
+    """What the lines are if it was sent by one of the electors who have the sender's address, or by
+    the one whose own mark is in the subject.
+
+    If only one has the address, they may have written their own name with accents, or their real
+    name. Ranks without a name are offered for the marked elector, or for the only one with the
+    address; if these differ, for none. A filled line of ours is offered for any of them.
+    """
+    sender = sharing[0] if len(sharing) == 1 else None
+    likely = sender if marked is None else marked if marked in (sharing or [marked]) else None
+    own, others, refused = list[BallotLine](), list[BallotLine](), dict[str, Near]()
+    offered = dict[BallotLine, Reason]()
+    for line in lines:
+        name = line.elector or (sender if sender is not None and is_name_of(sender, line) else None)
+        if not (line.elector or line.on_roll or line.real):
+            name = likely
+        ballot = BallotLine(line.number, f"{name or next(iter(line.real), None)} {line.ranks}")
+        if line.offered_for is not None:
+            is_money = line.offered_for is not Reason.NO_NAME and ballot.has_high_rank
+            is_other = line.offered_for is Reason.FILLED_IN and name not in (*sharing, marked)
+            if line.answer is None and name is not None and not is_money and not is_other:
+                offered[ballot] = line.offered_for
+        elif line.answer is not None and name is not None:
+            refused.setdefault(ballot.ballot, Near(line.number, ballot.ballot, False, line.answer))
+        elif line.answer is None and line.ranks and name is not None:
+            own.append(ballot)
+        elif line.answer is None and line.real:
+            others.append(ballot)
+    if own or refused:
+        return View(own, others, {}, list(refused.values())[:MAX_NEAR])
+    near = [line.near for line in lines if line.near is not None]
+    return View((), (), offered, near[:MAX_NEAR])
+
+
+def is_name_of(elector: str, line: ReadLine) -> bool:
+    """Whether the name in a line is that of this elector, and of no other on the roll."""
+    return elector in (*line.on_roll, *line.real) and set(line.on_roll) <= {elector}
+
+
+# ---- a letter
 class JudgedLetter:
     """A letter, and what becomes of it. The `reason` says why it waits or was set aside."""
 
@@ -70,28 +182,30 @@ class JudgedLetter:
     # in a secret vote with names on the roll: the lines with what looks like a code or an alias
     code_lines: tuple[int, ...] = ()
 
-    def __init__(self, letter: ParsedLetter, known: Known) -> None:
+    def __init__(self, letter: ReadLetter, known: Known) -> None:
         self.parsed, self.known = letter, known
-        self.marked_elector = known.marked_elector(letter)
-        sharing = known.electors_by_address.get(letter.sender, [])
-        self.view = view_of(letter.read_lines, sharing, self.marked_elector)
+        # the electors who have the sender's address, and the one whose own mark the subject has. A
+        # subject with several, or with that of nobody, counts as one with the poll's mark alone
+        self.sharing = known.electors_by_address.get(letter.sender, [])
+        owns = {own for mark, own in letter.marks if own and mark == known.mark}
+        self.marked_elector = known.electors_by_mark.get(*owns) if len(owns) == 1 else None
+        self.view = view_of(letter.read_lines, self.sharing, self.marked_elector)
         # that of its ballot: if letters have to be signed, that of the signature
         signature = letter.signature if known.is_signed else None
         self.time = letter.arrived if signature is None else signature.time
         self.decision = known.decisions.get(letter.key)
-        end = above_end(letter.body.lines)
-        self.index = next((index for index in self.view.lines if index < end), None)
-        self.ballot = None if self.index is None else self.view.lines[self.index]
+        # the ballot that may go in, and its index among the lines
+        end, lines = above_end(letter.body.lines), self.view.lines
+        self.ballot = next((line for line in lines if line.number <= end), None)
+        self.index = -1 if self.ballot is None else self.ballot.number - 1
         self.elector = "" if self.ballot is None else self.ballot.elector
-        # the lines that read as ballots, first the one that may go in; and lines that are no
-        # ballots by themselves. Each can be entered by its number
+        # all lines that read as ballots, first that one; and lines that are no ballots by
+        # themselves. Each can be entered by its number
         own = [self.ballot] if self.ballot else []
-        self.ballots: tuple[BallotLine, ...] = tuple(
-            dict.fromkeys((*own, *self.view.lines.values(), *self.view.others))
-        )
-        self.offered = self.view.offered
+        self.ballots = tuple(dict.fromkeys((*own, *lines, *self.view.others)))
+        self.offered = tuple(self.view.offered)
         # a letter that a program wrote quotes others, so nothing is said of its lines
-        self.near: tuple[Near, ...] = () if self.ballots or letter.is_automatic else self.view.near
+        self.near = () if self.ballots or letter.is_automatic else tuple(self.view.near)
 
     @property
     def has_own_mark(self) -> bool:
@@ -100,13 +214,13 @@ class JudgedLetter:
 
     @functools.cached_property
     def why_by_itself(self) -> Because | None:
-        """Why it waits, whatever other letters there are: all rules but `why_not_latest`."""
-        return next(filter(None, (rule(self, self.known) for rule in RULES)), None)
+        """Why it waits, whatever other letters there are."""
+        return next(filter(None, (rule(self) for rule in RULES)), None)
 
     @property
     def hides(self) -> bool:
         """Whether its copies are ignored: it went in, or may go in by itself."""
-        went_in = (Decision.ENTERED, Decision.TAKEN_BACK, Decision.STRUCK)
+        went_in = (queries.ENTERED, queries.TAKEN_BACK, queries.STRUCK)
         return self.decision in went_in or self.why_by_itself is None
 
     @property
@@ -123,24 +237,27 @@ class JudgedLetter:
         arrived, ends = self.parsed.arrived, (self.known.end, self.known.first_close)
         return arrived is not None and any(arrived > end for end in filter(None, ends))
 
+    @property
+    def sending_elector(self) -> str | None:
+        """The only elector who has the sender's address."""
+        return self.sharing[0] if len(self.sharing) == 1 else None
+
     @functools.cached_property
     def electors(self) -> tuple[str, ...]:
         """The electors on its ballots, or near to one; else the one who has the sender's address."""
         named = [line.elector for line in (*self.ballots, *self.offered)]
         near = (near.ballot.partition(" ")[0] for near in self.view.near)
         named += [name for name in near if name in self.known.electors]
-        sender = self.known.elector_of(self.parsed)
-        return tuple(dict.fromkeys(named)) or (() if sender is None else (sender,))
+        return tuple(dict.fromkeys(named or filter(None, [self.sending_elector])))
 
     @property
     def shared_with(self) -> tuple[str, ...]:
         """The other electors who have the sender's address."""
-        sharing = self.known.electors_by_address.get(self.parsed.sender, [])
-        return tuple(name for name in sharing if name not in self.electors)
+        return tuple(name for name in self.sharing if name not in self.electors)
 
 
-# ---------------------------------------------------------------- the rules
-def can_be_read(case: JudgedLetter, known: Known) -> Because | None:
+# ---- the rules
+def can_be_read(case: JudgedLetter) -> Because | None:
     letter, body = case.parsed, case.parsed.body
     if letter.is_parted_off:
         return Reason.PARTED_OFF()
@@ -148,31 +265,29 @@ def can_be_read(case: JudgedLetter, known: Known) -> Because | None:
         return Reason.AUTOMATIC()
     if body.trouble is not None:
         return body.trouble
-    if crowd := letter.crowd:
+    if letter.crowd:
         what = "lines that may be ballots"
-        return Reason.TOO_LONG(length=crowd, what=what, limit=MAX_BALLOTS)
-    is_odd = body.is_html and case.index is not None and case.index >= body.plain_lines
+        return Reason.TOO_LONG(length=letter.crowd, what=what, limit=MAX_BALLOTS)
+    is_odd = body.is_html and case.ballot is not None and case.index >= body.plain_lines
     return Reason.HTML(element=body.first_other) if is_odd else None
 
 
-def arrived_in_time(case: JudgedLetter, known: Known) -> Because | None:
-    arrived, end, close = case.parsed.arrived, known.end, known.first_close
+def arrived_in_time(case: JudgedLetter) -> Because | None:
+    arrived, known = case.parsed.arrived, case.known
     if arrived is None:
         return Reason.NO_ARRIVAL()
     if case.arrived_before_call:
         return Reason.BEFORE_THE_CALL(called=known.called)
-    if end is not None and arrived > end:
-        return Reason.AFTER_THE_END(end=end)
-    if close is not None and arrived > close:
-        return Reason.AFTER_THE_CLOSE(close=close)
+    if known.end is not None and arrived > known.end:
+        return Reason.AFTER_THE_END(end=known.end)
+    if known.first_close is not None and arrived > known.first_close:
+        return Reason.AFTER_THE_CLOSE(close=known.first_close)
     return Reason.IN_THE_FUTURE(arrived=arrived) if arrived > known.now + AHEAD else None
 
 
-def is_sent_by_its_elector(case: JudgedLetter, known: Known) -> Because | None:
-    """It comes from an address that the list has for the elector on the ballot. After `call
-    --marked` its subject has the own mark of this elector, too.
-    """
-    sender, elector = case.parsed.sender, case.elector
+def is_sent_by_its_elector(case: JudgedLetter) -> Because | None:
+    """It comes from an address of its elector, after `call --marked` with the own mark, too."""
+    sender, elector, known = case.parsed.sender, case.elector, case.known
     listed = known.electors[elector].addresses if elector in known.electors else ()
     if not sender:
         return Reason.NO_SENDER(sender=case.parsed.shown_sender)
@@ -181,7 +296,7 @@ def is_sent_by_its_elector(case: JudgedLetter, known: Known) -> Because | None:
     if sender in map(address_key, listed):
         if case.has_own_mark or not known.is_marked:
             return None
-        return is_of_this_vote(case, known) or Reason.NO_OWN_MARK(elector=elector)
+        return is_of_this_vote(case) or Reason.NO_OWN_MARK(elector=elector)
     if case.has_own_mark:
         return Reason.OWN_MARK_ELSEWHERE(sender=sender, elector=elector)
     if not listed:
@@ -189,11 +304,9 @@ def is_sent_by_its_elector(case: JudgedLetter, known: Known) -> Because | None:
     return Reason.OTHER_SENDER(sender=sender, listed=" and ".join(listed), elector=elector)
 
 
-def is_signed_by_its_elector(case: JudgedLetter, known: Known) -> Because | None:
-    """It has a good signature, if letters have to be signed. This comes before the rules about its
-    text, since only what was signed is read as the text.
-    """
-    letter, signature, elector = case.parsed, case.parsed.signature, case.elector
+def is_signed_by_its_elector(case: JudgedLetter) -> Because | None:
+    """It has a good signature, if it must. This comes first: only what was signed is the text."""
+    letter, signature, elector, known = case.parsed, case.parsed.signature, case.elector, case.known
     if not known.is_signed or case.ballot is None:
         return None
     if signature is None:
@@ -211,10 +324,8 @@ def is_signed_by_its_elector(case: JudgedLetter, known: Known) -> Because | None
     return None if has_mark else Reason.NO_MARK(mark=known.mark)
 
 
-def has_one_ballot(case: JudgedLetter, known: Known) -> Because | None:
-    """No other line reads as a ballot that differs. This comes before `ballot_is_first`, whose
-    reason would say less.
-    """
+def has_one_ballot(case: JudgedLetter) -> Because | None:
+    """No other line reads as a ballot that differs. `ballot_is_first` would say less."""
     if len({line.ballot for line in case.ballots}) <= 1:
         return None
     electors = sorted({line.elector for line in case.ballots})
@@ -223,39 +334,38 @@ def has_one_ballot(case: JudgedLetter, known: Known) -> Because | None:
     return Reason.SEVERAL_ELECTORS(electors=", ".join(electors))
 
 
-def ballot_is_first(case: JudgedLetter, known: Known) -> Because | None:
+def ballot_is_first(case: JudgedLetter) -> Because | None:
     """The ballot is the first line, but for a greeting. In an answer to a letter that only this
     elector has, a quotation of it may be above the ballot.
     """
-    body, ballot = case.parsed.body, case.ballot
-    if ballot is None or case.index is None:
-        if not case.ballots:
-            return (case.view.offered_for or Reason.NO_BALLOT)()
-        return Reason.JOINED() if body.flowing else Reason.ELSEWHERE(number=case.ballots[0].number)
-    if case.index in body.flowing:
+    flowing, ballot = case.parsed.body.flowing, case.ballot
+    if ballot is None and not case.ballots:
+        return next(iter(case.view.offered.values()), Reason.NO_BALLOT)()
+    if ballot is None and not flowing:
+        return Reason.ELSEWHERE(number=case.ballots[0].number)
+    if ballot is None or case.index in flowing:
         return Reason.JOINED()
     if ballot.has_high_rank:
         return Reason.HIGH_RANK(number=ballot.number, options=len(ballot.ranks))
     # lines that flow are judged as they stand, and joined
-    views = dict.fromkeys((frozenset(body.flowing), frozenset[int]()))
-    return next(filter(None, (why_not_first(case, case.index, joined) for joined in views)), None)
+    views = dict.fromkeys((frozenset(flowing), frozenset[int]()))
+    return next(filter(None, (why_not_first(case, joined) for joined in views)), None)
 
 
-def is_of_this_vote(case: JudgedLetter, known: Known) -> Because | None:
-    """Its subject has the mark of the poll, and no other. If letters have to be signed, no other
-    mark is in the signed text, either.
-    """
-    signed = case.parsed.shown_lines if known.is_signed else ()
+def is_of_this_vote(case: JudgedLetter) -> Because | None:
+    """Its subject has the mark of the poll, and no other; nor has a text that must be signed."""
+    own = case.known.mark
+    signed = case.parsed.shown_lines if case.known.is_signed else ()
     marks = [mark for mark, _ in case.parsed.marks]
     for mark in (*marks, *(mark for line in signed for mark, _ in marks_in(line))):
-        if mark != known.mark:
+        if mark != own:
             return Reason.OTHER_MARK(mark=mark)
     if marks:
         return None
     subject = "".join(case.parsed.subject.split()).lower()
-    pieces = (known.mark[place : place + PIECE] for place in range(len(known.mark) - PIECE + 1))
+    pieces = (own[place : place + PIECE] for place in range(len(own) - PIECE + 1))
     is_changed = any(piece in subject for piece in pieces)
-    return (Reason.CHANGED_MARK if is_changed else Reason.NO_SUBJECT_MARK)(mark=known.mark)
+    return (Reason.CHANGED_MARK if is_changed else Reason.NO_SUBJECT_MARK)(mark=own)
 
 
 RULES = (
@@ -269,36 +379,44 @@ RULES = (
 )
 
 
-# ---------------------------------------------------------------- what may be above a ballot
+# ---- what may be above a ballot
 def above_end(lines: Sequence[str]) -> int:
     """How many lines are above the one that ends the letter."""
     return lines.index(END) if END in lines else len(lines)
 
 
-def paragraphs_of(
-    body: Body, passes_over: Callable[[str], bool], joined: Collection[int]
-) -> list[list[int]]:
+def paragraphs_of(case: JudgedLetter, joined: Collection[int]) -> list[list[int]]:
     """The paragraphs above the end of a letter, each as the indices of its lines. A line that is
     passed over is in no paragraph, and ends none; nor does an empty line that is joined to others.
     """
-    paragraphs: list[list[int]] = [[]]
-    for index, line in enumerate(body.lines[: above_end(body.lines)]):
+    lines, paragraphs = case.parsed.body.lines, [list[int]()]
+    for index, line in enumerate(lines[: above_end(lines)]):
         # a line of blanks is empty, no-break ones too
         has_text = bool(line.strip())
         if line == STROKE or not (has_text or index in joined):
             paragraphs.append([])
-        elif has_text and not passes_over(line):
+        elif has_text and not case.known.passes_over(line):
             paragraphs[-1].append(index)
     return [paragraph for paragraph in paragraphs if paragraph]
 
 
-def why_not_first(case: JudgedLetter, ballot: int, joined: Collection[int]) -> Because | None:
-    """Why the ballot with this index among the lines is not the first line; None if it is."""
-    letter, known, lines = case.parsed, case.known, case.parsed.body.lines
+def is_subject_of_page(case: JudgedLetter) -> bool:
+    """Whether the subject is the one that the page of the call makes, but for marks and blanks."""
+
+    def as_compared(subject: str) -> str:
+        return "".join(subject.split()).casefold()
+
+    subject = MARKS.sub("", as_compared(case.parsed.subject))
+    return as_compared(subject) == as_compared(case.known.subject)
+
+
+def why_not_first(case: JudgedLetter, joined: Collection[int]) -> Because | None:
+    """Why the ballot is not the first line; None if it is."""
+    letter, lines, ballot = case.parsed, case.parsed.body.lines, case.index
     is_ours = case.has_own_mark
-    is_answer = is_ours and letter.in_reply_to in known.our_letters.get(case.elector, ())
-    is_by_page = is_ours and letter.is_new and known.is_subject_of_page(letter.subject)
-    paragraphs = paragraphs_of(letter.body, known.passes_over, joined)
+    is_answer = is_ours and letter.in_reply_to in case.known.our_letters.get(case.elector, ())
+    is_by_page = is_ours and letter.is_new and is_subject_of_page(case)
+    paragraphs = paragraphs_of(case, joined)
     place = next(place for place, own in enumerate(paragraphs) if ballot in own)
     quoted = [any(is_quoted(lines[index]) for index in one) for one in paragraphs]
     first = quoted.index(True) if True in quoted[:place] else -1
@@ -349,123 +467,3 @@ def is_plain(character: str) -> bool:
     is_listed = unicodedata.category(character) in CATEGORIES or character in SIGNS
     is_digit_or_colon = character.isnumeric() or character in LIKE_COLONS
     return bool(is_listed or PICTURES.match(character)) and not is_digit_or_colon
-
-
-# ---------------------------------------------------------------- one letter beside the others
-class Box:
-    """The ballots that are in, by elector and time."""
-
-    def __init__(self) -> None:
-        self.times: dict[str, list[datetime.datetime]] = collections.defaultdict(list)
-        self.lines: dict[tuple[str, datetime.datetime], set[str]] = collections.defaultdict(set)
-
-    def add(self, elector: str, ballot: Ballot) -> None:
-        bisect.insort(self.times[elector], ballot.time)
-        self.lines[elector, ballot.time].add(ballot.line)
-
-    def last(self, elector: str) -> datetime.datetime | None:
-        return self.times[elector][-1] if self.times[elector] else None
-
-    def has_between(self, elector: str, after: datetime.datetime, until: datetime.datetime) -> bool:
-        times = self.times[elector]
-        return bisect.bisect_right(times, after) < bisect.bisect_left(times, until)
-
-
-def set_outcomes(cases: Sequence[JudgedLetter], box: Box) -> None:
-    """Sets what becomes of letters, which are in the order of their times. The ballots that go in
-    are added to the box.
-    """
-    groups: dict[str, list[JudgedLetter]] = collections.defaultdict(list)
-    for case in cases:
-        groups[case.parsed.identity].append(case)
-        if case.decision is not None:
-            case.outcome = DECIDED.get(case.decision, Outcome.WAITS)
-            if case.decision is not Decision.ENTERED:
-                case.reason = Reason[case.decision.name]()
-    firsts: set[JudgedLetter] = set()
-    at_once: dict[tuple[str, datetime.datetime | None], set[str]] = collections.defaultdict(set)
-    undecided = [group for group in groups.values() if any(case.decision is None for case in group)]
-    for group in undecided:
-        # the first copy that may go in, unless an act decided of one that hides it
-        may_go_in = (one for one in group if one.decision is None and one.why_by_itself is None)
-        is_hidden = any(case.decision is not None and case.hides for case in group)
-        for case in () if is_hidden else itertools.islice(may_go_in, 1):
-            firsts.add(case)
-            at_once[case.elector, case.time].add(case.ballots[0].ballot)
-    for case in filter(firsts.__contains__, cases):
-        case.reason = why_not_latest(case, box, at_once[case.elector, case.time])
-        if case.reason is None and case.time is not None:
-            case.outcome = Outcome.GOES_IN
-            box.add(case.elector, Ballot(case.time, case.ballots[0].ballot))
-    for group in undecided:
-        set_copies(group, firsts, box)
-
-
-def why_not_latest(case: JudgedLetter, box: Box, at_once: set[str]) -> Because | None:
-    """Its time is later than that of every ballot of its elector. A ballot of the same time has to
-    be the same.
-    """
-    assert case.time is not None
-    elector, time = case.elector, case.time
-    last = box.last(elector)
-    if last is not None and last > time:
-        return Reason.LATER_BALLOT(elector=elector, time=last)
-    others = (box.lines[elector, time] | at_once) - {case.ballots[0].ballot}
-    return Reason.SAME_TIME(elector=elector, time=time) if others else None
-
-
-def set_copies(group: Sequence[JudgedLetter], firsts: Collection[JudgedLetter], box: Box) -> None:
-    """Sets what becomes of the other letters of one identity: they are copies of one that went in,
-    or may go in. A letter that waits hides no other, but of those that wait for one reason with one
-    body only the first is shown.
-    """
-    hiding = [case for case in group if case.hides]
-    is_hidden = any(case.decision is not None or case.outcome is Outcome.GOES_IN for case in hiding)
-    hiding.sort(key=lambda case: (case.parsed.arrived is None, case.parsed.arrived))
-    first = next(iter(hiding), None)
-    waiting: dict[tuple[Because | None, Body], JudgedLetter] = {}
-    for case in sorted(group, key=lambda case: case.decision is None):
-        before = waiting.setdefault((case.why_by_itself, case.parsed.body), case)
-        if case.decision is not None or case in firsts:
-            continue
-        if first is not None and (is_hidden or case.why_by_itself is None):
-            set_copy(case, first, box)
-        elif before is not case:
-            set_copy(case, before, box)
-        else:
-            case.reason = case.why_by_itself
-
-
-def set_copy(case: JudgedLetter, first: JudgedLetter, box: Box) -> None:
-    """Ignores a copy of a letter that arrived before it. It waits if another ballot of its elector
-    came between.
-    """
-    arrived, before = case.parsed.arrived, first.parsed.arrived
-    case.outcome, case.reason = Outcome.COPY, None
-    if first.time is not None and before is not None and arrived is not None and arrived > before:
-        for line in (*case.ballots, *case.offered):
-            if box.has_between(line.elector, first.time, arrived):
-                case.outcome, case.reason = Outcome.WAITS, Reason.CAME_BEFORE(elector=line.elector)
-                return
-
-
-def judge_all(
-    letters: Sequence[ParsedLetter],
-    known: Known,
-    ballots_of: Callable[[Collection[str]], Mapping[str, Sequence[Ballot]]],
-) -> list[JudgedLetter]:
-    """Judges letters, and returns them in the order of their times; those without a time come last.
-    `ballots_of` returns the ballots of some electors that are in and not struck.
-    """
-    cases = [JudgedLetter(letter, known) for letter in letters]
-    ordered = sorted(cases, key=lambda case: (case.time is None, case.time or known.now))
-    box = Box()
-    electors = {elector for case in cases for elector in case.electors}
-    for elector, ballots in ballots_of(electors).items():
-        for ballot in ballots:
-            box.add(elector, ballot)
-    set_outcomes(ordered, box)
-    for case in ordered:
-        times = filter(None, map(box.last, case.electors))
-        case.has_voted_since = any(case.time is None or time > case.time for time in times)
-    return ordered

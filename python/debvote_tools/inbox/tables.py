@@ -14,9 +14,9 @@ import unicodedata
 from collections.abc import Callable, Collection, Iterator, Mapping, Sequence
 from typing import NamedTuple
 
-from debvote_tools.cli.faults import Fault, Status
+from debvote_tools.cli.faults import Fault
 from debvote_tools.cli.console import shown_text
-from debvote_tools.inbox.lines import BLANKS, NOTHING_ADDED, Line
+from debvote_tools.inbox.lines import BLANKS, Line, bad_ballots, bad_words
 from debvote_tools.poll.plain_names import without_accents
 from debvote_tools.poll.sealed import SealedPoll
 from debvote_tools.text.ballots import NUMBERS, UNRANKED
@@ -34,7 +34,7 @@ BEGINNINGS = {
 DELIMITERS = {",": "comma", ";": "semicolon", "\t": "tab"}
 # longer than a file that is read, so that a cell has no limit of its own
 CELL_LIMIT = 67_108_864
-SAVE_AS = "save it again as CSV in UTF-8"
+SAVE_AS, LINE_END = "save it again as CSV in UTF-8", rb"\r\n?|\n"
 
 OF_CHOICES = "such a table has the options in each row by preference, and a ballot has a rank for each option"
 TO_RANKS = "make a column for each option, with its rank in each row, and name these columns"
@@ -45,9 +45,7 @@ BadTable = Callable[[object, str, str], Fault]
 
 
 class Row(NamedTuple):
-    """A row, and the line of the file where it begins, both counted from 1. It has at least as many
-    cells as the head line.
-    """
+    """A row with as many cells as the head line, or more, and the line where it begins, from 1."""
 
     number: int
     line: int
@@ -75,8 +73,9 @@ class Table(NamedTuple):
 
     @property
     def heads_in_words(self) -> str:
-        heads = (f"`{shown_text(cell)}`" for cell in self.head.cells if cell.strip())
-        return ", ".join(heads) or "none"
+        return (
+            ", ".join(f"`{shown_text(cell)}`" for cell in self.head.cells if cell.strip()) or "none"
+        )
 
 
 def kind_of(data: bytes) -> str | None:
@@ -99,7 +98,7 @@ def read_table(
     """The table of a file. Its delimiter is the one that finds most of the wanted heads in the
     first line that is not blank. With `skips_spaces` a quotation mark after spaces begins a cell.
     """
-    text = decoded(data, file, bad_table)
+    text = table_text(data, file, bad_table)
     head_line = next((line for line in re.split(r"[\r\n]+", text) if line.strip(' \t,;"')), "")
     wanted = set(map(head_form, wanted_heads))
 
@@ -111,28 +110,25 @@ def read_table(
     csv.field_size_limit(CELL_LIMIT)
     lines = io.StringIO(text, newline="")
     reader = csv.reader(lines, delimiter=delimiter, strict=True, skipinitialspace=skips_spaces)
-    head: Row | None = None
     rows: list[Row] = []
     line = 1
     try:
         for number, cells in enumerate(reader, start=1):
-            missing = len(head.cells) - len(cells) if head else 0
+            missing = len(rows[0].cells) - len(cells) if rows else 0
             row = Row(number, line, cells + [""] * missing)
             line = reader.line_num + 1
-            if head:
+            if rows or not row.is_blank:
                 rows.append(row)
-            elif not row.is_blank:
-                head = row
     except csv.Error as error:
         reason = f"the row that begins here is not a row of cells with a {DELIMITERS[delimiter]} between them ({error})"
         cure = "close each quotation mark, and put nothing between it and the delimiter"
         raise bad_table(f"{file}:{line}", reason, cure) from None
-    if head is None:
+    if not rows:
         raise bad_table(file, "it is empty", "write the header line, and a line for each row")
-    return Table(head, rows, delimiter)
+    return Table(rows[0], rows[1:], delimiter)
 
 
-def decoded(data: bytes, file: object, bad_table: BadTable) -> str:
+def table_text(data: bytes, file: object, bad_table: BadTable) -> str:
     """The text of a file, by its mark; without one it is in UTF-8."""
     if (kind := kind_of(data)) is not None:
         raise bad_table(file, f"it is {kind}, not CSV", f"open it in the spreadsheet and {SAVE_AS}")
@@ -146,90 +142,72 @@ def decoded(data: bytes, file: object, bad_table: BadTable) -> str:
         if is_utf_16:
             words = "it begins as text in UTF-16, but the rest is not"
             raise bad_table(file, words, SAVE_AS) from None
-        lines, before = (
-            re.split(rb"\r\n?|\n", part) for part in (error.object, error.object[: error.start])
-        )
-        seen = shown_text(lines[len(before) - 1].decode("cp1252", "replace"))
+        number = len(re.split(LINE_END, error.object[: error.start]))
+        line = re.split(LINE_END, error.object)[number - 1]
+        seen = shown_text(line.decode("cp1252", "replace"))
         words = f"it is not in UTF-8, but perhaps in Latin-1: {seen}"
-        raise bad_table(f"{file}:{len(before)}", words, SAVE_AS) from None
+        raise bad_table(f"{file}:{number}", words, SAVE_AS) from None
 
 
-# ---------------------------------------------------------------- the columns of ballots
-class Columns(NamedTuple):
-    """The heads of the columns that are read: that of the names, then that of each rank in the
-    order of the options.
+# ---- the columns of ballots
+def heads_of(name: str, ranks: str, poll: SealedPoll) -> list[str]:
+    """The heads of the columns that the command line names: that of the names, then that of each
+    rank in the order of the options. A head with a comma is in quotation marks.
     """
-
-    heads: list[str]
-    options: "OptionNames"
-    # whether an empty cell is an option that is not ranked
-    is_blank_unranked: bool = False
-
-
-def bad_columns(where: str, reason: str, cure: str) -> Fault:
-    return Fault(where, reason, cure, Status.BAD_WORDS, NOTHING_ADDED)
-
-
-def bad_ballots(where: object, reason: str, cure: str) -> Fault:
-    return Fault(where, reason, cure, Status.BAD_BALLOTS, NOTHING_ADDED)
-
-
-def columns_of(
-    name: str,
-    ranks: str,
-    poll: SealedPoll,
-    roll: Collection[str],
-    is_blank_unranked: bool = False,
-) -> Columns:
-    """The columns that the command line names. A head with a comma is in quotation marks."""
     try:
         named: list[str] = next(csv.reader([ranks], strict=True, skipinitialspace=True), [])
     except csv.Error as error:
         cure = "put quotation marks around a header with a comma"
-        raise bad_columns("--ranks", str(error), cure) from None
+        raise bad_words("--ranks", str(error), cure) from None
     heads = [head.strip() for head in (name, *named)]
     # then the first ballot would be lost as the head line
-    if head_form(name) in roll:
+    if head_form(name) in poll.roll:
         reason = f"`{heads[0]}` is an elector, so the table seems to have no header line"
         cure = "write a header line above the rows, and name the column by its header"
-        raise bad_columns("--name", reason, cure)
+        raise bad_words("--name", reason, cure)
     numbered = [f"{number} {option}" for number, option in enumerate(poll.names, start=1)]
     if len(heads) != 1 + len(numbered):
         reason = f"it names {len(heads) - 1} columns, and the poll has {len(numbered)} options with the default: {', '.join(numbered)}"
-        raise bad_columns("--ranks", reason, "name a column for each, in this order")
+        raise bad_words("--ranks", reason, "name a column for each, in this order")
     counts = collections.Counter(map(head_form, heads))
     if twice := next((head for head in heads if counts[head_form(head)] > 1), None):
         words = f"the column `{twice}` is named twice"
-        raise bad_columns("--name, --ranks", words, "name each column once")
+        raise bad_words("--name, --ranks", words, "name each column once")
     options = OptionNames(poll)
     for place, head in enumerate(heads[1:], start=1):
-        if counts_choices(head) and options.option_of(head) != place:
-            raise bad_columns("--ranks", f"`{head}` counts choices; {OF_CHOICES}", TO_RANKS)
+        counts_choices = COUNTS_CHOICES.search(without_accents(folded(head), "en"))
+        if counts_choices and options.option_of(head) != place:
+            raise bad_words("--ranks", f"`{head}` counts choices; {OF_CHOICES}", TO_RANKS)
     if found := in_other_place(options, heads[1:]):
         place, other = found
         reason = f"`{heads[place]}` stands in the place of option {numbered[place - 1]}, and names option {numbered[other - 1]}"
         cure = f"name the columns in the order of the options: {', '.join(numbered)}"
-        raise bad_columns("--ranks", reason, cure)
-    return Columns(heads, options, is_blank_unranked)
+        raise bad_words("--ranks", reason, cure)
+    return heads
 
 
-# ---------------------------------------------------------------- the rows of ballots
+# ---- the rows of ballots
 def lines_of_table(
-    data: bytes, file_name: str, columns: Columns, *, is_newest_first: bool | None = None
+    data: bytes,
+    file_name: str,
+    columns: Sequence[str],
+    poll: SealedPoll,
+    is_blank_unranked: bool = False,
+    is_newest_first: bool | None = None,
 ) -> list[Line]:
-    """The lines that the rows of a table make. Each cell is repaired by itself, so that none
-    becomes a part of another.
+    """The lines that the rows of a table make, by the heads of the columns. Each cell is repaired
+    by itself, so that none becomes a part of another. An empty cell may be an option not ranked.
 
     If it is known how the rows are sorted, the times in the table must not say otherwise.
     """
-    table = read_table(data, columns.heads, file_name, bad_ballots)
+    table = read_table(data, columns, file_name, bad_ballots)
     heads, width = table.heads, len(table.head.cells)
-    for column in columns.heads:
+    for column in columns:
         if (count := heads.count(head_form(column))) != 1:
             what = "there is more than one column" if count else "there is no column"
             words = f"{what} `{column}`; the headers are {table.heads_in_words}"
-            raise bad_columns(file_name, words, "name each column by its header")
-    indices, lines = [heads.index(head_form(column)) for column in columns.heads], []
+            raise bad_words(file_name, words, "name each column by its header")
+    indices, lines = [heads.index(head_form(column)) for column in columns], []
     for row in table.rows:
         place = f": row {row.number}"
         if row.cells_after(width):
@@ -241,24 +219,21 @@ def lines_of_table(
             continue
         cells = [row.cells[index].encode("utf-8", "backslashreplace") for index in indices]
         elector, *ranks = [on_one_line(cell).strip(BLANKS) for cell in cells]
-        if columns.is_blank_unranked and elector:
+        if is_blank_unranked and elector:
             ranks = [rank or UNRANKED.encode() for rank in ranks]
-        came, repaired = line_from(cells), line_from([elector.lower(), *ranks])
+        came = b"%b %b" % (cells[0], b",".join(cells[1:]))
+        repaired = b"%b %b" % (elector.lower(), b",".join(ranks))
         lines.append(Line(file_name, place, came, on_one_line(came), repaired))
-    demand_ranks(table, indices[1:], columns.options, file_name)
+    demand_ranks(table, indices[1:], OptionNames(poll), file_name)
     if is_newest_first is not None and (contradiction := against_order(table, is_newest_first)):
         option = "--newest-first" if is_newest_first else "--oldest-first"
         cure = "give the option that is right, or sort the rows by time, and add the file again"
-        raise bad_columns(file_name, f"{contradiction}, against {option}", cure)
+        raise bad_words(file_name, f"{contradiction}, against {option}", cure)
     return lines
 
 
 def on_one_line(cell: bytes) -> bytes:
     return re.sub(rb"[\r\n]+", b" ", cell)
-
-
-def line_from(cells: Sequence[bytes]) -> bytes:
-    return cells[0] + b" " + b",".join(cells[1:])
 
 
 def demand_ranks(
@@ -273,7 +248,7 @@ def demand_ranks(
         raise bad_ballots(file_name, words, TO_RANKS)
 
 
-# ---------------------------------------------------------------- ranks in another order than the options
+# ---- ranks in another order than the options
 # the number of an option before its name, as `2 Hall`, `2. Hall` or `Option 2`
 NUMBERED = re.compile(r"(?:option )?([1-9][0-9]?)(?:[.):]+ ?|[ -]+|$)")
 
@@ -319,17 +294,9 @@ class OptionNames:
         form = folded(text)
         return self.numbers.get(form) or self.numbers.get(NUMBERED.sub("", form, count=1))
 
-    def number_before(self, text: str) -> int | None:
-        found = NUMBERED.match(folded(text))
-        return int(found[1]) if found else None
-
 
 def folded(text: str) -> str:
     return " ".join(unicodedata.normalize("NFC", text).split()).casefold()
-
-
-def counts_choices(head: str) -> bool:
-    return COUNTS_CHOICES.search(without_accents(folded(head), "en")) is not None
 
 
 def in_other_place(options: OptionNames, heads: Sequence[str]) -> tuple[int, int] | None:
@@ -337,7 +304,8 @@ def in_other_place(options: OptionNames, heads: Sequence[str]) -> tuple[int, int
     and that option. A head with the name of its own option is right, whatever the number before it.
     Numbers that rise by one from head to head number the questions of a form.
     """
-    numbers = [options.number_before(head) for head in heads]
+    found = [NUMBERED.match(folded(head)) for head in heads]
+    numbers = [int(number[1]) if number else None for number in found]
     are_questions = numbers == [place + (numbers[0] or 0) for place in range(len(heads))]
     for place, head in enumerate(heads, start=1):
         option = options.option_of(head) or (None if are_questions else numbers[place - 1])
@@ -347,25 +315,21 @@ def in_other_place(options: OptionNames, heads: Sequence[str]) -> tuple[int, int
 
 
 def are_table(lines: Sequence[bytes]) -> bool:
-    """Whether all lines have the same sign, no comma and no space, between all ranks and between
-    name and ranks too.
-    """
+    """Whether all lines have the same sign, no comma and no space, between name and all ranks."""
     rows = [line.decode("utf-8", "replace").replace('"', "").strip(" ") for line in lines]
     signs = sorted(filter(SIGN.fullmatch, set(rows[0]))) if rows else ()
     return any(all(is_row(row, sign) for row in rows) for sign in signs)
 
 
 def is_row(line: str, sign: str) -> bool:
-    """Whether a line is a name and two or more ranks, each a number, a hyphen or nothing, with this
-    sign between all of them.
-    """
+    """Whether a line is a name and two or more ranks, with this sign between all of them."""
     name, *cells = line.split(sign)
     ranks = (cell.strip(" ") for cell in cells)
     are_ranks = all(rank.isdecimal() or rank in ("", UNRANKED) for rank in ranks)
     return len(cells) > 1 and NAME.fullmatch(name) is not None and are_ranks
 
 
-# ---------------------------------------------------------------- times that contradict the order of the rows
+# ---- times that contradict the order of the rows
 # a day and a time of that day, as forms and spreadsheets write them: `2026-11-23T10:00:00Z`,
 # `23.11.2026 10:00`, `11/23/26 9:05 PM`
 TIME = re.compile(

@@ -2,17 +2,19 @@
 
 import collections
 import functools
+import itertools
 import re
-from collections.abc import Iterable, Iterator, Sequence
+from collections.abc import Collection, Iterable, Iterator, Sequence
 from typing import NamedTuple
 
+from debvote_tools.book import queries
 from debvote_tools.book.election import Election, History
 from debvote_tools.cli.console import count_of, shown_line
-from debvote_tools.cli.faults import other_format
+from debvote_tools.cli.faults import Fault, other_format
 from debvote_tools.debvote import Finding
 from debvote_tools.files import BALLOTS_LIMIT, LINES_LIMIT
-from debvote_tools.inbox.lines import Line, ballot_file, differences, has_code
-from debvote_tools.text.ballots import BallotWords
+from debvote_tools.inbox.lines import Line, differences, has_code, name_in
+from debvote_tools.text.ballots import ballot_file, ballots_in_words
 from debvote_tools.text.language import ENGLISH
 
 IS_CODE = " (32 digits, as in a code or an alias: a ballot has only the elector's name, and nobody may see a code)"
@@ -56,8 +58,8 @@ class Vote:
     def __init__(self, election: Election, history: History) -> None:
         self.election, self.book, self.debvote = election, election.book, election.debvote
         self.call = election.called(history)
-        poll = election.sealed().counted
-        # the names of all options as people read them, the default last
+        # the poll as ballots are counted
+        self.poll = poll = election.sealed().counted
         self.poll_bytes, self.option_names, self.roll = poll.as_bytes(), poll.names, poll.roll
         # the roll has codes: none is printed that was not typed
         self.has_codes = bool(history.announced("codes_on_roll"))
@@ -66,7 +68,7 @@ class Vote:
         self.has_form = bool(history.announced("form"))
         self.answered: dict[bytes, str | None] = {}
         # most ballots have one of a few orders
-        self.ranks_in_words = functools.lru_cache(4096)(BallotWords(self.option_names).of)
+        self.ranks_in_words = functools.lru_cache(4096)(ballots_in_words(self.option_names))
 
     @functools.cached_property
     def names_on_roll(self) -> frozenset[str]:
@@ -77,8 +79,22 @@ class Vote:
         ranks = ",".join(str(rank + 1) for rank in range(len(self.option_names)))
         return f"{'CODE' if self.has_codes else self.roll[0]} {ranks}"
 
-    # ------------------------------------------------------------ what debvote says
-    def read(self, lines: Sequence[Line]) -> list[JudgedLine]:
+    def demand_same_call(
+        self, history: History, not_done: str, cure: str = "run the command again"
+    ) -> None:
+        """Stops if lines were read by the poll of another call."""
+        if history.call != self.call:
+            words = "the call for votes was made anew meanwhile"
+            raise Fault(None, words, cure, done=not_done)
+
+    def electors_of(self, lines: Sequence[bytes]) -> list[int | None]:
+        """Of each line the elector whose name it begins with."""
+        names = [name_in(line).decode("ascii") for line in lines]
+        numbers = queries.elector_numbers(self.book, self.names_on_roll.intersection(names))
+        return list(map(numbers.get, names))
+
+    # ---- what debvote says
+    def judge(self, lines: Sequence[Line]) -> list[JudgedLine]:
         """What debvote says of lines, none of them empty. It is started twice at most.
 
         If the repaired line is refused, the line goes in as it came, and is refused too, since
@@ -86,25 +102,25 @@ class Vote:
         """
         refused = self.findings([line.repaired for line in lines])
         changed = (line for line in lines if line.repaired in refused)
-        refused_as_they_came = self.findings(
-            [line.unframed for line in changed if line.unframed != line.repaired]
-        )
-        read = []
+        as_they_came = [line.unframed for line in changed if line.unframed != line.repaired]
+        refused_as_they_came = self.findings(as_they_came)
+        judged = []
         for line in lines:
             finding = refused.get(line.repaired)
             if finding is None:
-                read.append(JudgedLine(line, line.repaired))
+                judged.append(JudgedLine(line, line.repaired))
             else:
-                now, other = refused_as_they_came.get(line.unframed, finding), self.other_names
-                read.append(JudgedLine(line, line.unframed, now, finding, other(now)))
-        return read
+                now = refused_as_they_came.get(line.unframed, finding)
+                others = self.other_names(now)
+                judged.append(JudgedLine(line, line.unframed, now, finding, others))
+        return judged
 
     def answers(self, lines: Sequence[bytes]) -> dict[bytes, str | None]:
         """What debvote says of each line, such as `bad rank count: ..`; None for a valid ballot. It
         gets as many lines at once as it takes, and none twice. What it remarks on other lines is
         left out.
         """
-        for part in parts_of([line for line in dict.fromkeys(lines) if line not in self.answered]):
+        for part in in_parts([line for line in dict.fromkeys(lines) if line not in self.answered]):
             self.answered.update(dict.fromkeys(part))
             for line, finding in self.findings(part).items():
                 self.answered[line] = f"{finding.word}: {finding._replace(remark='').hint}"
@@ -120,11 +136,9 @@ class Vote:
         return {lines[finding.envelope - 1]: finding for finding in refused}
 
     def other_names(self, finding: Finding) -> tuple[str, ...]:
-        """All names that fit as well as those that debvote offers, as `anna-meier-2` beside
-        `anna-meier`.
-        """
-        bare_names = [NUMBER.sub("", near) for near in finding.near]
-        alike = dict.fromkeys(name for bare in bare_names for name in self.names_by_bare_name[bare])
+        """All names that fit as well as those that debvote offers: `ada-2` beside `ada`."""
+        bare_names = dict.fromkeys(NUMBER.sub("", near) for near in finding.near)
+        alike = (name for bare in bare_names for name in self.names_by_bare_name[bare])
         return tuple(name for name in alike if name not in finding.near)
 
     @functools.cached_property
@@ -147,7 +161,7 @@ class Vote:
         """The ranks of the ballots that stand if these lines are all, by elector."""
         return self.debvote.standing(self.poll_bytes, ballot_file(lines)) if lines else {}
 
-    # ------------------------------------------------------------ words
+    # ---- words
     def report(
         self, lines: Sequence[JudgedLine], numbers: Iterable[int], replies: Sequence[str]
     ) -> Iterator[str]:
@@ -188,7 +202,16 @@ class Vote:
         return f"A valid line in this poll: {self.right_line} ({name}, a space, and {ranks})"
 
 
-def parts_of(lines: Sequence[bytes]) -> Iterator[list[bytes]]:
+def envelope_words(numbers: Collection[int]) -> str:
+    """Some envelopes, in their order, as `envelope 3` or `envelopes 3-5, 7`."""
+    runs = []
+    for _, run in itertools.groupby(enumerate(numbers), lambda one: one[1] - one[0]):
+        ends = [number for _, number in run]
+        runs.append("-".join(map(str, dict.fromkeys((ends[0], ends[-1])))))
+    return f"envelope{'s' * (len(numbers) != 1)} {', '.join(runs)}"
+
+
+def in_parts(lines: Sequence[bytes]) -> Iterator[list[bytes]]:
     """Lines in parts, each of as many as debvote takes at once."""
     part: list[bytes] = []
     size = 0
@@ -203,17 +226,15 @@ def parts_of(lines: Sequence[bytes]) -> Iterator[list[bytes]]:
 
 def frame_words(lines: Iterable[Line]) -> Iterator[str]:
     """The marks and line ends of Windows that were removed, once a file."""
-    by_source: dict[str, list[Line]] = {}
-    for line in lines:
-        if line.came != line.repaired:
-            by_source.setdefault(line.source, []).append(line)
-    for name, repaired_lines in by_source.items():
-        return_count = sum(line.had_return for line in repaired_lines)
-        if any(line.had_mark for line in repaired_lines):
+    changed = [line for line in lines if line.came != line.repaired]
+    marked = {line.source for line in changed if line.had_mark}
+    returns = collections.Counter(line.source for line in changed if line.had_return)
+    for name in dict.fromkeys(line.source for line in changed):
+        if name in marked:
             yield f"{name}: it begins with a mark that Windows writes (byte-order mark); it was removed"
-        if return_count:
-            verb, they = ("ends", "it") if return_count == 1 else ("end", "them")
-            yield f"{name}: {count_of(return_count, 'line')} {verb} as Windows ends {they} (carriage return); that was removed"
+        if count := returns[name]:
+            verb, they = ("ends", "it") if count == 1 else ("end", "them")
+            yield f"{name}: {count_of(count, 'line')} {verb} as Windows ends {they} (carriage return); that was removed"
 
 
 def change_words(line: JudgedLine) -> Iterator[str]:
@@ -224,24 +245,21 @@ def change_words(line: JudgedLine) -> Iterator[str]:
 
 
 def summary(replies: Sequence[str]) -> str:
-    counts = collections.Counter(replies)
-    listed = ", ".join(f"{number} {reply}" for reply, number in counts.items())
+    counts = collections.Counter(replies).items()
+    listed = ", ".join(f"{number} {reply}" for reply, number in counts)
     return count_of(len(replies), "line") + (f" ({listed})" if listed else "")
 
 
 def standing_words(
     vote: Vote, before: dict[str, str], after: dict[str, str], none: str
 ) -> list[str]:
-    """Whose ballot is another one afterwards, or is gone; `none` says that. In a vote with codes
-    only how many.
-    """
+    """Whose ballot is another one afterwards, or is gone (`none`); with codes only how many."""
     changed = {name: after.get(name) for name, ranks in before.items() if after.get(name) != ranks}
+    gone = list(changed.values()).count(None)
     if vote.has_codes:
-        gone = list(changed.values()).count(None)
         said = f"  {count_of(gone, 'elector')}: {none}; {count_of(len(changed) - gone, 'elector')}: an earlier ballot"
         return [said] if changed else []
-    words = {
-        name: ranks and f"{vote.ranks_in_words(ranks)}, as before"
+    return [
+        f"  {name}: {f'{vote.ranks_in_words(ranks)}, as before' if ranks else none}"
         for name, ranks in changed.items()
-    }
-    return [f"  {name}: {said or none}" for name, said in words.items()]
+    ]

@@ -26,14 +26,15 @@ def waiting_letters(election: Election, history: History) -> dict[int, Arrived]:
     kept = queries.letters(election.book)
     if not kept:
         return {}
-    from debvote_tools.inbox.letters_in import judged
+    from debvote_tools.inbox.judging import judged
+    from debvote_tools.inbox.vote import Vote
 
     # where letters have to be signed, what was signed says which are copies, which the book may not
     # have known when they came
     if not history.announced("signed"):
         kept = queries.undecided(kept)
     found = {}
-    for letter in judged(election, history, kept):
+    for letter in judged(Vote(election, history), history, kept):
         if letter.waits:
             arrived = Arrived.LATE if letter.arrived_late else Arrived.IN_TIME
             is_before = letter.arrived_before_call
@@ -46,9 +47,7 @@ def in_time(waiting: Mapping[int, Arrived]) -> list[int]:
 
 
 def left(history: History) -> set[int]:
-    """The letters that a close or a publication left waiting, with a reason: they stop nothing
-    again.
-    """
+    """The letters that a close or a publication left waiting, which stop nothing again."""
     acts = history.since_call("close", "publish")
     return {number for act in acts for number in act.detail.get("left", [])}
 

@@ -1,24 +1,22 @@
-"""Which letters of a kind are due, and what each says: those that were written before, and new
-ones. And whom the call has not reached.
-"""
+"""Which letters of a kind are due, and what each says."""
 
 import collections
 import dataclasses
 import datetime
 import secrets
-from collections.abc import Callable, Iterator, Mapping, Sequence
+from collections.abc import Callable, Mapping, Sequence
 
 from debvote_tools.book import queries, sent
-from debvote_tools.book.election import LETTERS, RESULT_LETTER, Election, History
+from debvote_tools.book.election import LETTERS, RESULT_LETTER, Election
 from debvote_tools.book.queries import Elector
 from debvote_tools.book.sent import REFUSED, TAKEN, WRITTEN, About, SentLetter
-from debvote_tools.cli.faults import Fault, Status
-from debvote_tools.inbox.lines import ballot_file
-from debvote_tools.inbox.mime import address_key
+from debvote_tools.cli.faults import Fault, bad_words
+from debvote_tools.text.ballots import ballot_file
 from debvote_tools.inbox.of_electors import NOBODY, Became, Came, of_electors
 from debvote_tools.inbox.rules import Outcome
+from debvote_tools.outbox.reached import CAME_BACK, reached_by_call
 from debvote_tools.outbox.words import Composer
-from debvote_tools.poll.call import is_mail_address
+from debvote_tools.poll.announced import address_in
 from debvote_tools.result.publication import closing_letter, current_data, last_publication
 from debvote_tools.text.language import language_of
 from debvote_tools.text.times import now
@@ -26,14 +24,14 @@ from debvote_tools.text.times import now
 # how long a run of reminders goes on, and how soon after it the next one is asked about
 LASTING = datetime.timedelta(days=1)
 
+NOTHING_WRITTEN = "nothing was written"
+
 # what a letter to an elector says
 TextOf = Callable[[Elector, SentLetter], str]
 
 
 class LettersDue:
-    """The letters of a kind, by the book as it is now. Stops before the call, and where nobody
-    knows who has which code.
-    """
+    """The letters of a kind, by the book as it is now."""
 
     def __init__(self, election: Election, kind: str, sender: str, *, is_sending: bool) -> None:
         self.election, self.kind, self.sender, self.is_sending = election, kind, sender, is_sending
@@ -42,16 +40,16 @@ class LettersDue:
         if self.history.has_codes_on_roll:
             words = "codes are on the roll, and nobody knows whose they are, so no letters can be written to electors"
             cure = "with your mail program send call/call.txt, letters/closed.txt and letters/result.txt to all"
-            raise Fault("letters", words, cure, Status.DOUBT, "nothing was written")
+            raise Fault("letters", words, cure, done=NOTHING_WRITTEN)
         self.sender_name = str(self.history.announced("to_name") or "")
-        on_list = queries.electors(election.book)
+        on_list, until = queries.electors(election.book), self.history.until
         self.electors = {elector.number: elector for elector in on_list}
-        is_past = self.history.until is not None and self.time > self.history.until
-        is_over = is_past or bool(self.history.closes)
+        is_over = bool(self.history.closes) or (until is not None and self.time > until)
         typed = {act.number for act in self.history.named("enter") if not act.detail.get("lines")}
         self.composer = Composer(current_data(election, self.history), is_over, on_list, typed)
         self.letters = sent.sent_letters(election.book, kind)
-        back = {one.number for one, why, _ in unreached(election, self.history) if why == CAME_BACK}
+        unreached, _ = reached_by_call(election, self.history)
+        back = {elector.number for elector, why, _ in unreached if why == CAME_BACK}
         # the last letter to each of these, which is tried again
         self.came_back = {
             letter.elector: letter.message_id
@@ -61,16 +59,12 @@ class LettersDue:
         # the act to which the letters belong, those that are new, and those that were written
         # before and belong to it, too
         self.for_act = self.history.last.number + 1
-        self.new: list[SentLetter] = []
-        self.written: list[SentLetter] = []
+        self.new, self.written = list[SentLetter](), list[SentLetter]()
         # those who have the call, each at an address, to whom the letter of an extension is due
-        self.had_call: set[tuple[int, str]] = set()
-        # the receipts of earlier runs that have files, or had them; and the letters that wait and
-        # are in no elector's receipt, by number
-        self.earlier: list[SentLetter] = []
-        self.in_no_receipt: list[int] = []
-        # how many letters wait in all, if they were looked at
-        self.letters_waiting = 0
+        self.had_call = set[tuple[int, str]]()
+        # the receipts of earlier runs that have files, or had them; the numbers of the letters that
+        # wait and are in no elector's receipt; how many wait in all, if they were looked at
+        self.earlier, self.in_no_receipt, self.letters_waiting = list[SentLetter](), list[int](), 0
         # each kind has a method of its name
         self.text_of: TextOf = getattr(self, kind)()
 
@@ -85,11 +79,11 @@ class LettersDue:
         return list(filter(self.can_be_sent, (*self.written, *self.new)))
 
     def can_be_sent(self, letter: SentLetter) -> bool:
-        """Whether a server is to take a letter now. One to be printed has no address. An address
-        that an elector had before, and that refused a letter for good, is not tried again.
+        """Whether a server is to take a letter now: one to be printed has no address, and an
+        elector's earlier address that refused one for good is not tried again.
         """
         is_done = letter.state == TAKEN and letter.message_id not in self.came_back
-        is_gone = is_refused_for_good(letter) and not self.is_present(letter)
+        is_gone = letter.is_refused_for_good and not self.is_present(letter)
         return bool(letter.address) and not is_done and not is_gone
 
     def is_present(self, letter: SentLetter) -> bool:
@@ -102,16 +96,17 @@ class LettersDue:
 
     def subject(self, letter: SentLetter) -> tuple[str, str]:
         """The subject of a letter, and the mark that ends it."""
-        subject = self.composer.subject(self.kind, is_extension=self.is_extension(letter))
-        return subject, self.composer.call.mark_of(self.elector(letter).mark)
+        is_extension, own = self.is_extension(letter), self.elector(letter).mark
+        subject = self.composer.subject(self.kind, is_extension=is_extension)
+        return subject, self.composer.call.mark_of(own)
 
     def is_extension(self, letter: SentLetter) -> bool:
-        """Whether a letter says only that the vote ends later, since its elector has the call."""
+        """Whether a letter says only that the vote ends later."""
         return (letter.elector, letter.address) in self.had_call
 
     def elector(self, letter: SentLetter) -> Elector:
-        """To whom a letter is written. An address that its elector no longer has does not learn the
-        own mark.
+        """To whom a letter is written. An address that its elector no longer has learns no own
+        mark.
         """
         elector = self.electors[letter.elector]
         return elector if self.is_present(letter) else elector._replace(mark="")
@@ -123,10 +118,10 @@ class LettersDue:
         *earlier, last = (act.number for act in self.history.since_call("call", "extend"))
         letters = [letter for letter in self.letters if letter.for_act in earlier]
         by_server = {letter.for_act for letter in letters if letter.state != WRITTEN}
+        # a server has taken it, it is on paper, or all for its act were written as files
         self.had_call = {
             (letter.elector, letter.address)
             for letter in letters
-            # a server has taken it, it is on paper, or all for its act were written as files
             if letter.state == TAKEN
             or (letter.state == WRITTEN and not (letter.address and letter.for_act in by_server))
         }
@@ -136,8 +131,8 @@ class LettersDue:
         )
 
     def reminders(self) -> TextOf:
-        """A letter to each elector whose ballot does not count yet. A run of this day that was cut
-        off, or whose letters the server refused for now, goes on; else each run is a new one.
+        """A letter to each elector whose ballot does not count yet. A run of this day goes on if it
+        was cut off, or the server refused some for now; else each run is a new one.
         """
         self.demand_not_over()
         came = self.what_came()
@@ -156,7 +151,7 @@ class LettersDue:
             and letter.address == address_in(silent[letter.elector].addresses)
         ]
         waits = (
-            letter.address and letter.state != TAKEN and not is_refused_for_good(letter)
+            letter.address and letter.state != TAKEN and not letter.is_refused_for_good
             for letter in written
             if self.time - letter.time < LASTING
         )
@@ -181,8 +176,8 @@ class LettersDue:
         return max(times, default=None)
 
     def receipts(self) -> TextOf:
-        """A letter to each elector about all that came since the last one, also to an address that
-        they had before. Those that no server has taken yet go out, too.
+        """A letter to each elector about all that came since the last one, also to an earlier
+        address, and those that no server has taken yet.
         """
         came = self.what_came()
         self.in_no_receipt = [
@@ -223,8 +218,8 @@ class LettersDue:
         )
 
     def old_addresses(self) -> dict[int, list[str]]:
-        """The addresses that electors had before the list was changed after the call, if no receipt
-        was written to them since.
+        """The addresses of electors before a change after the call, if no receipt was written
+        since.
         """
         last = {letter.elector: letter.for_act for letter in self.letters}
         found: dict[int, list[str]] = collections.defaultdict(list)
@@ -234,17 +229,15 @@ class LettersDue:
         return found
 
     def failed_elsewhere(self, letter: SentLetter) -> bool:
-        """Whether no server has taken it, and its elector has the address no longer. A file may
-        have gone out by a mail program, unless it is the server that is to send it now.
+        """Whether no server has taken it, at an address that its elector no longer has. A file may
+        have gone out by a mail program, unless the server is to send it now.
         """
         states = (REFUSED, *([WRITTEN] if self.is_sending else []))
         return letter.state in states and not self.is_present(letter)
 
     def closed(self) -> TextOf:
         if not self.history.is_closed:
-            raise self.stops(
-                "the vote is not closed", f"run {self.election.command('close')} first"
-            )
+            raise self.stops("the vote is not closed", "close")
         poll, language = self.composer.call.poll, self.election.language
         text = closing_letter(self.history, poll, language).decode()
         self.to_each(self.history.closes[-1].number)
@@ -253,11 +246,10 @@ class LettersDue:
     def result(self) -> TextOf:
         act = last_publication(self.history)
         if act is None or not self.history.is_closed:
-            cure = f"run {self.election.command('publish')} first"
-            raise self.stops("nothing is published", cure)
+            raise self.stops("nothing is published", "publish")
         if self.composer.call.at is None:
             why, cure = "the letter must say where the result is published", "give it: --at URL"
-            raise Fault("--at", why, cure, Status.BAD_WORDS, "nothing was written")
+            raise bad_words("--at", why, cure, NOTHING_WRITTEN)
         book, code = self.election.book, act.detail["words"]["language"]
         letter = (queries.sealed(book, f"{LETTERS}/{RESULT_LETTER}", act.number) or b"").decode()
         ballots = ballot_file(queries.lines_after(book, act.number))
@@ -271,36 +263,30 @@ class LettersDue:
             self.kind, elector, has_ballot=elector.name in standing, letter=letter
         )
 
-    def stops(self, words: str, cure: str) -> Fault:
-        return Fault(self.kind, words, cure, Status.DOUBT, "nothing was written")
+    def stops(self, words: str, first: str) -> Fault:
+        cure = f"run {self.election.command(first)} first"
+        return Fault(self.kind, words, cure, done=NOTHING_WRITTEN)
 
     def demand_not_over(self) -> None:
         if self.composer.is_over:
+            words = "the vote is over, so nobody is asked to vote"
             cure = f"see {self.election.command('status')}"
-            raise self.stops("the vote is over, so nobody is asked to vote", cure)
+            raise Fault(self.kind, words, cure, done=NOTHING_WRITTEN)
 
     def to_each(self, for_act: int) -> None:
-        """One letter to each elector; those that were written before, to the same address and for
-        the same act, stay as they are.
-        """
+        """One letter to each elector. One to the same address for the same act stays as it is."""
         self.for_act = for_act
-        before = {
-            (letter.elector, letter.address): letter
-            for letter in self.letters
-            if letter.for_act == for_act
-        }
+        of_act = [letter for letter in self.letters if letter.for_act == for_act]
+        before = {(letter.elector, letter.address): letter for letter in of_act}
         for elector in self.electors.values():
             letter = before.get((elector.number, address_in(elector.addresses)))
-            if letter is None:
-                self.new.append(self.letter_to(elector))
-            else:
-                self.written.append(letter)
+            (self.written if letter else self.new).append(letter or self.letter_to(elector))
 
     def letter_to(
         self, elector: Elector, address: str | None = None, about: Sequence[About] = ()
     ) -> SentLetter:
-        """A letter that is not written yet. Nobody can guess its Message-ID, so an answer that
-        names it comes from whoever got the letter.
+        """A new letter. Nobody can guess its Message-ID, so an answer that names it comes from
+        whoever got the letter.
         """
         address = address_in(elector.addresses) if address is None else address
         domain = self.sender.partition("@")[2]
@@ -310,79 +296,11 @@ class LettersDue:
         )
 
 
-def is_refused_for_good(letter: SentLetter) -> bool:
-    """Whether the server said that it never takes it, and not that it does not take it now."""
-    return letter.state == REFUSED and not letter.reply.startswith("4")
-
-
-def address_in(addresses: Sequence[str]) -> str:
-    """The first of some addresses that every mail server takes; empty if there is none."""
-    return next(filter(is_mail_address, addresses), "")
-
-
-# ---------------------------------------------------------------- whom the call has not reached
-NO_LETTER, WAS_REFUSED, CAME_BACK = "no letter", "refused", "came back"
-
-
-def not_reached(election: Election, history: History) -> list[tuple[str, str]]:
-    """The names of those whom the call has not reached, each with the reason, until a letter is
-    taken: none was written since the call, the server refused the last one, or it came back.
-    """
-    return [(elector.name, why) for elector, why, _ in unreached(election, history)]
-
-
-def printed(election: Election, history: History) -> list[str]:
-    """The names of those who get the call printed."""
-    if not has_letters(election, history):
-        return []
-    electors = queries.electors(election.book)
-    return [elector.name for elector in electors if not address_in(elector.addresses)]
-
-
-def has_letters(election: Election, history: History) -> bool:
-    """Whether `letters call` was run since the call."""
-    acts = history.since_call("letters out")
-    return not history.has_codes_on_roll and any(act.detail["kind"] == "call" for act in acts)
-
-
-def unreached(election: Election, history: History) -> Iterator[tuple[Elector, str, str]]:
-    """The electors whom the call has not reached, the reason, and what the server said."""
-    if history.call is None or not has_letters(election, history):
-        return
-    electors = queries.electors(election.book)
-    states = sent.last_states(election.book, history.call.number)
-    back = came_back(election, electors)
-    for elector in electors:
-        if address := address_in(elector.addresses):
-            last = states.get((elector.number, address))
-            if last is None:
-                yield elector, NO_LETTER, ""
-                continue
-            act, state, reply = last
-            if state == REFUSED:
-                yield elector, WAS_REFUSED, reply
-            elif back.get(elector.number, 0) > act:
-                yield elector, CAME_BACK, ""
-
-
-def came_back(election: Election, electors: Sequence[Elector]) -> dict[int, int]:
-    """The last act with which a letter came back, by elector: one with their own mark, from no
-    address of theirs.
-    """
-    found: dict[int, int] = {}
-    by_mark = {elector.mark: elector for elector in electors if elector.mark}
-    for act, sender, marks in queries.returned_letters(election.book):
-        for elector in filter(None, map(by_mark.get, marks)):
-            if sender not in map(address_key, elector.addresses):
-                found[elector.number] = act
-    return found
-
-
 # ---------------------------------------------------------------- what electors are told
 def is_told(came: Came) -> bool:
-    """Whether an elector is told of something that came. A copy is the letter that it copies. To a
-    program that answers by itself nothing is said, since it would answer; and a letter of ours that
-    came back has the name of its elector.
+    """Whether an elector is told of something that came. A copy is the letter that it copies. A
+    program that answers by itself would answer; and a letter of ours that came back has the name of
+    its elector.
     """
     letter = came.letter
     if letter is None:
@@ -392,9 +310,7 @@ def is_told(came: Came) -> bool:
 
 
 def told_of(items: Sequence[Came]) -> dict[About, Came]:
-    """What an elector is told of, in its order. A letter is told of by the ballots from it, if
-    there are some.
-    """
+    """What an elector is told of, in its order; of a letter by the ballots from it."""
     entered = {one.envelope.letter for one in items if one.envelope}
     found: dict[About, Came] = {}
     for one in filter(is_told, items):
@@ -412,8 +328,8 @@ def about_now(about: Sequence[About], told: Mapping[About, Came]) -> list[About]
 
 
 def beside_what_counts(about: Sequence[About], told: Mapping[About, Came]) -> list[Came]:
-    """What a receipt says: what it is about, and the ballot that counts, too. Who reads that a
-    letter waits, or that a ballot is late or was taken back, learns that an earlier ballot counts.
+    """What a receipt says: what it is about, and the ballot that counts. Who reads that another one
+    waits, or does not count, learns that an earlier ballot does.
     """
     now = about_now(about, told)
     return [one for key, one in told.items() if key in now or one.became is Became.COUNTS]

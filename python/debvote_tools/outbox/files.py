@@ -30,22 +30,24 @@ TO_PRINT = "to-print.html"
 CHANGED_ON_THE_WAY = re.compile(rb"(?m)^(?:(?=>*From ).|\.$)")
 # in characters; mail servers break lines of a thousand
 LONGEST_LINE = 900
+# of a line with encoded words, and what is between two lines of a field
+LONGEST_ENCODED, GOES_ON = 76, "\n "
 
 
 # ---------------------------------------------------------------- a letter
 def message(due: LettersDue, letter: SentLetter, *, is_draft: bool) -> bytes:
-    """The bytes of a letter. An answer with a ballot goes to the address of the call. As a draft,
-    mail programs offer to send it.
+    """The bytes of a letter. An answer goes to the address of the call. Mail programs offer to send
+    a draft.
     """
     coding, body = body_of(due.text(letter))
     subject, mark = due.subject(letter)
     reply_to = due.composer.call.to
     fields = [
-        ("From", email.utils.formataddr((one_line(due.sender_name), due.sender))),
+        ("From", sender_of(due.sender_name, due.sender)),
         *([("Reply-To", reply_to)] if reply_to not in (None, due.sender) else []),
         ("To", letter.address),
         # on a line of its own it is found in a letter that comes back
-        ("Subject", f"{subject_field(subject)}\n {mark}"),
+        ("Subject", f"{field('Subject', subject)}{GOES_ON}{mark}"),
         ("Date", email.utils.format_datetime(letter.time)),
         ("Message-ID", letter.message_id),
         *([("X-Unsent", "1")] if is_draft else []),
@@ -58,20 +60,24 @@ def message(due: LettersDue, letter: SentLetter, *, is_draft: bool) -> bytes:
     return "".join(f"{name}: {value}\n" for name, value in fields).encode("ascii") + b"\n" + body
 
 
-# all letters of a run have the same but for the mark
+# all letters of a run have the same subject, but for the mark, and sender
 @functools.lru_cache
-def subject_field(subject: str) -> str:
-    """A subject as a head has it."""
-    charset = "us-ascii" if subject.isascii() else "utf-8"
-    return email.header.Header(one_line(subject), charset, header_name="Subject").encode(
-        splitchars=" "
-    )
+def field(name: str, text: str) -> str:
+    """A text on one line as a head has it; no encoded word is longer than 75 characters."""
+    charset, longest = ("us-ascii", None) if text.isascii() else ("utf-8", LONGEST_ENCODED)
+    return email.header.Header(one_line(text), charset, longest, name).encode(splitchars=" ")
+
+
+def sender_of(name: str, address: str) -> str:
+    if name.isascii():
+        return email.utils.formataddr((one_line(name), address))
+    said = field("From", name)
+    is_short = len(f"From: {said} <{address}>") <= LONGEST_ENCODED
+    return f"{said}{' ' if is_short else GOES_ON}<{address}>"
 
 
 def body_of(text: str) -> tuple[str, bytes]:
-    """The name of the coding, and the coded text. A text that every program leaves as it is stays
-    as it is.
-    """
+    """The name of the coding, and the coded text: as it is if every program leaves it so."""
     data = text.encode("utf-8", "replace")
     if (
         text.isascii()
@@ -86,9 +92,7 @@ def body_of(text: str) -> tuple[str, bytes]:
 
 # ---------------------------------------------------------------- the folder
 def letter_files(due: LettersDue, letters: Sequence[SentLetter]) -> dict[str, bytes]:
-    """The files of letters by their names. Letters that are sent, or that a server has taken, have
-    none.
-    """
+    """The files of letters by name. Letters that are sent, or that a server has taken, have none."""
     files: dict[str, bytes] = {}
     printed = []
     for letter in letters:
@@ -111,7 +115,7 @@ def letter_files(due: LettersDue, letters: Sequence[SentLetter]) -> dict[str, by
 
 
 def rows_to_print(text: str, call: CallData) -> list[tuple[str, bool]]:
-    """The rows of a letter, each with whether it begins an option of which it asks for the rank."""
+    """The rows of a letter, each with whether it asks for the rank of an option."""
     said = (
         call.language.say(OPTION, number=n, name="") for n in range(1, len(call.poll.names) + 1)
     )
@@ -123,8 +127,8 @@ def rows_to_print(text: str, call: CallData) -> list[tuple[str, bool]]:
 
 @contextlib.contextmanager
 def in_place(files: Mapping[str, bytes], place: pathlib.Path) -> Iterator[None]:
-    """Puts the files into their folder, whole, while the caller notes them. If that fails, the
-    folder is as it was. The caller holds the lock.
+    """Puts the files into their folder, whole, while the caller, who holds the lock, notes them. If
+    that fails, the folder is as it was.
     """
     if not files:
         yield

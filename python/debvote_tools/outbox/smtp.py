@@ -36,8 +36,8 @@ LOST = (smtplib.SMTPException, OSError)
 
 @dataclasses.dataclass(frozen=True)
 class Server:
-    """The server that takes letters, with user and password. The connection is encrypted, except to
-    a loopback address. `is_remembered` if it is that of the last letters, and was not named now.
+    """The server that takes letters. The connection is encrypted, except to a loopback address.
+    `is_remembered` if it is that of the last letters, and was not named now.
     """
 
     host: str
@@ -82,7 +82,7 @@ def send_all(
     server: Server,
     note: Callable[[SentLetter], None],
 ) -> Iterator[SentLetter]:
-    """Sends letters in their order, has each noted with what the server said, and gives it back."""
+    """Sends letters in their order, and yields each once it is noted with what the server said."""
     mailer = Mailer(server, sender)
     with in_time():
         mailer.connection()
@@ -125,7 +125,7 @@ class Mailer:
         self.smtp: smtplib.SMTP | None = None
 
     def connection(self) -> smtplib.SMTP:
-        """Returns the connection. Stops if there is none, or if the server refuses the login."""
+        """Stops if there is none, or if the server refuses the login."""
         if self.smtp is None:
             try:
                 self.smtp = connected(self.server)
@@ -146,7 +146,7 @@ class Mailer:
         self.smtp = None
 
     def send(self, letter: SentLetter, data: bytes) -> SentLetter:
-        """Sends a letter. If the connection was closed before, it makes a new one. Raises `NotNow`."""
+        """Sends a letter, by a new connection if the last one was closed."""
         try:
             return self.transaction(letter, data)
         except NotNow:
@@ -154,9 +154,8 @@ class Mailer:
             return self.transaction(letter, data)
 
     def transaction(self, letter: SentLetter, data: bytes) -> SentLetter:
-        """One letter. It is taken if the server says so after its end, and refused after any other
-        answer. If the connection is lost while the server gets it, nobody knows whether it has it:
-        the run stops.
+        """One letter, taken if the server says so after its end, refused after any other answer. If
+        the connection is lost meanwhile, nobody knows which: the run stops.
         """
         reply: bytes | str
         try:
@@ -219,6 +218,5 @@ def reply_of(error: Exception) -> str:
 
 
 def shown(code: int, reply: bytes | str) -> str:
-    """The answer of a server on one line."""
     text = reply if isinstance(reply, str) else reply.decode("utf-8", "replace")
     return " ".join(f"{code} {text}".split())[:200]

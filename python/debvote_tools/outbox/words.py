@@ -15,7 +15,8 @@ from debvote_tools.book.queries import Elector
 from debvote_tools.inbox.rules import Outcome
 from debvote_tools.inbox.of_electors import Became, Came
 from debvote_tools.inbox.reasons import for_elector
-from debvote_tools.poll.call import CallData, is_mail_address
+from debvote_tools.poll.announced import address_in
+from debvote_tools.poll.call import CallData
 from debvote_tools.poll.plain_names import without_accents
 from debvote_tools.text.ballots import without_ballots
 from debvote_tools.text.language import Language, marked
@@ -193,7 +194,7 @@ class Composer:
 
 def is_on_paper(elector: Elector) -> bool:
     """Whether letters to an elector are printed: no address is one that every mail server takes."""
-    return not any(map(is_mail_address, elector.addresses))
+    return not address_in(elector.addresses)
 
 
 def faults_of(

@@ -1,4 +1,4 @@
-"""What a call says, as one value, which addresses it can say, and the files that are made from it."""
+"""What a call says, as one value, and the files that are made from it."""
 
 import dataclasses
 import datetime
@@ -8,25 +8,10 @@ import urllib.parse
 from collections.abc import Iterable, Mapping
 
 from debvote_tools.text.ballots import IN_A_LIST, without_ballots
-from debvote_tools.cli.faults import Fault, Status
-from debvote_tools.cli.console import LINE_ENDS, odd_sign
 from debvote_tools.files import sha256_of
 from debvote_tools.text.language import Language, marked
 from debvote_tools.text.rendering import render_letter, render_page, resources
-from debvote_tools.poll.marks import in_brackets
-from debvote_tools.poll.sealed import SealedPoll
-
-MAIL = re.compile(r"[A-Za-z0-9_][A-Za-z0-9._+=-]*@[A-Za-z0-9-]+(\.[A-Za-z0-9-]+)*")
-MAIL_LIMIT = 254
-
-# `Name <ADDRESS>`, and how many characters such a name may have
-NAMED = re.compile(r"(?P<quote>\"?)(?P<name>.*?)(?P=quote)\s*<(?P<address>[^<>]*)>", re.DOTALL)
-NAME_LIMIT = 100
-
-# printable ASCII without blanks, what ends an address in a letter, and the # of a personal link
-WEB = re.compile(r"[!$-;=?-_a-z~]+")
-WEB_LIMIT = 500
-HOST = re.compile(r"[A-Za-z0-9.-]*[A-Za-z0-9]|\[[0-9A-Fa-f:.]+\]")
+from debvote_tools.poll.sealed import SealedPoll, in_brackets
 
 # a first line that greets: it ends as one does, or begins so in one of the languages
 GREETING = re.compile(
@@ -172,47 +157,6 @@ def explanations_of(poll: SealedPoll) -> list[tuple[int, list[str]]]:
 
 def paragraphs_of(text: str) -> list[str]:
     return [lines for lines in re.split(r"\n(?:[ \t]*\n)+", text.strip("\n")) if lines.strip()]
-
-
-def named_address(text: str) -> tuple[str, str]:
-    """Name and address of `Name <ADDRESS>`, or of an address alone, whose name is empty."""
-    found = NAMED.fullmatch(text.strip())
-    name, address = (found["name"], found["address"]) if found else ("", text)
-    demand_mail_address(address)
-    if len(name) > NAME_LIMIT or odd_sign(name, refused=f'{LINE_ENDS}<>"') is not None:
-        reason = (
-            f"the name has to be at most {NAME_LIMIT} characters, without quotation marks, < and >"
-        )
-        raise Fault("--to", reason, 'write it as "Name <ADDRESS>"', Status.BAD_WORDS)
-    return name, address
-
-
-def demand_mail_address(text: str, option: str = "--to") -> None:
-    if not is_mail_address(text):
-        reason = "it must be one mail address, as secretary@example.org"
-        raise Fault(option, reason, "write it again", Status.BAD_WORDS)
-
-
-def is_mail_address(text: str) -> bool:
-    """Whether a text is one plain mail address, in characters that every mail server takes."""
-    return len(text) <= MAIL_LIMIT and MAIL.fullmatch(text) is not None
-
-
-def demand_web_address(text: str) -> None:
-    """Stops at what is no address by http or https, or has a user, a password or a fragment."""
-    try:
-        parts = urllib.parse.urlsplit(
-            text if len(text) <= WEB_LIMIT and WEB.fullmatch(text) else ""
-        )
-        host = parts.netloc.rpartition(":")[0] or parts.netloc
-        if parts.scheme in ("http", "https") and parts.port != 0 and HOST.fullmatch(host):
-            return
-    except ValueError:
-        pass
-    reason = (
-        "it must be the address of a page, as https://example.org/vote/, without a part after #"
-    )
-    raise Fault("--at", reason, "write it as a browser shows it", Status.BAD_WORDS)
 
 
 # ---------------------------------------------------------------- the files

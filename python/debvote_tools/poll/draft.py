@@ -13,7 +13,7 @@ from debvote_tools.book import queries
 from debvote_tools.cli.console import LINE_ENDS, count_of, shown_text, tell, tell_as_it_is
 from debvote_tools.book.election import LETTER_TEXT, POLL_FILE, TEXTS, Election, History
 from debvote_tools.cli.faults import Fault, Status, kept_in, stop_at
-from debvote_tools.files import POLL_LIMIT, file_text, read_whole
+from debvote_tools.files import POLL_LIMIT, bad_file, read_text, read_whole
 from debvote_tools.poll.plain_names import bad_options, bad_title, plain_options, plain_title
 from debvote_tools.poll.sealed import KEYS, SealedPoll, is_set, plain_form, read_plain
 from debvote_tools.result.sheet import Sheet, sheet_in
@@ -28,8 +28,8 @@ TEXT_NAME = re.compile(r"([1-9][0-9]?)\.txt")
 # a file that an editor leaves beside another
 OF_EDITORS = re.compile(r"\..*|.*~|#.*#")
 
-# what follows each cure
-THEN = ", then run debvote-election check"
+# a cure, and what follows each cure
+BY_EDITOR, THEN = "put it right with an editor", ", then run debvote-election check"
 
 # how a key of a sealed poll is set that is not the secretary's; all others are
 SET_ELSEWHERE = {
@@ -61,16 +61,13 @@ class DraftPoll(NamedTuple):
 
 # ---------------------------------------------------------------- the files
 def draft_in(folder: pathlib.Path) -> DraftPoll:
-    """Reads the poll of a folder, and the texts beside it. Raises `Fault` if the poll can't be read
-    at all.
-    """
+    """Reads the poll of a folder, and the texts beside it."""
     file = folder / POLL_FILE
     data = read_whole(file, POLL_LIMIT, "write it", THEN)
     try:
         values = tomllib.loads(data.decode("utf-8-sig"))
     except (ValueError, RecursionError) as error:
-        reason = f"it can't be read as TOML 1.0: {error}"
-        raise bad_poll(file, reason, "put it right with an editor") from None
+        raise bad_poll(file, f"it can't be read as TOML 1.0: {error}", BY_EDITOR) from None
     options = values["options"] if isinstance(values.get("options"), list) else []
     title, *names = (
         name.strip() if isinstance(name, str) else ""
@@ -119,43 +116,43 @@ def texts_in(folder: pathlib.Path, option_count: int) -> tuple[dict[int, str], l
         return {}, []
     except OSError as error:
         cure = "put a folder there with a text for each option"
-        return {}, [Fault(folder, error.strerror, cure, Status.BAD_WORDS, None)]
+        return {}, [bad_file(folder, error.strerror, cure)]
     for file in files:
         number = TEXT_NAME.fullmatch(file.name)
         if number is None or int(number[1]) > option_count:
             most = f"1.txt to {option_count}.txt" if option_count else "1.txt and so on"
             cure = f"name it by the number of an option that is not the default, {most}, or move it out of there"
             reason = "it is not the text of an option of this poll"
-            faults.append(Fault(file, reason, cure, Status.BAD_WORDS, None))
+            faults.append(bad_file(file, reason, cure))
             continue
         with kept_in(faults):
             texts[int(number[1])] = text_in(file, TEXTS_LIMIT)
     size = sum(len(text.encode()) for text in texts.values())
     if size > TEXTS_LIMIT:
         reason = f"the texts have {size} bytes together; at most {TEXTS_LIMIT} are allowed"
-        faults.append(Fault(folder, reason, f"shorten them{THEN}", Status.BAD_WORDS, None))
+        faults.append(bad_file(folder, reason, f"shorten them{THEN}"))
     return dict(sorted(texts.items())), faults
 
 
 def text_in(file: pathlib.Path, limit: int) -> str:
-    """A text of the secretary. Raises `Fault` if it is not plain text in UTF-8."""
-    data = read_whole(file, limit, "put a readable file there, or remove it", THEN)
-    return file_text(data, file, "write it, or remove the file", THEN, refused=LINE_ENDS)
+    unread, empty = "put a readable file there, or remove it", "write it, or remove the file"
+    return read_text(file, limit, unread, empty, THEN, refused=LINE_ENDS)
 
 
 def letter_text_in(folder: pathlib.Path) -> str:
-    """What the secretary writes at the head of letters to electors; empty without such a file."""
+    """What begins letters to electors; empty without such a file."""
     file = folder / LETTER_TEXT
     return text_in(file, LETTER_LIMIT).strip("\n") + "\n" if os.path.lexists(file) else ""
 
 
 # ---------------------------------------------------------------- what is wrong with it as a whole
 def faults_when_sealed(draft: DraftPoll, language: str) -> list[Fault]:
-    """Names that electors could not read rightly, or tell from each other."""
+    """Names that electors could not read, or tell from each other."""
     faults, plain_names = [], plain_options(draft.names, language)
-    for bad in (*bad_title(draft.title), *bad_options(draft.names, plain_names)):
-        which = f"option {bad.number}" if bad.number else "the title"
-        reason = f"{which}, `{shown_text(bad.name)}`: {bad.reason}"
+    bad_names = (*bad_title(draft.title), *bad_options(draft.names, plain_names))
+    for number, name, why in bad_names:
+        which = f"option {number}" if number else "the title"
+        reason = f"{which}, `{shown_text(name)}`: {why}"
         faults.append(bad_poll(draft.folder / POLL_FILE, reason, "write it in another way"))
     return faults
 
@@ -168,8 +165,8 @@ def sealed_form(
     deadline: str | None = None,
     address: str | None = None,
 ) -> bytes:
-    """The poll as it would be sealed, for debvote to say what is wrong: a missing key stays missing,
-    a value of another type or an unknown key stays.
+    """The poll as it would be sealed, for debvote to say what is wrong: missing and unknown keys,
+    and values of a wrong type, stay.
     """
     title, plain_names = plain_title(draft.title, language), plain_options(draft.names, language)
     made = {
@@ -212,7 +209,7 @@ class Checked(NamedTuple):
 def checked(
     election: Election, *, deadline: str | None = None, address: str | None = None
 ) -> Checked:
-    """Checks the poll, with its texts, and the text of the letters. Raises all faults at once."""
+    """Checks the poll and all texts. Raises all faults at once."""
     try:
         draft = draft_in(election.folder)
     except Fault as fault:
@@ -224,7 +221,7 @@ def checked(
             raise
         tell_as_it_is(said)
         reason = "it can't be read as TOML, as said above"
-        raise bad_poll(fault.file, reason, "put it right with an editor") from None
+        raise bad_poll(fault.file, reason, BY_EDITOR) from None
     language = election.language.code
     roll = [elector.name for elector in queries.electors(election.book)]
     faults = [*draft.faults, *faults_when_sealed(draft, language)]
@@ -246,10 +243,9 @@ def faults_by_debvote(election: Election, poll_bytes: bytes) -> list[Fault]:
     if not answer.text:
         said = answer.faults.strip().removeprefix("debvote: ")
         reason = said or f"debvote ended with status {answer.status}"
-        cure = f"run {election.command('check')} again"
-        return [Fault(file, reason, cure, answer.status, None)]
+        return [Fault(file, reason, f"run {election.command('check')} again", answer.status, None)]
     return [
-        bad_poll(file, line.removeprefix("poll: "), "put it right with an editor")
+        bad_poll(file, line.removeprefix("poll: "), BY_EDITOR)
         for line in answer.text.splitlines()
         if line.startswith("poll: ")
     ]

@@ -114,13 +114,12 @@ class Roll(NamedTuple):
 
 # ---------------------------------------------------------------- the table
 def members_in(file: pathlib.Path) -> Roll:
-    """Reads the list of members. Raises `Fault` if it is no table with their columns."""
     unread = "the list of members is a CSV file, as a spreadsheet saves it: put it there"
     return members_of(read_whole(file, TABLE_LIMIT, unread, f", {AGAIN}"), file)
 
 
 def members_of(data: bytes, file: object = "members.csv") -> Roll:
-    """The members as the table has them, some of them without a name."""
+    """The members as the table has them. Raises `Fault` if it has not the right columns."""
     wanted = re.findall(r"\w+", " ".join(HEADS.values()))
     table = read_table(data, wanted, file, bad_list, skips_spaces=True)
     heads = [re.sub(r"[\W_]", "", alike(head)) for head in table.head.cells]
@@ -165,7 +164,7 @@ def faults_of(file: object, wrong: Iterable[Wrong]) -> list[Fault]:
 
 
 def member_of(row: Row, indices: Mapping[str, Sequence[int]]) -> Member:
-    """The member of a row, with what each column has on one line."""
+    """The member of a row, each cell on one line."""
     cells = {}
     for column, places in indices.items():
         text = " ".join(row.cells[index] for index in places)
@@ -216,8 +215,8 @@ def wrong_row(row: Row, member: Member, width: int, delimiter: str) -> Iterator[
 def roll_of(
     members: Roll, known: Sequence[Elector], language: str, *, is_called: bool = False
 ) -> Roll:
-    """The roll of a list; `known` are all electors of the book. After the call addresses and keys
-    alone may change.
+    """The roll of a list; `known` are all electors of the book. After the call only addresses and
+    keys may change.
     """
     electors = with_proposals(with_known(members.electors, known), known, language)
     numbers = {elector.known.number for elector in electors if elector.known}
@@ -235,8 +234,8 @@ def roll_of(
 
 
 def with_known(rows: Sequence[Member], known: Sequence[Elector]) -> list[Member]:
-    """Finds each member in the book: by the name on the roll, else by `who`, among the electors on
-    the roll, else among all. Nobody is found if several fit.
+    """Finds each member in the book: by the name on the roll, else by `who`, among those on the
+    roll, else among all. Nobody is found if several fit.
     """
     found: dict[int, Elector] = {}
     last = [elector for elector in known if elector.position is not None]
@@ -326,7 +325,6 @@ def wrong_people(rows: Sequence[Member], electors: Sequence[Member]) -> Iterator
 
 
 def wrong_after_call(electors: Sequence[Member], gone: Sequence[Elector]) -> Iterator[Wrong]:
-    """People who are not as the call has them."""
     cure = "put the list back as it was: after the call only addresses and keys may change"
     others: dict[str, Sequence[Member | Elector]] = {
         "missing": gone,

@@ -5,10 +5,9 @@ import itertools
 import re
 import unicodedata
 from collections.abc import Collection, Iterable, Mapping, Sequence
-from typing import NamedTuple
 
 from debvote_tools.cli.console import LINE_ENDS, number_of, odd_sign, shown_text
-from debvote_tools.poll.marks import marks_in
+from debvote_tools.poll.sealed import marks_in
 
 # how long a plain name may be, in bytes, and a name as people read it, in characters
 TITLE_LIMIT, OPTION_LIMIT, ELECTOR_LIMIT = 80, 40, 32
@@ -53,8 +52,8 @@ REFUSED_IN_NAMES = f"{LINE_ENDS}\ufff9\ufffa\ufffb"
 
 # ---------------------------------------------------------------- plain text
 def without_accents(text: str, language: str) -> str:
-    """The text without accents, as the language spells it. Letters of other scripts stay. The page
-    of the result does the same.
+    """The text without accents, as the language spells it, as the page of the result does. Letters
+    of other scripts stay.
     """
     if text.isascii():
         return text
@@ -93,8 +92,8 @@ def plain_text(text: str, language: str, limit: int) -> str:
 def made_different(
     bases: Sequence[str], taken: Collection[str], limit: int, joint: str
 ) -> list[str]:
-    """A name for each base that looks like no other and like none that is taken. Equal bases all get
-    a number: a ballot for the bare name could be meant for any of them.
+    """A name for each base that looks like no other and like none that is taken. Equal bases all
+    get a number: the bare name could be meant for any of them.
     """
     used = set(map(alike, taken))
     several = {form for form, count in collections.Counter(map(alike, bases)).items() if count > 1}
@@ -118,7 +117,7 @@ def plain_title(title: str, language: str) -> str:
 
 
 def plain_options(names: Sequence[str], language: str) -> list[str]:
-    """The plain names of all options. An empty name stays empty, so that it is refused."""
+    """The plain names of all options. An empty one stays empty, so that it is refused."""
     bases = {
         number: plain_text(name, language, OPTION_LIMIT) or f"Option {number}"
         for number, name in enumerate(names, start=1)
@@ -131,9 +130,7 @@ def plain_options(names: Sequence[str], language: str) -> list[str]:
 
 # ---------------------------------------------------------------- electors
 def elector_name(who: str, language: str) -> str:
-    """Proposes a name on the roll: `Meier, Dr. Anna` is anna-meier. It may be too long, or empty if
-    nothing is left.
-    """
+    """Proposes a name on the roll, as anna-meier for `Meier, Dr. Anna`, perhaps too long or empty."""
     for text in (TITLE.sub(" ", who), who):
         parts = [
             re.sub(r"[^a-z0-9]+", "-", part).strip("-")
@@ -151,9 +148,7 @@ def is_elector_name(name: str) -> bool:
 
 
 def similar_names(names: Iterable[str]) -> Iterable[tuple[str, str]]:
-    """Pairs of names that differ by one sign, or by the order of their words. Numbers make no
-    difference.
-    """
+    """Pairs of names that differ by one sign, or by the order of their words, beside numbers."""
     bare: dict[str, str] = {}
     for name in names:
         bare.setdefault(re.sub("-?[0-9]+", "", name), name)
@@ -168,12 +163,8 @@ def similar_names(names: Iterable[str]) -> Iterable[tuple[str, str]]:
 
 
 # ---------------------------------------------------------------- names that people read
-class BadName(NamedTuple):
-    """Why a name is refused as people would read it. Options are numbered from 1; the title is 0."""
-
-    number: int
-    name: str
-    reason: str
+# a name that people would not read rightly, and why; options are numbered from 1, the title is 0
+BadName = tuple[int, str, str]
 
 
 def alike(text: str) -> str:
@@ -195,20 +186,20 @@ def bad_title(title: str) -> list[BadName]:
     if marks_in(title):
         # each answer would wait as one about that vote
         reasons.append("it has the mark of a vote in brackets, as only subjects of letters do")
-    return [BadName(0, title, reason) for reason in reasons]
+    return [(0, title, reason) for reason in reasons]
 
 
 def bad_options(names: Sequence[str], plain_names: Sequence[str]) -> list[BadName]:
     """Names of options that people can't read or tell apart. Of equal plain names debvote speaks."""
     options = list(enumerate(zip(names, plain_names), start=1))
-    found = [BadName(at, name, why) for at, (name, _) in options for why in bad_characters(name)]
+    found = [(at, name, why) for at, (name, _) in options for why in bad_characters(name)]
     for (first, (name, plain)), (second, (other, other_plain)) in itertools.combinations(
         options, 2
     ):
         like = {alike(plain): "the plain name of ", alike(name): ""}.get(alike(other))
         if like is not None and alike(other) and plain != other_plain:
             reason = f"it looks like {like}option {first}, `{shown_text(name)}`, except for case, accents, blanks or invisible characters"
-            found.append(BadName(second, other, reason))
+            found.append((second, other, reason))
     return found
 
 

@@ -1,11 +1,14 @@
 """The sealed poll, in plain form: TOML with a line `key = value` for each key, in the order of
-`KEYS`, each value as JSON writes it. One SHA-256 covers all that the call announces.
+`KEYS`, each value as JSON writes it. One SHA-256 covers all that the call announces; its first
+digits are the mark of the poll in the subjects of letters.
 """
 
 import dataclasses
 import datetime
 import functools
 import json
+import re
+import secrets
 from collections.abc import Sequence
 from typing import Any, NamedTuple
 
@@ -57,20 +60,19 @@ class SealedPoll:
 
     @property
     def plain_names(self) -> tuple[str, ...]:
-        """The plain names of all options, the default last."""
         return (*self.options, self.default)
 
     @property
     def names(self) -> tuple[str, ...]:
-        """The names of all options that people read, the default last."""
+        """The names that people read, the default last."""
         return self.shown_options or self.plain_names
 
     @functools.cached_property
     def choices(self) -> list[Wording]:
         """All options, the default last."""
         texts = self.explanations or [""] * len(self.options)
-        facts = zip(self.names, self.plain_names, (*self.ratios, None), (*texts, ""))
-        return [Wording(number, *each) for number, each in enumerate(facts, start=1)]
+        rows = zip(self.names, self.plain_names, (*self.ratios, None), (*texts, ""))
+        return [Wording(number, *each) for number, each in enumerate(rows, start=1)]
 
     @property
     def name(self) -> str:
@@ -111,7 +113,7 @@ def plain_form(values: dict[str, Any]) -> bytes:
 
 @functools.lru_cache(4)
 def read_plain(data: bytes, file: object = "poll.toml") -> SealedPoll:
-    """Reads a poll in plain form. Raises `Fault` if it is not in this form, byte for byte."""
+    """Reads a poll in plain form, which it must have byte for byte."""
     try:
         pairs = [line.split(" = ", 1) for line in data.decode("utf-8").split("\n")[:-1]]
         poll = poll_of({key: json.loads(value) for key, value in pairs})
@@ -124,9 +126,7 @@ def read_plain(data: bytes, file: object = "poll.toml") -> SealedPoll:
 
 
 def poll_of(values: dict[str, Any]) -> SealedPoll:
-    """The poll of these keys, with lists as JSON and TOML have them. Raises TypeError if a key is
-    missing or too many.
-    """
+    """The poll of these keys. Raises TypeError if a key is missing or too many."""
     return SealedPoll(
         **{key: tuple(value) if isinstance(value, list) else value for key, value in values.items()}
     )
@@ -135,3 +135,27 @@ def poll_of(values: dict[str, Any]) -> SealedPoll:
 def with_roll(poll: SealedPoll, roll: Sequence[str]) -> SealedPoll:
     """The same poll with another roll, as that of aliases."""
     return dataclasses.replace(poll, roll=tuple(roll))
+
+
+# ---------------------------------------------------------------- marks in subjects
+# an own mark has 10 of these signs, none of which is easily taken for another
+OWN_SIGNS, OWN_LENGTH = "23456789abcdefghjkmnpqrstuvwxyz", 10
+
+# a mark in a text without blanks, in either case
+MARKS = re.compile(rf"\[([0-9a-f]{{16}})(?:-([{OWN_SIGNS}]{{{OWN_LENGTH}}}))?\]")
+
+
+def new_own_mark() -> str:
+    return "".join(secrets.choice(OWN_SIGNS) for _ in range(OWN_LENGTH))
+
+
+def in_brackets(mark: str, own: str = "") -> str:
+    """The mark of a poll as subjects end with it, with the own mark of an elector who has one."""
+    return f"[{mark}-{own}]" if own else f"[{mark}]"
+
+
+def marks_in(text: str) -> list[tuple[str, str]]:
+    """The marks in a text: that of the poll, and the own one, which is empty if there is none.
+    Blanks and line ends within a mark are passed over, as mail programs fold subjects.
+    """
+    return MARKS.findall("".join(text.split()).lower())

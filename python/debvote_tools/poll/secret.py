@@ -8,7 +8,7 @@ import secrets
 from collections.abc import Collection, Iterable, Mapping, Sequence
 
 from debvote_tools.book.queries import Elector
-from debvote_tools.cli.faults import Fault, Status
+from debvote_tools.cli.faults import Fault
 from debvote_tools.files import sha256_of
 from debvote_tools.inbox.lines import CODE_WITHIN
 from debvote_tools.poll.call import PACKAGE, CallData
@@ -36,9 +36,7 @@ FORMULA = re.compile(
 
 # ---------------------------------------------------------------- codes
 def new_code(name: str = "") -> str:
-    """Draws 16 random bytes in hex digits, again if a spreadsheet would take the code or the alias
-    for a number.
-    """
+    """Draws 16 random bytes in hex digits, until no spreadsheet takes code or alias for a number."""
     while True:
         code = secrets.token_hex(16)
         if not NUMBER.fullmatch(code) and not NUMBER.fullmatch(alias_of(code, name)):
@@ -48,17 +46,12 @@ def new_code(name: str = "") -> str:
 def demand_no_code(name: str, data: bytes, codes: Collection[str], done: str) -> None:
     """Stops if a file for everybody would have a code: the list of codes may be one of the texts."""
     if codes and not {code.decode() for code in CODE_WITHIN.findall(data)}.isdisjoint(codes):
-        raise Fault(
-            None,
-            f"{name} would have the code of an elector in it",
-            "check the texts that you gave",
-            Status.DOUBT,
-            done,
-        )
+        words = f"{name} would have the code of an elector in it"
+        raise Fault(None, words, "check the texts that you gave", done=done)
 
 
 def codes_csv(electors: Iterable[Elector]) -> bytes:
-    """The table of the codes, for a spreadsheet or a mail merge, with harmless cells."""
+    """The table of the codes, for a spreadsheet or a mail merge."""
     text = io.StringIO()
     table = csv.writer(text, lineterminator="\n")
     table.writerow(("name", "who", "mail", "code", "alias"))
@@ -68,14 +61,12 @@ def codes_csv(electors: Iterable[Elector]) -> bytes:
 
 
 def harmless(cell: str) -> str:
-    """A cell on one line, with an apostrophe before what a spreadsheet would run, also if it splits
-    the cell at another delimiter.
-    """
+    """A cell on one line, with an apostrophe before what a spreadsheet would run."""
     return FORMULA.sub(r"\1'", " ".join(cell.splitlines()))
 
 
 def slips(call: CallData, electors: Sequence[Elector]) -> bytes:
-    """The page of slips, to be printed and cut. With codes on the roll the name is the code."""
+    """The page of slips, to be cut. With codes on the roll the name is the code."""
     style, language = resources(PACKAGE, "slips.css"), call.language
     return render_page(PACKAGE, "slips.html", language, style=style, call=call, electors=electors)
 
@@ -92,10 +83,8 @@ def aliased_poll(poll: SealedPoll, aliases: Mapping[str, str]) -> SealedPoll:
 
 
 def aliased_ballots(standing: Mapping[str, str], aliases: Mapping[str, str]) -> bytes:
-    """The current ballots, in the order of the aliases, with their ranks in normal form.
-
-    `standing` has the ranks by name. Ranks such as 17,33,99 would be a mark by which a buyer of
-    votes finds the ballot again.
+    """The current ballots, from ranks by name, in the order of the aliases. Ranks such as 17,33,99
+    would be a mark by which a buyer of votes finds the ballot again.
     """
     return "".join(
         sorted(f"{aliases[name]} {in_normal_form(ranks)}\n" for name, ranks in standing.items())
@@ -103,8 +92,8 @@ def aliased_ballots(standing: Mapping[str, str], aliases: Mapping[str, str]) -> 
 
 
 def seal_line() -> str:
-    """Draws the random line that the checksum of the close covers. Without this line the ballots,
-    if they are few, could be guessed from the checksum.
+    """Draws the random line that the checksum of the close covers: without it few ballots could be
+    guessed from the checksum.
     """
     return secrets.token_hex(16)
 

@@ -67,6 +67,7 @@ def main(program_folder: pathlib.Path, given: Sequence[str] | None = None) -> in
     target_folder = pathlib.Path(arguments.target)
     console.prepare()
     try:
+        folder.demand_outside(target_folder)
         if not folder.is_free(target_folder):
             raise folder.in_use(target_folder, "an empty folder", "name another folder")
         facts = facts_of(arguments, program_folder)
@@ -144,11 +145,12 @@ def sealed_of(poll_bytes: bytes, file: str) -> SealedPoll:
         words = f"a sealed poll cannot have such a value of {', '.join(strange)}"
         raise refused(file, words, cure)
     poll = poll_of(values)
-    bad = bad_title(poll.name) if poll.name != poll.title else []
-    found = bad_options(poll.names, poll.plain_names)
-    bad += [name for name in found if name.name != poll.plain_names[name.number - 1]]
-    if bad:
-        raise refused(file, f"a shown name can't be published: {bad[0].reason}", cure)
+    found = bad_title(poll.name) if poll.name != poll.title else []
+    for number, name, why in bad_options(poll.names, poll.plain_names):
+        if name != poll.plain_names[number - 1]:
+            found.append((number, name, why))
+    for _, _, why in found[:1]:
+        raise refused(file, f"a shown name can't be published: {why}", cure)
     return poll
 
 

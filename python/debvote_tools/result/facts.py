@@ -9,7 +9,7 @@ from collections.abc import Callable, Mapping
 from typing import Any
 
 from debvote_tools.debvote import Finding, casting_words
-from debvote_tools.inbox.lines import ballot_lines
+from debvote_tools.text.ballots import ballot_lines
 from debvote_tools.poll.sealed import SealedPoll
 from debvote_tools.result.sheet import Sheet, sheet_in
 from debvote_tools.text.language import ENGLISH, Language

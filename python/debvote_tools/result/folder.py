@@ -14,7 +14,7 @@ import tempfile
 from collections.abc import Iterator
 
 from debvote_tools.cli.console import tell_aside, tell_aside_as_it_is
-from debvote_tools.cli.faults import Fault, Status
+from debvote_tools.cli.faults import Fault, Status, bad_words
 from debvote_tools.debvote import Answer, Debvote, findings_in
 from debvote_tools.files import TEMPORARY, locked, sha256_of, sync_folder, write_public
 from debvote_tools.poll.secret import demand_no_code
@@ -103,6 +103,15 @@ def is_free(target_folder: pathlib.Path) -> bool:
     """Whether nothing is there, or an empty folder."""
     place = real_place(target_folder)
     return not os.path.lexists(place) or (place.is_dir() and not os.listdir(place))
+
+
+def demand_outside(target_folder: pathlib.Path) -> None:
+    """Stops at a place within a published folder, or that of a call, which stays as it is."""
+    for above in real_place(target_folder).parents:
+        if all((above / name).is_file() for name in (CHECKSUMS, facts.PAGE)):
+            words = f"it would be in {above}, whose files are published as they are"
+            cure = "name a folder outside of it"
+            raise bad_words(target_folder, words, cure, NOTHING_DONE)
 
 
 def is_publication(folder: pathlib.Path, checksum: str) -> bool:

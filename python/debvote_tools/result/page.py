@@ -14,14 +14,13 @@ from markupsafe import Markup
 
 from debvote_tools.cli.console import seen, tell_aside
 from debvote_tools.debvote import standing_in
-from debvote_tools.inbox.lines import ballot_lines
 from debvote_tools.poll.secret import BY_OPENSSL, BY_PYTHON, sealed_checksum
 from debvote_tools.poll.call import explanations_of, numbered_options, paragraphs_of
 from debvote_tools.result import facts as files, scripts
 from debvote_tools.result.facts import Answers, Facts
 from debvote_tools.result.sheet import Sheet
 from debvote_tools.result.why import Why
-from debvote_tools.text.ballots import IN_A_LIST, BallotWords
+from debvote_tools.text.ballots import IN_A_LIST, ballot_lines, ballots_in_words
 from debvote_tools.text.language import ENGLISH, Language
 from debvote_tools.text.rendering import InHtml, render_letter, render_page, resources
 from debvote_tools.text.times import date_in_words
@@ -80,9 +79,8 @@ def page_of(facts: Facts, answers: Answers, checksums: Mapping[str, str]) -> byt
     standing, lines = standing_in(answers.standing_text), ballot_lines(facts.ballots)
     # many ballots are alike
     have_names = len(standing) * sum(map(len, named.values())) <= NAMES_LIMIT
-    words = BallotWords(
-        [str(name if have_names else key) for key, name in named.items()], language, IN_A_LIST
-    )
+    shown = [str(name if have_names else key) for key, name in named.items()]
+    in_words_of = ballots_in_words(shown, language, IN_A_LIST)
     style, picture = resources(__package__, "fields.css", "given.css", "page.css"), None
     if answers.picture is not None and len(names) <= MOST_IN_PAGE:
         picture, least_width = picture_in_page(answers.picture, language)
@@ -117,7 +115,7 @@ def page_of(facts: Facts, answers: Answers, checksums: Mapping[str, str]) -> byt
         explanations=explanations_of(poll),
         picture=picture,
         picture_command=shlex.join(drawing_words(len(names))),
-        ballot_words={ranks: Markup(words.of(ranks)) for ranks in set(standing.values())},
+        ballot_words={ranks: Markup(in_words_of(ranks)) for ranks in set(standing.values())},
         have_names=have_names,
         standing=standing,
         refused=runs_of(((at, lines[at - 1], cause) for at, cause in refused), in_html),

@@ -15,7 +15,6 @@ from debvote_tools.cli.console import is_terminal, is_yes, tell_aside
 from debvote_tools.cli.faults import Fault
 from debvote_tools.debvote import casting_words
 from debvote_tools.files import sha256_of
-from debvote_tools.inbox.lines import ballot_file
 from debvote_tools.inbox.waiting import left
 from debvote_tools.poll.secret import aliased_ballots, sealed_checksum
 from debvote_tools.poll.call import CallData
@@ -31,7 +30,7 @@ from debvote_tools.result.facts import (
     SecretVote,
     Words,
 )
-from debvote_tools.text.ballots import in_normal_form
+from debvote_tools.text.ballots import ballot_file, in_normal_form
 from debvote_tools.text.language import Language, language_of
 from debvote_tools.text.rendering import render_letter
 
@@ -222,11 +221,10 @@ def doubts_of(
 
 def late_letters_in_time(book: Book, history: History) -> list[Doubt]:
     """A doubt for each letter that arrived before the end and the first close, and whose ballot is
-    late and was not entered again.
+    late, was not entered again, and would count: its elector has no later ballot.
     """
-    late = (
-        queries.envelopes(book, f"{queries.LATE} AND letter IS NOT NULL") if history.closes else []
-    )
+    condition = f"{queries.LATE} AND letter IS NOT NULL AND {queries.NOT_REPLACED}"
+    late = queries.envelopes(book, condition) if history.closes else []
     if late:
         counting = {line: number for number, line in queries.numbered_lines_in_time(book)}
         late = [envelope for envelope in late if counting.get(envelope.line, 0) < envelope.number]
@@ -238,7 +236,7 @@ def late_letters_in_time(book: Book, history: History) -> list[Doubt]:
         numbers.setdefault(envelope.letter, []).append(str(envelope.number))
     found = []
     for kept in queries.letters(book):
-        arrived = json.loads(kept.known)["arrived"] if kept.number in numbers else None
+        arrived = json.loads(kept.parsed_json)["arrived"] if kept.number in numbers else None
         if arrived is not None and from_text(arrived) <= last:
             places = {
                 "letter": kept.number,
@@ -271,9 +269,9 @@ def after_the_end(book: Book, history: History) -> int:
     """
     if history.until is None:
         return 0
-    condition = f"{queries.IN_TIME} AND letter IS NULL AND time > ? AND act < ?"
+    condition = "letter IS NULL AND time > ? AND act < ?"
     first_close = history.closes[0].number if history.closes else history.last.number + 1
-    return len(queries.lines(book, condition, as_text(history.until), first_close))
+    return len(queries.lines(book, condition, as_text(history.until), first_close, view="ballot"))
 
 
 def acts_of_page(act: DoneAct, book: Book, history: History, *, is_secret: bool) -> Iterator[Act]:

@@ -1,10 +1,10 @@
-"""A ballot in words, from its ranks as `standing` and the ballot file spell them, such as
+"""Ballot files; a ballot in words, from its ranks as `standing` and the ballot file spell them, such as
 `1,2,-,3`; and texts of which no line reads as a ballot.
 """
 
 import functools
 import re
-from collections.abc import Callable, Sequence
+from collections.abc import Callable, Iterable, Sequence
 from typing import NamedTuple
 
 from debvote_tools.text.language import ENGLISH, Language, marked
@@ -38,10 +38,17 @@ IN_A_LIST = Phrases(
 )
 
 
+def ballot_lines(ballots_bytes: bytes) -> list[bytes]:
+    """The lines of a ballot file; the last one may lack its line feed."""
+    return ballots_bytes.removesuffix(b"\n").split(b"\n") if ballots_bytes else []
+
+
+def ballot_file(lines: Iterable[bytes]) -> bytes:
+    return b"\n".join([*lines, b""])
+
+
 def in_normal_form(ranks: str) -> str:
-    """The same order with ranks 1, 2 and so on: equal ranks stay equal, and options that are not
-    ranked stay so.
-    """
+    """The same order with ranks 1, 2 and so on."""
     given = ranks.split(",")
     in_order = enumerate(sorted({*given} - {UNRANKED}, key=int), start=1)
     normal = {UNRANKED: UNRANKED} | {rank: str(number) for number, rank in in_order}
@@ -49,44 +56,38 @@ def in_normal_form(ranks: str) -> str:
 
 
 def ranks_in_words(ranks: str, names: Sequence[str], language: Language = ENGLISH) -> str:
-    """A valid ballot in words without markup: "At the lake, then Further discussion, then ..".
-
-    The names are those of the options in the order of their numbers, the default option last.
+    """A valid ballot without markup: "At the lake, then Further discussion, then ..". The names are
+    those of the options, the default option last.
     """
-    return BallotWords(names, language).of(ranks)
+    return ballots_in_words(names, language)(ranks)
 
 
-class BallotWords:
+def ballots_in_words(
+    names: Sequence[str], language: Language = ENGLISH, phrases: Phrases = IN_A_TEXT
+) -> Callable[[str], str]:
     """The same for many ballots: `add` prints 100,000."""
+    alone, then = [(name,) for name in names], language.between(phrases.then)
 
-    def __init__(
-        self, names: Sequence[str], language: Language = ENGLISH, phrases: Phrases = IN_A_TEXT
-    ) -> None:
-        self.language, self.phrases = language, phrases
-        self.names = [(name,) for name in names]
-        self.then = language.between(phrases.then)
-        # many ballots have few groups of options that are equal
-        self.step = functools.cache(self.step_in_words)
+    # many ballots have few groups of options that are equal
+    @functools.cache
+    def step(group: tuple[str, ...]) -> str:
+        if len(group) == 1:
+            return group[0]
+        return language.say(phrases.equally, options=language.joined(group))
 
-    def of(self, ranks: str) -> str:
+    def in_words(ranks: str) -> str:
         steps: dict[str, tuple[str, ...]] = {}
-        for rank, name in zip(ranks.split(","), self.names):
+        for rank, name in zip(ranks.split(","), alone):
             steps[rank] = steps[rank] + name if rank in steps else name
         unranked = steps.pop(UNRANKED, ())
         if not steps:
-            return self.language.say(self.phrases.nothing)
-        in_order = sorted(steps, key=NUMBERS.__getitem__)
-        said = self.then.join(map(self.step, map(steps.__getitem__, in_order)))
+            return language.say(phrases.nothing)
+        said = then.join(step(steps[rank]) for rank in sorted(steps, key=NUMBERS.__getitem__))
         if not unranked:
             return said
-        others = self.language.joined(unranked)
-        return self.language.say(self.phrases.unranked, ranked=said, unranked=others)
+        return language.say(phrases.unranked, ranked=said, unranked=language.joined(unranked))
 
-    def step_in_words(self, names: tuple[str, ...]) -> str:
-        """The options that share one rank, in words."""
-        if len(names) == 1:
-            return names[0]
-        return self.language.say(self.phrases.equally, options=self.language.joined(names))
+    return in_words
 
 
 # ---------------------------------------------------------------- no line reads as a ballot
@@ -111,9 +112,9 @@ def may_read_as_ballot(line: str, options: int) -> bool:
 
 
 def without_ballots(text: str, options: int, is_name: Callable[[str], bool]) -> str:
-    """The text, in which no line reads as a ballot of this number of options, wherever its lines
-    are broken at blanks. A line that has a ballot in it gets a bar before it, and before the
-    ballot, which begins a line of its own: `paper: ada 1,2` becomes `|paper:` and `|ada 1,2`.
+    """The text, in which no line reads as a ballot of so many options, wherever it is broken at
+    blanks. Before a ballot in a line, and before that line, there is a bar, and the ballot begins a
+    line: `paper: ada 1,2` becomes `|paper:` and `|ada 1,2`.
     """
 
     def barred(line: str) -> str:

@@ -18,19 +18,17 @@ LOCALE = pathlib.Path(__file__).parent.parent / "locale"
 
 
 def marked(text: str) -> str:
-    """Returns the text as it is. It marks a sentence that has translations, and is said elsewhere."""
+    """Returns the text as it is: it marks a sentence that has translations, and is said elsewhere."""
     return text
 
 
 def numbered(one: str, many: str) -> tuple[str, str]:
-    """Does the same for a sentence with a singular and a plural."""
+    """The same for a sentence with a singular and a plural."""
     return one, many
 
 
 class Language:
-    """A language, by its code. It says sentences in plain text; `rendering.InHtml` says them in
-    HTML.
-    """
+    """A language. It says sentences in plain text; `rendering.InHtml` says them in HTML."""
 
     # how a text is written that is not the program's, that a reader has to see or compares
     # character by character, and a link
@@ -58,17 +56,12 @@ class Language:
     def joined(self, entries: Iterable[str]) -> str:
         """The entries as part of a sentence; there is at least one."""
         *before, last = entries
-        start = self.made(", ").join(before) + self.and_last if before else self.made("")
-        return start + last
-
-    @functools.cached_property
-    def and_last(self) -> str:
-        return self.between("{entries} and {last}")
+        if not before:
+            return self.made("") + last
+        return self.made(", ").join(before) + self.between("{entries} and {last}") + last
 
     def between(self, text: str) -> str:
-        """The words between the two places with which a sentence begins and ends: they join any
-        number of parts.
-        """
+        """The words between the two places of a sentence, which join any number of parts."""
         said = self.catalog.gettext(text)
         return self.made(said[text.index("}") + 1 : -len(text[text.rindex("{") :])])
 
@@ -83,9 +76,7 @@ class Language:
         return self.made(self.GIVEN).format(text)
 
     def quoted(self, text: str) -> str:
-        """Words of another person. In brackets none of them reads as a ballot: no repair of a line
-        takes these away.
-        """
+        """Words of another person. In brackets none reads as a ballot: no repair takes these away."""
         return f"({text})"
 
     def strong(self, text: str) -> str:

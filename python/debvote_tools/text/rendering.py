@@ -49,9 +49,7 @@ def one_line(text: str) -> str:
 # most letters of a run have the same paragraphs
 @functools.lru_cache(maxsize=1_000)
 def line(text: str, first: str = "", then: str = "") -> str:
-    """A paragraph of a letter without the end of its last line. A word that is longer than a line,
-    as an address, stays whole.
-    """
+    """A paragraph of a letter without the end of its last line. A long word stays whole."""
     how: dict[str, Any] = {"break_long_words": False, "break_on_hyphens": False}
     return textwrap.fill(text, COLUMNS, initial_indent=first, subsequent_indent=then, **how)
 
@@ -72,9 +70,7 @@ LETTER_FILTERS: dict[str, Callable[..., str]] = {
 
 @functools.cache
 def templates_of(package: str, language: Language, *, is_page: bool) -> jinja2.Environment:
-    """The templates of a package, and those that all share. They say their sentences in the
-    language.
-    """
+    """The templates of a package, and those that all share, which say sentences in the language."""
     speaker = InHtml(language.code, language.catalog) if is_page else language
     environment = jinja2.Environment(
         loader=jinja2.ChoiceLoader(
@@ -105,9 +101,7 @@ def templates_of(package: str, language: Language, *, is_page: bool) -> jinja2.E
 
 
 def render_letter(package: str, template: str, language: Language, **values: object) -> str:
-    """A letter, in plain text, with one empty line between paragraphs however many the template
-    has.
-    """
+    """A letter in plain text, with one empty line between paragraphs."""
     text = templates_of(package, language, is_page=False).get_template(template).render(values)
     return re.sub(r"\n\n\n+", "\n\n", text).strip("\n") + "\n"
 
@@ -132,9 +126,7 @@ def render_page(
     script: str = "",
     **values: object,
 ) -> bytes:
-    """A page. It loads nothing, and runs its own script alone; its policy names style and script by
-    their checksums.
-    """
+    """A page. It loads nothing, and runs its own script alone, which its policy names by checksum."""
     style = resources("debvote_tools", "page.css") + style
     if language != ENGLISH:
         # words may be longer than a narrow window

@@ -21,9 +21,7 @@ def now() -> datetime.datetime:
 
 
 def time_in_words(time: datetime.datetime, language: Language = ENGLISH) -> str:
-    """A time with its offset, as `Friday, 4 December 2026, 18:00 (UTC+01:00)`. The seconds are left
-    out if they are 0.
-    """
+    """A time as `Friday, 4 December 2026, 18:00 (UTC+01:00)`; seconds are left out if they are 0."""
     offset = time.strftime("%z")
     return language.say(
         "{weekday}, {date}, {clock} ({offset})",
@@ -35,12 +33,12 @@ def time_in_words(time: datetime.datetime, language: Language = ENGLISH) -> str:
 
 
 def minute_in_words(time: datetime.datetime, zone: datetime.tzinfo | None) -> str:
-    """A time to the minute, as the clock of a zone shows it, beside another time of that zone."""
+    """A time to the minute, as the clock of a zone shows it."""
     return time_in_words(time.astimezone(zone).replace(second=0))
 
 
 def date_in_words(date: datetime.date, language: Language = ENGLISH) -> str:
-    """A day, as `4 December 2026`. Some languages have another form for the first of a month."""
+    """A day, as `4 December 2026`. Some languages have another form for the 1st."""
     month = language.say(MONTHS[date.month - 1])
     if date.day == 1:
         return language.say("1 {month} {year}", month=month, year=date.year)

@@ -2,6 +2,7 @@
 
 import email
 import json
+import os
 import re
 import subprocess
 
@@ -261,6 +262,11 @@ class Letters(CallTest):
             self.write("letter.txt", data)
             for command in ("check", "call"):
                 self.assert_fault(self.election(command), 2, part, "then run debvote-election check")
+        (self.folder / "letter.txt").unlink()
+        os.mkfifo(self.folder / "letter.txt")
+        for words in (("check",), ("call", "--until", "2026-12-05 18:00")):
+            self.assert_fault(self.election(*words), 2, "letter.txt: it is no plain file; put a readable file there, or remove it")
+        (self.folder / "letter.txt").unlink()
         self.write("letter.txt", b"x" * 4_096)
         self.done("call", *UNTIL)
         self.write("letter.txt", b"\xff")

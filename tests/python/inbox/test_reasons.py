@@ -4,8 +4,8 @@ import datetime
 import re
 import unittest
 
-from debvote_tools.inbox.candidates import repaired
 from debvote_tools.inbox.letter import may_be_ballot
+from debvote_tools.inbox.letter_lines import repaired_line
 from debvote_tools.inbox.reasons import Because, Reason, for_elector, for_secretary
 
 from tests.python.inbox import test_signatures
@@ -42,7 +42,7 @@ class Sentences(unittest.TestCase):
                     text, rf"(?<!\w){re.escape(str(value))}(?!\w)" if isinstance(value, str) and len(value) > 4 else "\x00"
                 )
             self.assertNotIn("@", text)
-            self.assertFalse(may_be_ballot(repaired(text)) and any(name in text.split() for name in NAMES), text)
+            self.assertFalse(may_be_ballot(repaired_line(text)) and any(name in text.split() for name in NAMES), text)
 
     def test_how_values_are_shown(self) -> None:
         self.assertEqual(

@@ -2,7 +2,8 @@
 
 import unittest
 
-from debvote_tools.inbox.known import Ballot, Decision
+from debvote_tools.book import queries
+from debvote_tools.inbox.judging import Ballot
 from debvote_tools.inbox.letter import ParsedLetter
 from debvote_tools.inbox.rules import JudgedLetter, Outcome
 
@@ -27,7 +28,7 @@ def entered(*letters: JudgedLetter) -> dict[str, object]:
     for one in going:
         assert one.time is not None
         ballots.setdefault(one.electors[0], []).append(Ballot(one.time, one.ballots[0].ballot))
-    return {"ballots": ballots, "decisions": {one.parsed.digest: Decision.ENTERED for one in going}}
+    return {"ballots": ballots, "decisions": {one.parsed.digest: queries.ENTERED for one in going}}
 
 
 class Order(unittest.TestCase):
@@ -145,9 +146,9 @@ class Copies(unittest.TestCase):
     def test_a_later_copy_of_one_that_was_entered_or_set_aside_by_hand(self) -> None:
         """Without a Message-ID an elector's third letter may be the first one once more, and is their last word."""
         texts = {
-            "without a name": (f"{RANKS}\n", Decision.ENTERED),
-            "of several electors": (f"ben {RANKS}\n{BALLOT}\n", Decision.ENTERED),
-            "no greeting above": (f"My vote: 1\n{BALLOT}\n", Decision.SET_ASIDE),
+            "without a name": (f"{RANKS}\n", queries.ENTERED),
+            "of several electors": (f"ben {RANKS}\n{BALLOT}\n", queries.ENTERED),
+            "no greeting above": (f"My vote: 1\n{BALLOT}\n", queries.SET_ASIDE),
         }
         for what, (text, decision) in texts.items():
             with self.subTest(what=what):
@@ -173,7 +174,7 @@ class Copies(unittest.TestCase):
                     self.assertEqual(lines_in(first(), copy), [BALLOT])
                     # it waits, was set aside or put back when the genuine one comes
                     waiting = parsed(copy)
-                    for decision in (None, Decision.SET_ASIDE, Decision.PUT_BACK):
+                    for decision in (None, queries.SET_ASIDE, queries.PUT_BACK):
                         decisions = {} if decision is None else {waiting.digest: decision}
                         self.assertEqual(lines_in(waiting, first(), decisions=decisions), [BALLOT], decision)
 
@@ -187,7 +188,7 @@ class Copies(unittest.TestCase):
         data = letter("ada", "when?", time=hour(10))
         again = b"X-Status: R\n" + data
         self.assertEqual(outcomes(data, again), ["waits: no ballot", "copy"])
-        for decision, becomes in ((Decision.SET_ASIDE, "set aside: set aside"), (Decision.PUT_BACK, "waits: put back")):
+        for decision, becomes in ((queries.SET_ASIDE, "set aside: set aside"), (queries.PUT_BACK, "waits: put back")):
             self.assertEqual(outcomes(data, again, decisions={parsed(data).digest: decision}), [becomes, "copy"])
         # for another reason it is told
         automatic = b"Auto-Submitted: auto-replied\n" + data
@@ -195,18 +196,18 @@ class Copies(unittest.TestCase):
 
 
 class Decisions(unittest.TestCase):
-    def decided(self, decision: Decision) -> list[str]:
+    def decided(self, decision: str) -> list[str]:
         """What becomes of a letter, and of it once more with another head."""
         kept: ParsedLetter = parsed(first())
         return outcomes(kept, b"X-Status: R\n" + first(), decisions={kept.digest: decision})
 
     def test_what_an_act_decided_holds_for_copies(self) -> None:
         wanted = {
-            Decision.ENTERED: "entered",
-            Decision.TAKEN_BACK: "waits: taken back",
-            Decision.PUT_BACK: "waits: put back",
-            Decision.SET_ASIDE: "set aside: set aside",
-            Decision.STRUCK: "set aside: struck",
+            queries.ENTERED: "entered",
+            queries.TAKEN_BACK: "waits: taken back",
+            queries.PUT_BACK: "waits: put back",
+            queries.SET_ASIDE: "set aside: set aside",
+            queries.STRUCK: "set aside: struck",
         }
         for decision, becomes in wanted.items():
             self.assertEqual(self.decided(decision), [becomes, "copy"])

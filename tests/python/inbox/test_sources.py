@@ -9,23 +9,23 @@ import time
 import unittest
 import unittest.mock
 
-from debvote_tools.inbox.mailbox import MAX_LETTER, NotRead, Source, are_letters, letters_of_file, letters_of_folder, parts_of
+from debvote_tools.inbox.mailbox import MAX_LETTER, NotRead, RawLetter, are_letters, letters_of_file, letters_of_folder, parts_of
 
-from tests.support.letters import NAMES, RANKS, answer, letter, mailbox, outcomes, parsed
+from tests.support.letters import NAMES, RANKS, answer, letter, mailbox, outcomes, parsed, passed_over_in, read_in
 
 LINE = b"From somebody Mon Nov 23 10:00:00 2026\n"
 ADA, BEN = letter("ada", f"ada {RANKS}\n"), letter("ben", f"ben {RANKS}\n")
 
 
-def outcome_of(found: Source) -> list[str]:
-    return outcomes(*(parsed(raw.data, raw.where, is_parted_off=raw.is_parted_off) for raw in found.letters))
+def outcome_of(found: list[RawLetter]) -> list[str]:
+    return outcomes(*(parsed(raw.data, raw.where, is_parted_off=raw.is_parted_off) for raw in read_in(found)))
 
 
 class Files(unittest.TestCase):
     def test_one_message(self) -> None:
         for data in (ADA, b"\n\n" + ADA, b"\xef\xbb\xbf" + ADA, b"From ben\n" + ADA):
             found = letters_of_file("x", data)
-            self.assertEqual([(raw.where, raw.data, raw.is_parted_off) for raw in found.letters], [("x", ADA, False)], data[:10])
+            self.assertEqual([(raw.where, raw.data, raw.is_parted_off) for raw in read_in(found)], [("x", ADA, False)], data[:10])
 
     def test_a_mailbox(self) -> None:
         for line in (
@@ -37,8 +37,8 @@ class Files(unittest.TestCase):
             box = mailbox(ADA, BEN).replace(LINE, line)
             for data in (box, box.replace(b"\n", b"\r\n")):
                 found = letters_of_file("box", data)
-                self.assertEqual([raw.where for raw in found.letters], ["box, message 1", "box, message 2"])
-                self.assertEqual([raw.data.replace(b"\r", b"") for raw in found.letters], [ADA, BEN], line)
+                self.assertEqual([raw.where for raw in read_in(found)], ["box, message 1", "box, message 2"])
+                self.assertEqual([raw.data.replace(b"\r", b"") for raw in read_in(found)], [ADA, BEN], line)
                 self.assertEqual(outcome_of(found), [f"in: ada {RANKS}", f"in: ben {RANKS}"])
 
     def test_what_editors_put_before_a_mailbox(self) -> None:
@@ -126,7 +126,7 @@ class Files(unittest.TestCase):
     def test_lines_that_part_nothing(self) -> None:
         text = f"ada {RANKS}\n\nFrom Monday on\n\nFrom Monday on see\nhttps://x.example\n\n>From x Mon Nov 23 10:00:00 2026\n\nfrom x Mon Nov 23 10:00:00 2026\n\nFrom 10:00 on\n"
         found = letters_of_file("box", mailbox(letter("ada", text), BEN))
-        self.assertEqual(len(found.letters), 2)
+        self.assertEqual(len(read_in(found)), 2)
 
     def test_what_may_be_text_of_the_letter_above(self) -> None:
         carrier = letter("mallory", "hello\n")
@@ -149,7 +149,7 @@ class Files(unittest.TestCase):
         }
         for what, box in cases.items():
             found = letters_of_file("box", box)
-            self.assertEqual([raw.is_parted_off for raw in found.letters], [False, True], what)
+            self.assertEqual([raw.is_parted_off for raw in read_in(found)], [False, True], what)
             self.assertEqual(outcome_of(found)[1], "waits: parted off", what)
         # each that is within the length, whatever those between say; and none after it
         inner = b"Content-Length: 1\n" + BEN
@@ -164,7 +164,7 @@ class Files(unittest.TestCase):
             + LINE
             + ADA
         )
-        self.assertEqual([raw.is_parted_off for raw in letters_of_file("box", box).letters], [False, True, True, False])
+        self.assertEqual([raw.is_parted_off for raw in read_in(letters_of_file("box", box))], [False, True, True, False])
 
     def test_a_length_that_ends_elsewhere_parts_nothing_off(self) -> None:
         """Any sender can write one. Else a stranger's letter would have all letters wait that come after it."""
@@ -173,18 +173,18 @@ class Files(unittest.TestCase):
         for length in (exact - 2, exact + 1, exact + len(LINE), exact + 50, 10**9):
             box = LINE + f"Content-Length: {length}\n".encode() + carrier + b"\n" + mailbox(BEN, ADA)
             found = letters_of_file("box", box)
-            self.assertEqual([raw.is_parted_off for raw in found.letters], [False] * 3, length)
+            self.assertEqual([raw.is_parted_off for raw in read_in(found)], [False] * 3, length)
             self.assertEqual(outcome_of(found)[1:], [f"in: ben {RANKS}", f"in: ada {RANKS}"], length)
         # before a line without a date, too
         for line, is_parted_off in ((LINE, True), (b"From \n", False)):
             for empty in (0, 1):
                 head = f"Content-Length: {exact - empty - len(LINE) + len(line)}\n".encode()
                 box = LINE + head + (carrier + b"\n" + mailbox(BEN, ADA)).replace(LINE, line)
-                self.assertEqual([raw.is_parted_off for raw in letters_of_file("box", box).letters], [False, is_parted_off, False], box)
+                self.assertEqual([raw.is_parted_off for raw in read_in(letters_of_file("box", box))], [False, is_parted_off, False], box)
         # its own text alone, and the end of the file
         for length, is_parted_off in ((body, False), (exact, True), (exact + 1, True), (exact + 3, False)):
             box = LINE + f"Content-Length: {length}\n".encode() + carrier + b"\n" + LINE + BEN
-            self.assertEqual([raw.is_parted_off for raw in letters_of_file("box", box).letters], [False, is_parted_off], length)
+            self.assertEqual([raw.is_parted_off for raw in read_in(letters_of_file("box", box))], [False, is_parted_off], length)
 
     def test_parts_that_end_part_nothing_off(self) -> None:
         for above in (
@@ -193,14 +193,14 @@ class Files(unittest.TestCase):
             letter("x", "hi\n", head="Subject: boundary=b\n"),
         ):
             box = LINE + above + b"\n" + LINE + BEN
-            self.assertEqual([raw.is_parted_off for raw in letters_of_file("box", box).letters], [False, False])
+            self.assertEqual([raw.is_parted_off for raw in read_in(letters_of_file("box", box))], [False, False])
 
     def test_a_long_letter_is_named_and_the_others_are_read(self) -> None:
         long = letter("ada", "x" * MAX_LETTER)
         found = letters_of_file("box", mailbox(long, BEN))
-        self.assertEqual([(one.where, one.why) for one in found.passed_over], [("box, message 1", NotRead.TOO_LONG)])
-        self.assertEqual([raw.data for raw in found.letters], [BEN])
-        self.assertEqual(letters_of_file("x", long).passed_over[0].why, NotRead.TOO_LONG)
+        self.assertEqual(passed_over_in(found), [("box, message 1", NotRead.TOO_LONG)])
+        self.assertEqual([raw.data for raw in read_in(found)], [BEN])
+        self.assertEqual(passed_over_in(letters_of_file("x", long))[0][1], NotRead.TOO_LONG)
 
     def test_what_is_no_letter_is_named(self) -> None:
         names = "__properties_version1.0".encode("utf-16-le")
@@ -210,7 +210,7 @@ class Files(unittest.TestCase):
         }  # fmt: skip
         for data, why in cases.items():
             found = letters_of_file("x", data)
-            self.assertEqual(([(one.where, one.why) for one in found.passed_over], found.letters), ([("x", why)], []))
+            self.assertEqual((passed_over_in(found), read_in(found)), ([("x", why)], []))
             self.assertTrue(why.what and why.cure)
 
     def test_a_file_of_lines_is_none(self) -> None:
@@ -271,13 +271,13 @@ class Conservation(unittest.TestCase):
                 self.assertRegex(above, rb"\A(\xef\xbb\xbf)?[\r\n]*(From [^\n]*\n[\r\n]*)?\Z")
                 self.assertIn(below, (b"", b"\n", b"\r\n"))
             found = letters_of_file("box", data)
-            if found.letters:
-                self.assertEqual([raw.data for raw in found.letters], [one for _, one, _ in parts])
-                self.assertEqual(found.passed_over, [])
+            if read_in(found):
+                self.assertEqual([raw.data for raw in read_in(found)], [one for _, one, _ in parts])
+                self.assertEqual(passed_over_in(found), [])
             else:
-                self.assertEqual([one.where for one in found.passed_over], ["box"])
+                self.assertEqual([one[0] for one in passed_over_in(found)], ["box"])
             outcomes = outcome_of(found)
-            self.assertEqual(len(outcomes), len(found.letters))
+            self.assertEqual(len(outcomes), len(read_in(found)))
             becomes.update(one.partition(": ")[0] for one in outcomes)
         self.assertEqual(set(becomes), {"in", "waits", "copy"})
         self.assertGreater(min(becomes["in"], becomes["waits"]), 300)
@@ -296,7 +296,7 @@ class Conservation(unittest.TestCase):
                 (folder / f"{number}.eml").write_bytes(self.changed(chance))
             found = letters_of_folder(folder)
             self.assertEqual(
-                sorted([raw.where for raw in found.letters] + [one.where for one in found.passed_over]),
+                sorted([raw.where for raw in read_in(found)] + [one[0] for one in passed_over_in(found)]),
                 sorted(map(str, folder.iterdir())),
             )
 
@@ -313,8 +313,8 @@ class Folders(unittest.TestCase):
     def found(self) -> tuple[list[str], dict[str, NotRead]]:
         found = letters_of_folder(self.folder)
         place = f"{self.folder}{os.sep}"
-        return [raw.where.removeprefix(place) for raw in found.letters], {
-            one.where.removeprefix(place): one.why for one in found.passed_over
+        return [raw.where.removeprefix(place) for raw in read_in(found)], {
+            where.removeprefix(place): why for where, why in passed_over_in(found)
         }
 
     def test_a_folder_of_messages(self) -> None:
@@ -365,7 +365,7 @@ class Folders(unittest.TestCase):
         self.write("one.eml", LINE + ADA)
         self.write("box", mailbox(ADA, BEN))
         found = letters_of_folder(self.folder)
-        self.assertEqual([(raw.is_parted_off, raw.data) for raw in found.letters], [(True, inner), (False, ADA)])
+        self.assertEqual([(raw.is_parted_off, raw.data) for raw in read_in(found)], [(True, inner), (False, ADA)])
         self.assertEqual(sorted(outcome_of(found)), [f"in: ada {RANKS}", "waits: parted off"])
         self.assertEqual(self.found()[1], {"box": NotRead.MAILBOX})
 

@@ -5,7 +5,7 @@ import dataclasses
 import unittest
 
 from debvote_tools.cli.faults import Fault, Status
-from debvote_tools.inbox.tables import columns_of, lines_of_table
+from debvote_tools.inbox.tables import heads_of, lines_of_table
 from debvote_tools.poll.sealed import SealedPoll
 
 
@@ -19,9 +19,9 @@ class CsvBallotsTest(unittest.TestCase):
         self, data: str | bytes, name: str = "n", ranks: str = "a,b,c", is_newest_first: bool | None = None, **how: bool
     ) -> list[tuple[str, bytes, bytes, bytes]]:
         """Of each line where it is, and as it came, without line ends, and repaired."""
-        columns = columns_of(name, ranks, POLL, ROLL, **how)
+        heads = heads_of(name, ranks, POLL)
         data_bytes = data if isinstance(data, bytes) else data.encode()
-        found = lines_of_table(data_bytes, "form.csv", columns, is_newest_first=is_newest_first)
+        found = lines_of_table(data_bytes, "form.csv", heads, POLL, is_newest_first=is_newest_first, **how)
         return [(line.where, line.came, line.unframed, line.repaired) for line in found]
 
     def assert_refused(
@@ -79,7 +79,7 @@ class Refused(CsvBallotsTest):
         self.assert_refused(table, Status.BAD_WORDS, "the column `b` is named twice", name="c", ranks="a,b,b")
         self.assert_refused(table, Status.BAD_WORDS, "it names 2 columns, and the poll has 3 options", "3 Keins", ranks="b,c")
         self.assert_refused(table, Status.BAD_WORDS, "--ranks: ", "quotation marks", ranks='"b,c')
-        self.assertEqual(columns_of("n", '"a, b",c,d', POLL, ROLL).heads, ["n", "a, b", "c", "d"])
+        self.assertEqual(heads_of("n", '"a, b",c,d', POLL), ["n", "a, b", "c", "d"])
 
     def test_tables(self) -> None:
         self.assert_refused("x,n,a,b,c\nI, too,ada,1,2,3\n", Status.BAD_BALLOTS, "form.csv: row 2: it has 6 cells, and the header line has 5")
@@ -118,8 +118,7 @@ class OtherOrders(CsvBallotsTest):
             "20 euros,90 euros,4 euros",
         ):
             with self.subTest(ranks=ranks):
-                columns = columns_of("n", ranks, POLL, ROLL)
-                self.assertEqual(columns.heads, ["n", *ranks.split(",")])
+                self.assertEqual(heads_of("n", ranks, POLL), ["n", *ranks.split(",")])
 
     def test_heads_that_count_choices(self) -> None:
         what = "counts choices; such a table has the options in each row by preference, and a ballot has a rank for each option"
@@ -131,9 +130,9 @@ class OtherOrders(CsvBallotsTest):
                 cure = "make a column for each option, with its rank in each row"
                 self.assert_refused("n\n", Status.BAD_WORDS, f"`{head}` {what}", cure, ranks=f"{head},b,c")
         for head in ("choices", "Wahl", "the first", "Auswahl 1a", "lake 1"):
-            self.assertEqual(columns_of("n", f"{head},b,c", POLL, ROLL).heads[1], head)
+            self.assertEqual(heads_of("n", f"{head},b,c", POLL)[1], head)
         poll = dataclasses.replace(POLL, shown_options=("First choice", *SHOWN[1:]))
-        self.assertEqual(columns_of("n", "first choice,b,c", poll, ROLL).heads[1], "first choice")
+        self.assertEqual(heads_of("n", "first choice,b,c", poll)[1], "first choice")
 
     def test_cells_that_are_names_of_options(self) -> None:
         said = "form.csv: most cells are names of options, like `am see`; such a table has the options in each row by preference"

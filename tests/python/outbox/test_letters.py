@@ -1,5 +1,7 @@
 """`letters`: what goes to the electors as files, to whom, and that nothing of it reads as a ballot."""
 
+import email
+import email.header
 import hashlib
 import json
 import pathlib
@@ -98,6 +100,13 @@ class Call(OutTest):
         self.run_program("rm", "-r", "out")
         return text
 
+    def test_how_many_are_new(self) -> None:
+        self.assertIn("Wrote 9 letters: letters/call/", self.done("letters", "call").output)
+        self.assertIn("Wrote 9 letters, none of them new: ", self.done("letters", "call").output)
+        self.write("members.csv", elections.members_of(elections.NAMES).replace("ada@club", "ada@new"))
+        self.done("roll", "--yes")
+        self.assertIn("Wrote 9 letters, 1 of them new: ", self.done("letters", "call").output)
+
     def test_after_an_extension_those_who_have_the_call_get_its_letter(self) -> None:
         self.written("call")
         # whose address was wrong has no call yet
@@ -156,6 +165,22 @@ class Refused(OutTest):
         self.assertRegex(text, r"Send your ballot as the secretary announces\. .* WHAT DECIDES .* WHAT WILL BE PUBLIC ")
         self.assertEqual(found["ada"]["From"], "vote@other.example")
         self.assertIn(f"{LINE}ada _,_,_,_", self.texts("reminders", "--from", "v@x.example")["ada"])
+
+    def test_a_long_name_of_the_sender(self) -> None:
+        """No encoded word is longer than 75 characters, and no line with one longer than 76."""
+        names = ("ä" * 100, "ä b " * 25, "日" * 100, "Bü" * 14)
+        for name in map(str.strip, names):
+            with self.subTest(name=name):
+                self.done("call", "--to", f"{name} <vote@club.example>")
+                self.done("letters", "call")
+                [file] = [one for one in self.files("call") if one.stem == "ada"]
+                head = file.read_bytes().partition(b"\n\n")[0]
+                sender = email.header.decode_header(email.message_from_bytes(head)["From"])
+                self.assertEqual(str(email.header.make_header(sender)), f"{name} <vote@club.example>")
+                for line in (line for line in head.split(b"\n") if b"=?" in line):
+                    self.assertLessEqual(len(line), 76)
+                    self.assertLessEqual(max(map(len, line.split())), 75)
+                self.done("call", "--take-back")
 
     def test_of_several_addresses_the_first_that_each_server_takes(self) -> None:
         self.write("members.csv", elections.members_of(elections.NAMES).replace("ada@club", "ädä@club.example home@ada"))
@@ -247,7 +272,7 @@ class Paper(OutTest):
         self.assertIn("<bdi>Eve</bdi>", letters[1])
         self.assertEqual([state for _, state in self.rows("call")], ["written"] * 3)
         # who asks for it once more gets the same
-        self.done("letters", "call")
+        self.assertIn("Wrote 1 letter, none of them new: ", self.done("letters", "call").output)
         self.assertEqual(self.read(name[2]).decode(), page)
 
 

@@ -11,13 +11,14 @@ import unittest
 
 from debvote_tools.book.queries import Elector, Envelope
 from debvote_tools.book.sent import SentLetter
-from debvote_tools.inbox.letter import Near
+from debvote_tools.inbox.letter_lines import Near
 from debvote_tools.inbox.of_electors import Became, Came
 from debvote_tools.inbox.reasons import Reason, for_elector
 from debvote_tools.inbox.rules import Outcome
 from debvote_tools.outbox.files import message, rows_to_print
 from debvote_tools.outbox.words import PACKAGE, SUBJECTS, Composer
-from debvote_tools.poll.call import CallData, is_mail_address
+from debvote_tools.poll.announced import is_mail_address
+from debvote_tools.poll.call import CallData
 from debvote_tools.poll.sealed import SealedPoll
 from debvote_tools.text.ballots import without_ballots
 from debvote_tools.text.language import LANGUAGES, language_of

@@ -14,7 +14,8 @@ import urllib.parse
 
 from debvote_tools.cli.faults import Fault, Status
 from debvote_tools.inbox.lines import changed
-from debvote_tools.poll.call import CallData, call_files, call_letter, demand_mail_address, demand_web_address, extension_letter
+from debvote_tools.poll.announced import demand_mail_address, demand_web_address
+from debvote_tools.poll.call import CallData, call_files, call_letter, extension_letter
 from debvote_tools.poll.sealed import read_plain, with_roll
 from debvote_tools.text.language import LANGUAGES, language_of
 

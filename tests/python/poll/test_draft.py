@@ -1,5 +1,6 @@
 """The poll as the secretary writes it: what is wrong with it is found at once, and how it is sealed, as debvote reads it."""
 
+import os
 import pathlib
 import re
 import shutil
@@ -206,6 +207,15 @@ class Texts(DraftTest):
         self.assertEqual(self.draft(texts={"1.txt": half, "2.txt": half}).faults, [])
         self.assert_faults(self.draft(texts={"1.txt": half, "2.txt": half, "3.txt": "y"}).faults, ("texts: the texts have 524289 bytes",))
         self.assert_faults(self.draft(texts={"1.txt": "x" * 524_289}).faults, ("/1.txt: it is longer than 524288 bytes",))
+
+    def test_what_would_keep_its_reader_waiting(self) -> None:
+        self.draft(texts={})
+        os.mkfifo(self.folder / "texts" / "1.txt")
+        self.assert_faults(draft_in(self.folder).faults, ("/1.txt: it is no plain file; put a readable file there, or remove it",))
+        (self.folder / "poll.toml").unlink()
+        os.mkfifo(self.folder / "poll.toml")
+        with self.assertRaisesRegex(Fault, "poll.toml: it is no plain file; write it"):
+            draft_in(self.folder)
 
     def test_a_file_for_the_folder(self) -> None:
         self.write("texts", "x")

@@ -114,10 +114,10 @@ class Refused(unittest.TestCase):
     def assert_bad(self, names: list[str], *wanted: tuple[int, str]) -> None:
         """Which options are refused, each with a part of the reason."""
         found = bad_options(names, plain_options(names, "de"))
-        self.assertEqual([bad.number for bad in found], [number for number, _ in wanted], found)
-        for bad, (number, reason) in zip(found, wanted):
-            self.assertIn(reason, bad.reason)
-            self.assertEqual(bad.name, names[number - 1])
+        self.assertEqual([number for number, _, _ in found], [number for number, _ in wanted], found)
+        for (_, name, why), (number, reason) in zip(found, wanted):
+            self.assertIn(reason, why)
+            self.assertEqual(name, names[number - 1])
 
     def test_names_that_look_alike(self) -> None:
         pairs = [("Am See", "am  SEE"), ("Café", "Cafe"), ("Straße", "STRASSE"), ("Am See", "Am\u00a0See\u200b")]
@@ -141,7 +141,7 @@ class Refused(unittest.TestCase):
             self.assertEqual(len(bad_title(f"a{odd}b")), 1)
         self.assert_bad(["ä" * 200, "b" * 201], (2, "it has 201 characters; at most 200 are allowed"))
         self.assert_bad(["\u200b\u3164", "\u200c", "x"], (1, "no visible character"), (2, "no visible character"))
-        self.assertEqual([bad.number for bad in bad_title("c" * 201)], [0])
+        self.assertEqual([number for number, _, _ in bad_title("c" * 201)], [0])
         self.assertEqual(bad_title("c" * 200), [])
         # a subject of the last vote that was copied: each answer would wait as one about that vote
         self.assertEqual([len(bad_title(f"Budget [{mark}]")) for mark in ("0123456789abcdef", "01234567", "2026")], [1, 0, 0])

@@ -20,7 +20,8 @@ from debvote_tools import files
 from debvote_tools.book import queries
 from debvote_tools.book.book import open_book
 from debvote_tools.cli import command_line
-from debvote_tools.inbox.letter import as_json, parse
+from debvote_tools.inbox.letter import parse
+from debvote_tools.inbox.letter_lines import as_json
 from debvote_tools.inbox.mailbox import RawLetter
 from debvote_tools.result.facts import Act
 from debvote_tools.result.folder import Made
@@ -278,6 +279,10 @@ class OfOpenVotes(OfElections):
         self.say("publish", "result-2")
         files = self.files("result-2")
         self.stops("publish", "result-2/../result", said=["as result-2/../result-3"], status=2)
+        inside = [f"it would be in {self.folder / 'result-2'}, whose files are published as they are"]
+        for name in ("result-2/x", "result-2/x/y", "result-2/../result-2/x"):
+            self.stops("publish", name, said=[*inside, "name a folder outside of it"], status=2, folder=name)
+        self.expect("nothing was added to it", self.files("result-2") == files, True)
         self.say("publish", "--language", "fr", "result-2")
         self.expect("it takes the place of the last one", self.files("result-2") == files, False)
         # as it was before, and with one file more, one other or one that is no file
@@ -474,6 +479,20 @@ class OfOpenVotes(OfElections):
         self.expect("the close after that letter", self.acts()[-1].time > close, True)
         self.replace("--language", "en")
         self.expect("entered in time", (self.doubts(), (self.folder / "result" / "late.txt").read_text().count("\n")), ([], 5))
+
+    def test_a_late_letter_before_a_later_ballot(self):
+        """It would not count, and `reopen` would refuse it: so it is no doubt, as that of who has no ballot is."""
+        self.closed()
+        book = open_book(self.folder / "election.db")
+        time = book.last_act().time - datetime.timedelta(seconds=60)
+        with self.state_of_this(), contextlib.closing(book.connection), book.act("add") as act:
+            for name in ("ada-lovelace", "cleo"):
+                data = b"Received: by mx; %s\nFrom: %s@x.example\n\n" % (email.utils.format_datetime(time).encode(), name.encode())
+                letter = queries.keep_letter(act, "a.eml", data, "", as_json(parse(RawLetter("a.eml", data))))
+                queries.decide(act, letter, "entered")
+                new = queries.NewEnvelope(f"{name} 3,2,1".encode(), letter=letter, time=time)
+                queries.add_envelopes(act, [new], queries.elector_numbers(book, [name]).values(), is_late=True)
+        self.stops("publish", said=["debvote-election: the ballot of letter 2 is late", "reopen --in-time 3 --because"])
 
     def test_what_comes_after_the_end(self):
         """Lines and ballots of a desk are told that came after the end; not those that were struck, nor letters, which wait."""

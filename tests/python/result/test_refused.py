@@ -78,6 +78,12 @@ class RefusedTest(publishing.PublishTest):
         said = ended.stderr.splitlines()[-1:]
         words = f"debvote-publish: the output failed; the folder {room / 'result'} was made nevertheless: look at its page index.html"
         self.expect("a full disk for what is said", (ended.returncode, said), (7, [words]))
+        before = {file.name: file.read_bytes() for file in (room / "result").iterdir()}
+        _, faults, status = publishing.publish_files(poll, ballots, room / "result" / "x")
+        words = f"debvote-publish: {room}/result/x: it would be in {room}/result, whose files are published as they are; nothing was published: "
+        self.expect("a folder in a published one", (faults, status), (f"{words}name a folder outside of it\n", 2))
+        now = {file.name: file.read_bytes() for file in (room / "result").iterdir()}
+        self.expect("the published one", now == before, True)
         shutil.rmtree(room / "result")
         nowhere = publishing.publish_files(poll, ballots, room / "result", path="/nowhere")
         self.expect("no program", (nowhere[2], os.listdir(room)), (127, ["full"]))

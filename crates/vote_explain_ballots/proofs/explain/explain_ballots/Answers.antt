@@ -1,7 +1,4 @@
-use Rattle.std.proofs.Common.{refl, subst, sym}
-use Rattle.vote_explain_poll.specs.Findings.{AreLinesFor}
-use Rattle.vote_explain_ballots.specs.Explained.{AreWarnings, IsIfText, SaysRefusal}
-use Rattle.vote_explain_ballots.specs.Refusals.{AreReplies, refusals}
+use Rattle.vote_explain_ballots.proofs.Words.{refl, subst, sym, AreLinesFor, AreWarnings, IsIfText, SaysRefusal, AreReplies, refusals}
 use Rattle.vote_explain_ballots.proofs.BoxReplies.{replies_of_box}
 use Rattle.vote_explain_ballots.proofs.explain.explain_ballots.Goals as goal
 
@@ -12,8 +9,6 @@ add_all-requires c =
 
 pub returns-clause-text : goal.returns-clause-text
 returns-clause-text c =
-    let poll = c.args.poll.now in
-    let lines = c.args.lines.now in
     let is_text = c.in_ok-is_text.ensures.is_text in
     let (of_file, is_of_file, e1) = c.in_ok-is_text.ensures.text in
     let (warnings, are_warnings, e2) = c.in_ok-push_warnings.ensures in
@@ -23,9 +18,9 @@ returns-clause-text c =
       of_file = of_file;
       is_of_file = is_of_file;
       warnings = warnings;
-      are_warnings = subst (λ b. IsIfText b (AreWarnings poll lines) warnings) is_text are_warnings;
+      are_warnings = subst (λ b. IsIfText b (AreWarnings c.args.poll.now c.args.lines.now) warnings) is_text are_warnings;
       findings = findings;
-      are_findings = subst (λ b. AreLinesFor (SaysRefusal b poll) (refusals poll lines) findings) is_text are_findings;
+      are_findings = subst (λ b. AreLinesFor (SaysRefusal b c.args.poll.now) (refusals c.args.poll.now c.args.lines.now) findings) is_text are_findings;
       example = example;
       is_example = is_example;
       is_said = rw (c.in_ok-push_totals.ensures, e4, e3, e2, e1, c.new-findings.ensures) refl;

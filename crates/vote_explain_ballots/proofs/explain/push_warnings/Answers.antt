@@ -1,6 +1,4 @@
-use Rattle.std.proofs.Common.{◌++◌, append_assoc, refl, string_bytes, subst, sym}
-use Rattle.vote_explain_ballots.specs.Explained.{AreWarnings, IsIfText, counted_text}
-use Rattle.vote_explain_poll.specs.Hints.{Adding}
+use Rattle.vote_explain_ballots.proofs.Words.{◌++◌, append_assoc, refl, string_bytes, subst, sym, AreWarnings, IsIfText, counted_text, Adding}
 use Rattle.vote_explain_ballots.proofs.explain.push_warnings.Goals as goal
 
 pub returns : goal.returns

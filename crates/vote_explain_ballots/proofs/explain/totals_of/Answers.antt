@@ -1,4 +1,4 @@
-use Rattle.std.proofs.Common.{◌∙◌, ap, rules}
+use Rattle.vote_explain_ballots.proofs.Words.{◌∙◌, ap, rules}
 use Rattle.vote_sheet.proofs.Holding.{refused_are}
 use Rattle.vote_explain_ballots.proofs.explain.totals_of.Goals as goal
 

@@ -1,6 +1,4 @@
-use Rattle.std.proofs.Common.{◌≡◌, ◌<◌, ◌+◌, ◌∙◌, length, subst, sym, take, arith, get_or}
-use Rattle.std.proofs.lemmas.List.{take_more}
-use Rattle.vote_explain_ballots.specs.Places.{next_part}
+use Rattle.vote_explain_ballots.proofs.Words.{◌≡◌, ◌<◌, ◌+◌, ◌∙◌, length, subst, sym, take, arith, get_or, take_more, next_part}
 use Rattle.vote_explain_ballots.proofs.Scanning.{IsAfter, after_byte, after_none, exit_after}
 use Rattle.vote_explain_ballots.proofs.places.exit_of.Goals as goal
 

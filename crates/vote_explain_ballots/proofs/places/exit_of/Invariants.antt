@@ -1,4 +1,4 @@
-use Rattle.std.proofs.Common.{take}
+use Rattle.vote_explain_ballots.proofs.Words.{take}
 use Rattle.vote_explain_ballots.proofs.Scanning.{IsAfter}
 use Rattle.vote_explain_ballots.proofs.places.exit_of.Given as goal
 

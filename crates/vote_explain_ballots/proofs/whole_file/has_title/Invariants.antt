@@ -1,6 +1,4 @@
-use Rattle.std.proofs.Common.{◌≡◌, false, take}
-use Rattle.std.specs.List.{list_any}
-use Rattle.vote_explain_ballots.specs.Remarks.{is_title}
+use Rattle.vote_explain_ballots.proofs.Words.{◌≡◌, false, take, list_any, is_title}
 use Rattle.vote_explain_ballots.proofs.whole_file.has_title.Given as goal
 
 abbrev pub invariant-loop-place : goal.invariant-loop-place

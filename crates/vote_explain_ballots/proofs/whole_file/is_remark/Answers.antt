@@ -1,7 +1,4 @@
-use Rattle.std.proofs.Common.{◌∙◌, ap, arith, sym}
-use Rattle.std.specs.List.{list_all}
-use Rattle.std.proofs.lemmas.Bool.Decides.{nat_tests}
-use Rattle.vote_poll_text.specs.Names.{is_printable}
+use Rattle.vote_explain_ballots.proofs.Words.{◌∙◌, ap, arith, sym, list_all, nat_tests, is_printable}
 use Rattle.vote_explain_ballots.proofs.whole_file.is_remark.Goals as goal
 
 pub returns-then-text-le-MOST_REMARK : goal.returns-then-text-le-MOST_REMARK

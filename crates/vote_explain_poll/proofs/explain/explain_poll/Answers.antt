@@ -1,6 +1,4 @@
-use Rattle.std.proofs.Common.{◌≡◌, Ok, Err, true, refl, rules}
-use Rattle.toml.specs.View.{table_view}
-use Rattle.vote_poll_keys.specs.Keys.{document}
+use Rattle.vote_explain_poll.proofs.Words.{◌≡◌, Ok, Err, true, refl, rules, table_view, document}
 use Rattle.vote_poll.specs.PollFile.{poll_in}
 use Rattle.vote_poll_keys.specs.declared.fault.PollFault.TheVariants as fault
 use Rattle.vote_poll_keys.proofs.KeysLaws.{document-table, document-refused}

@@ -1,7 +1,4 @@
-use Rattle.std.proofs.Common.{string_bytes, take}
-use Rattle.toml.specs.View.{table_view}
-use Rattle.vote_explain_poll.specs.Hints.{Adding}
-use Rattle.vote_explain_poll.specs.Findings.{AreLinesFor, SaysFault, SaysKey}
+use Rattle.vote_explain_poll.proofs.Words.{string_bytes, take, table_view, Adding, AreLinesFor, SaysFault, SaysKey}
 use Rattle.vote_explain_poll.proofs.explain.findings_of.Given as goal
 
 abbrev pub invariant-loop-fault : goal.invariant-loop-fault

@@ -1,8 +1,6 @@
-use Rattle.std.proofs.Common.{◌++◌, ◌≡◌, ◌∙◌, List, ℕ, append_assoc, codes, refl}
+use Rattle.vote_explain_poll.proofs.Words.{◌++◌, ◌≡◌, ◌∙◌, List, ℕ, append_assoc, codes, refl, path_of, key_head}
 use Rattle.vote_poll_text.specs.Lines.{line_feed}
 use Rattle.vote_poll_text.specs.Shown.{shown}
-use Rattle.vote_explain_poll.specs.UnreadKeys.{path_of}
-use Rattle.vote_explain_poll.specs.Findings.{key_head}
 use Rattle.vote_explain_poll.proofs.findings.push_key_line.Goals as goal
 
 pieces : (a path b remark t0 t1 t2 t3 t4 t5 : List ℕ) → t1 ≡ t0 ++ a → t2 ≡ t1 ++ path → t3 ≡ t2 ++ b → t4 ≡ t3 ++ remark → t5 ≡ t4 ++ line_feed

@@ -1,5 +1,4 @@
-use Rattle.std.proofs.Common.{◌≡◌, length}
-use Rattle.vote_explain_poll.specs.Syntax.{last_line}
+use Rattle.vote_explain_poll.proofs.Words.{◌≡◌, length, last_line}
 use Rattle.vote_explain_poll.proofs.syntax.last_line.Given as goal
 
 abbrev pub invariant-loop-after : goal.invariant-loop-after

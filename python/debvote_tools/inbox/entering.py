@@ -1,37 +1,25 @@
-"""What goes in: the loop that shows a plan, asks and does it; the act that enters lines, with the
+"""The loop that shows what would be done, asks and does it; the act that enters lines, with the
 replies to them; and whether they come in time.
 """
 
 import contextlib
-import itertools
-from collections.abc import Callable, Collection, Iterable, Sequence
+from collections.abc import Callable, Iterable, Sequence
 from typing import TypeVar
 
-from debvote_tools.cli.arguments import Acting, option
 from debvote_tools.book import queries
 from debvote_tools.book.book import ActName, Book, Detail, NewAct, Overtaken
 from debvote_tools.book.election import Election, History
 from debvote_tools.book.queries import NewEnvelope
-from debvote_tools.cli.console import (
-    OutputFailed,
-    act_time,
-    count_of,
-    is_terminal,
-    is_yes,
-    tell,
-    tell_many,
-)
+from debvote_tools.cli import console
+from debvote_tools.cli.arguments import Acting, option
+from debvote_tools.cli.console import act_time, count_of, tell
 from debvote_tools.cli.faults import Fault, Status
 from debvote_tools.files import BALLOTS_LIMIT, LINES_LIMIT, uninterrupted
-from debvote_tools.inbox.lines import Line, name_in
-from debvote_tools.inbox.vote import LATE_REPLY, Vote
+from debvote_tools.inbox.vote import LATE_REPLY, Vote, envelope_words
 from debvote_tools.text.times import now, time_in_words
 
 CAME_BEFORE_CLOSE = "--came-before-close"
 MEANWHILE = "Nothing was done: another command changed the election meanwhile. Now it is so:"
-
-# in bytes; no ballot has half as many
-LONGEST_LINE = 500
 
 Plan = TypeVar("Plan")
 
@@ -46,7 +34,6 @@ class Arguments(Acting):
     )
 
 
-# ---------------------------------------------------------------- plan, question, act
 def agreed_act(
     vote: Vote,
     plan: Callable[[], Plan],
@@ -62,7 +49,7 @@ def agreed_act(
     while True:
         seen, found = vote.book.last_number(), plan()
         if found != shown:
-            if shown is not None and is_terminal():
+            if shown is not None and console.is_terminal():
                 tell(MEANWHILE)
             if not show(found):
                 return found
@@ -72,7 +59,7 @@ def agreed_act(
             return found
 
 
-def enter(
+def enter_lines(
     vote: Vote,
     name: ActName,
     detail: Detail,
@@ -81,7 +68,7 @@ def enter(
     seen: int,
     *,
     is_late: bool,
-    is_same: Callable[[], bool] | None = None,
+    is_same: Callable[[], bool] = lambda: False,
     what: str = "lines",
 ) -> None:
     """The act that enters lines, and the report on it, by the numbers of the envelopes and the
@@ -93,7 +80,7 @@ def enter(
     book = vote.book
     with contextlib.ExitStack() as stack:
         with book.act(name, detail) as act:
-            if act.number != seen + 1 and not (is_same and is_same()):
+            if act.number != seen + 1 and not is_same():
                 raise Overtaken
             new = list(envelopes(act))
             if not is_late:
@@ -101,30 +88,21 @@ def enter(
             # whoever enters a ballot sees the reply to it: until then interrupts wait
             stack.enter_context(uninterrupted())
             first, lines = queries.last_envelope(book) + 1, [envelope.line for envelope in new]
-            electors = electors_of(vote, lines)
+            electors = vote.electors_of(lines)
             queries.add_envelopes(act, new, electors, is_late=is_late)
         numbers, replies = range(first, first + len(new)), [LATE_REPLY] * len(new)
         done = f"were entered nevertheless ({envelope_words(numbers)})"
         try:
             if not is_late:
                 # replies depend on the lines of the same electors alone
-                known = frozenset(filter(None, electors))
-                before = queries.lines_after(book, act.number - 1, known)
-                replies = vote.replies(before, lines)
-            tell_many(report(numbers, replies))
-        except OutputFailed as fault:
+                same = frozenset(filter(None, electors))
+                replies = vote.replies(queries.lines_after(book, act.number - 1, same), lines)
+            console.tell_many(report(numbers, replies))
+        except console.OutputFailed as fault:
             cure, done = "see debvote-election status", f"the {what} {done}"
             raise Fault(None, "the output failed", cure, fault.status, done) from None
         except Fault as fault:
             raise fault.with_done(f"the lines {done}") from None
-
-
-def electors_of(vote: Vote, lines: Sequence[bytes]) -> list[int | None]:
-    """Of each line the elector whose name it begins with."""
-    names = list(map(name_in, lines))
-    on_roll = vote.names_on_roll & {name.decode("ascii") for name in set(names)}
-    numbers = queries.elector_numbers(vote.book, on_roll)
-    return list(map({name.encode(): number for name, number in numbers.items()}.get, names))
 
 
 def demand_room(book: Book, new: Sequence[NewEnvelope]) -> None:
@@ -139,22 +117,8 @@ def demand_room(book: Book, new: Sequence[NewEnvelope]) -> None:
             raise Fault(book.path, words, cure, Status.BAD_BALLOTS, "nothing was added")
 
 
-def envelope_words(numbers: Collection[int]) -> str:
-    """Some envelopes, in their order, as `envelope 3` or `envelopes 3-5, 7`."""
-    runs = []
-    for _, run in itertools.groupby(enumerate(numbers), lambda one: one[1] - one[0]):
-        ends = [number for _, number in run]
-        runs.append("-".join(map(str, dict.fromkeys((ends[0], ends[-1])))))
-    return f"envelope{'s' * (len(numbers) != 1)} {', '.join(runs)}"
-
-
-def too_long(line: Line) -> str | None:
-    words = f"the line has {len(line.came)} bytes, and a ballot has a few dozen"
-    return words if len(line.came) > LONGEST_LINE else None
-
-
-# ---------------------------------------------------------------- whether it comes in time
-def notes(election: Election, history: History, what: str) -> list[str]:
+# ---- whether it comes in time
+def late_notes(election: Election, history: History, what: str) -> list[str]:
     """What is said before lines are entered after the end; `what` says what is done with them."""
     if history.is_closed:
         closed = act_time(history.closes[-1].time)
@@ -179,19 +143,12 @@ def came_before_close(history: History, answer: str | None, not_done: str) -> bo
     if answer is not None:
         return answer == "yes"
     closed = f"vote was closed at {act_time(history.closes[0].time)} and opened again"
-    if not is_terminal():
+    if not console.is_terminal():
         words = f"the {closed}, and only what came before counts"
         cure = f"say whether this came before that close: {CAME_BEFORE_CLOSE} yes, or {CAME_BEFORE_CLOSE} no, which makes it late"
         raise Fault(CAME_BEFORE_CLOSE, words, cure, done=not_done)
-    said = is_yes(f"The {closed}. Did this come before that close?")
+    said = console.is_yes(f"The {closed}. Did this come before that close?")
     if said is None:
         words = "you did not say whether it came before the close"
         raise Fault(None, words, "run the command again", done=not_done)
     return said
-
-
-def demand_same_call(vote: Vote, history: History, cure: str, not_done: str) -> None:
-    """Stops if lines were read by the poll of another call."""
-    if history.call != vote.call:
-        words = "the call for votes was made anew meanwhile"
-        raise Fault(None, words, cure, done=not_done)

@@ -7,7 +7,7 @@ import unittest
 import unittest.mock
 
 from debvote_tools.cli.faults import Fault, Status
-from debvote_tools.poll.until import demand_future, parse_until
+from debvote_tools.poll.announced import demand_future, parse_until
 from debvote_tools.text.language import language_of
 from debvote_tools.text.times import date_in_words, minute_in_words, now, time_in_words
 

@@ -11,9 +11,9 @@ from typing import BinaryIO, NamedTuple
 
 from debvote_tools.book.election import Election
 from debvote_tools.cli.console import tell
-from debvote_tools.cli.faults import Fault, Status, stop_at
+from debvote_tools.cli.faults import Fault, stop_at
 from debvote_tools.files import BALLOTS_LIMIT
-from debvote_tools.inbox.lines import NOTHING_ADDED
+from debvote_tools.inbox.lines import bad_ballots, bad_words, doubt
 from debvote_tools.inbox.mailbox import NotRead, are_letters, kind_not_read
 from debvote_tools.inbox.tables import PACKED, PDF, kind_of
 from debvote_tools.poll.sealed import REQUIRED
@@ -58,16 +58,14 @@ def are_all_letters(files: Mapping[str, CameFile | None]) -> bool:
         names = ", ".join(STANDARD_INPUT if path == HYPHEN else path for path in with_letters)
         words = "it has letters, and the other files have none"
         cure = "add letters and other files with separate commands"
-        raise Fault(names, words, cure, Status.BAD_WORDS, NOTHING_ADDED)
+        raise bad_words(names, words, cure)
     return bool(with_letters)
 
 
 def read_files(
     election: Election, paths: Sequence[str], *, is_table: bool
 ) -> dict[str, CameFile | None]:
-    """What these paths name, each read whole; a folder is None. Stops at what has neither ballots
-    nor letters.
-    """
+    """What these paths name; a folder is None. Stops at what has neither ballots nor letters."""
     files: dict[str, CameFile | None] = {}
     faults = []
     for path in paths or [HYPHEN]:
@@ -82,29 +80,23 @@ def read_files(
     return files
 
 
-def unreadable(name: object, words: object, cure: str) -> Fault:
-    return Fault(name, words, cure, Status.BAD_BALLOTS, NOTHING_ADDED)
-
-
 def read_file(election: Election, path: str) -> CameFile:
-    """Reads a file, or standard input; at a terminal it says how to end it. It may be a pipe, so it
-    is read once.
-    """
+    """Reads a file or standard input, once: it may be a pipe. At a terminal it says how to end."""
     if path == HYPHEN:
         if sys.stdin is None:
-            raise unreadable(STANDARD_INPUT, "it is closed", "name a file")
+            raise bad_ballots(STANDARD_INPUT, "it is closed", "name a file")
         if sys.stdin.isatty():
             tell("Type the ballots, one on each line; to end, type Ctrl-D on an empty line.")
         return CameFile(STANDARD_INPUT, bytes_in(sys.stdin.buffer))
     # no other handle may be opened on the book: closing it would end the locks of this process
     if os.path.exists(path) and os.path.samefile(path, election.book.path):
-        raise unreadable(path, "it is the book of this election", "name a file of ballots")
+        raise bad_ballots(path, "it is the book of this election", "name a file of ballots")
     try:
         with open(path, "rb") as file:
             return CameFile(path, bytes_in(file))
     except OSError as error:
         cure = "name a file of ballots that you may read"
-        raise unreadable(path, error.strerror, cure) from None
+        raise bad_ballots(path, error.strerror, cure) from None
 
 
 def bytes_in(file: BinaryIO) -> bytes:
@@ -116,16 +108,16 @@ def bytes_in(file: BinaryIO) -> bytes:
 def demand_lines(file: CameFile, *, is_table: bool) -> None:
     if not file.data:
         words, cure = "it is empty", "write one ballot on each line"
-        raise Fault(file.name, words, cure, Status.DOUBT, NOTHING_ADDED)
+        raise doubt(file.name, words, cure)
     if len(file.data) > BALLOTS_LIMIT:
         words = f"it is longer than {BALLOTS_LIMIT} bytes, the most that debvote takes"
-        raise unreadable(file.name, words, "add it in parts")
+        raise bad_ballots(file.name, words, "add it in parts")
     what = kind_of(file.data)
     if not is_table and file.data.startswith((codecs.BOM_UTF16_LE, codecs.BOM_UTF16_BE)):
         what = "a text in UTF-16"
     if what is not None:
         cure = "save it as CSV" if is_table else CURES.get(what, AS_TEXT)
-        raise unreadable(file.name, f"it is {what}", cure)
+        raise bad_ballots(file.name, f"it is {what}", cure)
     if len({key[1] for key in POLL_KEY.finditer(file.data)}) > 1:
         words = "it looks like a poll, not like ballots"
-        raise Fault(file.name, words, "name the file of the ballots", done=NOTHING_ADDED)
+        raise doubt(file.name, words, "name the file of the ballots")

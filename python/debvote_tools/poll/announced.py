@@ -1,0 +1,125 @@
+"""What a call announces, as its options name it: the end of the vote, and addresses."""
+
+import datetime
+import re
+import urllib.parse
+import zoneinfo
+from collections.abc import Iterable
+
+from debvote_tools.cli.console import LINE_ENDS, odd_sign
+from debvote_tools.cli.faults import Fault, bad_words
+from debvote_tools.text.times import minute_in_words, time_in_words
+
+MAIL = re.compile(r"[A-Za-z0-9_][A-Za-z0-9._+=-]*@[A-Za-z0-9-]+(\.[A-Za-z0-9-]+)*")
+MAIL_LIMIT = 254
+
+# `Name <ADDRESS>`, and how many characters such a name may have
+NAMED = re.compile(r"(?P<quote>\"?)(?P<name>.*?)(?P=quote)\s*<(?P<address>[^<>]*)>", re.DOTALL)
+NAME_LIMIT = 100
+
+# printable ASCII without blanks, what ends an address in a letter, and the # of a personal link
+WEB = re.compile(r"[!$-;=?-_a-z~]{1,500}")
+HOST = re.compile(r"[A-Za-z0-9.-]*[A-Za-z0-9]|\[[0-9A-Fa-f:.]+\]")
+
+
+# ---------------------------------------------------------------- the end of the vote
+def parse_until(
+    text: str, zone: str | None, earlier_zone: str | None = None
+) -> tuple[datetime.datetime, str | None]:
+    """The time that `--until` names, and its zone: its offset, `--zone`, or the zone of the end
+    before; None for that of this computer.
+    """
+    text, named = text.strip(), earlier_zone if zone is None else zone
+    try:
+        time = datetime.datetime.fromisoformat(text)
+        if time.tzinfo is None and zone is None and named is not None and named[0] in "+-":
+            time = datetime.datetime.fromisoformat(text + named)
+        offset = time.utcoffset() or datetime.timedelta()
+        # a date alone is midnight to Python
+        if len(text) <= len("2026-12-04") or offset % datetime.timedelta(minutes=1):
+            raise ValueError
+        if time.tzinfo is None:
+            return in_zone(time, named), named
+    except (ValueError, OverflowError):
+        reason = "it is not a date with a time of day, or there is no such day or time"
+        cure = 'write it as "2026-12-04 18:00", as "2026-12-04 18:00+01:00" or in another form of ISO 8601, or with --zone Europe/Berlin'
+        raise bad_until(reason, cure) from None
+    if zone is not None:
+        raise bad_words("--zone", "the time has an offset already", "leave out one of the two")
+    time = time.replace(microsecond=0)
+    return time, time.isoformat()[len("2026-12-04T18:00:00") :]
+
+
+def demand_future(time: datetime.datetime, by: datetime.datetime) -> None:
+    if time <= by:
+        clock = minute_in_words(by, time.tzinfo)
+        reason = f"{time_in_words(time)} is past: by the clock of this computer it is {clock}"
+        raise bad_until(reason, "write a time in the future")
+
+
+def in_zone(plain: datetime.datetime, name: str | None) -> datetime.datetime:
+    """The time when a clock in a zone, or of this computer, shows this, which it has to do once."""
+    try:
+        zone = None if name is None else zoneinfo.ZoneInfo(name)
+    except (zoneinfo.ZoneInfoNotFoundError, ValueError, OSError):
+        cure = "write one as Europe/Berlin, or give the offset in the time, as +01:00"
+        raise bad_words("--zone", "this computer knows no time zone of this name", cure) from None
+    folded = [plain.replace(fold=fold) for fold in (0, 1)]
+    times = [one.replace(tzinfo=zone) if zone else one.astimezone() for one in folded]
+    shown = [one.astimezone(datetime.UTC).astimezone(zone).replace(tzinfo=None) for one in times]
+    where = "where this computer is" if name is None else f"in {name}"
+    if plain not in shown:
+        skipped = "the clocks that are put forward on that day skip it"
+        raise bad_until(f"{where} there is no such time: {skipped}", "write another time")
+    if times[0].utcoffset() != times[1].utcoffset():
+        both = " or ".join(f'"{one.isoformat(" ", "minutes")}"' for one in times)
+        reason = f"{where} this time comes twice, since clocks are put back on that day"
+        raise bad_until(reason, f"write {both}")
+    # with a fixed offset it says the same on each computer
+    return datetime.datetime.fromisoformat(times[0].isoformat(timespec="seconds"))
+
+
+def bad_until(reason: str, cure: str) -> Fault:
+    return bad_words("--until", reason, cure)
+
+
+# ---------------------------------------------------------------- addresses
+def named_address(text: str) -> tuple[str, str]:
+    """Name and address of `Name <ADDRESS>`, or of an address alone."""
+    found = NAMED.fullmatch(text.strip())
+    name, address = (found["name"], found["address"]) if found else ("", text)
+    demand_mail_address(address)
+    if len(name) > NAME_LIMIT or odd_sign(name, refused=f'{LINE_ENDS}<>"') is not None:
+        most = f"at most {NAME_LIMIT} characters, without quotation marks, < and >"
+        raise bad_words("--to", f"the name has to be {most}", 'write it as "Name <ADDRESS>"')
+    return name, address
+
+
+def demand_mail_address(text: str, option: str = "--to") -> None:
+    if not is_mail_address(text):
+        reason = "it must be one mail address, as secretary@example.org"
+        raise bad_words(option, reason, "write it again")
+
+
+def is_mail_address(text: str) -> bool:
+    """Whether a text is one plain mail address, which every mail server takes."""
+    return len(text) <= MAIL_LIMIT and MAIL.fullmatch(text) is not None
+
+
+def address_in(addresses: Iterable[str]) -> str:
+    """The first of some addresses that every mail server takes; empty if there is none."""
+    return next(filter(is_mail_address, addresses), "")
+
+
+def demand_web_address(text: str) -> None:
+    """Stops at what is no address by http or https, and at a user, a password or a fragment."""
+    try:
+        parts = urllib.parse.urlsplit(text if WEB.fullmatch(text) else "")
+        host = parts.netloc.rpartition(":")[0] or parts.netloc
+        if parts.scheme in ("http", "https") and parts.port != 0 and HOST.fullmatch(host):
+            return
+    except ValueError:
+        pass
+    example = "https://example.org/vote/, without a part after #"
+    reason = f"it must be the address of a page, as {example}"
+    raise bad_words("--at", reason, "write it as a browser shows it")
