@@ -14,9 +14,7 @@ import pathlib
 import re
 import shutil
 import subprocess
-import sys
 import tempfile
-import unittest
 
 from tests.support import expecting
 from tests.support.program import PROGRAM, ROOT

@@ -13,7 +13,6 @@ import select
 import subprocess
 import tempfile
 import time
-import unittest
 
 from tests import reference_checks, reference_findings
 from tests.support import expecting
