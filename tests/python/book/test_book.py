@@ -327,7 +327,7 @@ class Rewritten(BookTest):
         self.done("strike", "1", "--because", "x")
         self.done("close")
         self.done("desk", given="dan 1,2,3,4\n")
-        self.assertEqual(self.rows("SELECT line FROM envelope_now WHERE in_time ORDER BY envelope"), [(b"ben 2,1,3,4",), (b"cleo 1,2,3,4",)])
+        self.assertEqual(self.rows("SELECT line FROM ballot ORDER BY envelope"), [(b"ben 2,1,3,4",), (b"cleo 1,2,3,4",)])
 
     def test_lines_of_any_bytes(self) -> None:
         """They stay as they are in what the digest is over, and none can be taken for the rows of two."""
