@@ -277,4 +277,6 @@ class ScriptsTest(publishing.PublishTest):
         two = window.count_again(files=files | {"poll-2.toml": files["poll.toml"]})
         self.expect("two polls", two, ["Choose poll.toml and ballots.txt, one file of each and under these names; you may add sheet.txt."])
         toml = window.count_again(files=files | {"poll.toml": b"# a comment\n" + files["poll.toml"]})[0]
+        odd = window.count_again(files=files | {"poll.toml": files["poll.toml"].replace(b'"Plain"', b'"Pl\xffin"')})[0]
+        self.expect(f"no UTF-8: {odd}", "poll refused: not in UTF-8" in odd, True)
         self.expect(f"another form of TOML: {toml}", "not in plain form, as the poll.toml of a result is" in toml, True)
