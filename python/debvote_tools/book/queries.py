@@ -318,15 +318,15 @@ class KeptLetter(NamedTuple):
 
 
 def letters(book: Book) -> list[KeptLetter]:
-    words = (
-        "SELECT letter, act, source, identity, parsed_json, state FROM letter_now ORDER BY letter"
-    )
+    words = "SELECT letter, act, source, identity, known, state FROM letter_now ORDER BY letter"
     return [KeptLetter(*row) for row in book.rows(words)]
 
 
 def kept_digests(book: Book) -> set[tuple[str, bool]]:
     """The digests of the letters that came, each with whether it was parted off."""
-    words = "SELECT json_extract(parsed_json, '$.digest'), json_extract(parsed_json, '$.is_parted_off') FROM letter"
+    words = (
+        "SELECT json_extract(known, '$.digest'), json_extract(known, '$.is_parted_off') FROM letter"
+    )
     return {(str(digest), bool(is_parted_off)) for digest, is_parted_off in book.rows(words)}
 
 
@@ -339,8 +339,8 @@ def returned_letters(book: Book) -> list[tuple[int, str, list[str]]]:
     sender, and the own marks in it.
     """
     words = (
-        "SELECT act, json_extract(parsed_json, '$.sender'), json_extract(parsed_json, '$.returned') FROM letter "
-        "WHERE json_array_length(parsed_json, '$.returned') > 0 ORDER BY letter"
+        "SELECT act, json_extract(known, '$.sender'), json_extract(known, '$.returned') FROM letter "
+        "WHERE json_array_length(known, '$.returned') > 0 ORDER BY letter"
     )
     return [(act, sender, json.loads(marks)) for act, sender, marks in book.rows(words)]
 
@@ -354,7 +354,7 @@ def undecided(kept: list[KeptLetter]) -> list[KeptLetter]:
 def keep_letter(act: NewAct, where: str, data: bytes, identity: str, parsed_json: str) -> int:
     """Keeps a letter, byte for byte, and returns its number."""
     return act.insert(
-        "letter", source=keep_source(act, where, data), identity=identity, parsed_json=parsed_json
+        "letter", source=keep_source(act, where, data), identity=identity, known=parsed_json
     )
 
 

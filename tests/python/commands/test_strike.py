@@ -63,7 +63,7 @@ class Strike(CalledTest):
     def test_a_letter_is_set_aside(self) -> None:
         with self.book.act("add") as act:
             source = queries.keep_source(act, "inbox", b"letter")
-            letter = act.insert("letter", source=source, identity="1", parsed_json="{}")
+            letter = act.insert("letter", source=source, identity="1", known="{}")
             new = [queries.NewEnvelope(b"cleo 1,2,3,4", "", source, letter)]
             queries.add_envelopes(act, new, [self.elector("cleo")], is_late=False)
             queries.decide(act, letter, queries.ENTERED)

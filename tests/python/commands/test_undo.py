@@ -72,7 +72,7 @@ class Undo(CalledTest):
         with self.book.act("add") as act:
             for name in ("ada", "ben"):
                 source = queries.keep_source(act, "inbox", b"letter")
-                letter = act.insert("letter", source=source, identity=name, parsed_json="{}")
+                letter = act.insert("letter", source=source, identity=name, known="{}")
                 act.insert("letter_state", letter=letter, state="entered")
                 line = f"{name} {RANKS}".encode()
                 queries.add_envelopes(act, [queries.NewEnvelope(line, "", source, letter)], [self.elector(name)], is_late=False)
