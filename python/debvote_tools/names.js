@@ -22,7 +22,7 @@ function spellings(name) {
   return spelled === name ? [name] : [name, spelled];
 }
 
-// The letters of a name from each of its words on: of Eve Arnold "evearnold" and "arnold".
+// The letters of a name from each of its words on: of Maria Muster "mariamuster" and "muster".
 function endsOf(name) {
   const words = name.split(/[\s.,_-]+/).map(lettersOf).filter(Boolean);
   return words.map((word, at) => words.slice(at).join(""));
