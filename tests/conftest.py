@@ -14,7 +14,7 @@ from _pytest.terminal import TerminalReporter
 from tests.support import debian, forks, program
 
 # the classes that take longest begin first, so that none of them runs alone at the end
-LONGEST = ["SequencesTest", "LargestTest", "Damaged", "CallPageTest", "MarkedPublications", "RandomTest", "Sending"]
+LONGEST = ["Sequences", "LargestTest", "Damaged", "In_", "Lines", "MarkedPublications", "RandomTest", "Sending"]
 
 
 def pytest_configure(config: pytest.Config) -> None:
@@ -38,7 +38,7 @@ def pytest_sessionstart(session: pytest.Session) -> None:
 def pytest_collection_modifyitems(items: list[pytest.Item]) -> None:
     def place(item: pytest.Item) -> int:
         name = item.parent.name if item.parent else ""
-        return LONGEST.index(name) if name in LONGEST else len(LONGEST)
+        return next((place for place, start in enumerate(LONGEST) if name.startswith(start)), len(LONGEST))
 
     items.sort(key=place)
 

@@ -5,8 +5,7 @@ begins with ```toml FILE or ```text FILE is a file. A line `<!-- clock: TIME -->
 the day only the form is compared. The commands of a guide run in their order, in one shell and one folder, which has copies of
 examples/ and of reference.py, and the files that the guide has shown before. If Graphviz is not installed, a stand-in draws.
 
-The table of quorums in docs/SECRETARY.md is compared with what the program says for this number of electors. The program in
-docs/FORMATS.md that computes the digests of a book runs on a book, as it is and changed.
+The table of quorums in docs/SECRETARY.md is compared with what the program says for this number of electors.
 """
 
 import datetime
@@ -14,11 +13,8 @@ import os
 import pathlib
 import re
 import shutil
-import sqlite3
 import subprocess
-import sys
 import tempfile
-import unittest
 
 from tests.support import expecting
 from tests.support.program import PROGRAM, ROOT
@@ -79,11 +75,7 @@ def answers_of(steps):
     with tempfile.TemporaryDirectory() as name:
         folder = pathlib.Path(name)
         (folder / "clock").write_text(datetime.datetime.now(datetime.UTC).isoformat())
-        clock = {
-            "PYTHONPATH": str(ROOT / "tests" / "clock"),
-            "DEBVOTE_CLOCK": str(folder / "clock"),
-            "PYTHONDONTWRITEBYTECODE": "1",
-        }
+        clock = {"PYTHONPATH": str(ROOT / "tests" / "clock"), "DEBVOTE_CLOCK": str(folder / "clock"), "PYTHONDONTWRITEBYTECODE": "1"}
         environment = {"PATH": path_in(folder), "HOME": name, "LC_ALL": "C", **clock}
         reader = folder / "reader"
         shutil.copytree(ROOT / "examples", reader / "examples")
@@ -111,7 +103,7 @@ def rows_of_quorums(guide):
 
 # ---------------------------------------------------------------- the tests
 class GuideTest(expecting.Expecting):
-    """The commands of a guide print what the guide says. Each guide has a class, so that they run side by side."""
+    """The commands of a guide print what the guide says."""
 
     def type_commands(self, guide):
         steps = list(steps_of(DOCS / f"{guide}.md"))
@@ -123,24 +115,14 @@ class GuideTest(expecting.Expecting):
             self.expect(f"{guide}: $ {words}", TIME.sub("TIME", answer), TIME.sub("TIME", wanted))
 
 
-class SecretaryTest(GuideTest):
-    def test_secretary(self):
-        self.type_commands("SECRETARY")
+def class_of(guide):
+    """A class of tests for a guide, so that they run side by side."""
+    name = guide.lower().replace("-", "_")
+    return type(f"{name}_test", (GuideTest,), {f"test_{name}": lambda self: self.type_commands(guide)})
 
 
-class SecretVotesTest(GuideTest):
-    def test_secret_votes(self):
-        self.type_commands("SECRET-VOTES")
-
-
-class SpecialCasesTest(GuideTest):
-    def test_special_cases(self):
-        self.type_commands("SPECIAL-CASES")
-
-
-class ReadingASheetTest(GuideTest):
-    def test_reading_a_sheet(self):
-        self.type_commands("READING-A-SHEET")
+for guide in ("SECRETARY", "SECRET-VOTES", "SPECIAL-CASES", "READING-A-SHEET"):
+    globals()[f"Test_{guide}"] = class_of(guide)
 
 
 class QuorumsTest(expecting.Expecting):
@@ -151,28 +133,3 @@ class QuorumsTest(expecting.Expecting):
             for multiple, number in enumerate(numbers, start=1):
                 said = f"Quorum: {multiple}Q, {number} votes"
                 self.expect(f"{electors} electors, {multiple}Q", quorum_line(electors, multiple), said)
-
-
-class DigestsTest(expecting.Expecting):
-    """The program of docs/FORMATS.md that computes the digests of a book."""
-
-    def test_it_says_what_debvote_election_says(self):
-        [program] = re.findall(r"^```python\n(.*?)^```$", (DOCS / "FORMATS.md").read_text(), re.MULTILINE | re.DOTALL)
-        with tempfile.TemporaryDirectory() as name:
-            self.folder = pathlib.Path(name)
-            self.run_in(".", ROOT / "bin" / "debvote-election", "new", "é")
-            (self.folder / "é" / "members.csv").write_text('who,mail\nAda "the" Ö,ada@club.example\n')
-            self.run_in("é", ROOT / "bin" / "debvote-election", "roll")
-            checked = self.run_in("é", ROOT / "bin" / "debvote-election", "log", "--check")
-            self.expect(
-                "docs/FORMATS.md: the last digest", self.run_in("é", sys.executable, "-c", program).split()[-1], checked.split()[-1]
-            )
-            with sqlite3.connect(self.folder / "é" / "election.db") as book:
-                book.executescript("DROP TRIGGER elector_state_UPDATE; UPDATE elector_state SET who = 'Eve'")
-            changed = self.run_in("é", sys.executable, "-c", program).splitlines()[0]
-            self.expect("docs/FORMATS.md: a row that was changed", changed, "act 2 does not match its digest")
-
-    def run_in(self, folder, *words):
-        environment = os.environ | {"HOME": str(self.folder), "XDG_STATE_HOME": str(self.folder / "state")}
-        how = {"stdout": subprocess.PIPE, "text": True, "timeout": SECONDS, "check": True}
-        return subprocess.run(words, cwd=self.folder / folder, env=environment, **how).stdout

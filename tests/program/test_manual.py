@@ -56,16 +56,6 @@ def statuses_of_formats():
     return re.findall(r"^\| (\d+) \| (.*) \| (.*) \|$", part, re.MULTILINE)
 
 
-def try_words_of_help(expect):
-    """The line above the usage, and the words of the exit statuses."""
-    said = output_of(PROGRAM, "--help")
-    about = re.search(r"the line above its usage is `(.*?)`", FORMATS.read_text())
-    expect("--help: the line above the usage", said.partition("\n\nUsage: ")[0], about[1] if about else None)
-    wanted = [(number, words) for number, _, words in statuses_of_formats()]
-    expect("--help: the exit statuses", statuses_in(said), wanted)
-    expect("--help: exit statuses were read", len(wanted), 11)
-
-
 @functools.cache
 def options_by_command():
     """The options of debvote itself, by the name "", and of each of its commands."""
@@ -104,23 +94,6 @@ def tagged_options(text):
     return [option for tag in re.findall(r"^\.TP\n(.*)", text, re.MULTILINE) for option in re.findall(OPTION, tag)]
 
 
-def try_page_of_debvote(expect, options):
-    page = plain((ROOT / "man" / "debvote.1").read_text())
-    commands = page[page.index("\n.SH COMMANDS") : page.index("\n.SH OPTIONS")]
-    names = re.findall(r"^\.SS (\w+)$", commands, re.MULTILINE)
-    expect("debvote.1: its commands", sorted(names), sorted(set(options) - {""}))
-    expect("debvote.1: options without a command", sorted(tagged_options(part_of(page, "OPTIONS"))), sorted(options[""]))
-    synopsis = part_of(page, "SYNOPSIS")
-    for command in names:
-        wanted = sorted(set(options.get(command, [])) - {"--help"})
-        expect(f"debvote.1: options of {command}", sorted(tagged_options(part_of(page, command))), wanted)
-        line = re.search(rf"^debvote {command}\n(.*?)(?=^\.br|\Z)", synopsis, re.MULTILINE | re.DOTALL)
-        expect(f"debvote.1: synopsis of {command}", sorted(re.findall(OPTION, line[1] if line else "")), wanted)
-    statuses = re.findall(r"^\.TP\n(\d+)\n((?:(?!\.TP\n).*\n)*)", part_of(page, "EXIT STATUS"), re.MULTILINE)
-    wanted = [(number, sentence(words.replace("`", ""))) for number, words, _ in statuses_of_formats()]
-    expect("debvote.1: exit statuses", [(number, sentence(as_words(text))) for number, text in statuses], wanted)
-
-
 @functools.cache
 def options_of_publish():
     """The options of debvote-publish."""
@@ -134,36 +107,6 @@ def options_of_election():
     return {name: options_in(output_of(sys.executable, ELECTION, name, "--help")) for name in names}
 
 
-def try_made(expect):
-    """The pages and completions that docs/make-manual makes are those that are here."""
-    with tempfile.TemporaryDirectory() as folder:
-        output = output_of(ROOT / "docs" / "make-manual", folder)
-        expect("docs/make-manual", output, "")
-        files = sorted(file.relative_to(folder) for file in pathlib.Path(folder).rglob("*") if file.is_file())
-        expect("docs/make-manual: files", len(files), 8)
-        old = [str(file) for file in files if (ROOT / file).read_text() != (pathlib.Path(folder) / file).read_text()]
-        expect("pages and completions that are not of today: run docs/make-manual", old, [])
-
-
-def try_version(expect):
-    """The version in the code; everywhere else it is the same."""
-    version = output_of(PROGRAM, "--version").strip()
-    expect("docs/FORMATS.md: the version", set(re.findall(r"`(debvote \d[\d.]*)`", FORMATS.read_text())), {version})
-    heads = re.findall(r"^## (\d[\d.]*), \d{4}-\d\d-\d\d$", (ROOT / "CHANGELOG.md").read_text(), re.MULTILINE)
-    expect("CHANGELOG.md: the newest version", [f"debvote {head}" for head in heads[:1]], [version])
-    for program in (ELECTION, PUBLISH):
-        said = f"{program.name} {version.removeprefix('debvote ')}\n"
-        expect(f"{program.name} --version", [output_of(sys.executable, program, word) for word in ("--version", "-V")], [said] * 2)
-
-
-def try_pages(expect):
-    """The head of each page."""
-    version = output_of(PROGRAM, "--version").strip()
-    for page in sorted((ROOT / "man").iterdir()):
-        head = page.read_text().splitlines()[0].replace("\\-", "-")
-        expect(f"{page.name}: its head", re.findall(r'^\.TH (\S+) 1 \S+ "(.*?)"', head), [(page.stem.upper(), version)])
-
-
 def try_warnings(expect, words):
     """The output of man or groff for each page."""
     for page in sorted((ROOT / "man").iterdir()):
@@ -174,25 +117,6 @@ def try_warnings(expect, words):
 
 
 # ---------------------------------------------------------------- the completions
-def try_bash(expect, options, of_publish, of_election):
-    """What bash offers for the last of some words."""
-    for program, command, wanted in [
-        *(("debvote", command, found) for command, found in options.items() if command not in ("", "help")),
-        *(("debvote-election", f"{command} -", found) for command, found in of_election.items()),
-        ("debvote-election", "", [*of_election, "--folder", "--help", "--version"]),
-        ("debvote", "help", [command for command in options if command]),
-        ("debvote", "", [*(command for command in options if command), *options[""]]),
-        ("debvote-publish", "-", of_publish),
-    ]:
-        words = [program, command, ""] if command.isalpha() else [program, *(command.split() or [""])]
-        script = (
-            f"source {ROOT}/completions/bash/{program}; COMP_WORDS=({' '.join(repr(word) for word in words)}); "
-            f'COMP_CWORD={len(words) - 1}; _{program.replace("-", "_")}; printf "%s\\n" "${{COMPREPLY[@]}}"'
-        )
-        found = output_of("bash", "--norc", "-c", script).split()
-        expect(f"bash: {program} {command}", sorted(found), sorted(wanted))
-
-
 # what a completion asks of zsh: this prints it, for the words after the command
 ZSH = """
 _arguments() { if [[ $1 == -C ]] { state=argument; return 1 } else { print -rl -- "$@" } }
@@ -200,68 +124,6 @@ words=(%s)
 complete_words() { source %s }
 complete_words
 """
-
-
-def try_zsh(expect, options):
-    """The options of each command as the files write them."""
-    file = ROOT / "completions" / "zsh" / "_debvote"
-    text = file.read_text()
-    names = re.findall(r"^    '(\w+):", text, re.MULTILINE)
-    expect("zsh: the commands", sorted(names), sorted(set(options) - {""}))
-    top = sorted(set(re.findall(rf"'({OPTION})\[", "\n".join(re.findall(r"_arguments -C.*", text)))) | {"--help"})
-    expect("zsh: options without a command", top, sorted(options[""]))
-    for command, wanted in options.items():
-        if command not in ("", "help"):
-            line = re.search(rf"^ +{command}\) _arguments (.*) ;;$", text, re.MULTILINE)
-            found = ["--" + name for name in re.findall(r'"\$(\w+)"', line[1] if line else "")]
-            expect(f"zsh: {command}", sorted(found), sorted(wanted))
-
-
-def try_zsh_itself(expect, options, of_election):
-    """The options of each command as zsh reads them."""
-    file = ROOT / "completions" / "zsh" / "_debvote"
-    election = ROOT / "completions" / "zsh" / "_debvote-election"
-    for command, wanted in options.items():
-        if command not in ("", "help"):
-            said = output_of("zsh", "-f", "-c", ZSH % (command, file))
-            found = re.findall(rf"^({OPTION})\[", said, re.MULTILINE)
-            expect(f"zsh itself: {command}", sorted(found), sorted(wanted))
-    for command, wanted in of_election.items():
-        found = re.findall(rf"^({OPTION})\[", output_of("zsh", "-f", "-c", ZSH % (command, election)), re.MULTILINE)
-        expect(f"zsh itself: debvote-election {command}", sorted(found), sorted(wanted))
-
-
-def try_fish(expect, options):
-    file = ROOT / "completions" / "fish" / "debvote.fish"
-    text = file.read_text()
-    lists = {name: set(words.split()) for name, words in re.findall(r"^set -l of_(\w+) (.*)$", text, re.MULTILINE)}
-    used = set(re.findall(r"\$of_(\w+)\" -l (\w+)", text))
-    expect("fish: each list is for its option", used, {(name, name) for name in lists})
-    for command, wanted in options.items():
-        if command not in ("", "help"):
-            found = [f"--{name}" for name, commands in lists.items() if command in commands] + ["--help"]
-            expect(f"fish: {command}", sorted(found), sorted(wanted))
-    names = re.search(r"^set -l all (.*)$", text, re.MULTILINE)[1].split()
-    expect("fish: the commands", sorted(names), sorted(set(options) - {""}))
-    described = re.findall(r'-a (\w+) -d "', text)
-    expect("fish: each command is described", sorted(described), sorted(names))
-
-
-def try_fish_itself(expect, options, of_election):
-    """The options of each command as fish reads them."""
-    file = ROOT / "completions" / "fish" / "debvote.fish"
-    for command, wanted in options.items():
-        if command != "help":
-            said = output_of("fish", "-N", "-c", f"source {file}; complete -C 'debvote {command} --'")
-            found = [line.split("\t")[0] for line in said.splitlines()]
-            expect(f"fish itself: debvote {command}", sorted(found), sorted(wanted))
-    file = ROOT / "completions" / "fish" / "debvote-election.fish"
-    for command, wanted in of_election.items():
-        said = output_of("fish", "-N", "-c", f"source {file}; complete -C 'debvote-election {command} --'")
-        found = [line.split("\t")[0] for line in said.splitlines()]
-        expect(f"fish itself: debvote-election {command}", sorted(found), sorted(wanted))
-    said = output_of("fish", "-N", "-c", f"source {file}; complete -C 'debvote-election '")
-    expect("fish itself: debvote-election", sorted(line.split("\t")[0] for line in said.splitlines()), sorted(of_election))
 
 
 # ---------------------------------------------------------------- the tests
@@ -272,21 +134,59 @@ class HelpTest(expecting.Expecting):
         self.expect("the help names commands and options", is_read, True)
 
     def test_words_of_help(self):
-        try_words_of_help(self.expect)
+        """The line above the usage, and the words of the exit statuses."""
+        said = output_of(PROGRAM, "--help")
+        about = re.search(r"the line above its usage is `(.*?)`", FORMATS.read_text())
+        self.expect("--help: the line above the usage", said.partition("\n\nUsage: ")[0], about[1] if about else None)
+        wanted = [(number, words) for number, _, words in statuses_of_formats()]
+        self.expect("--help: the exit statuses", statuses_in(said), wanted)
+        self.expect("--help: exit statuses were read", len(wanted), 11)
 
     def test_version(self):
-        try_version(self.expect)
+        """The version in the code; everywhere else it is the same."""
+        version = output_of(PROGRAM, "--version").strip()
+        self.expect("docs/FORMATS.md: the version", set(re.findall(r"`(debvote \d[\d.]*)`", FORMATS.read_text())), {version})
+        heads = re.findall(r"^## (\d[\d.]*), \d{4}-\d\d-\d\d$", (ROOT / "CHANGELOG.md").read_text(), re.MULTILINE)
+        self.expect("CHANGELOG.md: the newest version", [f"debvote {head}" for head in heads[:1]], [version])
+        for program in (ELECTION, PUBLISH):
+            found = [output_of(sys.executable, program, word) for word in ("--version", "-V")]
+            self.expect(f"{program.name} --version", found, [f"{program.name} {version.removeprefix('debvote ')}\n"] * 2)
 
 
 class PagesTest(expecting.Expecting):
     def test_page_of_debvote(self):
-        try_page_of_debvote(self.expect, options_by_command())
+        page = plain((ROOT / "man" / "debvote.1").read_text())
+        commands = page[page.index("\n.SH COMMANDS") : page.index("\n.SH OPTIONS")]
+        names = re.findall(r"^\.SS (\w+)$", commands, re.MULTILINE)
+        self.expect("debvote.1: its commands", sorted(names), sorted(set(options_by_command()) - {""}))
+        options = sorted(tagged_options(part_of(page, "OPTIONS")))
+        self.expect("debvote.1: options without a command", options, sorted(options_by_command()[""]))
+        synopsis = part_of(page, "SYNOPSIS")
+        for command in names:
+            wanted = sorted(set(options_by_command().get(command, [])) - {"--help"})
+            self.expect(f"debvote.1: options of {command}", sorted(tagged_options(part_of(page, command))), wanted)
+            line = re.search(rf"^debvote {command}\n(.*?)(?=^\.br|\Z)", synopsis, re.MULTILINE | re.DOTALL)
+            self.expect(f"debvote.1: synopsis of {command}", sorted(re.findall(OPTION, line[1] if line else "")), wanted)
+        statuses = re.findall(r"^\.TP\n(\d+)\n((?:(?!\.TP\n).*\n)*)", part_of(page, "EXIT STATUS"), re.MULTILINE)
+        wanted = [(number, sentence(words.replace("`", ""))) for number, words, _ in statuses_of_formats()]
+        self.expect("debvote.1: exit statuses", [(number, sentence(as_words(text))) for number, text in statuses], wanted)
 
     def test_made_pages_and_completions(self):
-        try_made(self.expect)
+        """The pages and completions that docs/make-manual makes are those that are here."""
+        with tempfile.TemporaryDirectory() as folder:
+            output = output_of(ROOT / "docs" / "make-manual", folder)
+            self.expect("docs/make-manual", output, "")
+            files = sorted(file.relative_to(folder) for file in pathlib.Path(folder).rglob("*") if file.is_file())
+            self.expect("docs/make-manual: files", len(files), 8)
+            old = [str(file) for file in files if (ROOT / file).read_text() != (pathlib.Path(folder) / file).read_text()]
+            self.expect("pages and completions that are not of today: run docs/make-manual", old, [])
 
     def test_what_pages_say_of_themselves(self):
-        try_pages(self.expect)
+        """The head of each page."""
+        version = output_of(PROGRAM, "--version").strip()
+        for page in sorted((ROOT / "man").iterdir()):
+            head = page.read_text().splitlines()[0].replace("\\-", "-")
+            self.expect(f"{page.name}: its head", re.findall(r'^\.TH (\S+) 1 \S+ "(.*?)"', head), [(page.stem.upper(), version)])
 
     @unittest.skipUnless(shutil.which("man"), "man is not installed")
     def test_warnings_of_man(self):
@@ -299,18 +199,54 @@ class PagesTest(expecting.Expecting):
 
 class CompletionsTest(expecting.Expecting):
     def test_bash(self):
-        try_bash(self.expect, options_by_command(), options_of_publish(), options_of_election())
+        """What bash offers for the last of some words."""
+        for program, command, wanted in [
+            *(("debvote", command, found) for command, found in options_by_command().items() if command not in ("", "help")),
+            *(("debvote-election", f"{command} -", found) for command, found in options_of_election().items()),
+            ("debvote-election", "", [*options_of_election(), "--folder", "--help", "--version"]),
+            ("debvote", "help", [command for command in options_by_command() if command]),
+            ("debvote", "", [*(command for command in options_by_command() if command), *options_by_command()[""]]),
+            ("debvote-publish", "-", options_of_publish()),
+        ]:
+            words = [program, command, ""] if command.isalpha() else [program, *(command.split() or [""])]
+            script = (
+                f"source {ROOT}/completions/bash/{program}; COMP_WORDS=({' '.join(repr(word) for word in words)}); "
+                f'COMP_CWORD={len(words) - 1}; _{program.replace("-", "_")}; printf "%s\\n" "${{COMPREPLY[@]}}"'
+            )
+            found = output_of("bash", "--norc", "-c", script).split()
+            self.expect(f"bash: {program} {command}", sorted(found), sorted(wanted))
 
     def test_zsh(self):
-        try_zsh(self.expect, options_by_command())
+        """The commands, and the options without one, as the file writes them."""
+        text = (ROOT / "completions" / "zsh" / "_debvote").read_text()
+        names = re.findall(r"^    '(\w+):", text, re.MULTILINE)
+        self.expect("zsh: the commands", sorted(names), sorted(set(options_by_command()) - {""}))
+        top = sorted(set(re.findall(rf"'({OPTION})\[", "\n".join(re.findall(r"_arguments -C.*", text)))) | {"--help"})
+        self.expect("zsh: options without a command", top, sorted(options_by_command()[""]))
 
     @unittest.skipUnless(shutil.which("zsh"), "zsh is not installed")
     def test_zsh_itself(self):
-        try_zsh_itself(self.expect, options_by_command(), options_of_election())
+        """The options of each command as zsh reads them."""
+        for program, options in (("debvote", options_by_command()), ("debvote-election", options_of_election())):
+            for command in options.keys() - {"", "help"}:
+                said = output_of("zsh", "-f", "-c", ZSH % (command, ROOT / "completions" / "zsh" / f"_{program}"))
+                found = re.findall(rf"^({OPTION})\[", said, re.MULTILINE)
+                self.expect(f"zsh: {program} {command}", sorted(found), sorted(options[command]))
 
     def test_fish(self):
-        try_fish(self.expect, options_by_command())
+        """The commands as the file writes them, each with its words."""
+        text = (ROOT / "completions" / "fish" / "debvote.fish").read_text()
+        names = re.search(r"^set -l all (.*)$", text, re.MULTILINE)[1].split()
+        self.expect("fish: the commands", sorted(names), sorted(set(options_by_command()) - {""}))
+        self.expect("fish: each command is described", sorted(re.findall(r'-a (\w+) -d "', text)), sorted(names))
 
     @unittest.skipUnless(shutil.which("fish"), "fish is not installed")
     def test_fish_itself(self):
-        try_fish_itself(self.expect, options_by_command(), options_of_election())
+        """The options of each command as fish reads them."""
+        for program, options in (("debvote", options_by_command()), ("debvote-election", options_of_election())):
+            typed = {f"{command} --": options[command] for command in options.keys() - {"help"}}
+            typed |= {"": list(options)} if program == "debvote-election" else {}
+            for words, wanted in typed.items():
+                source = f"source {ROOT}/completions/fish/{program}.fish"
+                said = output_of("fish", "-N", "-c", f"{source}; complete -C '{program} {words}'")
+                self.expect(f"fish: {program} {words}", sorted(line.split("\t")[0] for line in said.splitlines()), sorted(wanted))

@@ -4,21 +4,7 @@ DEBVOTE_LAW_POLLS is the number of polls for each law, by default 200, and DEBVO
 1 and 123 each law is tried on the poll of seed 123 again.
 
 The laws are those of docs/DEFINITIONS.md, "What an elector can rely on", which are proved of the printed sheet. For each of
-them an election is counted, changed, and counted again:
-
-    names_do_not_matter                   the electors have other names, in another order: the sheet is the same
-    nobody_counts_twice                   nothing is changed: the sums of the sheet are right
-    refused_lines_have_no_influence       other lines that are refused: the sheet is the same; and one more at the end: only the
-                                          numbers of lines and of refused lines are one more
-    only_the_last_ballot_counts           other ballots instead of those that a later one outdates: the sheet is the same
-    one_ballot_moves_each_count_by_one    another last ballot of one elector, or none, or a first one: no number of the votes,
-                                          nor that of the voters, moves by more than one
-    ballots_that_order_alike_count_alike  other numbers for the ranks of the last ballots, in the same order of the options, and the
-                                          last options of a ballot without a rank where all others have one: from the line
-                                          Voters: on the sheet is the same
-    published_files_have_the_same_sheet   the published files of a secret vote, other names and the ballots that stand in another
-                                          order, their ranks in normal form, without a last envelope: the sheet is the same from
-                                          the line Voters: on
+them an election is counted, changed as the law says, and counted again.
 
 tests/reference.py says what a line is; the elections are made as in tests/random-polls. If a law does not hold, the files and sheets
 of both counts are kept in a folder. With 100 polls or more each kind of change must have
@@ -177,7 +163,7 @@ def ask_same(count, one, other):
 
 
 def names_do_not_matter(rng, election, count):
-    """The electors have other names, in another order, and the lines say the same about them."""
+    """The electors have other names, in another order, and the lines say the same about them: the sheet is the same."""
     number = len(election.roll)
     names = polls.distinct(rng, number, lambda: polls.a_name(rng, polls.VOTER_LETTERS, 32))
     order = rng.sample(range(number), number)
@@ -207,7 +193,7 @@ def nobody_counts_twice(rng, election, count):
 
 
 def refused_lines_have_no_influence(rng, election, count):
-    """Refused lines are changed, and then one is added."""
+    """Refused lines are changed: the sheet is the same. Then one is added at the end: only the numbers of lines and of refused ones grow."""
     lines = list(election.lines)
     for place in range(len(lines)):
         if not election.ballot_at(place):
@@ -226,7 +212,7 @@ def refused_lines_have_no_influence(rng, election, count):
 
 
 def only_the_last_ballot_counts(rng, election, count):
-    """The ballots that a later one outdates are changed."""
+    """The ballots that a later one outdates are changed: the sheet is the same."""
     lines = list(election.lines)
     for elector, places in election.valid_places().items():
         for place in places[:-1]:
@@ -255,7 +241,7 @@ def with_another_last_ballot(rng, election, elector, places):
 
 
 def one_ballot_moves_each_count_by_one(rng, election, count):
-    """The last ballot of one elector is changed."""
+    """The last ballot of one elector is changed, or gone, or there is a first one: no number of votes moves by more than one."""
     elector = rng.randrange(len(election.roll))
     what, other = with_another_last_ballot(rng, election, elector, election.valid_places()[elector])
     yield what
@@ -292,7 +278,7 @@ def has_equal(ranks):
 
 
 def ballots_that_order_alike_count_alike(rng, election, count):
-    """Each last ballot has other numbers, or none for its last options, in the same order."""
+    """Each last ballot has other numbers, or none for its last options, in the same order: from Voters: on the sheet is the same."""
     lines = list(election.lines)
     for places in election.valid_places().values():
         ranks = in_normal_form(lines[places[-1]])

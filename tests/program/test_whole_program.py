@@ -13,7 +13,6 @@ import select
 import subprocess
 import tempfile
 import time
-import unittest
 
 from tests import reference_checks, reference_findings
 from tests.support import expecting
@@ -52,48 +51,6 @@ def files_of(folder):
     return ["--poll", folder / "poll.toml", "--ballots", folder / "ballots"]
 
 
-def try_help(expect):
-    """Help goes to standard output with status 0, and says what each command and each option is."""
-    poll = b"--poll <FILE>", b"The poll file, in TOML"
-    ballots = b"--ballots <FILE>", b"The ballot file, one ballot a line: name 1,2,3"
-    desks = b"--desks <K>", b"How many desks enter ballots at once, 1 to 8; the result is the same [default: 1]"
-    casting = b"--casting <NAME>", b"The option that the casting vote chooses in a tie (its exact name)"
-    count = b"count", b"Counts the ballots and prints the result"
-    steps = b"steps", b"Prints the reply to each ballot"
-    check = b"check", b"Checks a poll file"
-    explain = b"explain", b"Reports every problem in a poll and its ballots, and where it is"
-    standing = b"standing", b"Prints the ballots that count: each elector's last valid one"
-    sheet = b"--sheet <FILE>", b"The sheet that was published"
-    verify = b"verify", b"Counts the ballots and compares the result with a published sheet"
-    picture = b"picture", b"Counts the ballots and prints the result as a graph for Graphviz"
-    statuses = b"Exit", b"statuses:"
-    for words, usage, wanted in [
-        (["--help"], b"Usage: debvote", [count, steps, check, explain, standing, verify, picture, statuses]),
-        (["count", "--help"], b"Usage: debvote count", [poll, ballots, desks, casting]),
-        (["steps", "--help"], b"Usage: debvote steps", [poll, ballots]),
-        (["check", "--help"], b"Usage: debvote check", [poll]),
-        (["explain", "--help"], b"Usage: debvote explain", [poll, ballots]),
-        (["standing", "--help"], b"Usage: debvote standing", [poll, ballots]),
-        (["verify", "--help"], b"Usage: debvote verify", [poll, ballots, sheet, desks]),
-        (["picture", "--help"], b"Usage: debvote picture", [poll, ballots, desks, casting]),
-    ]:
-        output, faults, status = run(words)
-        lines = [b" ".join(line.split()) for line in output.splitlines()]
-        missing = [name for name, what in wanted if name + b" " + what not in lines]
-        begins = any(line.startswith(usage) for line in lines)
-        expect(f"help: {words}", (missing, begins, faults, status), ([], True, b"", 0))
-
-
-def try_words(expect):
-    """The version, and an argument that is not UTF-8."""
-    for word in ("--version", "-V"):
-        expect(f"debvote {word}", run([word]), (b"debvote 2.1.0\n", b"", 0))
-    for words in ([b"count", b"--poll", b"\xff"], [b"\xff"], [b"--version", b"\xfe"]):
-        ended = subprocess.run([PROGRAM, *words], capture_output=True, timeout=SECONDS)
-        answer = ended.stdout, ended.stderr, ended.returncode
-        expect(f"words {words}", answer, (b"", fault("an argument is not UTF-8"), 2))
-
-
 def line_of(stream):
     """The first line that a running program writes, or the part that it has written when its time is over."""
     line, over = b"", time.monotonic() + SECONDS
@@ -114,227 +71,8 @@ def end_of(program):
         return *program.communicate(), None
 
 
-def try_terminal(expect):
-    """At a terminal the program says what it waits for, before it reads."""
-    outer, inner = pty.openpty()
-    program = subprocess.Popen([PROGRAM], stdin=inner, stdout=subprocess.PIPE, stderr=subprocess.PIPE)
-    hint = line_of(program.stderr)
-    os.write(outer, b"\x04")
-    output, faults, status = end_of(program)
-    os.close(outer)
-    os.close(inner)
-    wanted = fault("reading a poll and its ballots from the terminal; see debvote --help")
-    expect("a terminal: what is said before it reads", (hint,), (wanted,))
-    # an empty input is a poll that lacks its first key
-    expect("a terminal: what is said then", (output, faults, status), (b"", fault("poll refused: key title"), 3))
-
-
-def try_files_stay(expect, folder):
-    """A run leaves the files that it reads, and the folder around them, as they are."""
-    for name in ("poll.toml", "ballots", "sheet"):
-        (folder / name).write_bytes((EXAMPLE / name).read_bytes())
-    words = files_of(folder)
-
-    def as_it_is():
-        files = {file.name: (file.stat(), file.read_bytes()) for file in sorted(folder.iterdir())}
-        return {name: (found.st_mode, found.st_mtime_ns, found.st_ino, data) for name, (found, data) in files.items()}
-
-    before = as_it_is()
-    for command in (["count"], ["verify", "--sheet", folder / "sheet"], ["explain"]):
-        status = run([command[0], *words, *command[1:]])[2]
-        expect(f"{command[0]}: the files are as they were", (status, as_it_is() == before), (0, True))
-
-
-def try_streams(expect):
-    """A full disk, a closed pipe and a closed output end with a fault line and status 7, and not by a signal."""
-    of_both = [[command, *files_of(EXAMPLE)] for command in ("count", "steps", "standing", "picture", "explain")]
-    verify = ["verify", *files_of(EXAMPLE), "--sheet", EXAMPLE / "sheet"]
-    commands = [*of_both, verify, ["check", *files_of(EXAMPLE)[:2]], ["--help"], ["--version"]]
-    for words in commands:
-        with open("/dev/full", "wb") as full:
-            expect(f"{words[0]} into a full disk", run(words, stdout=full), (None, fault("output failed"), 7))
-        broken = subprocess.Popen(["true"], stdin=subprocess.PIPE)
-        broken.wait(SECONDS)
-        expect(f"{words[0]} into a closed pipe", run(words, stdout=broken.stdin), (None, fault("output failed"), 7))
-        closed = run(words, stdout=None, before=lambda: os.close(1))
-        expect(f"{words[0]} into a closed output", closed, (None, fault("output failed"), 7))
-    closed = run([], stdin=None, before=lambda: os.close(0))
-    expect("a closed input", closed, (b"", fault("ballots unreadable"), 4))
-    closed = run(["check", "--poll", "none"], before=lambda: os.close(2))
-    expect("a fault into closed faults", closed, (b"", b"", 3))
-
-
-def try_pipes(expect):
-    """A file may be a pipe, which gives its bytes once."""
-    poll, ballots, sheet = EXAMPLE / "poll.toml", EXAMPLE / "ballots", EXAMPLE / "sheet"
-    pipe = "/dev/stdin"
-    counted = sheet.read_bytes(), b"", 0
-    expect("ballots from a pipe", run(["count", "--poll", poll, "--ballots", pipe], ballots.read_bytes()), counted)
-    expect("a poll from a pipe", run(["count", "--poll", pipe, "--ballots", ballots], poll.read_bytes()), counted)
-    verified = run(["verify", *files_of(EXAMPLE), "--sheet", pipe], sheet.read_bytes())
-    expect("a sheet from a pipe", verified, run(["verify", *files_of(EXAMPLE), "--sheet", sheet]))
-
-
-def try_limits(expect, folder):
-    """Files of the greatest size and of one byte more, and as many lines."""
-    poll, ballots = EXAMPLE / "poll.toml", EXAMPLE / "ballots"
-    poll_text = poll.read_bytes()
-
-    def file(name, content):
-        (folder / name).write_bytes(content)
-        return folder / name
-
-    def count(poll, ballots, *words):
-        return run(["count", "--poll", poll, "--ballots", ballots, *words])
-
-    longest = file("longest.toml", poll_text + b"#" * (POLL_LIMIT - len(poll_text)))
-    sheet = (EXAMPLE / "sheet").read_bytes()
-    expect("a poll of the greatest size", count(longest, ballots), (sheet, b"", 0))
-    longer = file("longer.toml", poll_text + b"#" * (POLL_LIMIT - len(poll_text) + 1))
-    expect("a poll of one byte more", count(longer, ballots), (b"", fault("poll too long"), 3))
-    expect("a poll too long and no ballots", count(longer, folder / "none"), (b"", fault("poll too long"), 3))
-    most = file("most", b"x" * BALLOTS_LIMIT)
-    lines = b"Lines: 1\nValid: 0\nRefused: 1\nVoters: 0\n"
-    output, faults, status = count(poll, most)
-    expect("ballots of the greatest size", (lines in output, faults, status), (True, b"", 0))
-    more = file("more", b"x" * (BALLOTS_LIMIT + 1))
-    expect("ballots of one byte more", count(poll, more), (b"", fault("ballots too long"), 4))
-    long_lines = file("long_lines", (b"x" * 334 + b"\n") * 100_000)
-    output, faults, status = count(poll, long_lines)
-    expect("100,000 long lines", (b"Refused: 100000\n" in output, faults, status), (True, b"", 0))
-    empty = file("empty", b"\n" * 100_000)
-    output, faults, status = count(poll, empty)
-    expect("100,000 empty lines", (b"Refused: 100000\n" in output, faults, status), (True, b"", 0))
-    many = file("many", b"\n" * 100_001)
-    expect("a line too many", count(poll, many), (b"", fault("ballots refused: too many lines"), 4))
-    for command in ("steps", "standing", "explain", "picture"):
-        answer = run([command, "--poll", poll, "--ballots", many])
-        expect(f"a line too many for {command}", answer, (b"", fault("ballots refused: too many lines"), 4))
-    refused = run(["explain", "--poll", file("refused.toml", b"title ="), "--ballots", many])
-    expect("a poll refused before the lines are read", refused[1:], (b"", 3))
-    files = ["--poll", poll, "--ballots", ballots, "--sheet"]
-    output, faults, status = run(["verify", *files, file("longest_sheet", b"x" * SHEET_LIMIT)])
-    expect("a sheet of the greatest size", (output[:26], faults, status), (b"differs at line 1\nsheet: x", b"", 9))
-    longer_sheet = file("longer_sheet", b"x" * (SHEET_LIMIT + 1))
-    expect("a sheet of one byte more", run(["verify", *files, longer_sheet]), (b"", fault("sheet too long"), 10))
-    for name, words, wanted in [
-        ("poll and ballots", ["--poll", longer, "--ballots", more, "--sheet", EXAMPLE / "sheet"], ("poll too long", 3)),
-        ("poll and sheet", ["--poll", longer, "--ballots", ballots, "--sheet", longer_sheet], ("poll too long", 3)),
-        ("ballots and sheet", ["--poll", poll, "--ballots", more, "--sheet", longer_sheet], ("ballots too long", 4)),
-        ("a poll too long before no sheet", ["--poll", longer, "--ballots", ballots, "--sheet", folder / "none"], ("poll too long", 3)),
-        ("no ballots before a sheet too long", ["--poll", poll, "--ballots", folder / "none", "--sheet", longer_sheet], ("ballots unreadable", 4)),
-    ]:
-        expect(f"too long: {name}", run(["verify", *words]), (b"", fault(wanted[0]), wanted[1]))
-    expect("no sheet", run(["verify", *files, folder / "none"]), (b"", fault("sheet unreadable"), 10))
-    expect("a sheet", run(["verify", *files, EXAMPLE / "sheet"]), (b"verified\n", b"", 0))
-    nobody = count(poll, many, "--casting", "Zed")
-    expect("the casting vote before the lines", nobody, (b"", fault("casting option is not in the poll"), 8))
-    broken = count(file("broken.toml", b"title ="), many, "--casting", "Zed")
-    expect("the poll before the casting vote and the lines", broken, (b"", fault("poll refused: syntax"), 3))
-    joined = poll_text + b"%%\n"
-    joined += b"x" * (JOINED_LIMIT - len(joined))
-    expect("a joined input of the greatest size", run([], joined), (b"1 bad shape\n", b"", 0))
-    expect("one byte more", run([], joined + b"x"), (b"", fault("ballots too long"), 4))
-    odd = file("odd", bytes(range(256)) * 1000)
-    output, faults, status = count(poll, odd)
-    expect("bytes of all kinds", (b"Valid: 0\n" in output, faults, status), (True, b"", 0))
-
-
-def try_rolls(expect, folder):
-    """10,000 electors, and one more."""
-    for number, wanted in [
-        (10_000, (b"poll ok: 2 options, 10000 electors\n", b"", 0)),
-        (10_001, (b"", fault("poll refused: size of roll"), 3)),
-    ]:
-        roll = ", ".join(f'"v{i}"' for i in range(number))
-        text = f'title = "All"\noptions = ["A"]\nratios = [10]\ndefault = "None"\nquorum = 10\nroll = [{roll}]\n'
-        (folder / "poll.toml").write_text(text)
-        expect(f"a roll of {number}", run(["check", "--poll", folder / "poll.toml"]), wanted)
-        (folder / "ballots").write_text("".join(f"v{i} 1,2\n" for i in range(number)))
-        output, faults, status = run(["count", *files_of(folder), "--desks", 8])
-        lines = [b"Quorum: 10Q, 500 votes", b"  1     - 10000", b"  1 over 2 by 10000 to 0", b"Winner: 1 A"]
-        is_counted = all(line in output.splitlines() for line in lines)
-        expect(f"a count of {number}", (is_counted, faults, status), (number == 10_000, *wanted[1:]))
-
-
-def try_greatest_sizes(expect, folder):
-    """Each command on a poll of the greatest size, with the most electors, and on the most lines."""
-    names = [f"elector-{i:05}-".ljust(32, "x") for i in range(10_000)]
-    roll = ", ".join(f'"{name}"' for name in names)
-    poll = f'title = "All"\noptions = ["A", "B"]\nratios = [1, 1]\ndefault = "None"\nquorum = 0\nroll = [{roll}]\n'
-    (folder / "poll.toml").write_text(poll.ljust(POLL_LIMIT, "#"))
-    # each elector prefers B to A only the last time
-    lines = [f"{name} 1,2,3" for name in names] * (VOTES_EACH - 1) + [f"{name} 2,1,3" for name in names]
-    number = len(lines)
-    (folder / "ballots").write_text("\n".join(lines) + "\n")
-    files = files_of(folder)
-    poll_alone, totals = b"poll ok: 3 options, 10000 electors\n", b"%d lines: %d valid, 0 refused, 0 of them late; " % (number, number)
-    expect("check of the greatest poll", run(["check", *files[:2]]), (poll_alone, b"", 0))
-    expect("explain of the greatest poll", run(["explain", *files[:2]]), (poll_alone, b"", 0))
-    replies = [b"counted"] * 10_000 + [b"replaced"] * (number - 10_000)
-    steps = b"".join(b"%d %s\n" % reply for reply in enumerate(replies, 1))
-    expect("steps of the most lines", run(["steps", *files]), (steps, b"", 0))
-    standing = "\n".join(lines[-10_000:]).encode() + b"\n"
-    expect("standing of the most lines", run(["standing", *files]), (standing, b"", 0))
-    explained = totals + b"10000 of 10000 electors have a ballot\n"
-    expect("explain of the most lines", run(["explain", *files]), (explained, b"", 0))
-    sheet, faults, status = run(["count", *files, "--desks", 8])
-    expect("a count of the most lines", (b"Winner: 2 B\n" in sheet, faults, status), (True, b"", 0))
-    (folder / "sheet").write_bytes(sheet)
-    expect("verify of the most lines", run(["verify", *files, "--sheet", folder / "sheet"]), (b"verified\n", b"", 0))
-    picture, faults, status = run(["picture", *files])
-    expect("picture of the most lines", (picture[:8], faults, status), (b"digraph ", b"", 0))
-    joined = (folder / "poll.toml").read_bytes() + b"\n%%\n" + (folder / "ballots").read_bytes()
-    expect("the most lines in one input", run([], joined), (steps, b"", 0))
-    (folder / "ballots").write_text("".join(f"{name} 1\n" for name in names) * VOTES_EACH)
-    output, faults, status = run(["explain", *files])
-    found = output.splitlines()
-    hint = b"1 ranks, the poll has 3 options"
-    wanted = [b"ballots:%d: bad rank count: %s" % (line, hint) for line in range(1, number + 1)]
-    expect("explain of the most refused lines", (found[:number] == wanted, faults, status), (True, b"", 9))
-    nobody = b"%d lines: 0 valid, %d refused, 0 of them late; 0 of 10000 electors have a ballot" % (number, number)
-    expect("what explain says of them", (found[-1:],), ([nobody],))
-
-
-def try_greatest_numbers(expect, folder):
-    """The last of 10,000 electors is misshapen; and 499 and 500 votes when a quorum of 10Q needs 500."""
-    names = [f"v{i}" for i in range(10_000)]
-    poll = 'title = "All"\noptions = ["A"]\nratios = [1]\ndefault = "None"\nquorum = 10\nroll = {}\n'.format
-    (folder / "poll.toml").write_text(poll(str(names[:-1] + ["V"]).replace("'", '"')))
-    wanted = (b"", fault("poll refused: voter at position 9999"), 3)
-    expect("the last elector", run(["check", "--poll", folder / "poll.toml"]), wanted)
-    (folder / "poll.toml").write_text(poll(str(names).replace("'", '"')))
-    for number, line in [(499, b"  1 quorum"), (500, b"Winner: 1 A")]:
-        (folder / "ballots").write_text("".join(f"v{i} 1,2\n" for i in range(number)))
-        output, faults, status = run(["count", *files_of(folder)])
-        expect(f"{number} votes of 10Q", (line in output.splitlines(), faults, status), (True, b"", 0))
-
-
-def try_most_findings(expect, folder):
-    """`explain` of a poll of the greatest size with 10,000 misshapen names and 60,000 keys that are not read: a line for each."""
-    names = [f"Elector-{i:05}-".ljust(32, "x") for i in range(10_000)]
-    keys = [f"k{i:05}" for i in range(60_000)]
-    roll = ", ".join(f'"{name}"' for name in names)
-    poll = f'title = "All"\noptions = ["A", "B"]\nratios = [1, 1]\ndefault = "None"\nquorum = 0\nroll = [{roll}]\n'
-    (folder / "poll.toml").write_text((poll + "".join(f"{key} = 1\n" for key in keys)).ljust(POLL_LIMIT, "#"))
-    shape = "a voter's name has 1 to 32 of a to z, 0 to 9, . and -, and no other voter has it; positions count from 0"
-    lines = [f'poll: voter at position {i}: "{name}" has as character 1: "E"; {shape}\n' for i, name in enumerate(names)]
-    lines += [f"poll: key {key} is not read\n" for key in keys]
-    output, faults, status = run(["explain", "--poll", folder / "poll.toml"])
-    expect("explain of the most findings", (output == "".join(lines).encode(), faults, status), (True, b"", 3))
-
-
 # what `explain` says about a poll that is no TOML: what it is, or the position, the message, and the line there with a mark below
 NO_TOML = re.compile(rb"the poll file is no text; a poll is plain text in UTF-8\n|poll:\d+:\d+: [^\n]+\n[^\n]{0,240}\n *\^\n")
-
-
-def try_many_strangers(expect, folder):
-    """`explain` searches near names for the first 100 lines that are not on the roll."""
-    (folder / "poll.toml").write_text('title = "All"\noptions = ["A"]\nratios = [1]\ndefault = "None"\nquorum = 0\nroll = ["ada"]\n')
-    (folder / "ballots").write_text("adaa 1,2\n" * 102)
-    output, faults, status = run(["explain", *files_of(folder)])
-    found = [line.endswith(b"; did you mean ada?") for line in output.splitlines()]
-    expect("near names of many strangers", (found, faults, status), ([True] * 100 + [False] * 3, b"", 9))
 
 
 def try_no_toml(expect, name, file):
@@ -349,36 +87,6 @@ def try_findings(expect, name, file):
     output, faults, status = run(["explain", "--poll", file])
     is_said = reference_findings.are_said(findings, output.decode().splitlines())
     expect(f"explain of {name}", (is_said, faults, status), (True, b"", wanted))
-
-
-def try_hostile_polls(expect, folder):
-    """Polls that are made to hurt: each is refused, and explained if it is no TOML."""
-    for name, text, words in [
-        ("nested lists", b"x = " + b"[" * 500_000, SYNTAX),
-        ("nested lists that end", b"x = " + b"[" * 500_000 + b"]" * 500_000, SYNTAX),
-        ("nested tables", b"x = " + b"{a=" * 300_000, SYNTAX),
-        ("nested keys", b"a" + b".a" * 500_000 + b" = 1", SYNTAX),
-        ("a long key", b"a" * POLL_LIMIT, SYNTAX),
-        ("a long text", b'title = "' + b"a" * (POLL_LIMIT - 9), SYNTAX),
-        ("many tables", b"[[a]]\n" * 170_000, "key title"),
-        ("no text", b"\xff" * 1000, SYNTAX),
-        ("zeros", b"\x00" * POLL_LIMIT, SYNTAX),
-    ]:
-        file = folder / "hostile.toml"
-        file.write_bytes(text)
-        expect(f"a poll of {name}", run(["check", "--poll", file]), (b"", fault(f"poll refused: {words}"), 3))
-        if words == SYNTAX:
-            try_no_toml(expect, f"a poll of {name}", file)
-
-
-def try_bytes_in_a_poll(expect, folder):
-    """A byte 0 or 255 at any position of a poll file is no TOML."""
-    text = (EXAMPLE / "poll.toml").read_bytes()
-    for byte in (b"\x00", b"\xff"):
-        for place in range(len(text) + 1):
-            (folder / "poll.toml").write_bytes(text[:place] + byte + text[place:])
-            answer = run(["check", "--poll", folder / "poll.toml"])
-            expect(f"a byte {byte} before {place}", answer, (b"", fault("poll refused: syntax"), 3))
 
 
 GOOD = "poll ok: 2 options, 1 electors"
@@ -443,19 +151,6 @@ def large_polls(size):
         yield f"{key} = {start}{part}", keys_of({**SMALL, key: value}), answer
 
 
-def try_large_polls(expect, folder):
-    """Each with this many bytes in one thing."""
-    for size in LARGE_POLLS:
-        for name, text, answer in large_polls(size):
-            wanted = (f"{answer}\n".encode(), b"", 0) if answer == GOOD else (b"", fault(f"poll refused: {answer}"), 3)
-            file = folder / "poll.toml"
-            file.write_text(text)
-            name = f"a large poll of {name!r}, {size} bytes"
-            expect(name, run(["check", "--poll", file]), wanted)
-            try_explain = try_no_toml if answer == SYNTAX else try_findings
-            try_explain(expect, name, file)
-
-
 # ---------------------------------------------------------------- the tests
 class WholeTest(expecting.Expecting):
     """A test with its own folder."""
@@ -471,58 +166,303 @@ class WholeTest(expecting.Expecting):
 
 class WordsTest(WholeTest):
     def test_help(self):
-        try_help(self.expect)
+        """Help goes to standard output with status 0, and says what each command and each option is."""
+        poll = b"--poll <FILE>", b"The poll file, in TOML"
+        ballots = b"--ballots <FILE>", b"The ballot file, one ballot a line: name 1,2,3"
+        desks = b"--desks <K>", b"How many desks enter ballots at once, 1 to 8; the result is the same [default: 1]"
+        casting = b"--casting <NAME>", b"The option that the casting vote chooses in a tie (its exact name)"
+        count = b"count", b"Counts the ballots and prints the result"
+        steps = b"steps", b"Prints the reply to each ballot"
+        check = b"check", b"Checks a poll file"
+        explain = b"explain", b"Reports every problem in a poll and its ballots, and where it is"
+        standing = b"standing", b"Prints the ballots that count: each elector's last valid one"
+        sheet = b"--sheet <FILE>", b"The sheet that was published"
+        verify = b"verify", b"Counts the ballots and compares the result with a published sheet"
+        picture = b"picture", b"Counts the ballots and prints the result as a graph for Graphviz"
+        statuses = b"Exit", b"statuses:"
+        for words, usage, wanted in [
+            (["--help"], b"Usage: debvote", [count, steps, check, explain, standing, verify, picture, statuses]),
+            (["count", "--help"], b"Usage: debvote count", [poll, ballots, desks, casting]),
+            (["steps", "--help"], b"Usage: debvote steps", [poll, ballots]),
+            (["check", "--help"], b"Usage: debvote check", [poll]),
+            (["explain", "--help"], b"Usage: debvote explain", [poll, ballots]),
+            (["standing", "--help"], b"Usage: debvote standing", [poll, ballots]),
+            (["verify", "--help"], b"Usage: debvote verify", [poll, ballots, sheet, desks]),
+            (["picture", "--help"], b"Usage: debvote picture", [poll, ballots, desks, casting]),
+        ]:
+            output, faults, status = run(words)
+            lines = [b" ".join(line.split()) for line in output.splitlines()]
+            missing = [name for name, what in wanted if name + b" " + what not in lines]
+            begins = any(line.startswith(usage) for line in lines)
+            self.expect(f"help: {words}", (missing, begins, faults, status), ([], True, b"", 0))
 
     def test_version_and_words_that_are_no_text(self):
-        try_words(self.expect)
+        """The version, and an argument that is not UTF-8."""
+        for word in ("--version", "-V"):
+            self.expect(f"debvote {word}", run([word]), (b"debvote 2.1.0\n", b"", 0))
+        for words in ([b"count", b"--poll", b"\xff"], [b"\xff"], [b"--version", b"\xfe"]):
+            ended = subprocess.run([PROGRAM, *words], capture_output=True, timeout=SECONDS)
+            answer = ended.stdout, ended.stderr, ended.returncode
+            self.expect(f"words {words}", answer, (b"", fault("an argument is not UTF-8"), 2))
 
     def test_a_terminal(self):
-        try_terminal(self.expect)
+        """At a terminal the program says what it waits for, before it reads."""
+        outer, inner = pty.openpty()
+        program = subprocess.Popen([PROGRAM], stdin=inner, stdout=subprocess.PIPE, stderr=subprocess.PIPE)
+        hint = line_of(program.stderr)
+        os.write(outer, b"\x04")
+        output, faults, status = end_of(program)
+        os.close(outer)
+        os.close(inner)
+        wanted = fault("reading a poll and its ballots from the terminal; see debvote --help")
+        self.expect("a terminal: what is said before it reads", (hint,), (wanted,))
+        # an empty input is a poll that lacks its first key
+        self.expect("a terminal: what is said then", (output, faults, status), (b"", fault("poll refused: key title"), 3))
 
     def test_files_stay(self):
-        try_files_stay(self.expect, self.folder)
+        """A run leaves the files that it reads, and the folder around them, as they are."""
+        for name in ("poll.toml", "ballots", "sheet"):
+            (self.folder / name).write_bytes((EXAMPLE / name).read_bytes())
+        words = files_of(self.folder)
+
+        def as_it_is():
+            files = {file.name: (file.stat(), file.read_bytes()) for file in sorted(self.folder.iterdir())}
+            return {name: (found.st_mode, found.st_mtime_ns, found.st_ino, data) for name, (found, data) in files.items()}
+
+        before = as_it_is()
+        for command in (["count"], ["verify", "--sheet", self.folder / "sheet"], ["explain"]):
+            status = run([command[0], *words, *command[1:]])[2]
+            self.expect(f"{command[0]}: the files are as they were", (status, as_it_is() == before), (0, True))
 
     def test_streams(self):
-        try_streams(self.expect)
+        """A full disk, a closed pipe and a closed output end with a fault line and status 7, and not by a signal."""
+        of_both = [[command, *files_of(EXAMPLE)] for command in ("count", "steps", "standing", "picture", "explain")]
+        verify = ["verify", *files_of(EXAMPLE), "--sheet", EXAMPLE / "sheet"]
+        commands = [*of_both, verify, ["check", *files_of(EXAMPLE)[:2]], ["--help"], ["--version"]]
+        for words in commands:
+            with open("/dev/full", "wb") as full:
+                self.expect(f"{words[0]} into a full disk", run(words, stdout=full), (None, fault("output failed"), 7))
+            broken = subprocess.Popen(["true"], stdin=subprocess.PIPE)
+            broken.wait(SECONDS)
+            self.expect(f"{words[0]} into a closed pipe", run(words, stdout=broken.stdin), (None, fault("output failed"), 7))
+            closed = run(words, stdout=None, before=lambda: os.close(1))
+            self.expect(f"{words[0]} into a closed output", closed, (None, fault("output failed"), 7))
+        closed = run([], stdin=None, before=lambda: os.close(0))
+        self.expect("a closed input", closed, (b"", fault("ballots unreadable"), 4))
+        closed = run(["check", "--poll", "none"], before=lambda: os.close(2))
+        self.expect("a fault into closed faults", closed, (b"", b"", 3))
 
     def test_pipes(self):
-        try_pipes(self.expect)
+        """A file may be a pipe, which gives its bytes once."""
+        poll, ballots, sheet = EXAMPLE / "poll.toml", EXAMPLE / "ballots", EXAMPLE / "sheet"
+        pipe = "/dev/stdin"
+        counted = sheet.read_bytes(), b"", 0
+        self.expect("ballots from a pipe", run(["count", "--poll", poll, "--ballots", pipe], ballots.read_bytes()), counted)
+        self.expect("a poll from a pipe", run(["count", "--poll", pipe, "--ballots", ballots], poll.read_bytes()), counted)
+        verified = run(["verify", *files_of(EXAMPLE), "--sheet", pipe], sheet.read_bytes())
+        self.expect("a sheet from a pipe", verified, run(["verify", *files_of(EXAMPLE), "--sheet", sheet]))
 
 
 class LimitsTest(WholeTest):
     def test_limits_of_files(self):
-        try_limits(self.expect, self.folder)
+        """Files of the greatest size and of one byte more, and as many lines."""
+        poll, ballots = EXAMPLE / "poll.toml", EXAMPLE / "ballots"
+        poll_text = poll.read_bytes()
+
+        def file(name, content):
+            (self.folder / name).write_bytes(content)
+            return self.folder / name
+
+        def count(poll, ballots, *words):
+            return run(["count", "--poll", poll, "--ballots", ballots, *words])
+
+        longest = file("longest.toml", poll_text + b"#" * (POLL_LIMIT - len(poll_text)))
+        sheet = (EXAMPLE / "sheet").read_bytes()
+        self.expect("a poll of the greatest size", count(longest, ballots), (sheet, b"", 0))
+        longer = file("longer.toml", poll_text + b"#" * (POLL_LIMIT - len(poll_text) + 1))
+        self.expect("a poll of one byte more", count(longer, ballots), (b"", fault("poll too long"), 3))
+        self.expect("a poll too long and no ballots", count(longer, self.folder / "none"), (b"", fault("poll too long"), 3))
+        most = file("most", b"x" * BALLOTS_LIMIT)
+        lines = b"Lines: 1\nValid: 0\nRefused: 1\nVoters: 0\n"
+        output, faults, status = count(poll, most)
+        self.expect("ballots of the greatest size", (lines in output, faults, status), (True, b"", 0))
+        more = file("more", b"x" * (BALLOTS_LIMIT + 1))
+        self.expect("ballots of one byte more", count(poll, more), (b"", fault("ballots too long"), 4))
+        long_lines = file("long_lines", (b"x" * 334 + b"\n") * 100_000)
+        output, faults, status = count(poll, long_lines)
+        self.expect("100,000 long lines", (b"Refused: 100000\n" in output, faults, status), (True, b"", 0))
+        empty = file("empty", b"\n" * 100_000)
+        output, faults, status = count(poll, empty)
+        self.expect("100,000 empty lines", (b"Refused: 100000\n" in output, faults, status), (True, b"", 0))
+        many = file("many", b"\n" * 100_001)
+        self.expect("a line too many", count(poll, many), (b"", fault("ballots refused: too many lines"), 4))
+        for command in ("steps", "standing", "explain", "picture"):
+            answer = run([command, "--poll", poll, "--ballots", many])
+            self.expect(f"a line too many for {command}", answer, (b"", fault("ballots refused: too many lines"), 4))
+        refused = run(["explain", "--poll", file("refused.toml", b"title ="), "--ballots", many])
+        self.expect("a poll refused before the lines are read", refused[1:], (b"", 3))
+        files = ["--poll", poll, "--ballots", ballots, "--sheet"]
+        output, faults, status = run(["verify", *files, file("longest_sheet", b"x" * SHEET_LIMIT)])
+        self.expect("a sheet of the greatest size", (output[:26], faults, status), (b"differs at line 1\nsheet: x", b"", 9))
+        longer_sheet = file("longer_sheet", b"x" * (SHEET_LIMIT + 1))
+        self.expect("a sheet of one byte more", run(["verify", *files, longer_sheet]), (b"", fault("sheet too long"), 10))
+        for name, words, wanted in [
+            ("poll and ballots", ["--poll", longer, "--ballots", more, "--sheet", EXAMPLE / "sheet"], ("poll too long", 3)),
+            ("poll and sheet", ["--poll", longer, "--ballots", ballots, "--sheet", longer_sheet], ("poll too long", 3)),
+            ("ballots and sheet", ["--poll", poll, "--ballots", more, "--sheet", longer_sheet], ("ballots too long", 4)),
+            ("a poll too long before no sheet", ["--poll", longer, "--ballots", ballots, "--sheet", self.folder / "none"], ("poll too long", 3)),
+            ("no ballots before a sheet too long", ["--poll", poll, "--ballots", self.folder / "none", "--sheet", longer_sheet], ("ballots unreadable", 4)),
+        ]:
+            self.expect(f"too long: {name}", run(["verify", *words]), (b"", fault(wanted[0]), wanted[1]))
+        self.expect("no sheet", run(["verify", *files, self.folder / "none"]), (b"", fault("sheet unreadable"), 10))
+        self.expect("a sheet", run(["verify", *files, EXAMPLE / "sheet"]), (b"verified\n", b"", 0))
+        nobody = count(poll, many, "--casting", "Zed")
+        self.expect("the casting vote before the lines", nobody, (b"", fault("casting option is not in the poll"), 8))
+        broken = count(file("broken.toml", b"title ="), many, "--casting", "Zed")
+        self.expect("the poll before the casting vote and the lines", broken, (b"", fault("poll refused: syntax"), 3))
+        joined = poll_text + b"%%\n"
+        joined += b"x" * (JOINED_LIMIT - len(joined))
+        self.expect("a joined input of the greatest size", run([], joined), (b"1 bad shape\n", b"", 0))
+        self.expect("one byte more", run([], joined + b"x"), (b"", fault("ballots too long"), 4))
+        odd = file("odd", bytes(range(256)) * 1000)
+        output, faults, status = count(poll, odd)
+        self.expect("bytes of all kinds", (b"Valid: 0\n" in output, faults, status), (True, b"", 0))
 
 
 class RollsTest(WholeTest):
     def test_rolls(self):
-        try_rolls(self.expect, self.folder)
+        """10,000 electors, and one more."""
+        for number, wanted in [
+            (10_000, (b"poll ok: 2 options, 10000 electors\n", b"", 0)),
+            (10_001, (b"", fault("poll refused: size of roll"), 3)),
+        ]:
+            roll = ", ".join(f'"v{i}"' for i in range(number))
+            text = f'title = "All"\noptions = ["A"]\nratios = [10]\ndefault = "None"\nquorum = 10\nroll = [{roll}]\n'
+            (self.folder / "poll.toml").write_text(text)
+            self.expect(f"a roll of {number}", run(["check", "--poll", self.folder / "poll.toml"]), wanted)
+            (self.folder / "ballots").write_text("".join(f"v{i} 1,2\n" for i in range(number)))
+            output, faults, status = run(["count", *files_of(self.folder), "--desks", 8])
+            lines = [b"Quorum: 10Q, 500 votes", b"  1     - 10000", b"  1 over 2 by 10000 to 0", b"Winner: 1 A"]
+            is_counted = all(line in output.splitlines() for line in lines)
+            self.expect(f"a count of {number}", (is_counted, faults, status), (number == 10_000, *wanted[1:]))
 
     def test_greatest_numbers(self):
-        try_greatest_numbers(self.expect, self.folder)
+        """The last of 10,000 electors is misshapen; and 499 and 500 votes when a quorum of 10Q needs 500."""
+        names = [f"v{i}" for i in range(10_000)]
+        poll = 'title = "All"\noptions = ["A"]\nratios = [1]\ndefault = "None"\nquorum = 10\nroll = {}\n'.format
+        (self.folder / "poll.toml").write_text(poll(str(names[:-1] + ["V"]).replace("'", '"')))
+        wanted = (b"", fault("poll refused: voter at position 9999"), 3)
+        self.expect("the last elector", run(["check", "--poll", self.folder / "poll.toml"]), wanted)
+        (self.folder / "poll.toml").write_text(poll(str(names).replace("'", '"')))
+        for number, line in [(499, b"  1 quorum"), (500, b"Winner: 1 A")]:
+            (self.folder / "ballots").write_text("".join(f"v{i} 1,2\n" for i in range(number)))
+            output, faults, status = run(["count", *files_of(self.folder)])
+            self.expect(f"{number} votes of 10Q", (line in output.splitlines(), faults, status), (True, b"", 0))
 
 
 class GreatestTest(WholeTest):
     def test_greatest_sizes(self):
-        try_greatest_sizes(self.expect, self.folder)
+        """Each command on a poll of the greatest size, with the most electors, and on the most lines."""
+        names = [f"elector-{i:05}-".ljust(32, "x") for i in range(10_000)]
+        roll = ", ".join(f'"{name}"' for name in names)
+        poll = f'title = "All"\noptions = ["A", "B"]\nratios = [1, 1]\ndefault = "None"\nquorum = 0\nroll = [{roll}]\n'
+        (self.folder / "poll.toml").write_text(poll.ljust(POLL_LIMIT, "#"))
+        # each elector prefers B to A only the last time
+        lines = [f"{name} 1,2,3" for name in names] * (VOTES_EACH - 1) + [f"{name} 2,1,3" for name in names]
+        number = len(lines)
+        (self.folder / "ballots").write_text("\n".join(lines) + "\n")
+        files = files_of(self.folder)
+        poll_alone = b"poll ok: 3 options, 10000 electors\n"
+        totals = b"%d lines: %d valid, 0 refused, 0 of them late; " % (number, number)
+        self.expect("check of the greatest poll", run(["check", *files[:2]]), (poll_alone, b"", 0))
+        self.expect("explain of the greatest poll", run(["explain", *files[:2]]), (poll_alone, b"", 0))
+        replies = [b"counted"] * 10_000 + [b"replaced"] * (number - 10_000)
+        steps = b"".join(b"%d %s\n" % reply for reply in enumerate(replies, 1))
+        self.expect("steps of the most lines", run(["steps", *files]), (steps, b"", 0))
+        standing = "\n".join(lines[-10_000:]).encode() + b"\n"
+        self.expect("standing of the most lines", run(["standing", *files]), (standing, b"", 0))
+        explained = totals + b"10000 of 10000 electors have a ballot\n"
+        self.expect("explain of the most lines", run(["explain", *files]), (explained, b"", 0))
+        sheet, faults, status = run(["count", *files, "--desks", 8])
+        self.expect("a count of the most lines", (b"Winner: 2 B\n" in sheet, faults, status), (True, b"", 0))
+        (self.folder / "sheet").write_bytes(sheet)
+        self.expect("verify of the most lines", run(["verify", *files, "--sheet", self.folder / "sheet"]), (b"verified\n", b"", 0))
+        picture, faults, status = run(["picture", *files])
+        self.expect("picture of the most lines", (picture[:8], faults, status), (b"digraph ", b"", 0))
+        joined = (self.folder / "poll.toml").read_bytes() + b"\n%%\n" + (self.folder / "ballots").read_bytes()
+        self.expect("the most lines in one input", run([], joined), (steps, b"", 0))
+        (self.folder / "ballots").write_text("".join(f"{name} 1\n" for name in names) * VOTES_EACH)
+        output, faults, status = run(["explain", *files])
+        found = output.splitlines()
+        hint = b"1 ranks, the poll has 3 options"
+        wanted = [b"ballots:%d: bad rank count: %s" % (line, hint) for line in range(1, number + 1)]
+        self.expect("explain of the most refused lines", (found[:number] == wanted, faults, status), (True, b"", 9))
+        nobody = b"%d lines: 0 valid, %d refused, 0 of them late; 0 of 10000 electors have a ballot" % (number, number)
+        self.expect("what explain says of them", (found[-1:],), ([nobody],))
 
     def test_many_strangers(self):
-        try_many_strangers(self.expect, self.folder)
+        """`explain` searches near names for the first 100 lines that are not on the roll."""
+        (self.folder / "poll.toml").write_text(keys_of({**SMALL, "roll": '["ada"]'}))
+        (self.folder / "ballots").write_text("adaa 1,2\n" * 102)
+        output, faults, status = run(["explain", *files_of(self.folder)])
+        found = [line.endswith(b"; did you mean ada?") for line in output.splitlines()]
+        self.expect("near names of many strangers", (found, faults, status), ([True] * 100 + [False] * 3, b"", 9))
 
     def test_most_findings(self):
-        try_most_findings(self.expect, self.folder)
+        """`explain` of a poll of the greatest size: a line for each of 10,000 misshapen names and 60,000 keys that are not read."""
+        names = [f"Elector-{i:05}-".ljust(32, "x") for i in range(10_000)]
+        keys = [f"k{i:05}" for i in range(60_000)]
+        roll = ", ".join(f'"{name}"' for name in names)
+        poll = f'title = "All"\noptions = ["A", "B"]\nratios = [1, 1]\ndefault = "None"\nquorum = 0\nroll = [{roll}]\n'
+        (self.folder / "poll.toml").write_text((poll + "".join(f"{key} = 1\n" for key in keys)).ljust(POLL_LIMIT, "#"))
+        shape = "a voter's name has 1 to 32 of a to z, 0 to 9, . and -, and no other voter has it; positions count from 0"
+        lines = [f'poll: voter at position {i}: "{name}" has as character 1: "E"; {shape}\n' for i, name in enumerate(names)]
+        lines += [f"poll: key {key} is not read\n" for key in keys]
+        output, faults, status = run(["explain", "--poll", self.folder / "poll.toml"])
+        self.expect("explain of the most findings", (output == "".join(lines).encode(), faults, status), (True, b"", 3))
 
 
 class LargePollsTest(WholeTest):
     def test_large_polls(self):
-        try_large_polls(self.expect, self.folder)
+        """Each with this many bytes in one thing."""
+        for size in LARGE_POLLS:
+            for name, text, answer in large_polls(size):
+                wanted = (f"{answer}\n".encode(), b"", 0) if answer == GOOD else (b"", fault(f"poll refused: {answer}"), 3)
+                file = self.folder / "poll.toml"
+                file.write_text(text)
+                name = f"a large poll of {name!r}, {size} bytes"
+                self.expect(name, run(["check", "--poll", file]), wanted)
+                try_explain = try_no_toml if answer == SYNTAX else try_findings
+                try_explain(self.expect, name, file)
 
 
 class HostilePollsTest(WholeTest):
     def test_hostile_polls(self):
-        try_hostile_polls(self.expect, self.folder)
+        """Polls that are made to hurt: each is refused, and explained if it is no TOML."""
+        for name, text, words in [
+            ("nested lists", b"x = " + b"[" * 500_000, SYNTAX),
+            ("nested lists that end", b"x = " + b"[" * 500_000 + b"]" * 500_000, SYNTAX),
+            ("nested tables", b"x = " + b"{a=" * 300_000, SYNTAX),
+            ("nested keys", b"a" + b".a" * 500_000 + b" = 1", SYNTAX),
+            ("a long key", b"a" * POLL_LIMIT, SYNTAX),
+            ("a long text", b'title = "' + b"a" * (POLL_LIMIT - 9), SYNTAX),
+            ("many tables", b"[[a]]\n" * 170_000, "key title"),
+            ("no text", b"\xff" * 1000, SYNTAX),
+            ("zeros", b"\x00" * POLL_LIMIT, SYNTAX),
+        ]:
+            file = self.folder / "hostile.toml"
+            file.write_bytes(text)
+            self.expect(f"a poll of {name}", run(["check", "--poll", file]), (b"", fault(f"poll refused: {words}"), 3))
+            if words == SYNTAX:
+                try_no_toml(self.expect, f"a poll of {name}", file)
 
 
 class BytesTest(WholeTest):
     def test_bytes_in_a_poll(self):
-        try_bytes_in_a_poll(self.expect, self.folder)
+        """A byte 0 or 255 at any position of a poll file is no TOML."""
+        text = (EXAMPLE / "poll.toml").read_bytes()
+        for byte in (b"\x00", b"\xff"):
+            for place in range(len(text) + 1):
+                (self.folder / "poll.toml").write_bytes(text[:place] + byte + text[place:])
+                answer = run(["check", "--poll", self.folder / "poll.toml"])
+                self.expect(f"a byte {byte} before {place}", answer, (b"", fault("poll refused: syntax"), 3))

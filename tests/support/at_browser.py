@@ -3,6 +3,7 @@
 It speaks chromium's own protocol through a pipe, and needs only Python.
 """
 
+import base64
 import itertools
 import json
 import os
@@ -10,9 +11,12 @@ import pathlib
 import shutil
 import subprocess
 import tempfile
+import unittest
+import urllib.parse
 from typing import Any
 
 BROWSER = shutil.which("chromium") or shutil.which("chromium-browser")
+NEEDS_BROWSER = unittest.skipUnless(BROWSER, "chromium is not installed")
 FLAGS = ["--headless", "--no-sandbox", "--disable-gpu", "--hide-scrollbars", "--no-first-run", "--remote-debugging-pipe"]
 
 # the shell gives chromium the two ends that it uses, 3 and 4
@@ -22,27 +26,36 @@ START = 'read=$1 write=$2; shift 2; exec "$@" 3<&"$read" 4>&"$write"'
 KEYS = {"Tab": (9, ""), "Enter": (13, "\r"), " ": (32, " "), "ArrowUp": (38, ""), "ArrowDown": (40, ""), "-": (189, "-")}
 KEYS |= {digit: (ord(digit), digit) for digit in "0123456789"}
 
+# what the page of a call shows once a name is typed and ranks are chosen
+CHOOSE = """((name, ranks) => {
+  const tell = (node, value) => { node.value = value; node.dispatchEvent(new Event("input", { bubbles: true })); };
+  const field = document.getElementById("Name"), words = document.getElementById("Words");
+  if (name !== null && field) tell(field, name);
+  [...document.querySelectorAll(".rank")].forEach((rank, place) => {
+    for (const button of rank.querySelectorAll("input")) button.checked = button.value === ranks[place];
+    tell(rank, ranks[place]);
+  });
+  const text = (id) => document.getElementById(id)?.textContent ?? "", node = (id) => document.getElementById(id);
+  const seen = (id) => Boolean(node(id)?.checkVisibility());
+  return { line: text("Line"), said: text("Name-said"), missing: text("Missing"),
+    words: [...words.childNodes].map((part) => part.nodeType === 3 ? part.data : `{${part.dataset.option}}`).join(""),
+    names: Object.fromEntries([...words.querySelectorAll("b")].map((part) => [part.dataset.option, part.textContent])),
+    suggested: [...document.querySelectorAll("#Name-said button")].map((button) => button.textContent),
+    letter: seen("Letter") && node("Letter").getAttribute("href"), ready: !node("Ready").hidden, long: !node("Long").hidden,
+    unmarked: seen("Unmarked"), invalid: field?.getAttribute("aria-invalid"), wide: document.documentElement.scrollWidth };
+})"""
+
 
 class Window:
     """A window with one page. It is closed with `with`."""
 
-    def __init__(self, width: int, height: int, is_dark: bool = False, is_telephone: bool = False) -> None:
+    def __init__(self, width: int, height: int, is_dark: bool = False) -> None:
         self.numbers = itertools.count(1)
+        self.faults: list[str] = []
         self.room = tempfile.mkdtemp(prefix="debvote-browser-")
         read, self.to_browser = os.pipe()
         from_browser, write = os.pipe()
-        words = [
-            "bash",
-            "-c",
-            START,
-            "start",
-            str(read),
-            str(write),
-            str(BROWSER),
-            *FLAGS,
-            f"--user-data-dir={self.room}",
-            "about:blank",
-        ]
+        words = ["bash", "-c", START, "start", str(read), str(write), str(BROWSER), *FLAGS, f"--user-data-dir={self.room}", "about:blank"]
         self.process = subprocess.Popen(words, pass_fds=(read, write), stderr=subprocess.DEVNULL, start_new_session=True)
         os.close(read)
         os.close(write)
@@ -51,11 +64,10 @@ class Window:
         self.session: str | None = None
         page = next(target for target in self.tell("Target.getTargets")["targetInfos"] if target["type"] == "page")
         self.session = self.tell("Target.attachToTarget", targetId=page["targetId"], flatten=True)["sessionId"]
-        self.scheme = [{"name": "prefers-color-scheme", "value": "dark" if is_dark else "light"}]
-        self.tell("Emulation.setEmulatedMedia", features=self.scheme)
-        self.is_telephone = is_telephone
+        self.tell("Log.enable")
+        self.tell("Runtime.enable")
+        self.show(is_dark=is_dark)
         self.resize(width, height)
-        self.tell("Emulation.setTouchEmulationEnabled", enabled=is_telephone)
 
     def __enter__(self) -> "Window":
         return self
@@ -67,7 +79,12 @@ class Window:
         shutil.rmtree(self.room, ignore_errors=True)
 
     def resize(self, width: int, height: int) -> None:
-        self.tell("Emulation.setDeviceMetricsOverride", width=width, height=height, deviceScaleFactor=1, mobile=self.is_telephone)
+        self.tell("Emulation.setDeviceMetricsOverride", width=width, height=height, deviceScaleFactor=1, mobile=False)
+
+    def show(self, *, is_dark: bool = False, on_paper: bool = False) -> None:
+        """From now on pages are shown in a light or in a dark scheme, or as they are printed."""
+        scheme = [{"name": "prefers-color-scheme", "value": "dark" if is_dark else "light"}]
+        self.tell("Emulation.setEmulatedMedia", media="print" if on_paper else "", features=scheme)
 
     def tell(self, method: str, **given: object) -> dict[str, Any]:
         """Makes a call of chromium's protocol, and returns the answer."""
@@ -76,6 +93,10 @@ class Window:
         os.write(self.to_browser, json.dumps(call).encode() + b"\0")
         while True:
             answer = self.message()
+            if answer.get("method") == "Log.entryAdded":
+                self.faults.append(answer["params"]["entry"]["text"])
+            elif answer.get("method") == "Runtime.exceptionThrown":
+                self.faults.append(str(answer["params"]["exceptionDetails"]))
             if answer.get("id") == number:
                 if "error" in answer:
                     raise RuntimeError(f"{method}: {answer['error']}")
@@ -94,10 +115,6 @@ class Window:
         """Opens a page, at a place of it that begins with #."""
         self.tell("Page.navigate", url=page.as_uri() + place)
         self.until(f"document.readyState === 'complete' && location.href.startsWith({json.dumps(page.as_uri())})")
-
-    def for_paper(self) -> None:
-        """From now on the page is shown as it is printed."""
-        self.tell("Emulation.setEmulatedMedia", media="print", features=self.scheme)
 
     def ask(self, script: str) -> Any:
         """Runs a script in the page, and returns its value."""
@@ -129,17 +146,39 @@ class Window:
         for key in keys:
             self.press(key)
 
-    def touch(self, script: str) -> None:
-        """Scrolls an element into the window, as a thumb does, and touches its middle."""
-        place = self.ask(
-            f"(() => {{ const node = {script}; node.scrollIntoView({{ block: 'center' }}); const at = node.getBoundingClientRect();"
-            " return [at.left + at.width / 2, at.top + at.height / 2]; })()"
-        )
-        point = {"x": place[0], "y": place[1]}
-        self.tell("Input.dispatchTouchEvent", type="touchStart", touchPoints=[point])
-        self.tell("Input.dispatchTouchEvent", type="touchEnd", touchPoints=[])
+    # ------------------------------------------------------------ the pages of a call and of a result
+    def ballot(self, name: str | None, ranks: str | list[str]) -> dict[str, Any]:
+        """What the page of a call shows once a name is typed and ranks are chosen, with the parts of the letter that it makes."""
+        found = dict(self.ask(f"{CHOOSE}({json.dumps(name)}, {json.dumps(list(ranks))})"))
+        address, _, query = (found["letter"] or "").partition("?")
+        parts = {key: text for key, [text] in urllib.parse.parse_qs(query).items()}
+        return found | {"to": address, "subject": parts.get("subject"), "body": parts.get("body")}
 
-    def choose(self, script: str, files: list[pathlib.Path]) -> None:
-        """Puts files into a field, as the file dialog does."""
-        node = self.tell("Runtime.evaluate", expression=script)["result"]["objectId"]
-        self.tell("DOM.setFileInputFiles", files=[str(file) for file in files], objectId=node)
+    def find(self, name: str, code: str | None = None) -> list[str]:
+        """What the page of a result says after a name, and a code, were typed."""
+        self.ask(f"document.getElementById('Name').value = {json.dumps(name)}")
+        if code is not None:
+            self.ask(f"document.getElementById('Code').value = {json.dumps(code)}")
+        self.ask("document.getElementById('Answer').replaceChildren(); document.getElementById('Show').click()")
+        self.until("document.getElementById('Answer').textContent !== ''")
+        return self.found()
+
+    def found(self) -> list[str]:
+        """Each paragraph of the answer, and each step of its lists, which are numbered."""
+        return list(self.ask("[...document.querySelectorAll('#Answer p, #Answer li')].map((node) => node.textContent)"))
+
+    def count_again(self, letter: str = "", files: dict[str, bytes] | None = None) -> list[str]:
+        """What the page of a result says after a press of the button, or of that for files from the disk."""
+        chosen = {name: base64.b64encode(data).decode() for name, data in (files or {}).items()}
+        self.ask(f"""(() => {{
+          document.getElementById("Again-letter").value = {json.dumps(letter)};
+          const chosen = new DataTransfer();
+          for (const [name, data] of Object.entries({json.dumps(chosen)})) {{
+            chosen.items.add(new File([Uint8Array.from(atob(data), (sign) => sign.charCodeAt(0))], name));
+          }}
+          document.getElementById("Again-files").files = chosen.files;
+          document.getElementById("Again-answer").replaceChildren();
+          document.getElementById("{"Again-chosen" if files else "Again-button"}").click();
+        }})()""")
+        self.until("document.getElementById('Again-progress').hidden && document.getElementById('Again-answer').textContent !== ''")
+        return list(self.ask("[...document.querySelectorAll('#Again-answer p')].map((node) => node.textContent)"))

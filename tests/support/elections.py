@@ -1,9 +1,11 @@
 """What the tests of elections share: a folder for each test, and the programs, which run as a user runs them."""
 
+import contextlib
 import os
 import pathlib
 import re
 import shutil
+import sqlite3
 import subprocess
 import sys
 import tempfile
@@ -89,6 +91,8 @@ class ElectionTest(unittest.TestCase):
 
     poll = POLL
     names = NAMES
+    # the list of members; if there is none, it is made of the names
+    members = ""
     # the arguments of `new` and of the call; without the latter the election is not called
     new_words: Sequence[str] = ()
     call_words: Sequence[str] | None = ("--to", "vote@club.example")
@@ -104,7 +108,7 @@ class ElectionTest(unittest.TestCase):
 
     def begin(self) -> None:
         """Makes the election, up to its call."""
-        key = (self.poll, tuple(self.names), tuple(self.new_words), self.call_words)
+        key = (self.poll, tuple(self.names), self.members, tuple(self.new_words), self.call_words)
         if key not in TEMPLATES:
             TEMPLATES[key] = self.made()
             type(self).addClassCleanup(shutil.rmtree, TEMPLATES[key].parent, ignore_errors=True)
@@ -117,7 +121,7 @@ class ElectionTest(unittest.TestCase):
         place = pathlib.Path(tempfile.mkdtemp(prefix="debvote-template-"))
         self.done("new", *self.new_words, str(place / "election"), cwd=place)
         (place / "election" / "poll.toml").write_text(self.poll)
-        (place / "election" / "members.csv").write_text(members_of(self.names))
+        (place / "election" / "members.csv").write_text(self.members or members_of(self.names))
         self.done("roll", cwd=place / "election")
         if self.call_words is not None:
             if "secret = true" in self.poll:
@@ -131,14 +135,15 @@ class ElectionTest(unittest.TestCase):
         self.assertEqual(ended.status, 0, ended)
         return ended
 
-    def run_program(self, *words: object, given: bytes | str | None = None, **how: object) -> Ended:
+    def run_program(self, *words: object, given: bytes | str | None = None, path: object = "", **how: object) -> Ended:
         """Runs a program with these arguments in the folder of the election, with these bytes as its standard input.
 
-        Its output about a picture that can't be drawn on this machine is left out.
+        Programs in the folder `path` are found before others. Output about a picture that can't be drawn on this machine is left out.
         """
         data = given.encode() if isinstance(given, str) else given
         where = {"stdin": subprocess.DEVNULL} if data is None else {"input": data}
         env = environment() | self.clock | {"XDG_STATE_HOME": str(self.state)}
+        env["PATH"] = f"{path}{os.pathsep}{env['PATH']}" if path else env["PATH"]
         settings = {"cwd": self.folder, "env": env, "timeout": SECONDS, **where, **how}
         ended = forks.run([str(word) for word in words], capture_output=True, **settings)
         faults = ended.stderr.decode("utf-8", "replace")
@@ -154,6 +159,28 @@ class ElectionTest(unittest.TestCase):
     def election(self, *words: object, **how: object) -> Ended:
         """Runs debvote-election in the folder of the election."""
         return self.run_program(sys.executable, ELECTION, *words, **how)
+
+    def desk(self, **how: object) -> subprocess.Popen[str]:
+        """A desk on pipes that waits for lines; none is left when the test ends."""
+        pipes = {"stdin": subprocess.PIPE, "stdout": subprocess.PIPE, "stderr": subprocess.PIPE, "text": True}
+        env = environment() | self.clock | {"XDG_STATE_HOME": str(self.state)}
+        desk = subprocess.Popen([sys.executable, ELECTION, "desk"], cwd=self.folder, env=env, **(pipes | how))
+        for pipe in filter(None, (desk.stdin, desk.stdout, desk.stderr)):
+            self.addCleanup(pipe.close)
+        self.addCleanup(desk.wait)
+        self.addCleanup(desk.kill)
+        return desk
+
+    def traced(self, *how: object, words: Sequence[object], given: str | None = None) -> Ended:
+        """Runs debvote-election under strace, which does with its system calls what it is told."""
+        if shutil.which("strace") is None:
+            self.skipTest("strace is not installed")
+        return self.run_program("strace", "-o", "/dev/null", *how, sys.executable, ELECTION, *words, given=given)
+
+    def rows(self, query: str, *values: object) -> list[tuple[object, ...]]:
+        """What the book answers to a query, without the words of the program."""
+        with contextlib.closing(sqlite3.connect(self.folder / "election.db")) as connection:
+            return connection.execute(query, values).fetchall()
 
     def without_rights(self, *words: object, **how: object) -> Ended:
         """Runs debvote-election as a user whom a mode stops: root becomes nobody."""

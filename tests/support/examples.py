@@ -65,6 +65,10 @@ def elections(scratch):
             yield folder.name, folder / "poll.toml", folder / "ballots", []
     for name in CASES:
         yield name, *of_case(name, scratch)
+    # electors who voted again, and late ones
+    for name, ballots, last in [("recasts", "ada 1,2,3\nada 2,1,3\n", 2), ("late", "ada 1,2,3\nben 2,1,3\nada 2,1,3\nben 1,2,3\n", 3)]:
+        room = publishing.plain_room(scratch / f"of-{name}", f"{publishing.PLAIN_POLL}last_envelope = {last}\n", ballots)
+        yield name, room / "poll.toml", room / "ballots", []
     poll, ballots = scratch / "poll.toml", scratch / "ballots"
     poll.write_text(HOSTILE_POLL)
     ballots.write_text(HOSTILE_BALLOTS)

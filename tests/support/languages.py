@@ -5,22 +5,17 @@ import email.utils
 import os
 import pathlib
 import re
-import shutil
 import sys
-import tempfile
 import unittest
 from collections.abc import Iterator
 
 from debvote_tools.text.language import catalog_of, language_of
 from debvote_tools.text.rendering import templates_of
 
-from tests.support import forks, sentences
-from tests.support.program import PROGRAM, ROOT
+from tests.support import elections, sentences
+from tests.support.program import ROOT
 
 LANGUAGES = ("de", "es", "fr")
-
-# a run that has not ended after this time hangs: far more than any takes on a busy machine
-SECONDS = 600
 
 # four options, one with a long name, and twelve electors
 POLL = """title = "Where we meet in spring"
@@ -82,37 +77,24 @@ def forget_german() -> None:
     templates_of.cache_clear()
 
 
-class LanguageTest(unittest.TestCase):
-    """A test with its own folder."""
+class LanguageTest(elections.ElectionTest):
+    """A test with its own folder, in which it makes its elections."""
 
-    maxDiff = None
+    def begin(self) -> None:
+        pass
 
-    def setUp(self) -> None:
-        self.scratch = pathlib.Path(tempfile.mkdtemp(prefix="debvote-languages-"))
-        self.addCleanup(shutil.rmtree, self.scratch, ignore_errors=True)
-
-    def run_program(self, program: str, *words: object, given: str = "", status: int = 0) -> str:
+    def program(self, name: str, *words: object, given: str = "", status: int = 0) -> str:
         """The output of a program, which has to end with this status."""
-        path = os.pathsep.join([str(PROGRAM.parent), os.environ["PATH"]])
-        state = str(self.scratch / "state")
-        ended = forks.run(
-            [sys.executable, str(ROOT / "bin" / program), *map(str, words)],
-            cwd=self.scratch,
-            input=given,
-            capture_output=True,
-            text=True,
-            timeout=SECONDS,
-            env={**os.environ, "PATH": path, "XDG_STATE_HOME": state, "PYTHONDONTWRITEBYTECODE": "1"},
-        )
-        self.assertEqual(ended.returncode, status, ended)
-        return ended.stdout + ended.stderr
+        ended = self.run_program(sys.executable, ROOT / "bin" / name, *words, given=given, cwd=self.scratch)
+        self.assertEqual(ended.status, status, ended)
+        return ended.output + ended.faults
 
     def election(self, folder: str, *words: object, given: str = "", status: int = 0) -> str:
-        return self.run_program("debvote-election", "--folder", folder, *words, given=given, status=status)
+        return self.program("debvote-election", "--folder", folder, *words, given=given, status=status)
 
     def begun(self, folder: str, language: str, *, poll: str = POLL, codes: tuple[str, ...] | None = None) -> pathlib.Path:
         """An election in a language, with its roll; with arguments for `codes` it is secret."""
-        self.run_program("debvote-election", "new", "--language", language, folder)
+        self.program("debvote-election", "new", "--language", language, folder)
         place = self.scratch / folder
         (place / "poll.toml").write_text(poll if codes is None else f"secret = true\n{poll}")
         rows = [f"Person {name[1:]},{name}@example.org,{name}\n" for name in ELECTORS]

@@ -1,162 +1,137 @@
-"""Reads pages in chromium, and by tidy: what a reader sees at several widths, in a light and in a dark scheme."""
+"""Looks at published pages in chromium, and by tidy: what a reader sees at several widths, in a light and in a dark scheme."""
 
 import functools
 import re
 import shutil
-import subprocess
 import unittest
 
 from tests.support import publishing
+from tests.support.at_browser import NEEDS_BROWSER, Window
 
-BROWSER = shutil.which("chromium") or shutil.which("chromium-browser")
-NEEDS_BROWSER = unittest.skipUnless(BROWSER, "chromium is not installed")
 NEEDS_TIDY = unittest.skipUnless(shutil.which("tidy"), "tidy is not installed")
 NEEDS_PICTURES = unittest.skipUnless(publishing.HAS_PICTURES, "dot is not installed, so there are no pictures")
 
-# what a browser says of pages at several widths, in its title
 WIDTHS = (320, 360, 390, 1280)
 DOUBT_WIDTHS = (360, 1280)
-FRAMES = """<!DOCTYPE html><title>none</title>%s<script>
-onload = () => {
-  const say = frame => {
-    const page = frame.contentDocument, style = part => frame.contentWindow.getComputedStyle(part);
-    return [%s].join("@");
+
+# what a page shows: its own width and colours; whether the marked doubts stand in the first window, with nothing above them, and their
+# colours; the width of its picture, of the region that it lies in and of what was drawn, and the ink of its words; and of each bar its
+# number, the whole, the thousandths of the width that it takes, whether it is for the option, and its colours with that of its number
+LOOK = """(() => {
+  const style = (node, ...keys) => keys.map((key) => getComputedStyle(node)[key].replaceAll(" ", ""));
+  const [paper] = style(document.body, "backgroundColor"), own = style(document.body, "backgroundColor", "color");
+  const doubts = document.querySelector(".doubts"), picture = document.querySelector(".picture svg");
+  const seen = (box) => {
+    const place = box.getBoundingClientRect(), middle = document.elementFromPoint(place.left + place.width / 2, place.top + 10);
+    return place.left >= 0 && place.right <= innerWidth && place.bottom <= innerHeight && box.contains(middle);
   };
-  document.title = [...document.querySelectorAll("iframe")].map(say).join(";");
-};
-</script>"""
-WIDTH_AND_COLOURS = '[page.documentElement.scrollWidth, style(page.body).backgroundColor, style(page.body).color].join(" ")'
-
-# where the marked doubts stand in a window, whether something lies above them, and the colours of their text, word and ground
-PLACE_OF_DOUBTS = """(() => {
-  const box = page.querySelector(".doubts");
-  if (!box) return "none";
-  const place = box.getBoundingClientRect(), word = box.querySelector("strong");
-  const middle = page.elementFromPoint(place.left + place.width / 2, place.top + 10);
-  const colours = [style(box).backgroundColor, style(box).color, style(word).color, style(page.body).backgroundColor];
-  return [page.documentElement.scrollWidth, place.left >= 0 && place.right <= frame.width, place.bottom <= frame.height,
-    box.contains(middle), ...colours.map(colour => colour.replaceAll(" ", ""))].join(" ");
+  const bar = (node) => {
+    const svg = node.parentNode, whole = svg.getBoundingClientRect().width, number = svg.parentNode.querySelector("span");
+    return { number: +node.getAttribute("width"), whole: svg.viewBox.baseVal.width, isFor: node.classList.contains("for"),
+      share: whole ? 1000 * node.getBoundingClientRect().width / whole : null, colours: [...style(node, "fill", "stroke"), ...style(number, "color")] };
+  };
+  return { wide: document.documentElement.scrollWidth, own, paper, bars: [...document.querySelectorAll(".bar svg > rect")].map(bar),
+    doubts: doubts && [seen(doubts), ...style(doubts, "backgroundColor", "color"), ...style(doubts.querySelector("strong"), "color")],
+    picture: picture && [picture.getBoundingClientRect().width, picture.closest(".wide").clientWidth, +picture.getAttribute("width"),
+      ...style(picture.querySelector("text"), "fill")] };
 })()"""
-
-# how wide a picture is, the region that it lies in, what was drawn and three quarters of it; and the ink of its words
-PLACE_OF_PICTURE = """(() => {
-  const picture = page.querySelector(".picture svg");
-  if (!picture) return "none";
-  const drawn = +picture.getAttribute("width");
-  const ink = style(picture.querySelector("text")).fill.replaceAll(" ", "");
-  return [picture.getBoundingClientRect().width, picture.closest(".wide").clientWidth, drawn, Math.round(drawn * 0.75), ink].join(" ");
-})()"""
-
-# of each bar its number, the whole width, the thousandths of it that it takes, whether it is for the option, its fill, its edge, the
-# colour of its number, and the ground of the page
-PLACE_OF_BARS = """[...page.querySelectorAll(".bar svg > rect")].map(bar => {
-  const svg = bar.parentNode, whole = svg.getBoundingClientRect().width, number = svg.parentNode.querySelector("span");
-  const colours = [style(bar).fill, style(bar).stroke, style(number).color, style(page.body).backgroundColor];
-  return [bar.getAttribute("width"), svg.viewBox.baseVal.width, Math.round(1000 * bar.getBoundingClientRect().width / whole),
-    bar.classList.contains("for"), ...colours.map(colour => colour.replaceAll(", ", ","))].join("|");
-}).join(" ")"""
-
-LOOKS = [WIDTH_AND_COLOURS, PLACE_OF_DOUBTS, PLACE_OF_PICTURE, PLACE_OF_BARS]
-
 
 # a heading within a summary is newer than tidy
 SUMMARY = re.compile(r"<summary>(<h3 [^>]*>.*?</h3>)(.*?)</summary>")
 
 
-def try_tidy(expect, folders):
-    for folder in folders:
-        page = SUMMARY.sub(r"\1\2", (folder / "index.html").read_text(encoding="utf-8"))
-        found = publishing.run(["tidy", "-q", "-e"], input=page)
-        expect(f"{folder.name}: tidy", found[1:], ("", 0))
-
-
-def browser_says(scratch, folders, widths, look, is_dark):
-    """What a browser says of each page at each width, in a light or in a dark scheme, if it looks at one of `LOOKS`."""
-    return [said.split("@")[LOOKS.index(look)] for said in all_looks(scratch, tuple(folders), tuple(widths), is_dark)]
-
-
 @functools.cache
-def all_looks(scratch, folders, widths, is_dark):
-    """A browser is started once for the same pages and widths, and looks at all that a test can ask."""
-    frames = "".join(
-        f'<iframe src="{folder.as_uri()}/index.html" width="{width}" height="900" style="border: 0"></iframe>'
-        for folder in folders
-        for width in widths
-    )
-    (scratch / "frames.html").write_text(FRAMES % (frames, ", ".join(LOOKS)))
-    flags = ["--headless", "--no-sandbox", "--disable-gpu", "--hide-scrollbars", "--allow-file-access-from-files", "--dump-dom"]
-    # 0 is dark for the browser
-    scheme = [f"--user-data-dir={scratch}/browser", f"--blink-settings=preferredColorScheme={0 if is_dark else 1}"]
-    try:
-        said = publishing.run([BROWSER, *flags, *scheme, "--virtual-time-budget=20000", (scratch / "frames.html").as_uri()])[0]
-    except subprocess.TimeoutExpired:
-        said = ""
-    found = re.search(r"<title>(.*?)</title>", said)
-    if not found or ";" not in found[1]:
-        raise unittest.SkipTest("chromium is installed but does not run here")
-    return found[1].split(";")
+def looks_of(folders, widths):
+    """What each page shows at each width, in a light and in a dark scheme; pages are opened once for all tests."""
+    found = []
+    with Window(1280, 900) as window:
+        for folder in folders:
+            window.open(folder / "index.html")
+            for is_dark in (False, True):
+                window.show(is_dark=is_dark)
+                for width in widths:
+                    window.resize(width, 900)
+                    found.append({"page": f"{folder.name}, {width}", "width": width, "is_dark": is_dark, **window.ask(LOOK)})
+    return found
 
 
-def try_pages(expect, folders, scratch, widths=WIDTHS):
-    """All pages are as wide as the window at all widths, in a light and in a dark scheme."""
-    colours = []
-    for is_dark in (False, True):
-        pages = [page.split(" ", 1) for page in browser_says(scratch, folders, widths, WIDTH_AND_COLOURS, is_dark)]
-        expect("chromium: the widths of the pages", [int(page[0]) for page in pages], list(widths) * len(folders))
-        colours.append({page[1] for page in pages})
-    expect("chromium: light and dark have one pair of colours each, and not the same", len(colours[0] | colours[1]), 2)
+class LooksTest(publishing.PublishTest):
+    """Folders that are published once for a class: what was noted when they were made, and how their pages look."""
 
+    widths = WIDTHS
 
-def try_pictures(expect, folders, scratch, wanted):
-    """A picture fits its page, or scrolls by itself and is no smaller than three quarters of what was drawn; dark ones are light.
+    @classmethod
+    def setUpClass(cls):
+        super().setUpClass()
+        cls.facts = []
+        cls.folders = cls.made()
 
-    Among these there are some that fit, or some that do not, or both, as it is wanted.
-    """
-    inks, kinds = set(), set()
-    for is_dark in (False, True):
-        for page in browser_says(scratch, folders, WIDTHS, PLACE_OF_PICTURE, is_dark):
-            if page == "none":
-                continue
-            width, region, drawn, least, ink = page.split(" ")
-            fits = float(width) <= float(region) + 1
-            expect(f"chromium: a picture of {drawn} in {region}", fits or abs(float(width) - float(least)) <= 1, True)
-            expect(f"chromium: a picture of {drawn} is not blown up", float(width) <= float(drawn) + 1, True)
-            kinds.add(fits)
-            inks.add(ink)
-    expect("chromium: pictures that fit and that scroll", kinds, wanted)
-    expect("chromium: pictures have one ink in light and another in dark", len(inks), 2)
+    @classmethod
+    def note(cls, *fact):
+        """Keeps a fact for the test of all facts."""
+        cls.facts.append(fact)
 
+    def looks(self):
+        return looks_of(tuple(self.folders), self.widths)
 
-def try_bars(expect, folders, scratch):
-    """Each bar is as long as its number says, is seen on the ground of the page by its edge, and its number can be read, light and dark."""
-    fills = set()
-    for is_dark in (False, True):
-        said = browser_says(scratch, folders, WIDTHS, PLACE_OF_BARS, is_dark)
-        bars = [bar.split("|") for page in said for bar in page.split()]
-        expect("chromium: there are bars", len(bars) > 2 * len(folders), True)
-        for number, whole, thousandths, is_for, fill, edge, ink, paper in bars:
-            wanted = 1000 * int(number) / int(whole)
-            # one that is folded has no width
-            expect(f"chromium: a bar of {number} of {whole}", thousandths == "NaN" or abs(int(thousandths) - wanted) <= 10, True)
-            expect(f"chromium: a bar can be seen, dark {is_dark}", contrast(edge, paper) >= 3, True)
-            expect(f"chromium: its number can be read, dark {is_dark}", contrast(ink, fill) >= 4.5, True)
-            fills.add((is_dark, is_for, fill))
-    expect("chromium: bars for and against have each one fill in light and one in dark", len(fills), 4)
+    def test_what_was_noted(self):
+        self.assertTrue(self.facts)
+        for fact in self.facts:
+            self.expect(*fact)
 
+    @NEEDS_TIDY
+    def test_tidy(self):
+        for folder in self.folders:
+            page = SUMMARY.sub(r"\1\2", (folder / "index.html").read_text(encoding="utf-8"))
+            self.expect(f"{folder.name}: tidy", publishing.run(["tidy", "-q", "-e"], input=page)[1:], ("", 0))
 
-def try_doubts(expect, folders, scratch):
-    """The doubts of each page are seen in the first window, on their own ground, light and dark."""
-    grounds = set()
-    for is_dark in (False, True):
-        name = f"chromium: doubts, {'dark' if is_dark else 'light'}"
-        pages = [page.split(" ") for page in browser_says(scratch, folders, DOUBT_WIDTHS, PLACE_OF_DOUBTS, is_dark)]
-        wanted = [[str(width), "true", "true", "true"] for _ in folders for width in DOUBT_WIDTHS]
-        expect(f"{name}: their places", [page[:4] for page in pages], wanted)
-        for ground, ink, word, paper in {tuple(page[4:]) for page in pages}:
-            grounds.add(ground)
+    @NEEDS_BROWSER
+    def test_widths_and_colours(self):
+        """All pages are as wide as the window, and have one pair of colours in light and another one in dark."""
+        self.expect("widths", [look["page"] for look in self.looks() if look["wide"] != look["width"]], [])
+        pairs = {(look["is_dark"], *look["own"]) for look in self.looks()}
+        self.expect("colours of the pages", (len(pairs), len({pair[1:] for pair in pairs})), (2, 2))
+
+    def check_pictures(self, wanted):
+        """A picture fits its page, or scrolls by itself and is no smaller than three quarters of what was drawn; dark ones are light.
+
+        Among these there are some that fit, or some that do not, or both, as it is wanted.
+        """
+        inks, kinds = set(), set()
+        for look in self.looks():
+            if look["picture"]:
+                width, region, drawn, ink = look["picture"]
+                fits = width <= region + 1
+                self.expect(f"{look['page']}: a picture in {region}", fits or abs(width - round(drawn * 0.75)) <= 1, True)
+                self.expect(f"{look['page']}: a picture of {drawn} is not blown up", width <= drawn + 1, True)
+                kinds.add(fits)
+                inks.add(ink)
+        self.expect("pictures that fit and that scroll", kinds, wanted)
+        self.expect("pictures have one ink in light and another in dark", len(inks), 2)
+
+    def check_bars(self):
+        """Each bar is as long as its number says, is seen on the ground of the page by its edge, and its number can be read."""
+        fills = set()
+        for look in self.looks():
+            for bar in look["bars"]:
+                fill, edge, ink = bar["colours"]
+                name, wanted = f"{look['page']}: a bar of {bar['number']} of {bar['whole']}", 1000 * bar["number"] / bar["whole"]
+                # one that is folded has no width
+                self.expect(name, bar["share"] is None or abs(bar["share"] - wanted) <= 10, True)
+                self.expect(f"{name} can be seen", contrast(edge, look["paper"]) >= 3, True)
+                self.expect(f"the number of {name} can be read", contrast(ink, fill) >= 4.5, True)
+                fills.add((look["is_dark"], bar["isFor"], fill))
+        self.expect("bars for and against have each one fill in light and one in dark", len(fills), 4)
+
+    def check_doubts(self, folders):
+        """The doubts of each page are seen in the first window, and can be read on their own ground, light and dark."""
+        grounds = set()
+        for look in looks_of(tuple(folders), DOUBT_WIDTHS):
+            is_seen, ground, ink, word = look["doubts"]
             is_read = min(contrast(ground, ink), contrast(ground, word)) >= 4.5
-            expect(f"{name}: they can be read, on a ground of their own", (is_read, ground != paper), (True, True))
-    expect("chromium: doubts have one ground in light and another in dark", len(grounds), 2)
+            self.expect(f"{look['page']}: doubts", (is_seen, is_read, ground != look["paper"]), (True, True, True))
+            grounds.add(ground)
+        self.expect("doubts have one ground in light and another in dark", len(grounds), 2)
 
 
 def contrast(one, other):

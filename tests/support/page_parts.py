@@ -1,4 +1,4 @@
-"""Reads the parts of a page, and meets each with what tests/reference.py counts: its numbers, its marks, its lists and its ballots.
+"""Reads a page: its tags, places and links, and each part beside what tests/reference.py counts: numbers, marks, lists and ballots.
 
 The page is read as a browser reads it: a text that was not escaped is no text here. What a part must say is written down anew, by
 the count of the reference; nothing of debvote_tools is used.
@@ -8,17 +8,25 @@ import decimal
 import html
 import html.parser
 import re
+import tomllib
 
 EMPTY_TAGS = {"meta", "br", "hr", "input", "rect", "path"}
+# of scripts a page has its own alone
+UNWANTED_TAGS = {"link", "iframe", "img", "object", "embed", "form", "base", "audio", "video", "image", "use"}
+UNWANTED_ATTRIBUTES = {"src", "style", "xlink:href"}
 
 
 class Wrong(Exception):
     """A part that does not hold."""
 
 
+def demand(holds, why):
+    if not holds:
+        raise Wrong(why)
+
+
 def demand_equal(what, found, wanted):
-    if found != wanted:
-        raise Wrong(f"{what}: {str(found)[:600]} in place of {str(wanted)[:600]}")
+    demand(found == wanted, f"{what}: {str(found)[:600]} in place of {str(wanted)[:600]}")
 
 
 def escaped(text):
@@ -36,13 +44,16 @@ class Node:
     def text(self):
         return "".join(part if isinstance(part, str) else part.text() for part in self.inner)
 
-    def all(self, tag, kind=None):
-        """All elements of a tag within, and of a class if one is given."""
+    def within(self):
+        """All elements within, in the order of their first tags."""
         for part in self.inner:
             if isinstance(part, Node):
-                if part.tag == tag and (kind is None or kind in part.attributes.get("class", "").split()):
-                    yield part
-                yield from part.all(tag, kind)
+                yield part
+                yield from part.within()
+
+    def all(self, tag, kind=None):
+        """All elements of a tag within, and of a class if one is given."""
+        return (node for node in self.within() if node.tag == tag and (kind is None or kind in node.attributes.get("class", "").split()))
 
     def one(self, tag, kind=None):
         found = list(self.all(tag, kind))
@@ -57,6 +68,7 @@ class Builder(html.parser.HTMLParser):
         super().__init__()
         self.root = Node("page", [])
         self.open = [self.root]
+        self.faults = []
 
     def handle_starttag(self, tag, attributes):
         node = Node(tag, attributes)
@@ -68,18 +80,23 @@ class Builder(html.parser.HTMLParser):
         self.open[-1].inner.append(Node(tag, attributes))
 
     def handle_endtag(self, tag):
-        if tag not in EMPTY_TAGS and len(self.open) > 1:
-            self.open.pop()
+        if tag not in EMPTY_TAGS:
+            self.faults += [] if self.open[-1].tag == tag else [f"/{tag}"]
+            del self.open[max(1, len(self.open) - 1) :]
 
     def handle_data(self, data):
         self.open[-1].inner.append(data)
 
 
 def tree_of(page):
+    return built(page).root
+
+
+def built(page):
     builder = Builder()
     builder.feed(page)
     builder.close()
-    return builder.root
+    return builder
 
 
 def sections_of(page):
@@ -91,6 +108,24 @@ def doubts_of(page):
     """The doubts that the page marks, as a reader reads them."""
     boxes = list(tree_of(page).all("div", "doubts"))
     return [entry.text().removeprefix("Doubt: ") for box in boxes for entry in box.all("li")]
+
+
+def try_page(expect, name, folder):
+    """All tags are closed; nothing is loaded, and nothing runs but the script of the page; each link leads to a file of the folder or a
+    place of the page; each ballot has its place, and no elector has the place of another thing."""
+    read = built((folder / "index.html").read_text())
+    nodes = list(read.root.within())
+    is_active = {node.tag for node in nodes for key in node.attributes if key.startswith("on") or key in UNWANTED_ATTRIBUTES}
+    unwanted = is_active | ({node.tag for node in nodes} & UNWANTED_TAGS)
+    faults = read.faults + [node.tag for node in read.open[1:]]
+    expect(f"{name}: its tags", (faults, unwanted, sum(node.tag == "script" for node in nodes)), ([], set(), 1))
+    ids = [node.attributes["id"] for node in nodes if "id" in node.attributes]
+    roll = tomllib.loads((folder / "poll.toml").read_text())["roll"]
+    expect(f"{name}: its places", (len(set(ids)), [place for place in set(ids) - set(roll) if place == place.lower()]), (len(ids), []))
+    voters = {line.split()[0] for line in (folder / "standing.txt").read_text().splitlines()}
+    expect(f"{name}: a place for each ballot", voters - set(ids), set())
+    places = {f"#{place}" for place in ids} | {file.name for file in folder.iterdir()}
+    expect(f"{name}: its links", {node.attributes["href"] for node in nodes if "href" in node.attributes} - places, set())
 
 
 # ---------------------------------------------------------------- the parts
@@ -123,7 +158,8 @@ class Parts:
         for place, section in self.sections.items():
             heads = [node.attributes.get("id") for tag in ("h2", "h3") for node in section.all(tag)]
             demand_equal(f"the heading of {place}", heads, [place])
-        levels = [int(node.tag[1]) for node in headings_in(tree_of(self.page))]
+        demand_equal("the title", tree_of(self.page).one("h1").text(), self.names.get(0, self.count.poll.title))
+        levels = [int(node.tag[1]) for node in tree_of(self.page).within() if re.fullmatch("h[1-6]", node.tag)]
         demand_equal("the first heading", levels[0], 1)
         demand_equal("headings that skip a level", [level for before, level in zip(levels, levels[1:]) if level > before + 1], [])
 
@@ -283,15 +319,6 @@ class Parts:
         number = f"{len(voted)} {'elector' if len(voted) == 1 else 'electors'} of {len(count.poll.roll)} {'has' if len(voted) == 1 else 'have'}"
         said = f"{number} a ballot that counts, which is {share(len(voted), len(count.poll.roll))}."
         demand_equal("who voted, number", next(section.all("p")).text(), said)
-
-
-def headings_in(node):
-    """The headings of a page, in their order."""
-    for part in node.inner:
-        if isinstance(part, Node):
-            if re.fullmatch("h[1-6]", part.tag):
-                yield part
-            yield from headings_in(part)
 
 
 def bar_of(svg):

@@ -25,6 +25,7 @@ import tomllib
 
 from tests import reference, reference_checks
 from tests.support import forks, page_parts as pages, publishing
+from tests.support.page_parts import Wrong, demand
 from tests.support.polls import random_polls
 
 PROGRAM, PUBLISH, SECONDS = publishing.PROGRAM, publishing.PUBLISH, publishing.SECONDS
@@ -146,15 +147,6 @@ def table_of(count):
 
 
 # ---------------------------------------------------------------- the sentences
-class Wrong(Exception):
-    """A sentence that does not hold."""
-
-
-def demand(holds, why):
-    if not holds:
-        raise Wrong(why)
-
-
 PAIR = r"#(\d+) by (\d+) to (\d+)"
 # whom an option beats: one or two with their numbers, or the nearest of more
 BEATEN = rf"(?:{PAIR}(?: and {PAIR})?|(\d+) options, most narrowly {PAIR})"
@@ -470,7 +462,7 @@ def meet(seed):
     with tempfile.TemporaryDirectory() as name:
         try:
             return try_folder(pathlib.Path(name), seed, election, count, casting), None
-        except (Wrong, pages.Wrong, KeyError, ValueError, AttributeError, OSError) as wrong:
+        except (Wrong, KeyError, ValueError, AttributeError, OSError) as wrong:
             return collections.Counter(), f"seed {seed}: {type(wrong).__name__}: {wrong}"
 
 
@@ -539,7 +531,7 @@ def try_published(expect, name, folder, casting):
     names = {number: text for number, text in names.items() if text != {0: poll["title"], **count.poll.names}[number]}
     try:
         kinds, wrong = try_made(folder, count, names), None
-    except (Wrong, pages.Wrong) as found:
+    except Wrong as found:
         kinds, wrong = collections.Counter(), str(found)
     expect(f"{name}: data, sentences and refused lines", wrong, None)
     return kinds

@@ -56,6 +56,11 @@ class Terminal:
     def type(self, keys: str) -> None:
         os.write(self.keys, keys.encode())
 
+    def after(self, keys: str, words: str) -> str:
+        """Types these keys, and returns the text of the terminal up to these words."""
+        self.type(keys)
+        return self.until(words)
+
     def end(self) -> tuple[str, int]:
         """The rest of the text, and the exit status."""
         end = time.monotonic() + SECONDS

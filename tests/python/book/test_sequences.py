@@ -17,7 +17,6 @@ import re
 import shutil
 import signal
 import subprocess
-import sys
 import time
 
 from tests.support import elections
@@ -130,8 +129,6 @@ class SequencesTest(elections.ElectionTest):
     def setUp(self) -> None:
         super().setUp()
         self.set_clock("2026-11-25T09:00:00+00:00")
-        if shutil.which("strace") is None:
-            self.skipTest("strace is not installed")
 
     def made(self) -> pathlib.Path:
         """The call is older than the letters."""
@@ -260,11 +257,7 @@ class SequencesTest(elections.ElectionTest):
     # ------------------------------------------------------------ how they are run
     def injected(self, step: Step, inject: str) -> elections.Ended:
         """Runs a command under strace, which does something to one of its system calls."""
-        words = ["strace", "-o", "/dev/null", "-e", f"inject={inject}", sys.executable, elections.ELECTION, *step.words]
-        env = elections.environment() | self.clock | {"XDG_STATE_HOME": str(self.state)}
-        given = (step.given or "").encode()
-        ended = subprocess.run(words, cwd=self.folder, env=env, input=given, capture_output=True, timeout=elections.SECONDS)
-        return elections.Ended(ended.stdout.decode(), ended.stderr.decode(), ended.returncode)
+        return self.traced("-e", f"inject={inject}", words=step.words, given=step.given or "")
 
     def run_step(self, step: Step, chance: random.Random) -> tuple[Model, bool]:
         """Runs a command, perhaps not to its end, and returns the model that holds, and whether it was cut off."""
@@ -354,38 +347,31 @@ class EightDesks(elections.ElectionTest):
 
     LINES = 10
 
-    def at_desk(self, chance: random.Random, told: dict[int, str], killed_after: int | None) -> int:
-        """Types one line after the other at a desk, each after the reply to the one before, and returns how many."""
-        env = elections.environment() | {"XDG_STATE_HOME": str(self.state)}
-        pipes = {"stdin": subprocess.PIPE, "stdout": subprocess.PIPE, "stderr": subprocess.STDOUT}
-        desk = subprocess.Popen([sys.executable, elections.ELECTION, "desk"], cwd=self.folder, env=env, **pipes)
+    def at_desk(self, name: str, killed_after: int | None, told: dict[int, str]) -> int:
+        """Types the ballots of an elector, each after the reply to the one before, and returns how many."""
+        desk = self.desk(stderr=subprocess.STDOUT)
         for typed in range(self.LINES):
-            line = f"{chance.choice(elections.NAMES)} {chance.choice(RANKS)}"
-            desk.stdin.write(f"{line}\n".encode())
+            line = f"{name} {typed + 1},2,3,4"
+            desk.stdin.write(f"{line}\n")
             desk.stdin.flush()
             if typed == killed_after:
-                time.sleep(chance.random() / 20)
+                time.sleep(random.random() / 20)
                 desk.kill()
-                desk.communicate()
                 return typed
-            said = []
-            while (reply := REPLY.match(line_said := desk.stdout.readline().decode())) is None:
-                if not line_said:
-                    raise AssertionError(f"the desk has ended: {said}")
-                said.append(line_said)
-            if int(reply[1]) in told:
-                raise AssertionError(f"envelope {reply[1]} was told twice")
-            told[int(reply[1])] = line
-        desk.stdin.close()
-        desk.stdout.read()
-        desk.stdout.close()
-        return self.LINES if desk.wait() == 0 else 0
+            reply = desk.stdout.readline()
+            self.assertRegex(reply, rf"^\d+ {'replaced' if typed else 'counted'}  {name}: ")
+            number = int(reply.split()[0])
+            self.assertNotIn(number, told, "told twice")
+            told[number] = line
+        said = f"This desk has entered {self.LINES} lines (1 counted, {self.LINES - 1} replaced).\n"
+        self.assertIn(said, desk.communicate()[0])
+        self.assertEqual(desk.returncode, 0)
+        return self.LINES
 
     def test_each_line_once_and_none_lost(self) -> None:
         told: dict[int, str] = {}
         with concurrent.futures.ThreadPoolExecutor(8) as desks:
-            killed = [4, 6, *[None] * 6]
-            typed = list(desks.map(self.at_desk, map(random.Random, range(8)), [told] * 8, killed))
+            typed = list(desks.map(self.at_desk, self.names, [4, 6, *[None] * 6], [told] * 8))
         self.assertEqual(typed, [4, 6, *[self.LINES] * 6])
         out = self.scratch / "out"
         self.done("export", out)

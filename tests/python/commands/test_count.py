@@ -1,7 +1,5 @@
-"""`count`: the sheet alone, and what to do with it; and an election of forty from the list of members to the page."""
+"""`count`: the sheet alone, and what to do with it."""
 
-import hashlib
-import json
 import os
 
 from tests.support import elections
@@ -11,6 +9,8 @@ WON = TIE + "eve 1,2,4,3\n"
 
 
 class CountTest(elections.ElectionTest):
+    poll = elections.POLL.replace("In the town hall", "Hall")
+
     def add(self, text: str) -> None:
         self.write("lines", text)
         self.done("add", "--yes", "lines")
@@ -42,16 +42,20 @@ class Count(CountTest):
 
     def test_a_tie_and_the_casting_vote(self) -> None:
         self.add(TIE)
+        said = "it is a tie between 'At the lake', Hall; the holder of the casting vote chooses one of them: "
+        cast = "--cast-by WHO --cast-on DATE"
+        choose = f"{said}debvote-election publish --casting 'At the lake' {cast} or debvote-election publish --casting Hall {cast}\n"
+        over = "Next: this is not the result yet: when the vote is over, run debvote-election close; now "
+        self.assert_counted((), 1, over + choose)
         self.done("close")
-        said = "it is a tie between 'At the lake', 'In the town hall'; the holder of the casting vote chooses one of them: "
-        self.assert_counted((), 1, said, "publish --casting 'In the town hall' --cast-by WHO --cast-on DATE")
-        self.assert_counted(("--casting", "In the town hall"), 0, "publish --casting 'In the town hall'")
+        self.assert_counted((), 1, f"Next: {choose}")
+        self.assert_counted(("--casting", "Hall"), 0, f"Next: debvote-election publish --casting Hall {cast}\n")
         self.assert_counted(("--casting", "Further discussion"), 8, "'Further discussion' is not among them")
 
     def test_no_such_option(self) -> None:
         self.add(WON)
         ended = self.election("count", "--casting", "Nowhere")
-        self.assert_fault(ended, 8, "no option has this name", "'At the lake'")
+        self.assert_fault(ended, 8, "no option has this name", "'At the lake', Hall, 'Sell the house and meet there'")
 
     def test_struck_and_late_lines_do_not_count(self) -> None:
         self.add(WON)
@@ -63,7 +67,7 @@ class Count(CountTest):
 
 
 class SecretCount(CountTest):
-    poll = elections.POLL + "secret = true\n"
+    poll = CountTest.poll + "secret = true\n"
 
     def test_never_before_the_close(self) -> None:
         self.add(WON)
@@ -71,41 +75,3 @@ class SecretCount(CountTest):
         self.assertEqual((ended.status, ended.output), (9, ""))
         self.done("close")
         self.assertEqual(self.election("count").status, 0)
-
-
-class OfForty(CountTest):
-    """An election of forty, by lines, a table and two desks."""
-
-    names = [f"m{number:02}" for number in range(1, 41)]
-
-    def test_from_the_list_to_the_page(self) -> None:
-        ranks = ["1,2,3,4", "2,1,4,3", "1,-,2,3", "3,1,2,4"]
-        ballots = {name: ranks[index % 4] for index, name in enumerate(self.names)}
-        self.add("".join(f"{name.upper()}: {ballots[name]}.\n" for name in self.names[:15]))
-        cells = [ballots[name].replace(",", ";") for name in self.names[15:30]]
-        self.write("form.csv", "\n".join(["who;a;b;c;d", *(f"{name};{row}" for name, row in zip(self.names[15:30], cells)), ""]))
-        self.done("add", "--yes", "--csv", "--name", "who", "--ranks", "a,b,c,d", "form.csv")
-        for part in (self.names[30:35], self.names[35:38]):
-            self.done("desk", given="".join(f"{name} {ballots[name]}\n" for name in part))
-        self.done("desk", given="m01 2,1,3,4\n")
-        status = json.loads(self.done("status", "--json").output)
-        self.assertEqual((status["lines"], status["valid"], status["voters"], status["without_ballot"]), (39, 39, 38, ["m39", "m40"]))
-        self.done("close")
-        self.add("m39 1,2,3,4\n")
-        self.done("publish")
-        folder = self.folder / "result"
-        standing = dict(line.split() for line in (folder / "standing.txt").read_text().splitlines())
-        self.assertEqual(standing, {name: ballots[name] for name in self.names[:38]} | {"m01": "2,1,3,4"})
-        self.assertEqual((folder / "late.txt").read_text(), "m39 1,2,3,4\n")
-        self.assertEqual((folder / "sheet.txt").read_text(), self.election("count").output)
-        checksum = hashlib.sha256((folder / "ballots.txt").read_bytes()).hexdigest()
-        self.assertIn(checksum, (folder / "closed.txt").read_text())
-        for name in ("SHA256SUMS", "index.html"):
-            named = f"{hashlib.sha256((folder / name).read_bytes()).hexdigest()}  {name}\n"
-            self.assertIn(named, self.read("letters/result.txt").decode())
-        self.assertEqual((folder / "poll.toml").read_bytes(), self.read("call/poll.toml"))
-        log = self.done("log").output
-        before = {file.name: file.read_bytes() for file in folder.iterdir()}
-        self.done("publish")
-        self.assertEqual({file.name: file.read_bytes() for file in folder.iterdir()}, before)
-        self.assertEqual(self.done("log").output, log)

@@ -9,7 +9,7 @@ class Folder(languages.LanguageTest):
         return text.partition('<html lang="')[2].partition('"')[0]
 
     def test_the_book_keeps_it_and_all_commands_follow_it(self) -> None:
-        said = self.run_program("debvote-election", "new", "--language", "es", "other")
+        said = self.program("debvote-election", "new", "--language", "es", "other")
         self.assertIn("Pages and letters for electors will be in Spanish.\n", said)
         place = self.begun("german", "de")
         said = self.election("german", "call", "--until", "2031-12-01 18:00", "--zone", "Europe/Berlin")
@@ -24,18 +24,9 @@ class Folder(languages.LanguageTest):
         self.election("german", "publish", "--language", "fr", "german/result-2")
         self.assertEqual(self.language_of("german/result-2/index.html"), "fr")
 
-    def test_without_it_it_is_english(self) -> None:
-        self.run_program("debvote-election", "new", "english")
-        place = self.scratch / "english"
-        (place / "poll.toml").write_text(languages.POLL)
-        (place / "members.csv").write_text("who,mail\nAda,ada@example.org\n")
-        self.election("english", "roll")
-        self.election("english", "call")
-        self.assertEqual(self.language_of("english/call/index.html"), "en")
-
     def test_a_language_that_there_is_not(self) -> None:
         for program, words in (
             ("debvote-election", ("new", "--language", "it", "other")),
             ("debvote-publish", ("--poll", "p", "--ballots", "b", "--language", "it", "f")),
         ):
-            self.assertIn("--language: invalid choice: 'it'", self.run_program(program, *words, status=2))
+            self.assertIn("--language: invalid choice: 'it'", self.program(program, *words, status=2))

@@ -1,8 +1,6 @@
 """`new`: the folder, its files and modes, and what stops it."""
 
 import os
-import shutil
-import subprocess
 
 from tests.support import elections
 
@@ -42,28 +40,16 @@ class New(elections.ElectionTest):
         (self.folder / "file").write_text("kept")
         (self.folder / "link").symlink_to("nowhere")
         before = self.contents()
-        for name, words in {
-            "spring": "an election already",
-            "full": "not empty",
-            "file": "not a folder",
-            "link": "not a folder",
-        }.items():
-            with self.subTest(name):
-                self.assert_fault(self.election("new", name), 2, words, "nothing was changed")
+        for name, words in {"spring": "an election already", "full": "not empty", "file": "not a folder", "link": "not a folder"}.items():
+            self.assert_fault(self.election("new", name), 2, words, "nothing was changed")
         self.assert_fault(self.election("new", "nowhere/else"), 2, "nowhere/else")
         self.assert_fault(self.election("new", "--folder", "x", "y"), 2, "--folder")
         self.assertEqual(self.contents(), before)
 
     def test_unfinished_on_a_full_disk(self) -> None:
-        if shutil.which("strace") is None:
-            self.skipTest("strace is not installed")
         for when in (1, 3, 5):
-            inject = f"inject=pwrite64:error=ENOSPC:when={when}+"
-            words = ["strace", "-o", "/dev/null", "-e", inject, "/usr/bin/python3", elections.ELECTION, "new", "spring"]
-            env = elections.environment() | {"XDG_STATE_HOME": str(self.state)}
-            ended = subprocess.run(words, cwd=self.folder, env=env, capture_output=True, text=True)
-            self.assertEqual(ended.returncode, 7, ended)
-            self.assertEqual(list(self.folder.iterdir()), [])
+            ended = self.traced("-e", f"inject=pwrite64:error=ENOSPC:when={when}+", words=("new", "spring"))
+            self.assertEqual((ended.status, list(self.folder.iterdir())), (7, []), ended)
 
     def test_a_misspelt_command(self) -> None:
         for word, said in {"stauts": "'stauts'; did you mean status?", "Counts": "'Counts'; did you mean count?", "x": "'x'"}.items():
@@ -74,9 +60,9 @@ class New(elections.ElectionTest):
         self.done("new", "spring")
         folder = self.folder / "spring"
         (folder / "lines").write_text("ada 1,2,3,4\n")
-        for words in (("add", "--yes", "lines"), ("desk",), ("close",), ("undo",), ("count",), ("publish",), ("export", "x")):
-            with self.subTest(words):
-                ended = self.election(*words, cwd=folder)
-                self.assertEqual(ended.status, 9, ended)
-                self.assertIn("no call for votes yet", ended.faults)
+        before = self.contents()
+        entering = ("add", "--yes", "lines"), ("desk",), ("undo",), ("strike", "1", "--because", "x"), ("show", "ada")
+        for words in (*entering, ("close",), ("count",), ("publish",), ("export", "x")):
+            self.assert_fault(self.election(*words, cwd=folder), 9, "there is no call for votes yet")
+            self.assertEqual(self.contents(), before, words)
         self.assertIn("Call for votes: not made yet", self.done("status", cwd=folder).output)

@@ -29,18 +29,30 @@ class Roll(RollTest):
         self.assertIn("Without an address (letters in their names wait, letters to them are printed): anna-meier", ended.output)
         self.assertEqual(self.read("members.csv").decode(), "who,mail\nChloé,chloe@club.example\nAnna Meier,\nØdegård,o@club.example\n")
 
-    def test_names_that_were_cut_or_are_similar_are_told(self) -> None:
-        output = self.roll("Maximiliane Theodora Louise Schulz,", "Dr. Anna Meier,", '"Maier, Anna",', "Meier Anna,").output
-        self.assertIn("at most 32 characters, so these were cut: maximiliane-theodora-louise-schu (Maximiliane Theodora Louise Schulz)\n", output)
-        self.assertIn("these names are easily mistaken for each other: anna-meier and anna-maier, anna-meier and meier-anna\n", output)
-        output = self.roll("Anna Meier,", "Anna-Meier,").output
-        self.assertNotIn("cut:", output)
-        self.assertNotIn("mistaken", output)
-
-    def test_an_address_that_not_every_mail_server_takes_is_told(self) -> None:
-        ended = self.roll("Cleo,cléo@club.example", "Ben,bén@club.example b@club.example")
-        self.assertIn("Without an address that every mail server takes (letters to them are printed): cleo\n", ended.output)
-        self.assertNotIn("Without an address (", ended.output)
+    def test_what_is_told_of_a_list(self) -> None:
+        people = "eve-dan (Eve & Dan), fay-und-gus-meier (Fay und Gus Meier), hal-ida (Hal/Ida), jan-kim (Jan+Kim), marie-et-luc (Marie et Luc)"
+        of_several = ["Eve & Dan,e@club.example", "Fay und Gus Meier,", "Hal/Ida,", "Jan+Kim,", "Marie et Luc,", "Andrea Undset,", '"Ober, Anna",', "A-B,"]
+        shared = ["Ada,a@club.example home@club.example", "Ben,Home@club.example", "Eve,e@club.example E@club.example", "Cleo,"]
+        cut = "at most 32 characters, so these were cut: maximiliane-theodora-louise-schu (Maximiliane Theodora Louise Schulz)\n"
+        similar = "these names are easily mistaken for each other: anna-meier and anna-maier, anna-meier and meier-anna\n"
+        unsent = "Without an address that every mail server takes (letters to them are printed): cleo\n"
+        together = f"Note: these look like several people, who have one ballot together: {people}. Give each a line of their own.\n"
+        for rows, said, unsaid in [
+            # names that were cut, or that are similar
+            (["Maximiliane Theodora Louise Schulz,"], [cut], []),
+            (["Dr. Anna Meier,", '"Maier, Anna",', "Meier Anna,"], [similar], []),
+            (["Jo Meier,", "Jo-Meier,"], [], ["cut:", "mistaken"]),
+            # an address that not every mail server takes, and one that several have
+            (["Cleo,cléo@club.example", "Ben,bén@club.example b@club.example"], [unsent], ["Without an address ("]),
+            (shared, ["Note: several electors have the address home@club.example: ada, ben. Is that one person?\n"], ["address e@"]),
+            # real names that look alike, and several people in one cell
+            (["Zo\u00eb,z@club.example", "zoe,", "Zo\u00eb L,"], ["Note: these real names look alike: zoe-1, zoe-2. Is that one person?\n"], []),
+            (of_several, [together], []),
+        ]:
+            ended = self.roll(*rows)
+            self.assertEqual(ended.status, 0, ended)
+            found = [text in ended.output for text in (*said, *unsaid)]
+            self.assertEqual(found, [True] * len(said) + [False] * len(unsaid), ended.output)
 
     def test_a_name_stays_with_its_person(self) -> None:
         self.roll("Anna Meier,a@club.example", "Ben,b@club.example")
@@ -73,23 +85,6 @@ class Roll(RollTest):
         self.assertGreaterEqual(len(ended.faults.splitlines()), 3, ended.faults)
         self.assertTrue(all(line.startswith("debvote-election: members.csv:") for line in ended.faults.splitlines()), ended.faults)
         self.assertEqual(self.on_roll(), elections.NAMES)
-
-    def test_shared_addresses_are_told(self) -> None:
-        ended = self.roll("Ada,a@club.example home@club.example", "Ben,Home@club.example", "Eve,e@club.example E@club.example", "Cleo,")
-        self.assertEqual(ended.status, 0)
-        self.assertIn("Note: several electors have the address home@club.example: ada, ben. Is that one person?\n", ended.output)
-        self.assertEqual(ended.output.count("Is that one person?"), 1)
-
-    def test_real_names_that_look_alike_are_told(self) -> None:
-        output = self.roll("Zo\u00eb,z@club.example", "zoe,", "Zo\u00eb L,").output
-        self.assertIn("Note: these real names look alike: zoe-1, zoe-2. Is that one person?\n", output)
-
-    def test_several_people_in_one_cell_are_told(self) -> None:
-        rows = ("Eve & Dan,e@club.example", "Fay und Gus Meier,", "Hal/Ida,", "Jan+Kim,", "Marie et Luc,", "Andrea Undset,", '"Meier, Anna",', "A-B,")
-        ended = self.roll(*rows)
-        self.assertEqual(ended.status, 0, ended)
-        people = "eve-dan (Eve & Dan), fay-und-gus-meier (Fay und Gus Meier), hal-ida (Hal/Ida), jan-kim (Jan+Kim), marie-et-luc (Marie et Luc)"
-        self.assertIn(f"Note: these look like several people, who have one ballot together: {people}. Give each a line of their own.\n", ended.output)
 
     def test_again_is_no_act(self) -> None:
         before = self.done("log").output
@@ -157,25 +152,23 @@ class Check(RollTest):
         (self.folder / "texts" / "1.txt").write_text("Near the water.\n")
         ended = self.check(elections.POLL.replace("At the lake", "Am Bärensee"))
         self.assertEqual(ended.status, 0, ended)
-        self.assertEqual(
-            ended.output.splitlines(),
-            [
-                "The poll is in order: 4 options, 9 electors.",
-                "Title: Where we meet in spring",
-                "Options:",
-                "  1  Am Bärensee (majority ratio 1)",
-                "     plain: Am Barensee",
-                "     text: 3 words from texts/1.txt",
-                "  2  In the town hall (majority ratio 1)",
-                "  3  Sell the house and meet there (majority ratio 3)",
-                "  4  Further discussion (the default option)",
-                "Quorum: 2 votes (1Q): at least 2 electors must prefer an option to the default option",
-                "Electors: 9",
-                "  ada ben cleo dan eve fay gus hal ida",
-                "Next: debvote-election call --until 'YYYY-MM-DD HH:MM' --to ADDRESS (the end of the vote, and the address for ballots; "
-                "both are optional)",
-            ],
-        )
+        wanted = [
+            "The poll is in order: 4 options, 9 electors.",
+            "Title: Where we meet in spring",
+            "Options:",
+            "  1  Am Bärensee (majority ratio 1)",
+            "     plain: Am Barensee",
+            "     text: 3 words from texts/1.txt",
+            "  2  In the town hall (majority ratio 1)",
+            "  3  Sell the house and meet there (majority ratio 3)",
+            "  4  Further discussion (the default option)",
+            "Quorum: 2 votes (1Q): at least 2 electors must prefer an option to the default option",
+            "Electors: 9",
+            "  ada ben cleo dan eve fay gus hal ida",
+            "Next: debvote-election call --until 'YYYY-MM-DD HH:MM' --to ADDRESS (the end of the vote, and the address for ballots; "
+            "both are optional)",
+        ]
+        self.assertEqual(ended.output.splitlines(), wanted)
 
     def test_all_faults_at_once(self) -> None:
         ended = self.check(elections.POLL.replace("[1, 1, 3]", "[1, 1]").replace("quorum = 1", 'quorum = 99\ncolour = "red"\nroll = []'))

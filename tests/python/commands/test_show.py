@@ -22,7 +22,7 @@ class Show(CalledTest):
         self.told("strike", 5, "--because", "it was pencil")
         self.told("add", given="ada 1,1,1,1\n")
         self.told("undo")
-        self.act("close", {"lines": 4, "checksum": "", "early": False})
+        self.told("close")
         self.told("desk", given=f"ada {RANKS}\n")
         self.assertEqual(
             self.shown(),
@@ -53,9 +53,8 @@ class Show(CalledTest):
             self.assertEqual(self.shown(name)[0], "ada: Ada ada@club.example")
 
     def test_nobody_has_this_name(self) -> None:
-        self.assert_fault(
-            self.election("show", "zoe\x1b[2J"), 9, "show: no elector on the roll is `zoe\\u001B[2J`; debvote-election status and "
-        )
+        said = "show: no elector on the roll is `zoe\\u001B[2J`; debvote-election status and "
+        self.assert_fault(self.election("show", "zoe\x1b[2J"), 9, said)
 
     def test_several_have_this_real_name(self) -> None:
         with self.book.act("addresses") as act:

@@ -109,6 +109,11 @@ class Starts(elections.ElectionTest):
         self.started("count", "--force")
         self.started("publish", "--yes", "--force", "--because", "x")
         self.started("publish")
+        # once more, beside an earlier result
+        self.started("reopen", "--because", "x")
+        self.started("add", "--yes", "--came-before-close", "yes", "-", given="ida 1,2,3,4\n")
+        self.started("close", "--early", "--force", "--because", "x")
+        self.started("publish", "--yes", "--force", "--because", "x", "result-2")
         for kind in ("result", "receipts"):
             self.started("letters", kind)
         self.started("status")
@@ -119,6 +124,7 @@ class Starts(elections.ElectionTest):
 class Open(Starts):
     def test_each_command(self) -> None:
         self.votes()
+        self.started("count")
         self.result()
         self.assertEqual(self.tried, {*COMMANDS} - {"codes"})
 

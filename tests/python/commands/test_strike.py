@@ -47,23 +47,18 @@ class Strike(CalledTest):
 
     def test_one_that_undo_took_back(self) -> None:
         self.told("undo")
-        self.assert_stops(
-            self.election("strike", 1, *WHY), before := self.last_act(), 9, f"envelope 1 is struck already, by act {before} at "
-        )
+        before = self.last_act()
+        self.assert_stops(self.election("strike", 1, *WHY), before, 9, f"envelope 1 is struck already, by act {before} at ")
 
     def test_after_the_close_and_after_reopen(self) -> None:
-        self.act("close", {"lines": 4, "checksum": "", "early": False})
-        before = self.last_act()
-        self.assert_stops(
-            self.election("strike", 1, *WHY), before, 9, "the vote was closed at ", ", and its ballots stay; nothing was changed: "
-        )
+        self.told("close", "--force", "--because", "x")
+        said = "the vote was closed at ", ", and its ballots stay; nothing was changed: "
+        self.assert_stops(self.election("strike", 1, *WHY), self.last_act(), 9, *said)
         self.told("add", given=f"cleo {RANKS}\n")
-        self.act("reopen", {"because": "a bag was forgotten"})
+        self.told("reopen", "--because", "a bag was forgotten")
         self.assertIn("Struck envelope 2: ", self.told("strike", 2, *WHY))
         output = self.told("strike", 5, *WHY)
-        self.assertIn(
-            f"Struck envelope 5 (late): `cleo {RANKS}`, because: it was pencil\nThe current ballot of cleo: none\n", output
-        )
+        self.assertIn(f"Struck envelope 5 (late): `cleo {RANKS}`, because: it was pencil\nThe current ballot of cleo: none\n", output)
 
     def test_a_letter_is_set_aside(self) -> None:
         with self.book.act("add") as act:
@@ -77,17 +72,22 @@ class Strike(CalledTest):
 
 
 class AtATerminal(CalledTest):
-    def test_it_asks(self) -> None:
-        self.told("add", given=f"ada {RANKS}\nben {RANKS}\n")
-        before, terminal = self.last_act(), Terminal(self, "strike", "1", *WHY)
-        terminal.until(f"Strike envelope 1: `ada {RANKS}`? This cannot be undone. [y/n] ")
-        terminal.type("n\n")
-        output, status = terminal.end()
-        self.assertIn("strike: you did not say yes; nothing was changed: ", output)
-        self.assertEqual((status, self.last_act()), (9, before))
+    def asked(self) -> Terminal:
         terminal = Terminal(self, "strike", "1", *WHY)
-        terminal.until("[y/n] ")
-        # another act changes nothing of it
+        terminal.until(f"Strike envelope 1: `ada {RANKS}`? This cannot be undone. [y/n] ")
+        return terminal
+
+    def test_it_asks(self) -> None:
+        """No answer, at the end of the input, is a no; another act changes nothing of it."""
+        self.told("add", given=f"ada {RANKS}\nben {RANKS}\n")
+        before = self.last_act()
+        for keys in ("n\n", "\x04"):
+            terminal = self.asked()
+            terminal.type(keys)
+            output, status = terminal.end()
+            self.assertIn("strike: you did not say yes; nothing was changed: ", output)
+            self.assertEqual((status, self.last_act()), (9, before))
+        terminal = self.asked()
         self.told("desk", given=f"cleo {RANKS}\n")
         terminal.type("y\n")
         output, status = terminal.end()
@@ -95,25 +95,12 @@ class AtATerminal(CalledTest):
         self.assertEqual((status, self.lines()), (0, [f"ben {RANKS}", f"cleo {RANKS}"]))
 
     def test_another_one_strikes_it_meanwhile(self) -> None:
+        self.assertNotIn("[y/n]", Terminal(self, "strike", "9", "--yes", *WHY).end()[0])
+        self.assert_fault(self.election("strike", 1, *WHY), 9, "there is no envelope 1; no ballot has come yet; ")
         self.told("add", given=f"ada {RANKS}\n")
-        terminal = Terminal(self, "strike", "1", *WHY)
-        terminal.until("[y/n] ")
+        terminal = self.asked()
         self.told("strike", "1", *WHY)
         terminal.type("y\n")
         output, status = terminal.end()
         self.assertIn("envelope 1 is struck already", output)
         self.assertEqual(status, 9)
-        self.assertNotIn("[y/n]", Terminal(self, "strike", "9", "--yes", *WHY).end()[0])
-
-
-class NoBallots(CalledTest):
-    def test_none_has_come(self) -> None:
-        self.assert_fault(self.election("strike", 1, *WHY), 9, "there is no envelope 1; no ballot has come yet; ")
-
-
-class BeforeTheCall(CalledTest):
-    call_words = None
-
-    def test_it_is_refused(self) -> None:
-        for words in (("strike", 1, *WHY), ("undo",), ("show", "ada")):
-            self.assert_fault(self.election(*words), 9, "there is no call for votes yet; ")

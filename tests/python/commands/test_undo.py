@@ -13,10 +13,8 @@ class Undo(CalledTest):
         self.told("desk", given=f"dan {RANKS}\n")
         first = self.first_act
         output = self.told("undo")
-        self.assertRegex(
-            output,
-            rf"^Took back 1 line \(act {first + 2}: desk, [-\d]+ [:\d]+ UTC, envelope 6\)\.\n  dan: no ballot is left\nNext: ",
-        )
+        said = rf"^Took back 1 line \(act {first + 2}: desk, [-\d]+ [:\d]+ UTC, envelope 6\)\.\n  dan: no ballot is left\nNext: "
+        self.assertRegex(output, said)
         output = self.told("undo")
         self.assertRegex(output, rf"^Took back 3 lines \(act {first + 1}: add of standard input, .* UTC, envelopes 3-5\)\.\n")
         self.assertIn(f"\n  ada: {LAKE}, as before\n  cleo: no ballot is left\n", output)
@@ -49,17 +47,16 @@ class Undo(CalledTest):
         self.assertIn("Took back 2 lines (act ", output := self.told("undo"))
         self.assertIn("envelopes 1, 3).\n", output)
         self.assertNotIn("ben", output)
-        self.assertEqual(
-            [envelope.struck for envelope in self.envelopes()], [self.first_act + 2, self.first_act + 1, self.first_act + 2]
-        )
+        struck = [envelope.struck for envelope in self.envelopes()]
+        self.assertEqual(struck, [self.first_act + 2, self.first_act + 1, self.first_act + 2])
 
     def test_after_the_close_and_after_reopen(self) -> None:
         self.told("add", given=f"ada {RANKS}\n")
-        self.act("close", {"lines": 1, "checksum": "", "early": False})
+        self.told("close")
         said = " UTC, and its ballots stay; nothing was changed: if they are wrong, see debvote-election reopen"
         self.assert_stops(self.election("undo"), self.last_act(), 9, "the vote was closed at ", said)
         self.told("add", given=f"ben {RANKS}\n")
-        self.act("reopen", {"because": "a bag was forgotten"})
+        self.told("reopen", "--because", "a bag was forgotten")
         # a late line has changed nothing that stands
         self.assertRegex(self.told("undo"), r"^Took back 1 line \(.*, envelope 2\)\.\nNext: ")
         self.assertEqual((self.lines(), self.late_lines()), ([f"ada {RANKS}"], []))
@@ -89,80 +86,58 @@ class AtATerminal(CalledTest):
         super().setUp()
         self.told("add", given=f"ada {RANKS}\n")
         self.told("add", given=f"ada {OTHER_RANKS}\nben {RANKS}\nx\n")
+        self.before = self.last_act()
 
     def asked(self) -> Terminal:
         """It shows what would stand, and asks."""
         terminal = Terminal(self, "undo")
         shown = terminal.until("? [y/n] ")
-        self.assertRegex(
-            shown, rf"^  ada: {LAKE}, as before\n  ben: no ballot would be left\nTake back 3 lines \(.*, envelopes 2-4\)\? "
-        )
+        wanted = rf"^  ada: {LAKE}, as before\n  ben: no ballot would be left\nTake back 3 lines \(.*, envelopes 2-4\)\? "
+        self.assertRegex(shown, wanted)
         return terminal
 
-    def test_a_no(self) -> None:
-        before, terminal = self.last_act(), self.asked()
-        terminal.type("n\n")
-        output, status = terminal.end()
-        self.assertIn("undo: you did not say yes; nothing was changed: ", output)
-        self.assertEqual((status, self.last_act()), (9, before))
+    def end(self, terminal: Terminal, keys: str, status: int, *lines: str) -> str:
+        """Types these keys; it ends with this status, and these lines count. Returns what it shows."""
+        terminal.type(keys)
+        output, found = terminal.end()
+        self.assertEqual((found, self.lines()), (status, list(lines)), output)
+        return output
 
-    def test_a_yes(self) -> None:
-        terminal = self.asked()
-        terminal.type("y\n")
-        output, status = terminal.end()
-        self.assertRegex(output, r"Took back 3 lines \(.*\)\.\nNext: ")
-        self.assertEqual((status, self.lines()), (0, [f"ada {RANKS}"]))
+    def test_answers(self) -> None:
+        """No answer, at the end of the input, is a no."""
+        for keys in ("n\n", "\x04"):
+            output = self.end(self.asked(), keys, 9, f"ada {RANKS}", f"ada {OTHER_RANKS}", f"ben {RANKS}", "x")
+            self.assertIn("undo: you did not say yes; nothing was changed: ", output)
+            self.assertEqual(self.last_act(), self.before)
+        self.assertRegex(self.end(self.asked(), "y\n", 0, f"ada {RANKS}"), r"Took back 3 lines \(.*\)\.\nNext: ")
 
     def test_without_a_question(self) -> None:
-        output, status = Terminal(self, "undo", "--yes").end()
+        output = self.end(Terminal(self, "undo", "--yes"), "", 0, f"ada {RANKS}")
         self.assertNotIn("[y/n]", output)
         self.assertIn("  ben: no ballot is left\n", output)
-        self.assertEqual((status, self.lines()), (0, [f"ada {RANKS}"]))
 
     def test_what_was_shown_is_what_is_taken_back(self) -> None:
         """Another act while it asks: it shows what would be taken back now, and asks anew."""
         terminal = self.asked()
         self.told("add", given=f"cleo {RANKS}\n")
-        before = self.last_act()
-        terminal.type("y\n")
-        shown = terminal.until("? [y/n] ")
-        self.assertIn("  cleo: no ballot would be left\nTake back 1 line (", shown)
-        self.assertEqual(self.last_act(), before)
+        self.assertIn("  cleo: no ballot would be left\nTake back 1 line (", terminal.after("y\n", "? [y/n] "))
+        self.assertEqual(self.last_act(), self.before + 1)
         # another undo takes this one, and the one before is asked about again
         self.told("undo")
-        terminal.type("y\n")
-        self.assertIn("Take back 3 lines (", terminal.until("? [y/n] "))
-        terminal.type("y\n")
-        self.assertEqual((terminal.end()[1], self.lines()), (0, [f"ada {RANKS}"]))
-
-    def test_an_envelope_that_is_struck_meanwhile(self) -> None:
-        terminal = self.asked()
+        self.assertIn("Take back 3 lines (", terminal.after("y\n", "? [y/n] "))
+        # so it is where an envelope of it is struck
         self.told("strike", 2, "--because", "a test")
-        terminal.type("y\n")
-        self.assertIn("Take back 2 lines (", terminal.until("? [y/n] "))
-        terminal.type("n\n")
-        terminal.end()
-        self.assertEqual(len(self.lines()), 3)
-
-    def test_an_act_that_changes_nothing_of_it(self) -> None:
-        terminal = self.asked()
+        self.assertIn("Take back 2 lines (", terminal.after("y\n", "? [y/n] "))
+        # an act that changes nothing of it
         self.act("extend", {"until": "2099-12-04T18:00:00+01:00"})
-        terminal.type("y\n")
-        output, status = terminal.end()
-        self.assertNotIn("[y/n]", output)
-        self.assertEqual((status, self.lines()), (0, [f"ada {RANKS}"]))
+        self.assertNotIn("[y/n]", self.end(terminal, "y\n", 0, f"ada {RANKS}"))
 
     def test_a_close_meanwhile(self) -> None:
         terminal = self.asked()
-        self.act("close", {"lines": 4, "checksum": "", "early": False})
-        terminal.type("y\n")
-        output, status = terminal.end()
+        self.told("close")
+        output = self.end(terminal, "y\n", 9, f"ada {RANKS}", f"ada {OTHER_RANKS}", f"ben {RANKS}", "x")
         self.assertIn("the vote was closed at ", output)
-        self.assertEqual((status, len(self.lines())), (9, 4))
 
     def test_the_words_of_a_ballot_that_comes_back(self) -> None:
         self.told("desk", given=f"ada {RANKS}\n")
-        terminal = Terminal(self, "undo")
-        self.assertIn(f"  ada: {HALL}, as before\n", terminal.until("? [y/n] "))
-        terminal.type("n\n")
-        terminal.end()
+        self.assertIn(f"  ada: {HALL}, as before\n", Terminal(self, "undo").until("? [y/n] "))

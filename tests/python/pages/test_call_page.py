@@ -1,11 +1,10 @@
-"""The page of a call for votes, in a real browser: each line that it makes is one that debvote reads as what was chosen."""
+"""The page of a call for votes in a browser: each line that it makes is one that debvote reads as what was chosen."""
 
-import html
-import json
+import dataclasses
+import itertools
 import pathlib
 import random
 import re
-import shutil
 import subprocess
 import tempfile
 import unittest
@@ -15,92 +14,57 @@ from debvote_tools.poll.call import CallData, call_files
 from debvote_tools.poll.sealed import SealedPoll, with_roll
 from debvote_tools.text.language import ENGLISH
 
-from tests.support.program import PROGRAM, ROOT
-
-SCRIPT = ROOT / "python" / "debvote_tools" / "poll" / "ballot.js"
-BROWSER = shutil.which("chromium") or shutil.which("chromium-browser")
-FLAGS = ["--headless", "--no-sandbox", "--disable-gpu", "--hide-scrollbars", "--allow-file-access-from-files", "--dump-dom"]
-FLAGS += ["--enable-logging=stderr", "--virtual-time-budget=60000"]
+from tests.support.at_browser import NEEDS_BROWSER, Window
+from tests.support.calls import CALL, KINDS, POLL, SECRET, WITH_CODES
+from tests.support.program import PROGRAM
 
 SIZES = (2, 3, 8, 31, 32)
 CHOICES = 40
-WIDTHS = (360, 1280)
 ADDRESS = "secretary+vote=2026@example.org"
-
-# a run that has not ended by then hangs
-SECONDS = 600
-
-POLL = SealedPoll(
-    title="Where we meet in spring",
-    options=("At the lake", "In the town hall", "Sell the house and meet there"),
-    ratios=(1, 1, 3),
-    default="Further discussion",
-    quorum=1,
-    roll=("ada", "ben", "cleo", "dan", "eve", "fay", "gus", "hal", "ida"),
-)
+OWN = "23456789ab"
 
 HOSTILE_TITLE = '</title><script>document.title = "x"</script> & {title} "q" %s'
-HOSTILE = ["</script><b>x</b><script>", '" autofocus onfocus="x', "<!-- & &amp; -->", "\\u003c\\\\'`${x}", "2 B to 1 A. You prefer"]
+HOSTILE = ["</script><b>x</b><script>", '" autofocus onfocus="x', "<!-- & &amp; -->", "\\u003c\\\\'`${x} $& $1", "2 B to 1 A. You prefer"]
 
-# opens each page in a frame, types and chooses as an elector does, and writes down what the page shows
-DRIVER = """<!DOCTYPE html><meta charset="utf-8"><title>driver</title><pre id="out"></pre><script>
-const jobs = JSON.parse(JSON_HERE);
-const told = (node) => [...node.childNodes].map((part) => part.nodeType === 3 ? part.data : `{${part.dataset.option}}`).join("");
-const named = (node) => Object.fromEntries([...node.querySelectorAll("b")].map((part) => [part.dataset.option, part.textContent]));
-function choose(doc, choice) {
-  const name = doc.getElementById("Name");
-  const tell = (node) => choice.isFilled || node.dispatchEvent(new Event("input", { bubbles: true }));
-  if (name) {
-    name.value = choice.name;
-    tell(name);
-  }
-  [...doc.querySelectorAll(".rank")].forEach((rank, place) => {
-    if (rank.matches("select")) rank.value = choice.ranks[place];
-    for (const button of rank.querySelectorAll("input")) button.checked = button.value === choice.ranks[place];
-    tell(rank);
-  });
-  if (choice.isFilled) doc.defaultView.dispatchEvent(new Event("pageshow"));
-  const letter = doc.getElementById("Letter");
-  const is = (id) => !doc.getElementById(id).hidden;
-  return { line: doc.getElementById("Line").textContent, words: told(doc.getElementById("Words")), names: named(doc.getElementById("Words")),
-    said: name && doc.getElementById("Name-said").textContent, missing: doc.getElementById("Missing").textContent,
-    suggested: [...doc.querySelectorAll("#Name-said button")].map((button) => button.textContent),
-    letter: letter && letter.getAttribute("href"), ready: is("Ready"), long: is("Long"), invalid: name && name.getAttribute("aria-invalid") };
-}
-async function copied(win, write) {
-  Object.defineProperty(win.navigator, "clipboard", { value: { writeText: write }, configurable: true });
-  win.document.getElementById("Copy").click();
-  await new Promise((done) => setTimeout(done, 50));
-  return { said: win.document.getElementById("Copied").textContent, selected: String(win.getSelection()) };
-}
-async function run(job) {
-  const frame = document.createElement("iframe");
-  frame.width = job.width; frame.height = 600; frame.style.border = "0";
-  const loaded = new Promise((done) => { frame.onload = done; });
-  frame.src = job.page;
-  document.body.append(frame);
-  await loaded;
-  await new Promise((done) => setTimeout(done, 20));
-  const win = frame.contentWindow, doc = win.document, violations = [];
-  doc.addEventListener("securitypolicyviolation", (event) => violations.push(event.violatedDirective));
-  const results = job.choices.map((choice) => choose(doc, choice));
-  let clip = null;
-  const copies = job.choices.length === 0 ? [] : [await copied(win, async (text) => { clip = text; }), await copied(win, async () => { throw 1; })];
-  const style = win.getComputedStyle(doc.body);
-  const unlabelled = [...doc.querySelectorAll("input, select")].filter((field) => !field.ariaLabel && field.labels.length !== 1).length;
-  return { results, clip, copies, violations, unlabelled, wide: doc.documentElement.scrollWidth, title: doc.title, head: doc.querySelector("h1").textContent,
-    colours: style.color + " " + style.backgroundColor, requests: win.performance.getEntriesByType("resource").length,
-    offered: [...(doc.getElementById("Name")?.list || { options: [] }).options].map((option) => option.value),
-    small: [...doc.querySelectorAll("[id]")].map((node) => node.id).filter((id) => !/[A-Z]/.test(id)),
-    scripts: doc.querySelectorAll("script").length, shown: !doc.getElementById("Bottom").hidden };
-}
-(async () => {
-  const all = [];
-  for (const job of jobs) all.push(await run(job));
-  document.getElementById("out").textContent = JSON.stringify(all);
-})();
-</script>
-"""
+# what stands on the page beside the ballot
+FACTS = """(() => ({ title: document.title, head: document.querySelector("h1").textContent, wide: document.documentElement.scrollWidth,
+  requests: performance.getEntriesByType("resource").length, scripts: document.querySelectorAll("script").length,
+  unlabelled: [...document.querySelectorAll("input, select")].filter((field) => !field.ariaLabel && field.labels.length !== 1).length,
+  small: [...document.querySelectorAll("[id]")].map((node) => node.id).filter((id) => !/[A-Z]/.test(id)),
+  shown: !document.getElementById("Bottom").hidden }))()"""
+
+# presses the button that copies, with a clipboard that does this
+COPY = """(() => { window.clip = null;
+  Object.defineProperty(navigator, "clipboard", { value: { writeText: async (text) => { %s; } }, configurable: true });
+  document.getElementById("Copied").replaceChildren(); document.getElementById("Copy").click(); })()"""
+REFUSES, TAKES = "throw 1", "window.clip = text"
+
+# the lowest contrast of a text that is seen with what lies behind it
+CONTRAST = """(() => {
+  const light = (colour) => colour.match(/[\\d.]+/g).slice(0, 3).map((part) => part / 255)
+    .map((part) => part <= 0.04045 ? part / 12.92 : ((part + 0.055) / 1.055) ** 2.4)
+    .reduce((sum, part, place) => sum + part * [0.2126, 0.7152, 0.0722][place], 0);
+  const behind = (node) => { const colour = getComputedStyle(node).backgroundColor;
+    return colour === "rgba(0, 0, 0, 0)" && node.parentElement ? behind(node.parentElement) : colour; };
+  const texts = [...document.querySelectorAll("main *")].filter((node) => node.checkVisibility() &&
+    [...node.childNodes].some((part) => part.nodeType === 3 && part.data.trim()));
+  return Math.min(...texts.map((node) => { const both = [light(getComputedStyle(node).color), light(behind(node))];
+    return (Math.max(...both) + 0.05) / (Math.min(...both) + 0.05); }));
+})()"""
+
+# what has the focus: its kind and its name, whether it lies in the window, and how the focus is shown
+FOCUS = """(() => {
+  const node = document.activeElement, place = node.getBoundingClientRect();
+  // a button of a rank lies unseen over its number; what lies below the line that is always seen is not seen
+  const seen = node.type === "radio" ? node.nextSibling : node, style = getComputedStyle(seen);
+  const bar = document.getElementById("Bottom"), end = bar.contains(node) ? innerHeight : bar.getBoundingClientRect().top;
+  return { name: node.name || node.id || node.textContent.trim(), kind: node.tagName, inWindow: place.top < end && place.bottom > 0,
+    ring: [style.outlineStyle, style.outlineWidth, style.outlineColor] };
+})()"""
+
+
+def text_of(place: str) -> str:
+    return f"document.getElementById('{place}').textContent"
 
 
 def names_of(size: int) -> list[str]:
@@ -109,36 +73,21 @@ def names_of(size: int) -> list[str]:
     return [*HOSTILE, *own[len(HOSTILE) :]][: size - 1] + ["None of the above"]
 
 
-def poll_of(names: list[str], title: str, electors: int, *more: str) -> SealedPoll:
+def poll_of(names: list[str], electors: int, *more: str) -> SealedPoll:
     ratios = tuple(1 + place % 10 for place in range(len(names) - 1))
     roll = (*(f"e{number:02}" for number in range(electors)), *more)
-    return SealedPoll(title, tuple(names[:-1]), ratios, names[-1], 3, roll)
+    return SealedPoll(HOSTILE_TITLE, tuple(names[:-1]), ratios, names[-1], 3, roll)
 
 
-def choices_of(size: int, chance: random.Random) -> list[dict]:
+def choices_of(size: int, chance: random.Random) -> list[tuple[str, list[str]]]:
     """Names as electors type them, and ranks: many equal, many different, few or all of them given."""
     chosen = []
     for number in range(CHOICES):
         most, share = chance.randint(1, size), chance.choice((0.1, 0.5, 0.9, 1))
         ranks = [str(chance.randint(1, most)) if chance.random() < share else "-" for _ in range(size)]
         ranks[chance.randrange(size)] = str(chance.randint(1, size))
-        typed = chance.choice(("e{:02}", "E{:02}", "  e{:02}", "\te{:02} \u00a0")).format(number)
-        chosen.append({"name": typed, "ranks": ranks})
+        chosen.append((chance.choice(("e{:02}", "E{:02}", "  e{:02}", "\te{:02} \u00a0")).format(number), ranks))
     return chosen
-
-
-def browse(scratch: pathlib.Path, jobs: list[dict], scheme: int = 1) -> tuple[list[dict], str]:
-    """What the browser found in each job, and what it wrote on its console."""
-    data = json.dumps(json.dumps(jobs)).replace("<", "\\u003c")
-    driver = scratch / "driver.html"
-    driver.write_text(DRIVER.replace("JSON_HERE", data), encoding="utf-8")
-    words = [BROWSER, *FLAGS, f"--user-data-dir={scratch}/browser", f"--blink-settings=preferredColorScheme={scheme}", driver.as_uri()]
-    ended = subprocess.run(words, capture_output=True, timeout=SECONDS)
-    console = "\n".join(line for line in ended.stderr.decode("utf-8", "replace").splitlines() if ":CONSOLE" in line)
-    found = re.search(r'<pre id="out">(.+?)</pre>', ended.stdout.decode("utf-8", "replace"), re.DOTALL)
-    if found is None:
-        raise AssertionError(f"the driver did not come to its end: {console}")
-    return json.loads(html.unescape(found[1])), console
 
 
 def order_of(ranks: list[str]) -> tuple[list[list[int]], list[int]]:
@@ -163,111 +112,132 @@ def order_in(words: str) -> tuple[list[list[int]], list[int]]:
     return [numbers(step) for step in steps], numbers(unranked)
 
 
-class CallFolder(unittest.TestCase):
-    """A test with a folder, in which calls are made."""
+@NEEDS_BROWSER
+class PageTest(unittest.TestCase):
+    """A window as wide as a small telephone, in which pages of calls are opened."""
 
     maxDiff = None
 
-    def setUp(self) -> None:
-        self.scratch = pathlib.Path(self.enterContext(tempfile.TemporaryDirectory(prefix="debvote-call-")))
+    @classmethod
+    def setUpClass(cls) -> None:
+        cls.scratch = pathlib.Path(cls.enterClassContext(tempfile.TemporaryDirectory(prefix="debvote-call-")))
+        cls.window = cls.enterClassContext(Window(360, 640))
+        cls.numbers = itertools.count(1)
 
-    def called(self, name: str, poll: SealedPoll, **how: object) -> pathlib.Path:
-        """The page of the call for a poll."""
-        folder = self.scratch / name
-        folder.mkdir(exist_ok=True)
-        for file, data in call_files(CallData(**{"language": ENGLISH, "poll": poll, "quorum_votes": 1, **how})).items():
-            (folder / file).write_bytes(data)
-        return folder / "index.html"
+    def open(self, data: CallData, place: str = "", page: bytes | None = None) -> pathlib.Path:
+        """Opens the page of a call, or another page in its place, and returns its folder."""
+        # with a new name it is loaded, and not only another place of it shown
+        folder = self.scratch / str(next(self.numbers))
+        folder.mkdir()
+        for name, content in call_files(data).items():
+            (folder / name).write_bytes(content)
+        if page is not None:
+            (folder / "index.html").write_bytes(page)
+        self.window.faults.clear()
+        self.window.open(folder / "index.html", place)
+        return folder
+
+    def copied(self, clipboard: str) -> tuple[str | None, str, str]:
+        """What the button for copying puts there, what the page says, and what is selected then."""
+        self.window.ask(COPY % clipboard)
+        self.window.until(f"{text_of('Copied')} !== ''")
+        return tuple(self.window.ask(f"[window.clip, {text_of('Copied')}, String(getSelection())]"))
 
 
-@unittest.skipUnless(BROWSER, "chromium is not installed")
-class CallPageTest(CallFolder):
-    """The page of polls of all sizes."""
+class Lines(PageTest):
+    """The line of a ballot, and the letter with it."""
 
     def test_each_line_is_read_as_what_was_chosen(self) -> None:
         chance = random.Random(2026)
-        jobs = []
         for size in SIZES:
-            page = self.called(str(size), poll_of(names_of(size), HOSTILE_TITLE, CHOICES), to=ADDRESS)
-            jobs.append({"page": page.as_uri(), "width": 360, "choices": choices_of(size, chance)})
-        found, console = browse(self.scratch, jobs)
-        self.assertEqual(console, "")
-        for size, job, page in zip(SIZES, jobs, found, strict=True):
-            with self.subTest(size=size):
-                self.check_page(page)
-                self.check_lines(self.scratch / str(size), job["choices"], page["results"])
-                mark = poll_of(names_of(size), HOSTILE_TITLE, CHOICES).mark
-                for choice, result in zip(job["choices"], page["results"], strict=True):
-                    self.check_result(names_of(size), mark, choice, result)
-                self.check_copy(page)
+            names, choices = names_of(size), choices_of(size, chance)
+            poll = poll_of(names, CHOICES)
+            folder = self.open(CallData(ENGLISH, poll, 1, to=ADDRESS))
+            # no elector's name has a capital letter
+            wanted = {"title": f"Vote: {HOSTILE_TITLE}", "head": HOSTILE_TITLE, "wide": 360, "requests": 0, "scripts": 1}
+            self.assertEqual(self.window.ask(FACTS), wanted | {"unlabelled": 0, "small": [], "shown": True})
+            results = [self.window.ballot(*choice) for choice in choices]
+            for (_, ranks), result in zip(choices, results, strict=True):
+                with self.subTest(size=size, ranks=ranks):
+                    self.check_result(names, poll.mark, ranks, result)
+            (folder / "lines").write_text("".join(f"{result['line']}\n" for result in results))
+            words = [PROGRAM, "standing", "--poll", folder / "poll.toml", "--ballots", folder / "lines"]
+            ended = subprocess.run(words, capture_output=True, text=True)
+            lines = "".join(f"e{number:02} {','.join(ranks)}\n" for number, (_, ranks) in enumerate(choices))
+            self.assertEqual((ended.stdout, ended.stderr, ended.returncode), (lines, "", 0))
+            # the line is copied, or selected where the browser refuses
+            line = results[-1]["line"]
+            self.assertEqual(self.copied(TAKES)[:2], (line, "The line is copied."))
+            _, said, selected = self.copied(REFUSES)
+            self.assertEqual((selected, said.startswith("The line is selected"), self.window.faults), (line, True, []))
 
-    def check_page(self, page: dict) -> None:
-        """It loads nothing, breaks no rule, and shows the hostile title as a text."""
-        self.assertEqual((page["requests"], page["violations"], page["scripts"], page["unlabelled"]), (0, [], 1, 0))
-        self.assertEqual((page["title"], page["head"]), (f"Vote: {HOSTILE_TITLE}", HOSTILE_TITLE))
-        self.assertEqual(page["wide"], 360)
-        # no elector's name has a capital letter
-        self.assertEqual(page["small"], [])
-        self.assertTrue(page["shown"])
-
-    def check_lines(self, folder: pathlib.Path, choices: list[dict], results: list[dict]) -> None:
-        """debvote takes all lines, and has the ranks that were chosen for each elector."""
-        (folder / "lines").write_text("".join(result["line"] + "\n" for result in results))
-        words = [PROGRAM, "standing", "--poll", folder / "poll.toml", "--ballots", folder / "lines"]
-        ended = subprocess.run(words, capture_output=True, text=True, timeout=SECONDS)
-        wanted = "".join(f"e{number:02} {','.join(choice['ranks'])}\n" for number, choice in enumerate(choices))
-        self.assertEqual((ended.stdout, ended.stderr, ended.returncode), (wanted, "", 0))
-
-    def check_result(self, names: list[str], mark: str, choice: dict, result: dict) -> None:
+    def check_result(self, names: list[str], mark: str, ranks: list[str], result: dict) -> None:
         """The words say the order that the ranks have, and the letter has the line."""
-        self.assertEqual(order_in(result["words"]), order_of(choice["ranks"]))
-        shown = {str(number): f"Option {number}: {name}" for number, name in enumerate(names, start=1)}
-        self.assertEqual(result["names"], shown)
-        self.assertEqual((result["missing"], result["ready"], result["invalid"]), ("", True, "false"))
-        self.assertEqual(result["long"], len(result["line"]) > 72)
-        self.assertEqual(result["said"], "")
-        address, _, query = result["letter"].partition("?")
-        self.assertEqual(address, "mailto:" + urllib.parse.quote(ADDRESS, safe="@"))
-        self.assertEqual(urllib.parse.parse_qs(query), {"subject": [f"Ballot: {HOSTILE_TITLE} [{mark}]"], "body": [result["line"] + "\r\n"]})
-
-    def check_copy(self, page: dict) -> None:
-        """The line is copied, or selected where the browser refuses."""
-        line = page["results"][-1]["line"]
-        self.assertEqual((page["clip"], page["copies"][0]["said"]), (line, "The line is copied."))
-        self.assertEqual(page["copies"][1]["selected"], line)
-        self.assertIn("The line is selected", page["copies"][1]["said"])
+        self.assertEqual(order_in(result["words"]), order_of(ranks))
+        self.assertEqual(result["names"], {str(number): f"Option {number}: {name}" for number, name in enumerate(names, start=1)})
+        found = result["missing"], result["said"], result["ready"], result["invalid"], result["long"]
+        self.assertEqual(found, ("", "", True, "false", len(result["line"]) > 72))
+        letter = result["to"], result["subject"], result["body"]
+        self.assertEqual(letter, (f"mailto:{urllib.parse.quote(ADDRESS, safe='@')}", f"Ballot: {HOSTILE_TITLE} [{mark}]", f"{result['line']}\r\n"))
 
     def test_no_line_before_name_and_rank(self) -> None:
         odd = dict.fromkeys(["q b", "\u00e9va", "x_y", "\u212aate", "q,b", "x" * 33], "is not on the roll of this poll")
-        odd |= {"": "", "   ": ""}
-        good = {"name": "ada", "ranks": list("1234")}
-        # each after a good line, so that nothing of it stays
-        choices = [job for name in odd for job in (good, {"name": name, "ranks": list("213-")})]
-        choices += [{"name": "ada", "ranks": list("----")}]
-        page = self.called("odd", POLL, to=ADDRESS)
-        job = {"page": page.as_uri(), "width": 360, "choices": choices}
-        found, console = browse(self.scratch, [job])
-        results = found[0]["results"]
-        self.assertEqual(console, "")
-        for result in results[:-1:2]:
-            self.assertEqual((result["line"], result["ready"]), ("ada 1,2,3,4", True))
-            self.assertIn("ada%201%2C2%2C3%2C4", result["letter"])
-        for (name, part), result in zip(odd.items(), results[1:-1:2], strict=True):
-            self.assertEqual((result["line"], result["ready"], result["letter"]), ("", False, None), name)
+        self.open(CALL)
+        for name, part in {**odd, "": "", "   ": ""}.items():
+            # each after a good line, so that nothing of it stays
+            good = self.window.ballot("ada", "1234")
+            self.assertEqual((good["line"], good["ready"], good["body"]), ("ada 1,2,3,4", True, "ada 1,2,3,4\r\n"))
+            result = self.window.ballot(name, "213-")
+            self.assertEqual((result["line"], result["ready"], bool(result["letter"])), ("", False, False), name)
             self.assertIn(part, result["said"])
             self.assertTrue(result["missing"])
             self.assertEqual(result["invalid"], "true" if name.strip() else "false")
-        self.assertEqual((results[-1]["line"], results[-1]["missing"]), ("", "Give at least one option a rank."))
-        self.assertEqual(results[-1]["words"], "")
+        result = self.window.ballot("ada", "----")
+        self.assertEqual((result["line"], result["missing"], result["words"]), ("", "Give at least one option a rank.", ""))
 
     def test_what_a_browser_fills_in_again_is_read(self) -> None:
-        page = self.called("again", POLL)
-        choice = {"name": "ada", "ranks": list("1234"), "isFilled": True}
-        (found,), console = browse(self.scratch, [{"page": page.as_uri(), "width": 360, "choices": [choice]}])
-        self.assertEqual((console, found["results"][0]["line"]), ("", "ada 1,2,3,4"))
+        self.open(CALL)
+        self.window.ask("""(() => {
+          document.getElementById("Name").value = "ada";
+          document.querySelectorAll(".rank").forEach((rank, place) => { rank.querySelectorAll("input")[place].checked = true; });
+          dispatchEvent(new Event("pageshow"));
+        })()""")
+        self.assertEqual(self.window.ask(text_of("Line")), "ada 1,2,3,4")
+
+    def test_words(self) -> None:
+        self.open(CALL)
+        for ranks, words in {
+            "21-3": "{2}; then {1}; then {4}; not ranked: {3}",
+            "1111": "equally {1}, {2}, {3} and {4}",
+            "1---": "{1}; not ranked: {2}, {3} and {4}",
+            "1-1-": "equally {1} and {3}; not ranked: {2} and {4}",
+            "441-": "{3}; then equally {1} and {2}; not ranked: {4}",
+            "2112": "equally {2} and {3}; then equally {1} and {4}",
+        }.items():
+            self.assertEqual(self.window.ballot("ada", ranks)["words"], words)
+
+    def test_a_letter_that_is_to_be_signed_has_the_mark_below_the_ballot(self) -> None:
+        self.open(KINDS["signed"])
+        self.assertEqual(self.window.ballot("ada", "1234")["body"], f"ada 1,2,3,4\r\n[{POLL.mark}]\r\n")
+
+    def test_no_name_is_typed_into_the_page_of_a_secret_vote(self) -> None:
+        """Whoever can change the page would learn it. The line has a gap in its place, to be filled in the letter."""
+        for gap, data in {"NAME": SECRET, "CODE": WITH_CODES}.items():
+            page = (self.open(data) / "index.html").read_text()
+            found = [self.window.ballot(None, ranks) for ranks in ("1234", "----", "213-")]
+            self.assertEqual([result["line"] for result in found], [f"{gap} 1,2,3,4", "", f"{gap} 2,1,3,-"])
+            self.assertEqual([result["missing"] for result in found], ["", "Give at least one option a rank.", ""])
+            self.assertEqual((found[2]["body"], found[2]["wide"], self.window.faults), (f"{gap} 2,1,3,-\r\n", 360, []))
+            self.assertNotRegex(page, '<textarea|<datalist|<input (?!type="radio")')
+            self.assertRegex(page, rf"In the letter, and not on this page, write your \w+ in the place of <code>{gap}</code>")
+
+
+class Names(PageTest):
+    """What is typed as a name, and what the address of the page fills in."""
 
     def test_names_on_the_roll_are_offered_and_what_is_typed_is_folded(self) -> None:
-        roll = ["zoe", "ada-angstrom", "ada.lovelace", "strasse", "oedipus", "-", "anna-1", "anna-2", "anna-3", "eve-arnold", "ben-lee", "ben-lee-2"]
+        code = "0123456789abcdef" * 2
+        roll = ["zoe", "ada-angstrom", "ada.lovelace", "strasse", "oedipus", "-", "anna-1", "anna-2", "anna-3", "eve-arnold", "ben-lee", "ben-lee-2", code]
         annas = ["anna-1", "anna-2", "anna-3"]
         # by what is typed: the name in the line, and those that are suggested
         wanted = {
@@ -281,24 +251,25 @@ class CallPageTest(CallFolder):
             # a family name alone, or its beginning
             "Arnold": ("", ["eve-arnold"]), "arn": ("", ["eve-arnold"]), "\u00c5ngstr\u00f6m": ("", ["ada-angstrom"]), "Lovelace": ("", ["ada.lovelace"]),
             "LEE": ("", ["ben-lee", "ben-lee-2"]), "old": ("", []),
+            # one that looks like a code
+            code: (code, []),
             "yves": ("", []), "--": ("", []), "<q>": ("", []),
         }  # fmt: skip
-        choices = [{"name": name, "ranks": list("1234")} for name in wanted]
-        jobs = [
-            {"page": self.called(name, poll).as_uri(), "width": 360, "choices": choices}
-            for name, poll in {"listed": with_roll(POLL, roll), "unlisted": with_roll(POLL, [f"x{n}" for n in range(2_001)])}.items()
-        ]
-        (listed, unlisted), console = browse(self.scratch, jobs)
-        self.assertEqual((console, listed["offered"], unlisted["offered"]), ("", roll, []))
-        for name, result in zip(wanted, listed["results"], strict=True):
-            found, suggested = wanted[name]
+        offered = "[...(document.getElementById('Name').list?.options ?? [])].map((option) => option.value)"
+        self.open(dataclasses.replace(CALL, poll=with_roll(POLL, roll)))
+        self.assertEqual(self.window.ask(offered), roll)
+        for name, (found, suggested) in wanted.items():
+            result = self.window.ballot(name, "1234")
             self.assertEqual((result["line"], result["suggested"]), (f"{found} 1,2,3,4" if found else "", suggested), name)
             self.assertEqual(result["invalid"], "false" if found else "true", name)
             self.assertEqual("is not on the roll of this poll" in result["said"], not found and not suggested, name)
             self.assertEqual(result["said"].startswith("On the roll: "), bool(suggested), name)
             self.assertEqual(result["missing"], "" if found else "Type your name.", name)
         # without the roll each name that one may have gets its line, and none is told
-        for name, result in zip(wanted, unlisted["results"], strict=True):
+        self.open(dataclasses.replace(CALL, poll=with_roll(POLL, [f"x{number}" for number in range(2_001)])))
+        self.assertEqual(self.window.ask(offered), [])
+        for name in wanted:
+            result = self.window.ballot(name, "1234")
             is_name = re.fullmatch("[A-Za-z0-9.-]+", name) is not None
             self.assertEqual((result["line"], result["suggested"]), (f"{name.lower()} 1,2,3,4" if is_name else "", []), name)
             self.assertEqual("Names on the roll have only small letters" in result["said"], not is_name, name)
@@ -307,77 +278,192 @@ class CallPageTest(CallFolder):
         meiers = [f"{given}-meier" for given in ("ada", "ben", "cleo", "dan", "eve", "fay", "gus", "hal", "ida", "jon")]
         roll = [*meiers, "kim-meierhof", "m-12"]
         names = {name: name.replace("-", " ").title() for name in roll} | {"m-12": "Zo\u00eb M\u00fcller-Meier"}
+        self.open(dataclasses.replace(CALL, poll=with_roll(POLL, roll), real_names=names))
         # of more than eight beginnings none is suggested, of a whole family name all are
-        wanted = {"meier": [*meiers, "m-12"], "mei": [], "meierh": ["kim-meierhof"], "Mueller": ["m-12"], "zo\u00eb": ["m-12"], "M\u00fcller-Meier": ["m-12"]}
-        choices = [{"name": name, "ranks": list("1234")} for name in wanted]
-        page = self.called("meiers", with_roll(POLL, roll), real_names=names)
-        (found,), console = browse(self.scratch, [{"page": page.as_uri(), "width": 360, "choices": choices}])
-        self.assertEqual(console, "")
-        for name, result in zip(wanted, found["results"], strict=True):
-            self.assertEqual((result["suggested"], result["line"]), (wanted[name], ""), name)
+        for typed, suggested in {
+            "meier": [*meiers, "m-12"], "mei": [], "meierh": ["kim-meierhof"], "Mueller": ["m-12"], "zo\u00eb": ["m-12"], "M\u00fcller-Meier": ["m-12"],
+        }.items():  # fmt: skip
+            found = self.window.ballot(typed, "1234")
+            self.assertEqual((found["suggested"], found["line"]), (suggested, ""), typed)
 
-    def test_no_name_is_typed_into_the_page_of_a_secret_vote(self) -> None:
-        """Whoever can change the page would learn it. The line has a gap in its place, to be filled in the letter."""
-        poll = with_roll(POLL, [f"{number:x}" * 32 for number in range(9)])
-        choices = [{"ranks": list(ranks)} for ranks in ("1234", "----", "213-")]
-        for gap, how in {"NAME": {"has_aliases": True}, "CODE": {"has_codes_on_roll": True}}.items():
-            with self.subTest(gap):
-                page = self.called(gap, poll, to=ADDRESS, **how)
-                (found,), console = browse(self.scratch, [{"page": page.as_uri(), "width": 360, "choices": choices}])
-                self.assertEqual((console, found["offered"], found["violations"], found["wide"]), ("", [], [], 360))
-                self.assertEqual([result["line"] for result in found["results"]], [f"{gap} 1,2,3,4", "", f"{gap} 2,1,3,-"])
-                self.assertEqual([result["missing"] for result in found["results"]], ["", "Give at least one option a rank.", ""])
-                body = urllib.parse.parse_qs(found["results"][2]["letter"].partition("?")[2])["body"]
-                self.assertEqual(body, [f"{gap} 2,1,3,-\r\n"])
-                text = page.read_text()
-                self.assertNotRegex(text, '<textarea|<input (?!type="radio")')
-                self.assertRegex(text, rf"In the letter, and not on this page, write your \w+ in the place of <code>{gap}</code>")
+    def test_real_names(self) -> None:
+        names = {"ben": "Zo\u00eb \u00c5ngstr\u00f6m", "cleo": "Zoe Angstr\u00f6mer"}
+        self.open(dataclasses.replace(CALL, real_names=names))
+        found = self.window.ballot("Zoe Angstrom", "1234")
+        self.assertEqual((found["line"], found["said"]), ("ben 1,2,3,4", "On the roll: ben"))
+        found = self.window.ballot("Zoe", "1234")
+        self.assertEqual((found["line"], found["said"]), ("", "On the roll: bencleo"))
+        offered = self.window.ask("[...document.getElementById('Name').list.options].map((option) => [option.value, option.label])")
+        self.assertEqual(offered[1:3], [["ben", names["ben"]], ["cleo", names["cleo"]]])
+        self.window.ask("document.querySelectorAll('#Name-said button')[1].click()")
+        found = self.window.ballot(None, "1234")
+        self.assertEqual((found["line"], found["said"]), ("cleo 1,2,3,4", ""))
+        found = self.window.ballot("eve", "1234")
+        self.assertEqual((found["line"], found["said"]), ("", "eve is not on the roll of this poll; the names on the roll are below."))
 
-    def test_a_name_may_look_like_a_code_in_an_open_vote(self) -> None:
-        name = "0123456789abcdef" * 2
-        page = self.called("open", with_roll(POLL, [name, *POLL.roll[1:]]))
-        (found,), _ = browse(self.scratch, [{"page": page.as_uri(), "width": 360, "choices": [{"name": name, "ranks": list("1234")}]}])
-        self.assertEqual(found["results"][0]["line"], f"{name} 1,2,3,4")
+    def test_the_personal_link(self) -> None:
+        # by the place: the name that is filled in, and the own mark in the subject
+        places = {"ada": ("ada", ""), f"ada/{OWN}": ("ada", OWN), f"ADA/{OWN.upper()}": ("ada", OWN), f"ada/{OWN}x": ("ada", ""), "ada/0123456789": ("ada", "")}
+        places |= dict.fromkeys(["zoe", f"zoe/{OWN}", f"/{OWN}", "Poll", "%61da", "<b>"], ("", ""))
+        for place, (name, own) in places.items():
+            with self.subTest(place=place):
+                self.open(CALL, f"#{place}")
+                self.assertEqual(self.window.ask("document.getElementById('Name').value"), name)
+                self.check_letter(None, name, own)
+        self.open(CALL, f"#ada/{OWN}")
+        # the own mark goes with the name of the link alone
+        self.check_letter("ben", "ben", "")
+        self.check_letter(" Ada ", "ada", OWN)
+        self.window.ask(f"location.hash = 'ben/{OWN[::-1]}'")
+        self.window.until("document.getElementById('Name').value === 'ben'")
+        self.check_letter(None, "ben", OWN[::-1])
+        # where the page has no roll, each name that one may have
+        self.open(dataclasses.replace(CALL, poll=with_roll(POLL, [f"e{number}" for number in range(2_001)])), f"#zoe/{OWN}")
+        self.assertRegex(str(self.window.ballot(None, "21-3")["subject"]), rf"-{OWN}\]$")
+        self.open(SECRET, f"#ada/{OWN}")
+        self.assertEqual(self.window.ballot(None, "21-3")["line"], "NAME 2,1,-,3")
 
-    def test_words(self) -> None:
-        ranks = ["21-3", "1111", "1---", "1-1-", "99--", "2112"]
-        job = {"width": 360, "choices": [{"name": "ada", "ranks": list(given)} for given in ranks]}
-        job["choices"][4]["ranks"] = ["4", "4", "1", "-"]
-        job["page"] = self.called("words", POLL).as_uri()
-        words = [result["words"] for result in browse(self.scratch, [job])[0][0]["results"]]
-        self.assertEqual(
-            words,
-            [
-                "{2}; then {1}; then {4}; not ranked: {3}",
-                "equally {1}, {2}, {3} and {4}",
-                "{1}; not ranked: {2}, {3} and {4}",
-                "equally {1} and {3}; not ranked: {2} and {4}",
-                "{3}; then equally {1} and {2}; not ranked: {4}",
-                "equally {2} and {3}; then equally {1} and {4}",
-            ],
-        )
+    def check_letter(self, typed: str | None, name: str, own: str) -> None:
+        """The line with this name, in a letter with this own mark; without a name there is none."""
+        found = self.window.ballot(typed, "21-3")
+        subject = f"Ballot: Where we meet [{POLL.mark}{'-' if own else ''}{own}]"
+        self.assertEqual((found["line"], found["subject"]), (f"{name} 2,1,-,3", subject) if name else ("", None))
 
-    def test_widths_and_colours(self) -> None:
-        pages = [self.called(str(size), poll_of(names_of(size), HOSTILE_TITLE, 9, "x" * 32), to=ADDRESS) for size in (4, 32)]
-        choices = [{"name": "x" * 32, "ranks": [str(32 if len(names) > 9 else 4)] * len(names)} for names in map(names_of, (4, 32))]
-        jobs = [
-            {"page": page.as_uri(), "width": width, "choices": [choice]}
-            for page, choice in zip(pages, choices, strict=True)
-            for width in WIDTHS
-        ]
-        light, dark = (browse(self.scratch, jobs, scheme)[0] for scheme in (1, 0))
-        self.assertEqual([page["wide"] for page in light + dark], list(WIDTHS) * 4)
-        self.assertEqual({len(page["results"][0]["line"]) for page in light}, {32 + 8, 32 + 96})
-        colours = [{page["colours"] for page in pages} for pages in (light, dark)]
-        self.assertEqual((len(colours[0]), len(colours[1]), len(colours[0] | colours[1])), (1, 1, 2))
+    def test_with_marks_alone(self) -> None:
+        data, secret = (dataclasses.replace(kind, is_marked=True) for kind in (CALL, SECRET))
 
-    def test_a_script_that_was_changed_does_not_run(self) -> None:
-        page = self.called("changed", POLL)
-        page.write_text(page.read_text().replace('"use strict";', '"use strict"; '))
-        found, console = browse(self.scratch, [{"page": page.as_uri(), "width": 360, "choices": []}])
-        self.assertFalse(found[0]["shown"])
-        self.assertIn("Content Security Policy", console)
+        def line_letter_and_hint(name: str | None) -> tuple[object, ...]:
+            found = self.window.ballot(name, "21-3")
+            return found["line"], bool(found["letter"]), found["unmarked"]
 
-    @unittest.skipUnless(shutil.which("node"), "node is not installed")
-    def test_the_script_is_in_order(self) -> None:
-        self.assertEqual(subprocess.run(["node", "--check", SCRIPT], timeout=SECONDS).returncode, 0)
+        page = (self.open(data) / "index.html").read_text()
+        self.assertEqual(line_letter_and_hint("ada"), ("ada 2,1,-,3", False, True))
+        self.open(data, f"#ada/{OWN}")
+        self.check_letter(None, "ada", OWN)
+        self.assertEqual(line_letter_and_hint(None), ("ada 2,1,-,3", True, False))
+        self.assertEqual(line_letter_and_hint("ben"), ("ben 2,1,-,3", False, True))
+        of_secret = (self.open(secret) / "index.html").read_text()
+        self.assertEqual(line_letter_and_hint(None), ("NAME 2,1,-,3", False, True))
+        self.assertNotIn('href="mailto:', page + of_secret)
+        self.assertIn("Answer your letter: then the subject has your own mark", " ".join(of_secret.split()))
+        self.open(SECRET)
+        self.assertEqual(line_letter_and_hint(None), ("NAME 2,1,-,3", True, False))
+
+
+class Looks(PageTest):
+    """What is seen on screens of several sizes, in the dark, on paper and without a script."""
+
+    def test_widths_and_contrast(self) -> None:
+        long_names = dataclasses.replace(POLL, shown_options=("\u05d0\u05d1 " * 60, "Donaudampfschifffahrt" * 9, "72 \u20ac", "{name} $& $1"))
+        polls = [(poll_of(names_of(size), 9, "x" * 32), "x" * 32) for size in (4, 32)] + [(long_names, "ada")]
+        colours = set()
+        self.addCleanup(self.window.show)
+        self.addCleanup(self.window.resize, 360, 640)
+        for (poll, name), is_dark in itertools.product(polls, (False, True)):
+            self.window.show(is_dark=is_dark)
+            self.open(dataclasses.replace(CALL, poll=poll))
+            for width in (360, 390, 1280):
+                self.window.resize(width, 640)
+                self.window.ballot(" Zoe L", ["-"] * len(poll.names))
+                ranks = [str(len(poll.names))] * len(poll.names)
+                found = self.window.ballot(name, ranks)
+                self.assertEqual((found["line"], found["wide"]), (f"{name} {','.join(ranks)}", width))
+            self.window.ask("document.querySelectorAll('details').forEach((node) => { node.open = true; })")
+            self.assertGreaterEqual(self.window.ask(CONTRAST), 4.5, is_dark)
+            colours.add((is_dark, self.window.ask("(({ color, backgroundColor }) => color + backgroundColor)(getComputedStyle(document.body))")))
+        self.assertEqual((len(colours), len({colour for _, colour in colours})), (2, 2))
+
+    def test_long_texts_are_cut_and_read_at_a_touch(self) -> None:
+        self.open(dataclasses.replace(CALL, poll=dataclasses.replace(POLL, explanations=("A long text. " * 40, "", "Short."))))
+        shown = "[...document.querySelectorAll('.text')].map((node) => node.clientHeight >= node.scrollHeight - 1)"
+        self.assertEqual(self.window.ask(shown), [False, True])
+        buttons = "[...document.querySelectorAll('.option .more')].filter((node) => node.checkVisibility())"
+        self.assertEqual(self.window.ask(f"{buttons}.length"), 1)
+        self.window.ask(f"{buttons}[0].click()")
+        self.assertEqual((self.window.ask(shown), self.window.ask(f"{buttons}.length")), ([True, True], 0))
+
+    def assert_seen(self, parts: tuple[str, ...], unseen: tuple[str, ...]) -> None:
+        seen = self.window.ask("document.body.innerText")
+        self.assertEqual([part for part in parts if part not in seen] + [part for part in unseen if part in seen], [])
+
+    def test_without_script_and_on_paper(self) -> None:
+        poll = dataclasses.replace(POLL, explanations=("A long text. " * 40, "", "Short."))
+        data, texts = dataclasses.replace(CALL, poll=poll), ("At the lake", "A long text. " * 39)
+        # a script that was changed does not run
+        self.open(data, page=call_files(data)["index.html"].replace(b'"use strict";', b'"use strict"; '))
+        self.assert_seen(("Vote until", "Sell the house", *texts, "Short.", "The poll"), ("Send by e-mail", "Your name", "Read on"))
+        self.assertIn("Content Security Policy", " ".join(self.window.faults))
+        self.open(data)
+        self.window.show(on_paper=True)
+        self.addCleanup(self.window.show)
+        self.window.ask("dispatchEvent(new Event('beforeprint'))")
+        on_paper = (*texts, "majority ratio 3", "The roll has 4 electors.", "ada", poll.checksum)
+        self.assert_seen(on_paper, ("Send by e-mail", "Your name", "Read on", "Give at least", "1\n2\n3"))
+        # each option has a box, in which a rank is written by hand, and its name is not below it
+        boxes = "[...document.querySelectorAll('.option')].map((option) => [parseFloat(getComputedStyle(option, '::after').width) > 30, "
+        boxes += "option.getBoundingClientRect().right - option.querySelector('.name').getBoundingClientRect().right > 40])"
+        self.assertEqual(self.window.ask(boxes), [[True, True]] * len(poll.names))
+
+
+class ByKeys(PageTest):
+    """By the keyboard alone an elector types the name, chooses the ranks, and takes the line."""
+
+    def tab_to(self, name: str, shift: bool = False) -> list[dict]:
+        """Presses Tab until this has the focus; says what had it on the way."""
+        way: list[dict] = []
+        while not way or way[-1]["name"] != name:
+            self.window.press("Tab", shift)
+            way.append(self.window.ask(FOCUS))
+            self.assertNotEqual(way[-1]["kind"], "BODY", f"Tab does not come to {name}: {way}")
+        return way
+
+    def test_a_ballot_is_made_and_its_line_is_taken(self) -> None:
+        self.open(CALL)
+        self.tab_to("Name")
+        self.window.type("\u00c0d\u00e0")
+        self.tab_to("ada")
+        self.window.press("Enter")
+        self.assertEqual(self.window.ask("document.getElementById('Name').value"), "ada")
+        for option, rank in enumerate("21-3", start=1):
+            self.tab_to(f"Rank-{option}")
+            self.window.type_keys(rank.strip("-"))
+        self.assertEqual(self.window.ask(f"[{text_of('Line')}, {text_of('Missing')}]"), ["ada 2,1,-,3", ""])
+        self.assertTrue(self.window.ask(text_of("Words")).startswith("Option 2: 72 Euro; then Option 1: At the lake; then "))
+        self.tab_to("Letter")
+        self.tab_to("Copy")
+        # no clipboard, as a page has none that was opened from a file
+        self.copied(REFUSES)
+        for key in ("Enter", " "):
+            self.window.ask("getSelection().removeAllRanges()")
+            self.window.press(key)
+            self.window.until("String(getSelection()) === 'ada 2,1,-,3'")
+
+    def test_a_rank_is_chosen_by_arrows_and_changed(self) -> None:
+        self.open(CALL)
+        self.tab_to("Name")
+        self.window.type("ada")
+        self.tab_to("Rank-1")
+        for key, line in {" ": "ada 1,-,-,-", "ArrowDown": "ada 2,-,-,-", "ArrowUp": "ada 1,-,-,-", "4": "ada 4,-,-,-", "-": ""}.items():
+            self.window.press(key)
+            self.assertEqual(self.window.ask(text_of("Line")), line, key)
+        # what is no line any more can't be taken
+        self.assertEqual(self.window.ask(text_of("Missing")), "Give at least one option a rank.")
+        way = self.tab_to("What each option needs")
+        self.assertEqual({"Copy", "Letter"} & {place["name"] for place in way}, set())
+
+    def test_tab_comes_to_all_in_order_and_the_focus_is_seen(self) -> None:
+        self.addCleanup(self.window.show)
+        for is_dark in (False, True):
+            self.window.show(is_dark=is_dark)
+            self.open(CALL)
+            way = self.tab_to("Name")
+            self.window.type("ada")
+            for number in range(1, 5):
+                way += self.tab_to(f"Rank-{number}")
+                self.window.type_keys("1")
+            way += self.tab_to("Copy")
+            self.assertEqual([place["name"] for place in way], ["Name", "Rank-1", "Rank-2", "Rank-3", "Rank-4", "Read on", "Letter", "Copy"])
+            for place in way:
+                self.assertEqual((place["ring"][:2], place["inWindow"]), (["solid", "3px"], True), (place, is_dark))
+            back = self.tab_to("Name", shift=True)
+            self.assertEqual([place["name"] for place in back], ["Letter", "Read on", "Rank-4", "Rank-3", "Rank-2", "Rank-1", "Name"])

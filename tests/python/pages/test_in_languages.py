@@ -3,32 +3,14 @@
 import json
 import pathlib
 import re
-import unittest
-import urllib.parse
 
 from debvote_tools.poll.call import SENTENCES as CALL_SENTENCES
 from debvote_tools.result.scripts import COUNT_AGAIN, FIND, FIND_IN_OPEN, FIND_IN_SECRET
-from debvote_tools.text.language import language_of
+from debvote_tools.text.language import LANGUAGES, language_of
 
 from tests.support import at_browser, languages
 
 TELEPHONE, SMALL, SCREEN = (390, 844), (360, 640), (1280, 800)
-
-# what the page of a call shows once a name is typed and ranks are chosen
-CHOOSE = """((name, ranks) => {
-  const field = document.getElementById("Name");
-  field.value = name;
-  field.dispatchEvent(new Event("input", { bubbles: true }));
-  [...document.querySelectorAll(".rank")].forEach((rank, place) => {
-    for (const button of rank.querySelectorAll("input")) button.checked = button.value === ranks[place];
-    rank.dispatchEvent(new Event("input", { bubbles: true }));
-  });
-  const words = [...document.getElementById("Words").childNodes].map((part) =>
-    part.nodeType === 3 ? part.data : `{${part.dataset.option}}`).join("");
-  const text = (id) => document.getElementById(id).textContent;
-  return { line: text("Line"), words, said: text("Name-said"), missing: text("Missing"),
-    letter: document.getElementById("Letter").getAttribute("href") };
-})"""
 
 # the words of names of options that are on two lines, if each option has the chip of a winner that is the default option
 BROKEN_WORDS = """((byDefault) => {
@@ -53,7 +35,7 @@ def said(language: str, sentences: dict[str, str], key: str, /, **places: object
     return language_of(language).say(sentences[key], **places)
 
 
-@unittest.skipUnless(at_browser.BROWSER, "chromium is not installed")
+@at_browser.NEEDS_BROWSER
 class InBrowser(languages.LanguageTest):
     """The pages of a language, of an open and of a secret vote."""
 
@@ -100,11 +82,13 @@ class InBrowser(languages.LanguageTest):
         """The form with four options is on one screen of a small telephone: name, ranks, line and buttons."""
         window.resize(*SMALL)
         window.open(page)
-        window.ask(f"{CHOOSE}('e01', ['2', '1', '-', '3'])")
+        window.ballot("e01", "21-3")
         bottom = window.ask("[...document.querySelectorAll('.rank')].at(-1).getBoundingClientRect().bottom")
         ends = [window.ask(f"document.getElementById('{place}').getBoundingClientRect().{side}")
                 for place, side in (("Bottom", "top"), ("Copy", "bottom"), ("Letter", "bottom"))]
         self.assertEqual((window.ask("scrollY"), bottom <= ends[0], max(ends) <= SMALL[1]), (0, True, True), (bottom, ends))
+        heights = window.ask("[...document.querySelectorAll('.rank label')].map((node) => node.getBoundingClientRect().height)")
+        self.assertGreaterEqual(min(heights), 41)
         window.resize(*TELEPHONE)
 
     def check_picture(self, window: at_browser.Window, language: str, page: pathlib.Path) -> None:
@@ -129,38 +113,32 @@ class InBrowser(languages.LanguageTest):
     def check_call(self, window: at_browser.Window, language: str, place: pathlib.Path) -> None:
         window.open(place / "call" / "index.html")
 
-        def choose(name: str, ranks: list[str]) -> dict:
-            return window.ask(f"{CHOOSE}({json.dumps(name)}, {json.dumps(ranks)})")
-
         def sentence(key: str, /, **places: object) -> str:
             return said(language, CALL_SENTENCES, key, **places)
 
         def both(*options: int) -> str:
             return language_of(language).joined(f"{{{option}}}" for option in options)
 
-        found = choose(" E01", ["2", "1", "-", "2"])
+        found = window.ballot(" E01", "21-2")
         self.assertEqual((found["line"], found["said"]), ("e01 2,1,-,2", ""))
         equal = sentence("equally", options=both(1, 4))
         self.assertEqual(found["words"], sentence("unranked", ranked=sentence("then", before="{2}", step=equal), unranked="{3}"))
-        (subject,) = urllib.parse.parse_qs(found["letter"].partition("?")[2])["subject"]
         title = sentence("subject", title="Where we meet in spring")
-        self.assertRegex(subject, f"^{re.escape(title)} \\[[0-9a-f]{{16}}\\]$")
-        found = choose("\u00c901", ["-", "1", "-", "-"])
+        self.assertRegex(found["subject"], f"^{re.escape(title)} \\[[0-9a-f]{{16}}\\]$")
+        found = window.ballot("\u00c901", "-1--")
         self.assertEqual((found["line"], found["said"]), ("e01 -,1,-,-", sentence("on_roll", names="e01")))
         self.assertEqual(found["words"], sentence("unranked", ranked="{2}", unranked=both(1, 3, 4)))
-        found = choose("x_y", list("1234"))
+        found = window.ballot("x_y", "1234")
         self.assertEqual((found["said"], found["missing"]), (sentence("not_on_roll", name="x_y"), sentence("type_name")))
-        self.assertEqual(choose("e01", ["-"] * 4)["missing"], sentence("rank_missing"))
-        choose("e01", list("1234"))
+        self.assertEqual(window.ballot("e01", "----")["missing"], sentence("rank_missing"))
+        window.ballot("e01", "1234")
         window.ask("document.getElementById('Copy').click()")
         window.until("document.getElementById('Copied').textContent !== ''")
         self.assertIn(window.ask("document.getElementById('Copied').textContent"), (sentence("copied"), sentence("selected")))
 
     def check_count(self, window: at_browser.Window, language: str, folder: pathlib.Path) -> None:
         window.open(folder / "index.html")
-        window.ask("document.getElementById('Again-button').click()")
-        window.until("document.getElementById('Again-progress').hidden && document.querySelectorAll('#Again-answer p').length > 1")
-        rows = window.ask("[...document.querySelectorAll('#Again-answer p')].map((row) => row.textContent)")
+        rows = window.count_again()
         sheet = (folder / "sheet.txt").read_text().splitlines()
         published = said(language, COUNT_AGAIN, "sheet_published")
         self.assertEqual(rows[0], said(language, COUNT_AGAIN, "same", sheet=published, lines=len(sheet)))
@@ -170,21 +148,21 @@ class InBrowser(languages.LanguageTest):
         self.assertEqual(rows[2], said(language, COUNT_AGAIN, "page_same", ballots=ballots))
         self.assertEqual(rows[-1], said(language, COUNT_AGAIN, "second"))
         # a page that shows another winner says so
-        window.ask("document.querySelector('#Result b').textContent = 'Nobody'; document.getElementById('Again-button').click()")
+        window.ask("document.querySelector('#Result b').textContent = 'Nobody'")
         other = said(language, COUNT_AGAIN, "page_differs", where=said(language, COUNT_AGAIN, "the_result"))
-        window.until(f"document.getElementById('Again-answer').textContent.includes({json.dumps(other)})")
+        self.assertIn(other, " ".join(window.count_again()))
 
     def check_find(self, window: at_browser.Window, language: str, place: pathlib.Path) -> None:
         def sentence(key: str, /, **places: object) -> str:
             return said(language, FIND | FIND_IN_OPEN, key, **places)
 
         window.open(place / "result" / "index.html")
-        found = self.found(window, "Person 02")
+        found = window.find("Person 02")
         self.assertEqual((found[0], found[-1]), (sentence("counts", name="e02"), sentence("line", line="e02 2,1,4,3")))
         self.assertEqual(len(found), 6)
-        self.assertEqual(self.found(window, "e05"), [sentence("no_ballot", name="e05")])
-        self.assertEqual(self.found(window, "nobody"), [sentence("no_elector", name="nobody")])
-        self.assertEqual(self.found(window, ""), [sentence("type_name")])
+        self.assertEqual(window.find("e05"), [sentence("no_ballot", name="e05")])
+        self.assertEqual(window.find("nobody"), [sentence("no_elector", name="nobody")])
+        self.assertEqual(window.find(""), [sentence("type_name")])
 
     def check_find_in_secret(self, window: at_browser.Window, language: str, place: pathlib.Path) -> None:
         def sentence(key: str, /, **places: object) -> str:
@@ -193,40 +171,17 @@ class InBrowser(languages.LanguageTest):
         rows = [line.split(",") for line in (place / "private" / "codes.csv").read_text().splitlines()[1:]]
         codes, aliases = {row[0]: row[3] for row in rows}, {row[0]: row[4] for row in rows}
         window.open(place / "result" / "index.html")
-        found = self.found(window, "e02", codes["e02"])
+        found = window.find("e02", codes["e02"])
         self.assertEqual((found[0], found[-1]), (sentence("counts", name="e02"), sentence("line", line=f"{aliases['e02']} 2,1,4,3")))
-        self.assertEqual(self.found(window, "e05", codes["e05"]), [sentence("no_ballot", alias=aliases["e05"])])
-        self.assertEqual(self.found(window, "e02", "1234"), [sentence("type_code")])
-        self.assertEqual(self.found(window, "", codes["e02"]), [sentence("type_name")])
-        self.assertEqual(len(self.found(window, "e02", codes["e01"])), 1)
+        self.assertEqual(window.find("e05", codes["e05"]), [sentence("no_ballot", alias=aliases["e05"])])
+        self.assertEqual(window.find("e02", "1234"), [sentence("type_code")])
+        self.assertEqual(window.find("", codes["e02"]), [sentence("type_name")])
+        self.assertEqual(len(window.find("e02", codes["e01"])), 1)
 
-    def found(self, window: at_browser.Window, name: str, code: str | None = None) -> list[str]:
-        """What the page of a result says once a name is typed, and a code."""
-        typed = "" if code is None else f"document.getElementById('Code').value = {json.dumps(code)};"
-        window.ask(
-            f"document.getElementById('Name').value = {json.dumps(name)}; {typed}"
-            "document.getElementById('Answer').replaceChildren(); document.getElementById('Show').click();"
-        )
-        window.until("document.getElementById('Answer').textContent !== ''")
-        answers: list[str] = window.ask("[...document.querySelectorAll('#Answer p, #Answer li')].map((row) => row.textContent)")
-        return answers
+def class_of(language: str) -> type:
+    return type(f"In_{language}", (InBrowser,), {f"test_pages_in_{language}": lambda self: self.check_language(language)})
 
 
-class German(InBrowser):
-    def test_its_pages(self) -> None:
-        self.check_language("de")
-
-
-class Spanish(InBrowser):
-    def test_its_pages(self) -> None:
-        self.check_language("es")
-
-
-class French(InBrowser):
-    def test_its_pages(self) -> None:
-        self.check_language("fr")
-
-
-class English(InBrowser):
-    def test_its_pages(self) -> None:
-        self.check_language("en")
+# a class for each language, so that they run side by side
+for code in LANGUAGES:
+    globals()[f"In_{code}"] = class_of(code)

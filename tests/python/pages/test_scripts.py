@@ -1,21 +1,17 @@
 """The scripts of a page in a browser: finding one's own ballot, and counting again; also on pages that somebody has changed."""
 
-import base64
 import dataclasses
 import hashlib
 import hmac
 import json
 import pathlib
 import re
-import unittest
 
 from debvote_tools.result import command_line, folder
 from debvote_tools.result.facts import SecretVote
 
 from tests.support import at_browser, publishing
 from tests.support.publishing import FILES, plain_room, publish
-
-NEEDS_BROWSER = unittest.skipUnless(at_browser.BROWSER, "chromium is not installed")
 
 # names that people read, and recasts, a refused line and an elector who did not vote
 POLL = publishing.PLAIN_POLL + 'shown_title = "Größe"\nshown_options = ["72 Euro", "<i>B</i> & \\"C\\"", "N"]\n'
@@ -26,42 +22,6 @@ LETTER_OTHER = "None of these is the checksum that you typed."
 
 def alias_of(code, name):
     return hmac.new(code.encode(), name.encode(), "sha256").hexdigest()[:32]
-
-
-class Page(at_browser.Window):
-    """A page, with what a reader does on it."""
-
-    def __init__(self):
-        super().__init__(800, 900)
-
-    def find(self, name, code=None):
-        """What the page says after a name, and a code, were typed."""
-        self.ask(f"document.getElementById('Name').value = {json.dumps(name)}")
-        if code is not None:
-            self.ask(f"document.getElementById('Code').value = {json.dumps(code)}")
-        self.ask("document.getElementById('Answer').replaceChildren(); document.getElementById('Show').click()")
-        self.until("document.getElementById('Answer').textContent !== ''")
-        return self.found()
-
-    def found(self):
-        """Each paragraph and each step of the lists, which are numbered."""
-        return self.ask("[...document.querySelectorAll('#Answer p, #Answer li')].map((node) => node.textContent)")
-
-    def count_again(self, letter="", files=None):
-        """What the page says after a press of the button, or of that for files from the disk."""
-        chosen = {name: base64.b64encode(data).decode() for name, data in (files or {}).items()}
-        self.ask(f"""(() => {{
-          document.getElementById("Again-letter").value = {json.dumps(letter)};
-          const chosen = new DataTransfer();
-          for (const [name, data] of Object.entries({json.dumps(chosen)})) {{
-            chosen.items.add(new File([Uint8Array.from(atob(data), (sign) => sign.charCodeAt(0))], name));
-          }}
-          document.getElementById("Again-files").files = chosen.files;
-          document.getElementById("Again-answer").replaceChildren();
-          document.getElementById("{'Again-chosen' if files else 'Again-button'}").click();
-        }})()""")
-        self.until("document.getElementById('Again-progress').hidden && document.getElementById('Again-answer').textContent !== ''")
-        return self.ask("[...document.querySelectorAll('#Again-answer p')].map((node) => node.textContent)")
 
 
 class ScriptsTest(publishing.PublishTest):
@@ -79,7 +39,7 @@ class ScriptsTest(publishing.PublishTest):
         ballots = sorted(f"{alias} {ranks}\n" for alias, ranks in zip(roll, ["1,2,3", "2,1,-", "1,1,1"]))
         cls.secret = plain_room(cls.scratch / "secret", poll, "".join(ballots))
         cls.told_in_secret = publish(cls.secret, *FILES, "result")
-        cls.window = cls.enterClassContext(Page()) if at_browser.BROWSER else None
+        cls.window = cls.enterClassContext(at_browser.Window(800, 900)) if at_browser.BROWSER else None
 
     def page_of(self, window, change=None, room=None):
         """Opens the page, or what a change makes of it."""
@@ -106,7 +66,7 @@ class ScriptsTest(publishing.PublishTest):
         self.expect("open", self.told, ("Winner: 2 B\nverified\n", "", 0))
         self.expect("secret", self.told_in_secret[1:], ("", 1))
 
-    @NEEDS_BROWSER
+    @at_browser.NEEDS_BROWSER
     def test_finding_a_ballot(self):
         window = self.window
         self.page_of(window)
@@ -146,7 +106,7 @@ class ScriptsTest(publishing.PublishTest):
             self.page_of(window, change)
             self.expect(what, window.find("ada"), others)
 
-    @NEEDS_BROWSER
+    @at_browser.NEEDS_BROWSER
     def test_electors_with_names_of_things_of_the_page(self):
         roll = ["find", "code", "show", "answer", "votes", "name", "result", "again", "poll-file", "ballots", "graph0"]
         poll = re.sub("roll = .*", f"roll = {json.dumps(roll)}", publishing.PLAIN_POLL)
@@ -159,7 +119,7 @@ class ScriptsTest(publishing.PublishTest):
         self.expect("no ballot", window.find(roll[-1]), [f"{roll[-1]} is on the roll, and no ballot counts for this name."])
         self.expect("counted again", window.count_again()[0].startswith("The same, line for line"), True)
 
-    @NEEDS_BROWSER
+    @at_browser.NEEDS_BROWSER
     def test_finding_a_ballot_of_a_secret_vote(self):
         window = self.window
         self.page_of(window, room=self.secret)
@@ -184,7 +144,7 @@ class ScriptsTest(publishing.PublishTest):
             odd = window.find("ada", self.code)[0]
             self.expect(f"{what}: {odd}", (odd.startswith("This is not how a secret vote is published: "), said in odd), (True, True))
 
-    @NEEDS_BROWSER
+    @at_browser.NEEDS_BROWSER
     def test_finding_a_ballot_by_its_code(self):
         """Where codes are on the roll, half a code is not called the code of nobody."""
         by_code = self.published(self.secret, "codes", has_codes=True)
@@ -197,7 +157,7 @@ class ScriptsTest(publishing.PublishTest):
         self.expect("no ballot", window.find(alias_of(self.code, "cleo")), ["The code is on the roll, and no ballot counts under it."])
         self.expect("nobody's", window.find("f" * 32), ["No elector has this code. Type it as it is on your slip."])
 
-    @NEEDS_BROWSER
+    @at_browser.NEEDS_BROWSER
     def test_the_checksum_of_the_close(self):
         """In a secret vote it covers the random line, too."""
         folder, seal = self.secret / "result", "5" * 32
@@ -210,7 +170,7 @@ class ScriptsTest(publishing.PublishTest):
         said = f"Yours is the same. The checksum of seal.txt and the ballots, as the letter of the close has to have it, is {sealed}."
         self.expect("sealed", rows, [f"{said} This page names it too."])
 
-    @NEEDS_BROWSER
+    @at_browser.NEEDS_BROWSER
     def test_what_is_typed(self):
         """Enter shows the ballot, and an answer goes when another name is typed; of two with one real name both are shown."""
         room = self.published(self.room, "real names", real_names={"ada": "Zoë", "ben": "Zoë", "dan": "Dan"})
@@ -227,7 +187,7 @@ class ScriptsTest(publishing.PublishTest):
         window.until("document.getElementById('Answer').textContent !== ''")
         self.expect("by Enter", window.found(), ["No elector has the name zoe1. Type it as it is on the roll."])
 
-    @NEEDS_BROWSER
+    @at_browser.NEEDS_BROWSER
     def test_folded_parts(self):
         """A link, or the address of the page, opens the folded part that it leads to; on paper all are open, without a script too."""
         window = self.window
@@ -242,8 +202,8 @@ class ScriptsTest(publishing.PublishTest):
         for address, part in (("Votes", "Votes"), ("How-to-verify", "How-to-verify"), ("%", None)):
             window.ask(f"location.hash = '#{address}'")
             window.until(f"{json.dumps(part)} === null || {unfolded}.includes({json.dumps(part)})")
-        with Page() as window:
-            window.for_paper()
+        with at_browser.Window(800, 900) as window:
+            window.show(on_paper=True)
             self.page_of(window)
             seen = window.ask("[...document.querySelectorAll('.folded')].map((part) => part.children[1].getBoundingClientRect().height > 0)")
             self.expect("on paper", (seen, window.ask(unfolded)), ([True] * 9, []))
@@ -251,7 +211,7 @@ class ScriptsTest(publishing.PublishTest):
             won = window.ask("(({ backgroundColor, color }) => [backgroundColor, color === getComputedStyle(document.body).color])(getComputedStyle(document.querySelector('.chip.won')))")
             self.expect("the chip of the winner on paper", won, ["rgba(0, 0, 0, 0)", True])
 
-    @NEEDS_BROWSER
+    @at_browser.NEEDS_BROWSER
     def test_counting_again(self):
         folder = self.room / "result"
         sums = {name: hashlib.sha256((folder / name).read_bytes()).hexdigest() for name in ("poll.toml", "ballots.txt", "index.html")}
@@ -277,7 +237,7 @@ class ScriptsTest(publishing.PublishTest):
             part = f"A checksum has 64 digits, 0 to 9 and a to f, and you have typed {number}."
             self.expect(f"typed {typed}", window.count_again(typed)[3], part)
 
-    @NEEDS_BROWSER
+    @at_browser.NEEDS_BROWSER
     def test_counting_again_on_changed_pages(self):
         changes = {
             "the result": ('<h2 id="Result"><b data-option="2"><bdi>&lt;i&gt;B', '<h2 id="Result"><b data-option="2"><bdi>&lt;i&gt;C'),
@@ -296,7 +256,7 @@ class ScriptsTest(publishing.PublishTest):
             said = [row for row in window.count_again() if row.startswith("This page does not show what its files come to: ")]
             self.expect(f"changed: {what}", [what.strip() in row for row in said], [True])
 
-    @NEEDS_BROWSER
+    @at_browser.NEEDS_BROWSER
     def test_files_from_the_disk(self):
         folder = self.room / "result"
         files = {name: (folder / name).read_bytes() for name in ("poll.toml", "ballots.txt", "sheet.txt")}
@@ -317,4 +277,6 @@ class ScriptsTest(publishing.PublishTest):
         two = window.count_again(files=files | {"poll-2.toml": files["poll.toml"]})
         self.expect("two polls", two, ["Choose poll.toml and ballots.txt, one file of each and under these names; you may add sheet.txt."])
         toml = window.count_again(files=files | {"poll.toml": b"# a comment\n" + files["poll.toml"]})[0]
+        odd = window.count_again(files=files | {"poll.toml": files["poll.toml"].replace(b'"Plain"', b'"Pl\xffin"')})[0]
+        self.expect(f"no UTF-8: {odd}", "poll refused: not in UTF-8" in odd, True)
         self.expect(f"another form of TOML: {toml}", "not in plain form, as the poll.toml of a result is" in toml, True)

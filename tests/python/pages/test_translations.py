@@ -1,6 +1,5 @@
 """The files of translations: each sentence of the code is in each of them, whole, with its places, and nothing else is."""
 
-import datetime
 import gettext
 import io
 import re
@@ -10,7 +9,6 @@ import unittest
 
 from debvote_tools.result.page import share
 from debvote_tools.text.language import LANGUAGES, catalog_of, language_of
-from debvote_tools.text.times import time_in_words
 
 from tests.support import languages, sentences
 
@@ -101,16 +99,6 @@ class Translations(languages.LanguageTest):
         self.assertEqual(language_of("de").say("The line: {line}", line="{x}"), "Die Zeile: {x}")
         self.assertEqual(language_of("fr").between("{before}; {after}"), "\u00a0; ")
 
-    def test_numbers_and_dates(self) -> None:
-        first = datetime.datetime(2027, 1, 1, 8, 5, 0, tzinfo=datetime.UTC)
-        later = datetime.datetime(2026, 12, 4, 18, 0, 30, tzinfo=datetime.timezone(datetime.timedelta(hours=1)))
-        wanted = {
-            "en": ("Friday, 1 January 2027, 08:05 (UTC)", "Friday, 4 December 2026, 18:00:30 (UTC+01:00)", "33.3 %"),
-            "de": ("Freitag, 1. Januar 2027, 08:05 (UTC)", "Freitag, 4. Dezember 2026, 18:00:30 (UTC+01:00)", "33,3 %"),
-            "fr": ("vendredi 1er janvier 2027, 08:05 (UTC)", "vendredi 4 d\u00e9cembre 2026, 18:00:30 (UTC+01:00)", "33,3 %"),
-            "es": ("viernes, 1 de enero de 2027, 08:05 (UTC)", "viernes, 4 de diciembre de 2026, 18:00:30 (UTC+01:00)", "33,3 %"),
-        }
-        for code, texts in wanted.items():
-            language = language_of(code)
-            self.assertEqual((time_in_words(first, language), time_in_words(later, language), share(1, 3, language)), texts)
-            self.assertEqual(share(1, 2, language), "50 %")
+    def test_numbers(self) -> None:
+        for code, wanted in {"en": "33.3 %", "de": "33,3 %", "fr": "33,3 %", "es": "33,3 %"}.items():
+            self.assertEqual((share(1, 3, language_of(code)), share(1, 2, language_of(code))), (wanted, "50 %"))

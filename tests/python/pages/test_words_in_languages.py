@@ -145,7 +145,7 @@ class MarkedPublications(Marked):
         for file, text in {"poll.toml": poll, "ballots": ballots}.items():
             (self.scratch / f"{name}-{file}").write_text(text)
         given = ["--poll", f"{name}-poll.toml", "--ballots", f"{name}-ballots", "--language", "de"]
-        self.run_program("debvote-publish", *given, *words, name, status=status)
+        self.program("debvote-publish", *given, *words, name, status=status)
         return self.scratch / name
 
     def test_elections_of_all_kinds(self) -> None:

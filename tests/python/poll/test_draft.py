@@ -86,6 +86,9 @@ class Sealed(DraftTest):
         self.assertEqual((poll.shown_title is None, poll.shown_options), (False, ()))
         poll = seal(self.draft(PLAIN.replace("diskutieren", "schwätzen")), ROLL, "de")
         self.assertEqual((poll.shown_title, poll.default, poll.shown_options[3]), (None, "Weiter schwaetzen", "Weiter schwätzen"))
+        # blanks around a name do not count
+        poll = seal(self.draft(GERMAN.replace('"Am See"', '" Am See\u00a0"')), ROLL, "de")
+        self.assertEqual((poll.options[0], poll.shown_options[0]), ("Am See", "Am See"))
 
     def test_all_that_may_be_set(self) -> None:
         draft = self.draft("\ufeff" + GERMAN + 'wording = "at_least"\nsecret = true\n', {"2.txt": "Schön.\n"})
@@ -99,43 +102,30 @@ class Sealed(DraftTest):
         self.assertEqual(keys, wanted.split())
         self.assertEqual(seal(self.draft(GERMAN + "secret = false\n"), ROLL, "de").secret, False)
 
-    def test_blanks_around_a_name_do_not_count(self) -> None:
-        poll = seal(self.draft(GERMAN.replace('"Am See"', '" Am See\u00a0"')), ROLL, "de")
-        self.assertEqual((poll.options[0], poll.shown_options[0]), ("Am See", "Am See"))
-
 
 class Explained(DraftTest):
     """What debvote itself says of the sealed form: it has what is wrong as it was written."""
 
-    def assert_explained(self, poll: str, *wanted: str) -> None:
-        draft = self.draft(poll)
-        self.assertEqual(draft.faults, [])
-        found = self.explained(draft)
-        for part in wanted:
-            self.assertIn(f"poll: {part}", found)
-        self.assertEqual(len(found.splitlines()), len(wanted), found)
-
-    def test_what_is_missing_or_empty(self) -> None:
-        self.assert_explained(PLAIN.replace("quorum", "# quorum"), "key quorum: it is missing")
-        self.assert_explained(PLAIN.replace("title", "# title"), "key title: it is missing")
-        self.assert_explained(PLAIN.replace('"Am See"', '""').replace('"Wo wir uns im Fruhling treffen"', '""'), "title: ", "name of option 1: ")
-        self.assert_explained("", *(f"key {key}: it is missing" for key in ("title", "options", "ratios", "default", "quorum")))
-
-    def test_values_of_a_wrong_type(self) -> None:
+    def test_what_is_missing_empty_of_a_wrong_type_or_out_of_range(self) -> None:
+        missing = "key {}: it is missing".format
         types = {"title": "3", "options": '["a", 1]', "ratios": '"x"', "default": "[]", "quorum": "1.5", "wording": "false", "options ": "true"}
-        for key, value in types.items():
-            lines = [line for line in PLAIN.splitlines() if not line.startswith(f"{key.strip()} = ")]
-            with self.subTest(key=key):
-                draft = self.draft("\n".join([*lines, f"{key} = {value}"]))
+        for poll, *wanted in [
+            (PLAIN.replace("quorum", "# quorum"), missing("quorum")),
+            (PLAIN.replace("title", "# title"), missing("title")),
+            (PLAIN.replace('"Am See"', '""').replace('"Wo wir uns im Fruhling treffen"', '""'), "title: ", "name of option 1: "),
+            ("", *map(missing, ("title", "options", "ratios", "default", "quorum"))),
+            (PLAIN.replace("quorum = 1", "quorum = 11"), "quorum: "),
+            (PLAIN.replace("[1, 1, 3]", "[1, 3]"), "ratios: 2 found; "),
+            *((re.sub(rf"(?m)^{key.strip()} = .*\n", "", PLAIN) + f"{key} = {value}\n", f"key {key.strip()}: ") for key, value in types.items()),
+        ]:
+            with self.subTest(poll):
+                draft = self.draft(poll)
                 self.assertEqual(draft.faults, [])
-                self.assertIn(f"poll: key {key.strip()}: ", self.explained(draft))
-
-    def test_numbers_out_of_range(self) -> None:
-        self.assert_explained(PLAIN.replace("quorum = 1", "quorum = 11"), "quorum: ")
-        self.assert_explained(PLAIN.replace("[1, 1, 3]", "[1, 3]"), "ratios: 2 found; ")
-
-    def test_a_roll_that_is_empty(self) -> None:
-        self.assertIn("poll: size of roll: ", self.explained(self.draft(), []))
+                found = self.explained(draft).splitlines()
+                self.assertEqual([any(line.startswith(f"poll: {part}") for line in found) for part in wanted], [True] * len(wanted), found)
+                # a value of a wrong type may be told with what it makes of others
+                self.assertTrue(len(found) == len(wanted) or wanted[0] in [f"key {key.strip()}: " for key in types], found)
+        self.assertIn("poll: size of roll: ", self.explained(self.draft(GERMAN), []))
 
 
 class Faults(DraftTest):

@@ -1,6 +1,7 @@
 """The list of members, read as spreadsheets save it; all that is wrong with it is found at once."""
 
 import codecs
+import itertools
 import pathlib
 import tempfile
 import unittest
@@ -40,43 +41,44 @@ class MembersTest(unittest.TestCase):
 
 
 class Read(MembersTest):
-    def test_each_delimiter(self) -> None:
-        for mark in (",", ";", "\t"):
-            self.assert_rows(f"name{mark}who{mark}mail\nada{mark}Ada L{mark}ada@x\n", (2, "ada", "Ada L", "ada@x"))
-
-    def test_each_encoding(self) -> None:
+    def test_delimiters_encodings_heads_and_cells(self) -> None:
         text = "who;mail\r\nZoë Ł. 李;zoe@x\r\n"
-        for data in (
-            text.encode(),
-            codecs.BOM_UTF8 + text.encode(),
-            codecs.BOM_UTF16_LE + text.encode("utf-16-le"),
-            codecs.BOM_UTF16_BE + text.encode("utf-16-be"),
-        ):
-            self.assert_rows(data, (2, "", "Zoë Ł. 李", "zoe@x"))
-
-    def test_the_head_line_in_any_order_and_spelling(self) -> None:
-        self.assert_rows('note, MAIL ,"Name",age,\tWho\nx,ada@x,ada,3,Ada L\n', (2, "ada", "Ada L", "ada@x"))
-        self.assert_rows(";who;mail\n0;Ada;a@x\n", (2, "", "Ada", "a@x"))
-
-    def test_heads_in_other_words(self) -> None:
-        for text, who in {
-            "Nr;Name;E-Mail\n1;Ada L;a@x": "Ada L",
-            "Nachname;Vorname;Email\nL;Ada;a@x": "Ada L",
-            "Name;E_Mail;Vorname\nL;a@x;Ada": "Ada L",
-            "First Name,Last Name,MAIL\nAda,L,a@x": "Ada L",
-            "Nom\tPrénom\tCourriel\nL\tAda\ta@x": "Ada L",
-            "NOMBRE,apellidos,correo\nAda,L M,a@x": "Ada L M",
-            "Nom;Mail\nAda L;a@x": "Ada L",
-            "Nombre;Mail\nAda L;a@x": "Ada L",
-            "Name;E-Mail-Adresse\nAda L;a@x": "Ada L",
-            "Name,Email Address\nAda L,a@x": "Ada L",
-            "Nombre,Correo electrónico\nAda L,a@x": "Ada L",
-        }.items():
-            self.assert_rows(f"{text}\n", (2, "", who, "a@x"))
-        # `name` has the names on the roll where something else has the real ones
-        self.assert_rows("Name,who,E-Mail\nada,Ada L,a@x\n", (2, "ada", "Ada L", "a@x"))
-        self.assert_rows("Name,Vorname,Nachname,mail\nada,Ada,L,a@x\n", (2, "ada", "Ada L", "a@x"))
-        self.assert_rows("E-Mail,who,mail,Vorname\nx,Ada L,a@x,y\n", (2, "", "Ada L", "a@x"))
+        encodings = [text.encode(), codecs.BOM_UTF8 + text.encode()]
+        encodings += [mark + text.encode(name) for mark, name in ((codecs.BOM_UTF16_LE, "utf-16-le"), (codecs.BOM_UTF16_BE, "utf-16-be"))]
+        for content, *row in [
+            *((f"name{mark}who{mark}mail\nada{mark}Ada L{mark}ada@x\n", "ada", "Ada L", "ada@x") for mark in (",", ";", "\t")),
+            *((data, "", "Zoë Ł. 李", "zoe@x") for data in encodings),
+            # columns in any order and spelling
+            ('note, MAIL ,"Name",age,\tWho\nx,ada@x,ada,3,Ada L\n', "ada", "Ada L", "ada@x"),
+            (";who;mail\n0;Ada;a@x\n", "", "Ada", "a@x"),
+            # heads in other words
+            ("Nr;Name;E-Mail\n1;Ada L;a@x\n", "", "Ada L", "a@x"),
+            ("Nachname;Vorname;Email\nL;Ada;a@x\n", "", "Ada L", "a@x"),
+            ("Name;E_Mail;Vorname\nL;a@x;Ada\n", "", "Ada L", "a@x"),
+            ("First Name,Last Name,MAIL\nAda,L,a@x\n", "", "Ada L", "a@x"),
+            ("Nom\tPrénom\tCourriel\nL\tAda\ta@x\n", "", "Ada L", "a@x"),
+            ("NOMBRE,apellidos,correo\nAda,L M,a@x\n", "", "Ada L M", "a@x"),
+            *((f"{head};{mail}\nAda L;a@x\n", "", "Ada L", "a@x") for head in ("Nom", "Nombre", "Name") for mail in ("Mail", "E-Mail-Adresse")),
+            ("Name,Email Address\nAda L,a@x\n", "", "Ada L", "a@x"),
+            ("Nombre,Correo electrónico\nAda L,a@x\n", "", "Ada L", "a@x"),
+            # `name` has the names on the roll where something else has the real ones
+            ("Name,who,E-Mail\nada,Ada L,a@x\n", "ada", "Ada L", "a@x"),
+            ("Name,Vorname,Nachname,mail\nada,Ada,L,a@x\n", "ada", "Ada L", "a@x"),
+            ("E-Mail,who,mail,Vorname\nx,Ada L,a@x,y\n", "", "Ada L", "a@x"),
+            # the delimiter is that of the head line
+            ("who;mail\nLovelace, Ada, Countess;a@x\n", "", "Lovelace, Ada, Countess", "a@x"),
+            ("who;mail;a, b, c, d\nAda;a@x;,,,\n", "", "Ada", "a@x"),
+            # spaces, a long cell, a name in parts, several addresses in one cell, a name of the greatest length
+            ("name,who,mail\n ada ,\xa0Ada  L\t, a@x \n", "ada", "Ada L", "a@x"),
+            (f"who,mail,note\nAda,a@x,{'x' * 200_000}\n", "", "Ada", "a@x"),
+            ("who,mail\nZoe\u0308,\n", "", "Zoë", ""),
+            ("who,mail\nAda,ada@x;a@x\n", "", "Ada", "ada@x a@x"),
+            ('who;mail\n"Ada; the first";ada@x\n', "", "Ada; the first", "ada@x"),
+            (f"who,mail,name\nAda,,{'a' * 32}\n", "a" * 32, "Ada", ""),
+            (members.NEW_MEMBERS + "Ada,a@x\n", "", "Ada", "a@x"),
+        ]:
+            with self.subTest(content[:60]):
+                self.assert_rows(content, (2, *row))
 
     def test_trailing_delimiters_blank_rows_and_short_rows(self) -> None:
         text = "\n,,\nname,who,mail,,\n,,,,\nada,Ada,,,\n\n   \nben\ncleo,,c@x,,,,,,\n,,,,"
@@ -97,20 +99,6 @@ class Read(MembersTest):
             text = f'name,who,mail{feed}ada,"Ada{feed}{feed}L",a@x{feed}ben,Ben,b@x{feed}'
             self.assert_rows(text, (2, "ada", "Ada L", "a@x"), (5, "ben", "Ben", "b@x"))
 
-    def test_spaces_in_a_cell(self) -> None:
-        self.assert_rows("name,who,mail\n ada ,\xa0Ada  L\t, a@x \n", (2, "ada", "Ada L", "a@x"))
-
-    def test_the_delimiter_is_that_of_the_head_line(self) -> None:
-        self.assert_rows("who;mail\nLovelace, Ada, Countess;a@x\n", (2, "", "Lovelace, Ada, Countess", "a@x"))
-        self.assert_rows("who;mail;a, b, c, d\nAda;a@x;,,,\n", (2, "", "Ada", "a@x"))
-        self.assert_faults("ada;Ada;a@x\n", ("it has `ada`, `Ada`, `a@x`",))
-
-    def test_a_long_cell(self) -> None:
-        self.assert_rows(f"who,mail,note\nAda,a@x,{'x' * 200_000}\n", (2, "", "Ada", "a@x"))
-
-    def test_a_name_in_parts_is_that_in_one(self) -> None:
-        self.assert_rows("who,mail\nZoe\u0308,\n", (2, "", "Zoë", ""))
-
     def test_several_addresses(self) -> None:
         text = 'who,mail\nAda,a@x b@x\nBen,"b@x, c@x;d@x"\nCleo,"Lovelace, Cleo <c@x>; <d@x>"\nDan,mailto:d@x d@x\n'
         found = [row.addresses for row in self.read(text).electors]
@@ -120,35 +108,30 @@ class Read(MembersTest):
         text = f"who,mail,key\nAda,,{KEY[:20].lower()} {KEY[20:]}\nBen,,\n"
         self.assertEqual([row.key for row in self.read(text).electors], [KEY, ""])
 
-    def test_the_list_of_a_new_election_has_its_head_alone(self) -> None:
-        self.assert_faults(members.NEW_MEMBERS, ("there is nobody on it",))
-        self.assert_rows(members.NEW_MEMBERS + "Ada,a@x\n", (2, "", "Ada", "a@x"))
-
-
 class Unread(MembersTest):
-    def test_what_is_no_csv(self) -> None:
-        self.assert_faults(b"", ("members.csv: it is empty",))
-        self.assert_faults(b"\xef\xbb\xbf\r\n ,,\r\n", ("it is empty",))
-        self.assert_faults(b"PK\x03\x04\x14\0", ("a ZIP", "not CSV", "save it again as CSV in UTF-8"))
-        self.assert_faults(b"\xd0\xcf\x11\xe0\xa1\xb1", ("spreadsheet, not CSV",))
-        self.assert_faults(b"%PDF-1.7", ("a PDF",))
-
-    def test_another_encoding(self) -> None:
-        self.assert_faults("who,mail\nZoë,z@x\n".encode("latin-1"), ("members.csv:2: ", "Latin-1", "Zoë,z@x", "UTF-8"))
-        self.assert_faults("who,mail\nZoë,z@x\n".encode("utf-16-le"), ("nor in UTF-16 with a byte-order mark",))
-        self.assert_faults(codecs.BOM_UTF16_LE + "who,mail\n".encode("utf-16-le") + b"x", ("UTF-16",))
-
-    def test_a_head_line_without_a_column(self) -> None:
-        self.assert_faults("name,who,post\nada,Ada,a@x\n", ("members.csv:1: ", "no column `mail`", "`name`, `who`, `post`"))
-        self.assert_faults("Nachname,mail\nAda,a@x\n", ("no column `who`; it has `Nachname`, `mail`",))
-        self.assert_faults("ada,Ada,a@x\n", ("no column `who` and no column `mail`; it has `ada`, `Ada`, `a@x`", "real names"))
-
-    def test_a_column_twice(self) -> None:
-        self.assert_faults("Name,E-Mail,email\n", (":1: ", "column `email` twice"))
-        self.assert_faults("\nwho,mail,Who,name,NAME\n,,,,\n", (":2: ", "column `who` twice"), (":2: ", "column `name` twice"))
-
-    def test_nobody(self) -> None:
-        self.assert_faults("who,mail\n,,\n", ("there is nobody on it",))
+    def test_faults_of_the_file(self) -> None:
+        for content, *wanted in [
+            (b"", ("members.csv: it is empty",)),
+            (b"\xef\xbb\xbf\r\n ,,\r\n", ("it is empty",)),
+            # what is no CSV
+            (b"PK\x03\x04\x14\0", ("a ZIP", "not CSV", "save it again as CSV in UTF-8")),
+            (b"\xd0\xcf\x11\xe0\xa1\xb1", ("spreadsheet, not CSV",)),
+            (b"%PDF-1.7", ("a PDF",)),
+            # another encoding
+            ("who,mail\nZoë,z@x\n".encode("latin-1"), ("members.csv:2: ", "Latin-1", "Zoë,z@x", "UTF-8")),
+            ("who,mail\nZoë,z@x\n".encode("utf-16-le"), ("nor in UTF-16 with a byte-order mark",)),
+            (codecs.BOM_UTF16_LE + "who,mail\n".encode("utf-16-le") + b"x", ("UTF-16",)),
+            # a head line without a column, or with one twice
+            ("name,who,post\nada,Ada,a@x\n", ("members.csv:1: ", "no column `mail`", "`name`, `who`, `post`")),
+            ("Nachname,mail\nAda,a@x\n", ("no column `who`; it has `Nachname`, `mail`",)),
+            ("ada,Ada,a@x\n", ("no column `who` and no column `mail`; it has `ada`, `Ada`, `a@x`", "real names")),
+            ("ada;Ada;a@x\n", ("it has `ada`, `Ada`, `a@x`",)),
+            ("Name,E-Mail,email\n", (":1: ", "column `email` twice")),
+            ("\nwho,mail,Who,name,NAME\n,,,,\n", (":2: ", "column `who` twice"), (":2: ", "column `name` twice")),
+            *((content, ("there is nobody on it",)) for content in ("who,mail\n,,\n", members.NEW_MEMBERS)),
+        ]:
+            with self.subTest(content):
+                self.assert_faults(content, *wanted)
 
     def test_a_quotation_mark_without_its_end_swallows_no_member(self) -> None:
         for text, line in [
@@ -197,50 +180,27 @@ class Rows(MembersTest):
         self.assert_faults(text, *wanted)
         self.assertEqual([row.line for row in self.read(text).electors], [2, 3, 4, 6, 7, 9, 10, 11])
 
-    def test_a_name_has_32_characters_at_most(self) -> None:
-        self.assert_rows(f"who,mail,name\nAda,,{'a' * 32}\n", (2, "a" * 32, "Ada", ""))
+    def test_a_row_with_semicolons_below_a_head_with_commas(self) -> None:
+        said = ":2: `Ada;ada@x` has a semicolon, and the header line has commas", "put a comma between the cells of this line too"
+        self.assert_faults("who,mail\nAda;ada@x\nBen,ben@x\n", said)
+        self.assert_faults("who,mail,name\nAda,ada@x,ada;b\n", ("`ada;b` has a semicolon",), ("`ada;b` cannot be a name",))
         self.assert_faults(f"who,mail,name\nAda,,{'a' * 33}\n", (":2: ", "cannot be a name"))
 
-    def test_a_row_with_semicolons_below_a_head_with_commas(self) -> None:
-        wanted = (
-            ":2: `Ada;ada@x` has a semicolon, and the header line has commas",
-            "put a comma between the cells of this line too",
-        )
-        self.assert_faults("who,mail\nAda;ada@x\nBen,ben@x\n", wanted)
-        self.assert_faults("who,mail,name\nAda,ada@x,ada;b\n", ("`ada;b` has a semicolon",), ("`ada;b` cannot be a name",))
-        # several addresses
-        self.assert_rows("who,mail\nAda,ada@x;a@x\n", (2, "", "Ada", "ada@x a@x"))
-        self.assert_rows('who;mail\n"Ada; the first";ada@x\n', (2, "", "Ada; the first", "ada@x"))
-
     def test_a_sum_below_the_members(self) -> None:
-        for row in (
-            "Total,",
-            "TOTAL: 3,",
-            "Summe,3",
-            ",Insgesamt",
-            "Gesamtsumme = 3,",
-            "Somme : 3,",
-            "Suma 3,",
-            "Subtotal,",
-            "Anzahl: 1.000,",
-        ):
+        sums = "Total,", "TOTAL: 3,", "Summe,3", ",Insgesamt", "Gesamtsumme = 3,", "Somme : 3,", "Suma 3,", "Subtotal,", "Anzahl: 1.000,"
+        for row in sums:
             with self.subTest(row=row):
                 first = next(filter(None, row.split(",")))
                 self.assert_faults(f"who,mail\nAda,ada@x\n{row}\n", (f":3: `{first}` is a sum and no member; take the line out",))
         self.assert_faults("nr,who,mail\n1,Ada,a@x\nTotal,1,\n", (":3: `Total` is a sum",))
-        self.assert_rows(
-            "who,mail\nAnna Total,\nSumm,\nSuma,s@x\n", (2, "", "Anna Total", ""), (3, "", "Summ", ""), (4, "", "Suma", "s@x")
-        )
+        wanted = (2, "", "Anna Total", ""), (3, "", "Summ", ""), (4, "", "Suma", "s@x")
+        self.assert_rows("who,mail\nAnna Total,\nSumm,\nSuma,s@x\n", *wanted)
 
     def test_characters_that_were_lost(self) -> None:
-        self.assert_faults(
-            "who,mail\nZo\ufffd,z@x\n", (":2: `Zo\ufffd` has lost a character when it was saved (U+FFFD); write the ",)
-        )
-        for end in (b"\n", b"\r\n", b"\r"):
-            self.assert_faults(
-                b"who,mail%bAda,%bZo\xeb,z@x%b" % (end, end, end), ("members.csv:3: it is not in UTF-8", "Zo\u00eb,z@x")
-            )
-            self.assert_faults(b"who,mail%bAda,%bZo\x81,z@x%b" % (end, end, end), ("members.csv:3: it is not in UTF-8",))
+        lost = ":2: `Zo\ufffd` has lost a character when it was saved (U+FFFD); write the "
+        self.assert_faults("who,mail\nZo\ufffd,z@x\n", (lost,))
+        for end, (sign, shown) in itertools.product((b"\n", b"\r\n", b"\r"), ((b"\xeb", "Zo\u00eb,z@x"), (b"\x81", "Zo"))):
+            self.assert_faults(b"who,mail%bAda,%bZo%b,z@x%b" % (end, end, sign, end), ("members.csv:3: it is not in UTF-8", shown))
 
     def test_a_cell_that_is_cut_by_its_comma(self) -> None:
         self.assert_faults("who,mail,,\nLovelace, Ada,a@x,\n", (":2: `a@x` is after",), (":2: `Ada` is not a mail address",))

@@ -4,55 +4,42 @@ import re
 import unittest
 
 from debvote_tools.poll import plain_names
-from debvote_tools.poll.plain_names import (
-    alike,
-    bad_options,
-    bad_title,
-    elector_name,
-    made_different,
-    plain_options,
-    plain_title,
-    similar_names,
-)
+from debvote_tools.poll.plain_names import alike, bad_options, bad_title, elector_name, made_different, plain_options, plain_title, similar_names
+
 
 
 OPTION = re.compile(r"[!-~]([ -~]{0,38}[!-~])?")
 
 
 class Options(unittest.TestCase):
-    def test_what_is_plain_stays(self) -> None:
-        for names in (["At the lake", "b  b", "!", "No.", "x" * 40], ["b", "b", "B"], ["Vote", "Option 1"], ["", "a"]):
-            self.assertEqual(plain_options(names, "de"), names)
-
-    def test_by_the_language(self) -> None:
-        names = ["Über die Brücke", "Café à Nîmes", "Straße", "Zoe\u0308", "ﬁnn Ａ²", "¿Sí?"]
-        self.assertEqual(plain_options(names, "de"), ["Ueber die Bruecke", "Cafe a Nimes", "Strasse", "Zoe", "finn A2", "Si?"])
-        self.assertEqual(plain_options(names, "en")[:3], ["Uber die Brucke", "Cafe a Nimes", "Strasse"])
-        self.assertEqual(plain_options(["o\u0308l", "O\u0308de"], "de"), ["oel", "Oede"])
+    def test_what_is_made_of_them(self) -> None:
+        for language, names, wanted in [
+            # what is plain stays
+            *(("de", names, names) for names in (["At the lake", "b  b", "!", "No.", "x" * 40], ["b", "b", "B"], ["Vote", "Option 1"], ["", "a"])),
+            # by the language
+            ("de", ["Über die Brücke", "Café à Nîmes", "Straße", "Zoe\u0308"], ["Ueber die Bruecke", "Cafe a Nimes", "Strasse", "Zoe"]),
+            ("de", ["ﬁnn Ａ²", "¿Sí?", "o\u0308l", "O\u0308de"], ["finn A2", "Si?", "oel", "Oede"]),
+            ("en", ["Über die Brücke", "Café à Nîmes", "Straße"], ["Uber die Brucke", "Cafe a Nimes", "Strasse"]),
+            # punctuation
+            ("fr", ["„Ja“ – 5 €…", "L’été\u00a0: «oui»", "a → b", "½ × 3"], ['"Ja" - 5 EUR...', "L'ete : \"oui\"", "a b", "1/2 x 3"]),
+            # where nothing is left
+            ("en", ["Ja", "李", "—", "Да 2"], ["Ja", "Option 2", "Option 3", "2"]),
+            ("en", ["李", "Option 1", "王"], ["Option 1 2", "Option 1", "Option 3"]),
+            # long names are cut, and made different where another has the rest
+            ("en", ["x" * 41], ["x" * 40]),
+            ("en", ["x" * 39 + " y"], ["x" * 39]),
+            ("en", ["x" * 41, "x" * 42, "x" * 40], ["x" * 38 + " 2", "x" * 38 + " 3", "x" * 40]),
+            # who would get one name gets a number
+            ("fr", ["Café", "Cafè", "Tee"], ["Cafe 1", "Cafe 2", "Tee"]),
+            ("fr", ["Café", "Cafe"], ["Cafe 2", "Cafe"]),
+            ("de", ["Über", "ueber", "UEBER 2"], ["Ueber 3", "ueber", "UEBER 2"]),
+        ]:
+            self.assertEqual(plain_options(names, language), wanted)
 
     def test_capitals(self) -> None:
         names = ["ÄRZTE", "Ärzte", "GRÖ", "Ö", "GROẞ", "ŁÓDŹ", "ÆON", "Æon", "Œuvre", "Þing", "Øl"]
         wanted = ["AERZTE", "Aerzte", "GROE", "Oe", "GROSS", "LODZ", "AEON", "Aeon", "Oeuvre", "Thing", "Ol"]
         self.assertEqual([plain_options([name], "de")[0] for name in names], wanted)
-
-    def test_punctuation(self) -> None:
-        found = plain_options(["„Ja“ – 5 €…", "L’été\u00a0: «oui»", "a → b", "½ × 3"], "fr")
-        self.assertEqual(found, ['"Ja" - 5 EUR...', "L'ete : \"oui\"", "a b", "1/2 x 3"])
-
-    def test_where_nothing_is_left(self) -> None:
-        self.assertEqual(plain_options(["Ja", "李", "—", "Да 2"], "en"), ["Ja", "Option 2", "Option 3", "2"])
-        self.assertEqual(plain_options(["李", "Option 1", "王"], "en"), ["Option 1 2", "Option 1", "Option 3"])
-
-    def test_long_names_are_cut(self) -> None:
-        self.assertEqual(plain_options(["x" * 41], "en"), ["x" * 40])
-        self.assertEqual(plain_options(["x" * 39 + " y"], "en"), ["x" * 39])
-        # what is cut off is made different, where another has the rest
-        self.assertEqual(plain_options(["x" * 41, "x" * 42, "x" * 40], "en"), ["x" * 38 + " 2", "x" * 38 + " 3", "x" * 40])
-
-    def test_who_would_get_one_name_gets_a_number(self) -> None:
-        self.assertEqual(plain_options(["Café", "Cafè", "Tee"], "fr"), ["Cafe 1", "Cafe 2", "Tee"])
-        self.assertEqual(plain_options(["Café", "Cafe"], "fr"), ["Cafe 2", "Cafe"])
-        self.assertEqual(plain_options(["Über", "ueber", "UEBER 2"], "de"), ["Ueber 3", "ueber", "UEBER 2"])
 
     def test_they_are_always_what_debvote_takes(self) -> None:
         odd = ["é" * 60, "ß" * 30, " a", "b ", "\u200b", "c\u0301" * 41, "\u2028", "a" * 39 + "é b", "İ" * 41, "́", "€" * 14]
@@ -63,17 +50,9 @@ class Options(unittest.TestCase):
 
 class Titles(unittest.TestCase):
     def test_titles(self) -> None:
-        for title, plain in {
-            "Where we meet": "Where we meet",
-            "Wahl des Präsidiums": "Wahl des Praesidiums",
-            "投票": "Vote",
-            "": "",
-            "y" * 81: "y" * 80,
-            "é" * 80: "e" * 80,
-            "2027年": "2027",
-            "a  b": "a  b",
-            "?": "?",
-        }.items():
+        titles = {"Where we meet": "Where we meet", "Wahl des Präsidiums": "Wahl des Praesidiums", "投票": "Vote", "": ""}
+        titles |= {"y" * 81: "y" * 80, "é" * 80: "e" * 80, "2027年": "2027", "a  b": "a  b", "?": "?"}
+        for title, plain in titles.items():
             self.assertEqual(plain_title(title, "de"), plain)
 
 
@@ -141,15 +120,8 @@ class Refused(unittest.TestCase):
             self.assertEqual(name, names[number - 1])
 
     def test_names_that_look_alike(self) -> None:
-        for first, second in (
-            ("Am See", "am  SEE"),
-            ("Café", "Cafe"),
-            ("Straße", "STRASSE"),
-            ("Am See", "Am\u00a0See\u200b"),
-            ("李", "李\ufe00"),
-            ("a", "а\u0301".replace("а", "a")),
-            ("ｘ", "X"),
-        ):
+        pairs = [("Am See", "am  SEE"), ("Café", "Cafe"), ("Straße", "STRASSE"), ("Am See", "Am\u00a0See\u200b")]
+        for first, second in (*pairs, ("李", "李\ufe00"), ("a", "a\u0301"), ("ｘ", "X")):
             self.assert_bad([first, "other", second], (3, f"looks like option 1, `{first}`"))
 
     def test_names_that_do_not(self) -> None:

@@ -214,7 +214,7 @@ class Slips(unittest.TestCase):
                     self.assertEqual(window.ask("document.documentElement.scrollWidth"), 390)
             style = "getComputedStyle(document.querySelector('.slip'))"
             # eight on a side of A4, with margins of 5 mm, in words of nine points at least
-            window.for_paper()
+            window.show(on_paper=True)
             window.resize(756, 1000)
             for code in LANGUAGES:
                 call = dataclasses.replace(CALL, at="https://example.org/vote/", language=language_of(code), has_lapsed_codes=True)

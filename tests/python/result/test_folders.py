@@ -1,13 +1,14 @@
 """The folders and the pages of examples, of cases, and of an election whose names are made to hurt a page.
 
-In each folder the files must be what the program writes, with their sums; reading.py and result_checks.py say what must stand on the page.
+In each folder the files must be what the program writes, with their sums; page_parts.py and result_checks.py say what
+must stand on the page.
 """
 
 import hashlib
 import json
 import tomllib
 
-from tests.support import examples, looks, publishing, reading, result_checks
+from tests.support import examples, looks, page_parts, publishing, result_checks
 
 # the files of a folder, but for picture, sums and letter
 FILES = {"poll.toml", "ballots.txt", "sheet.txt", "standing.txt", "result.json", "votes.csv", "recount.py", "index.html"}
@@ -30,6 +31,10 @@ def try_folder(expect, name, poll, ballots, more, folder):
     expect(f"{name}: its files", texts, [ballots.read_bytes(), sheet.encode(), standing.encode()])
     expect(f"{name}: its poll", *(in_plain_form(file.read_bytes()) for file in (folder / "poll.toml", poll)))
     expect(f"{name}: its poll is in plain form", (folder / "poll.toml").read_bytes(), plain_bytes(poll.read_bytes()))
+    page, given, plain = ((file.read_bytes()) for file in (folder / "index.html", poll, folder / "poll.toml"))
+    sums = [hashlib.sha256(data).hexdigest() for data in (given, plain)]
+    named = [f"has the checksum (SHA-256) <code>{sums[0]}</code>", f"have this checksum, the poll's? <code>{sums[1]}</code>"]
+    expect(f"{name}: the checksums of the poll", [text.encode() in page for text in named], [given != plain, True])
     guide = (folder / "READING-A-SHEET.md").read_bytes()
     expect(f"{name}: its guide", guide, (publishing.ROOT / "docs" / "READING-A-SHEET.md").read_bytes())
     found = {file.name: hashlib.sha256(file.read_bytes()).hexdigest() for file in folder.iterdir()}
@@ -62,73 +67,31 @@ def plain_bytes(poll_bytes):
     return "".join(lines).replace("\x7f", "\\u007f").encode()
 
 
-def try_recasts_and_a_last_envelope(expect, scratch):
-    """The words for electors who voted again, and for a poll that has a last envelope."""
-    room = scratch / "recasts"
-    room.mkdir()
-    for ends, ballots, last, said in [
-        ("plain", "ada 1,2,3\n", "", ""),
-        ("one", "ada 1,2,3\nada 2,1,3\n", "last_envelope = 2\n", "1 voter has 2 valid lines: electors who voted again "),
-        ("late", "ada 1,2,3\nben 2,1,3\nada 2,1,3\nben 1,2,3\n", "last_envelope = 3\n", "2 voters have 3 valid lines: electors who"),
-    ]:
-        (room / "poll.toml").write_text(publishing.PLAIN_POLL + last)
-        (room / "ballots").write_text(ballots)
-        found = publishing.publish_files(room / "poll.toml", room / "ballots", room / ends)
-        expect(f"{ends}: its status", found[2], 0)
-        reading.try_page(expect, ends, room / ends)
-        page = (room / ends / "index.html").read_text()
-        expect(f"{ends}: its words", (said in page, "voted again" in page), (True, bool(said)))
-        given = hashlib.sha256((room / "poll.toml").read_bytes()).hexdigest()
-        plain = hashlib.sha256((room / ends / "poll.toml").read_bytes()).hexdigest()
-        named = [f"has the checksum (SHA-256) <code>{given}</code>" in page, f"have this checksum, the poll's? <code>{plain}</code>" in page]
-        expect(f"{ends}: the checksums of the poll", named, [given != plain, True])
-
-
-class FoldersTest(publishing.PublishTest):
+class FoldersTest(looks.LooksTest):
     @classmethod
-    def setUpClass(cls):
-        super().setUpClass()
-        cls.facts = []
+    def made(cls):
         published = publishing.side_by_side(cls.publish, examples.elections(cls.scratch))
         cls.castings = {folder: casting for folder, casting in published if folder.exists()}
-        cls.folders = list(cls.castings)
+        cls.note("how many", len(cls.castings) > len(examples.CASES), True)
+        return list(cls.castings)
 
     @classmethod
     def publish(cls, election):
         """Publishes an election, notes what is to be said of its files, and returns its folder and what the casting vote is for."""
         name, poll, ballots, more = election
-        try_folder(lambda *fact: cls.facts.append(fact), name, poll, ballots, more, cls.scratch / name)
+        try_folder(cls.note, name, poll, ballots, more, cls.scratch / name)
         return cls.scratch / name, more[-1].removeprefix("--casting=") if more else None
 
-    def test_files(self):
-        self.assertGreater(len(self.folders), len(examples.CASES))
-        for fact in self.facts:
-            self.expect(*fact)
-
     def test_pages(self):
-        for folder in self.folders:
-            reading.try_page(self.expect, folder.name, folder)
-
-    def test_parts_of_pages(self):
         for folder, casting in self.castings.items():
+            page_parts.try_page(self.expect, folder.name, folder)
             result_checks.try_published(self.expect, folder.name, folder, casting)
-
-    def test_recasts_and_a_last_envelope(self):
-        try_recasts_and_a_last_envelope(self.expect, self.scratch)
-
-    @looks.NEEDS_TIDY
-    def test_tidy(self):
-        looks.try_tidy(self.expect, self.folders)
-
-    @looks.NEEDS_BROWSER
-    def test_browser(self):
-        looks.try_pages(self.expect, self.folders, self.scratch)
 
     @looks.NEEDS_BROWSER
     def test_bars(self):
-        looks.try_bars(self.expect, self.folders, self.scratch)
+        self.check_bars()
 
     @looks.NEEDS_BROWSER
     @looks.NEEDS_PICTURES
     def test_pictures(self):
-        looks.try_pictures(self.expect, self.folders, self.scratch, {True, False})
+        self.check_pictures({True, False})

@@ -1,7 +1,6 @@
 """What stands on a page beside the count: names and texts as people read them, whose words they are, and the refused lines.
 
-Names in any language stand as text, whatever they have in them. The files can be read by all whatever the umask. Of a folder each
-command of the page is typed.
+Names in any language stand as text, whatever they have in them. Of a folder each command of the page is typed.
 """
 
 import hashlib
@@ -31,18 +30,10 @@ def try_names(expect, scratch):
     expect("names: its status", publish(room, *FILES, "result")[1:], ("", 0))
     expect("names: the poll keeps what is sealed", "note" in (room / "result" / "poll.toml").read_text(), False)
     page = (room / "result" / "index.html").read_text()
-    label = [f"<bdi>{pages.escaped(text)}</bdi>" for text in names]
-    bold = '<b data-option="{}">Option {}: {}</b>'.format
     for name, wanted in [
-        ("the heading", '<h1 dir="auto">Ob die Satzung geändert wird</h1>'),
         ("the window", "<title>Result: Ob die Satzung geändert wird</title>"),
-        ("the winner", f'<h2 id="Result"><b data-option="2">{label[1]}</b></h2>\n<p>has won. It beats {bold(3, 3, label[2])} by 10 to 1.</p>'),
-        ("an option", f"<li>{bold(1, 1, label[0])}, majority ratio 3 (plain name, on the result sheet: Amend it): 6 are the quorum,"),
-        ("the table", f'<th scope="row">Option 1: {label[0]} <span class="chip">no majority</span></th>'),
-        ("a bar", f'</span><span class="number">1</span><span class="unseen">: </span><b>{label[0]}</b>'),
-        ("a ballot", f"Option 2: {label[1]}; then Option 3: {label[2]}; then Option 1: {label[0]}</li>"),
         *([("the picture", "The picture has the plain names.")] if HAS_PICTURES else []),
-        ("a text", f'<p class="whose">About {bold(1, 1, label[0])}, in the words of those who publish this page.'),
+        ("a text", f'<p class="whose">About <b data-option="1">Option 1: <bdi>{pages.escaped(HOSTILE)}</bdi></b>, in the words of those who publish this page.'),
         ("its paragraphs", '<p class="about"><bdi>\u200fÜber &lt;b&gt;alles&lt;/b&gt;.</bdi></p>'),
     ]:
         expect(f"names: {name}", wanted in page, True)
@@ -58,95 +49,7 @@ def try_names(expect, scratch):
     return room / "result"
 
 
-def try_languages(expect, scratch):
-    """The page is in the language that is given, and its places have the same names."""
-    places = []
-    for code, said in [("en", "has won"), ("de", "hat gewonnen"), ("fr", "a gagné"), ("es", "ha ganado")]:
-        room = room_with(scratch / f"language-{code}", "plain_win")
-        expect(f"{code}: its status", publish(room, *FILES, "--language", code, "result")[1:], ("", 0))
-        page = (room / "result" / "index.html").read_text()
-        expect(f"{code}: its language", (f'<html lang="{code}">' in page, said in page), (True, True))
-        places.append(re.findall(r'<h[23] id="(.*?)">', page))
-    expect("all languages: the same places", places[1:], places[:1] * 3)
-
-
 # ---------------------------------------------------------------- what is known, and who says it
-def try_honest_words(expect, scratch):
-    """The page says what it knows, what it does not, and what is enough for an elector."""
-    room = room_with(scratch / "honest", "supermajority_and_recasts")
-    expect("honest words: the status", publish(room, *FILES, "result")[2], 0)
-    page = (room / "result" / "index.html").read_text()
-    sections = pages.sections_of(page)
-    said = "This is the count of the files in this folder. No count shows whether they are what the electors sent; see "
-    expect("honest words: below what is checked", said in sections["Check-it"].text(), True)
-    unseen = sections["What-nobody-can-see-from-here"]
-    # a line feed is a space to a reader
-    rows = [" ".join(entry.text().split()) for entry in unseen.all("li")]
-    for start, check in [
-        ("A ballot that came and was left out, if its elector does not look. ", "Look for your own ballot under Find your ballot"),
-        ("A vote in the name of an elector who did not vote. ", "you must be among those who did not"),
-        ("An elector who is not a person, or a person with two names. ", "with your list of members"),
-        ("The hand that typed: ", "Keep a copy of what you send, and compare your ballot here with it"),
-        ("The clock: ", "Keep what shows when you sent your ballot"),
-        ("Different pages for different readers: ", "with the letter of the result"),
-    ]:
-        expect(f"nobody can see: {start}", [check in row for row in rows if row.startswith(start)], [True])
-    expect("nobody can see: how many", len(rows), 6)
-    seen = ["Result", "Why", "Find-your-ballot", "Check-it"]
-    folded = ["Options", "Votes", "Defeats", "Ballots", "Who-voted", "Refused-lines"]
-    folded += ["What-was-done", "What-nobody-can-see-from-here", "How-to-verify"]
-    expect("the order of the parts", list(sections), [*seen, *folded])
-    heads = {name: [head.one("h3").attributes["id"] for head in part.all("summary") if list(head.all("h3"))] for name, part in sections.items()}
-    expect("what is folded, under its heading", {name: head for name, head in heads.items() if head}, {name: [name] for name in folded})
-    verify = sections["How-to-verify"]
-    heads = [head.text() for head in verify.all("h4")]
-    program = subprocess.run([PROGRAM, "--version"], capture_output=True, text=True).stdout.strip()
-    wanted = ["To count again", f"With the program {program}", "Without debvote"]
-    expect("how to verify: its parts", heads, wanted)
-    own, winner, sums, letter, again = [" ".join(entry.text().split()) for entry in sections["Check-it"].one("ol").all("li")]
-    poll_sum = hashlib.sha256((room / "result" / "poll.toml").read_bytes()).hexdigest()
-    expect("check it: one's own ballot", own.startswith("Is your ballot as you sent it? Find your ballot shows it. If you did not vote"), True)
-    expect("check it: the winner", winner.startswith("Does your letter of the result name the same winner? "), True)
-    expect("check it: both checksums", sums.startswith("Does it have the checksums of SHA256SUMS and index.html, this page, "), True)
-    expect("check it: one's own letter", letter, f"Does your letter of the call have this checksum, the poll's? {poll_sum}")
-    text = verify.text()
-    for said in ["Ask your secretary where to get it", "It is better taken from elsewhere", "/usr/share/doc/debvote/reference.py"]:
-        expect(f"how to verify: {said}", said in text, True)
-    again = sections["Check-it"]
-    links = {link.attributes["href"]: "download" in link.attributes for link in again.all("a")}
-    expect("check it: what is downloaded", [name for name, is_loaded in links.items() if is_loaded], ["SHA256SUMS", "index.html"])
-    for said in ["Your browser can count the ballots again", "a second opinion from the same web site", "Nothing is sent."]:
-        expect(f"count again here: {said}", said in again.text(), True)
-    expect("count again here: it promises no proof", re.search("(?i)prove|verified|certain", again.text()), None)
-    whole = pages.tree_of(page).text()
-    expect("ballots in the order of what?", ("in the order in which they were entered" in whole, "they came" in whole), (True, False))
-    expect("nothing is said to be announced", "announced" in whole, False)
-
-
-def try_refused_texts(expect, scratch):
-    """Each refused line stands there with its text, escaped and cut, and with the words that belong to it."""
-    room = scratch / "refused-texts"
-    plain_room(room)
-    long = "x" * 180 + ">" + "y" * 200
-    lines = ["ada;1,2,3", "<b>ada</b> 1,2,3", "", "ben 1.,2,3", "zoe 1,2,3", "zoe 1,2,3", long, "ada 1,2", "caf\u00e9\u202e 1,2,3", "cleo 1,\t2,3"]
-    # a ballot between two lines that are alike
-    lines += ["cleo 1,2,3", "cleo 1,\t2,3"]
-    (room / "ballots").write_text((room / "ballots").read_text() + "".join(f"{line}\n" for line in lines))
-    expect("refused texts: the status", publish(room, *FILES, "result")[2], 0)
-    page = (room / "result" / "index.html").read_text()
-    found = [entry.text() for entry in pages.sections_of(page)["Refused-lines"].all("li")]
-    expect("refused texts", found, REFUSED_TEXTS)
-    (room / "ballots").write_text((room / "ballots").read_text() + "".join(f"y{place}{'z' * 150}\n" for place in range(8_000)))
-    expect("many refused texts: the status", publish(room, *FILES, "many")[2], 0)
-    page = (room / "many" / "index.html").read_text()
-    part = pages.sections_of(page)["Refused-lines"]
-    (told,) = re.findall(r"The texts from line (\d+) on are too many for this page: see ballots.txt.", part.text())
-    last = [entry.text() for entry in part.all("li")][-1]
-    cause = 'bad shape: column 33: "z"; a ballot has a space there: a name has at most 32 bytes'
-    expect("many refused texts: the last ones", last, f"lines {told} to 8015: {cause}")
-    expect("many refused texts: so many are shown", (int(told) > 5_000, len(page) < publishing.LARGEST_PAGE), (True, True))
-
-
 REFUSED_TEXTS = [
     'line 4: ada;1,2,3: bad shape: column 4: ";"; a ballot has a space there, or more of the name: a to z, 0 to 9, . or -',
     'line 5: <b>ada</b> 1,2,3: bad shape: column 1: "<"; a ballot has the name there: a to z, 0 to 9, . or -',
@@ -163,110 +66,137 @@ REFUSED_TEXTS = [
 ]
 
 
-def try_a_name_with_words_of_the_sheet(expect, scratch):
-    """An option whose name has the words of a casting vote outside of a tie, and which wins, is told as the winner alone."""
-    room = room_with(scratch / "words", "plain_win")
-    poll = (room / "poll.toml").read_text()
-    first = re.search(r'options\s*=\s*\["(.*?)"', poll)[1]
-    (room / "poll.toml").write_text(poll.replace(f'"{first}"', '"A, casting option 2 is not among them"'))
-    expect("words of the sheet: the status", publish(room, *FILES, "result")[2], 0)
-    outcome = json.loads((room / "result" / "result.json").read_text())["outcome"]
-    expect("words of the sheet: the outcome", (outcome["winner"], outcome["casting_vote_outside"]), (1, None))
-
-
 # ---------------------------------------------------------------- modes and bytes
-def try_modes(expect, scratch):
-    """Whatever the umask, and in two runs, the folder is the same, and all can read it."""
-    contents = []
-    for number, mask in enumerate((0o077, 0o000, 0o022)):
-        room = room_with(scratch / f"modes-{mask:03o}", "cycle_and_casting_vote")
-        expect(f"umask {mask:03o}: its status", publish(room, *FILES, "result", umask=mask)[1:], ("", 1))
-        folder = room / "result"
-        modes = {file.stat().st_mode & 0o777 for file in folder.iterdir()}
-        expect(f"umask {mask:03o}: its modes", (folder.stat().st_mode & 0o777, modes), (0o755, {0o644}))
-        contents.append({file.name: file.read_bytes() for file in folder.iterdir()})
-    expect("the same bytes, names and pictures too", [content == contents[0] for content in contents], [True] * 3)
-
-
-def try_commands(expect, scratch):
-    """Each command of the page is typed in the folder; what it answers is what the page says."""
-    room = room_with(scratch / "commands", "cycle_and_casting_vote")
-    ballots = (room / "ballots").read_text()
-    (room / "poll.toml").write_text((room / "poll.toml").read_text() + "last_envelope = 7\n")
-    (room / "ballots").write_text(ballots + "Ada 1,2,3,4\nada 1,2,3,4\nben 1\n")
-    expect("commands: its status", publish(room, *FILES, "--casting", "Bottle", "result")[1:], ("", 0))
-    folder = room / "result"
-    before = {file.name: file.read_bytes() for file in folder.iterdir()}
-    said = "Those who publish this page do not say whose casting vote it was, or when it was given."
-    expect("commands: whose casting vote", said in (folder / "index.html").read_text(), True)
-    # files that somebody has laid there change nothing of what the commands answer, but that they are named
-    others = {"package.json": '{"type": "module"}', "hmac.py": "boom", "a\nb": "", 'c"d': ""}
-    for name, text in others.items():
-        (folder / name).write_text(text)
-    page = (folder / "index.html").read_text().partition('<h3 id="How-to-verify">')[2]
-    found = re.findall(r"<pre><code>(.*?)</code></pre>\n(?:<p>It prints:</p>\n<pre><code>(.*?)</code></pre>)?", page, re.DOTALL)
-    expect("commands: how many", len({command for command, _ in found}), 14)
-    answers = {}
-    for command, wanted in found:
-        if ("| dot " in command and not HAS_PICTURES) or (command.startswith("nodejs") and shutil.which("nodejs") is None):
-            continue
-        environment = {**os.environ, "PATH": PATH, "PYTHONDONTWRITEBYTECODE": "1"}
-        how = {"cwd": folder, "env": environment, "capture_output": True, "text": True, "timeout": SECONDS}
-        ended = subprocess.run(["sh", "-c", html.unescape(command)], **how)
-        answers[html.unescape(command)] = ended.stdout
-        expect(f"commands: {command}: its faults", (ended.stderr, ended.returncode), ("", 0))
-        if " ls -A " in command:
-            named = ['"SHA256SUMS"', '"letter.txt"', r'"a\nb"', r'"c\"d"', '"hmac.py"', '"package.json"']
-            expect("commands: other files are named", sorted(ended.stdout.splitlines()), sorted(named))
-        elif wanted:
-            expect(f"commands: {command}: what it answers", ended.stdout, html.unescape(wanted) + "\n")
-    sheet = (folder / "sheet.txt").read_text()
-    recount = "python3 -I recount.py count --poll poll.toml --ballots ballots.txt --casting Bottle"
-    expect("commands: the second count prints the sheet", answers[recount], sheet)
-    expect("commands: and so does debvote", answers["debvote count --poll poll.toml --ballots ballots.txt --casting Bottle"], sheet)
-    after = {file.name: file.read_bytes() for file in folder.iterdir() if file.name not in others}
-    expect("commands: the folder is as it was, its picture too", after, before)
-
-
-class GivenTest(publishing.PublishTest):
+class GivenTest(looks.LooksTest):
     """What stands on a page beside the count; the page is read in a browser too."""
 
     @classmethod
-    def setUpClass(cls):
-        super().setUpClass()
-        cls.facts = []
-        cls.folders = [try_names(lambda *fact: cls.facts.append(fact), cls.scratch)]
-
-    def test_names(self):
-        for fact in self.facts:
-            self.expect(*fact)
-
-    @looks.NEEDS_TIDY
-    def test_tidy(self):
-        looks.try_tidy(self.expect, self.folders)
-
-    @looks.NEEDS_BROWSER
-    def test_browser(self):
-        looks.try_pages(self.expect, self.folders, self.scratch)
+    def made(cls):
+        return [try_names(cls.note, cls.scratch)]
 
 
 class WordsTest(publishing.PublishTest):
     def test_honest_words(self):
-        try_honest_words(self.expect, self.scratch)
+        """The page says what it knows, what it does not, and what is enough for an elector."""
+        room = room_with(self.scratch / "honest", "supermajority_and_recasts")
+        self.expect("honest words: the status", publish(room, *FILES, "result")[2], 0)
+        page = (room / "result" / "index.html").read_text()
+        sections = pages.sections_of(page)
+        said = "This is the count of the files in this folder. No count shows whether they are what the electors sent; see "
+        self.expect("honest words: below what is checked", said in sections["Check-it"].text(), True)
+        unseen = sections["What-nobody-can-see-from-here"]
+        # a line feed is a space to a reader
+        rows = [" ".join(entry.text().split()) for entry in unseen.all("li")]
+        for start, check in [
+            ("A ballot that came and was left out, if its elector does not look. ", "Look for your own ballot under Find your ballot"),
+            ("A vote in the name of an elector who did not vote. ", "you must be among those who did not"),
+            ("An elector who is not a person, or a person with two names. ", "with your list of members"),
+            ("The hand that typed: ", "Keep a copy of what you send, and compare your ballot here with it"),
+            ("The clock: ", "Keep what shows when you sent your ballot"),
+            ("Different pages for different readers: ", "with the letter of the result"),
+        ]:
+            self.expect(f"nobody can see: {start}", [check in row for row in rows if row.startswith(start)], [True])
+        self.expect("nobody can see: how many", len(rows), 6)
+        seen = ["Result", "Why", "Find-your-ballot", "Check-it"]
+        folded = ["Options", "Votes", "Defeats", "Ballots", "Who-voted", "Refused-lines"]
+        folded += ["What-was-done", "What-nobody-can-see-from-here", "How-to-verify"]
+        self.expect("the order of the parts", list(sections), [*seen, *folded])
+        heads = {name: [head.one("h3").attributes["id"] for head in part.all("summary") if list(head.all("h3"))] for name, part in sections.items()}
+        self.expect("what is folded, under its heading", {name: head for name, head in heads.items() if head}, {name: [name] for name in folded})
+        verify = sections["How-to-verify"]
+        heads = [head.text() for head in verify.all("h4")]
+        program = subprocess.run([PROGRAM, "--version"], capture_output=True, text=True).stdout.strip()
+        wanted = ["To count again", f"With the program {program}", "Without debvote"]
+        self.expect("how to verify: its parts", heads, wanted)
+        own, winner, sums, letter, again = [" ".join(entry.text().split()) for entry in sections["Check-it"].one("ol").all("li")]
+        poll_sum = hashlib.sha256((room / "result" / "poll.toml").read_bytes()).hexdigest()
+        self.expect("check it: one's own ballot", own.startswith("Is your ballot as you sent it? Find your ballot shows it. If you did not vote"), True)
+        self.expect("check it: the winner", winner.startswith("Does your letter of the result name the same winner? "), True)
+        self.expect("check it: both checksums", sums.startswith("Does it have the checksums of SHA256SUMS and index.html, this page, "), True)
+        self.expect("check it: one's own letter", letter, f"Does your letter of the call have this checksum, the poll's? {poll_sum}")
+        text = verify.text()
+        for said in ["Ask your secretary where to get it", "It is better taken from elsewhere", "/usr/share/doc/debvote/reference.py"]:
+            self.expect(f"how to verify: {said}", said in text, True)
+        again = sections["Check-it"]
+        links = {link.attributes["href"]: "download" in link.attributes for link in again.all("a")}
+        self.expect("check it: what is downloaded", [name for name, is_loaded in links.items() if is_loaded], ["SHA256SUMS", "index.html"])
+        for said in ["Your browser can count the ballots again", "a second opinion from the same web site", "Nothing is sent."]:
+            self.expect(f"count again here: {said}", said in again.text(), True)
+        self.expect("count again here: it promises no proof", re.search("(?i)prove|verified|certain", again.text()), None)
+        whole = pages.tree_of(page).text()
+        self.expect("ballots in the order of what?", ("in the order in which they were entered" in whole, "they came" in whole), (True, False))
+        self.expect("nothing is said to be announced", "announced" in whole, False)
 
     def test_a_name_with_words_of_the_sheet(self):
-        try_a_name_with_words_of_the_sheet(self.expect, self.scratch)
-
-    def test_languages(self):
-        try_languages(self.expect, self.scratch)
+        """An option whose name has the words of a casting vote outside of a tie, and which wins, is told as the winner alone."""
+        room = room_with(self.scratch / "words", "plain_win")
+        poll = (room / "poll.toml").read_text()
+        first = re.search(r'options\s*=\s*\["(.*?)"', poll)[1]
+        (room / "poll.toml").write_text(poll.replace(f'"{first}"', '"A, casting option 2 is not among them"'))
+        self.expect("words of the sheet: the status", publish(room, *FILES, "result")[2], 0)
+        outcome = json.loads((room / "result" / "result.json").read_text())["outcome"]
+        self.expect("words of the sheet: the outcome", (outcome["winner"], outcome["casting_vote_outside"]), (1, None))
 
     def test_refused_texts(self):
-        try_refused_texts(self.expect, self.scratch)
+        """Each refused line stands there with its text, escaped and cut, and with the words that belong to it."""
+        room = self.scratch / "refused-texts"
+        plain_room(room)
+        long = "x" * 180 + ">" + "y" * 200
+        lines = ["ada;1,2,3", "<b>ada</b> 1,2,3", "", "ben 1.,2,3", "zoe 1,2,3", "zoe 1,2,3", long, "ada 1,2", "caf\u00e9\u202e 1,2,3", "cleo 1,\t2,3"]
+        # a ballot between two lines that are alike
+        lines += ["cleo 1,2,3", "cleo 1,\t2,3"]
+        (room / "ballots").write_text((room / "ballots").read_text() + "".join(f"{line}\n" for line in lines))
+        self.expect("refused texts: the status", publish(room, *FILES, "result")[2], 0)
+        page = (room / "result" / "index.html").read_text()
+        found = [entry.text() for entry in pages.sections_of(page)["Refused-lines"].all("li")]
+        self.expect("refused texts", found, REFUSED_TEXTS)
+        (room / "ballots").write_text((room / "ballots").read_text() + "".join(f"y{place}{'z' * 150}\n" for place in range(8_000)))
+        self.expect("many refused texts: the status", publish(room, *FILES, "many")[2], 0)
+        page = (room / "many" / "index.html").read_text()
+        part = pages.sections_of(page)["Refused-lines"]
+        (told,) = re.findall(r"The texts from line (\d+) on are too many for this page: see ballots.txt.", part.text())
+        last = [entry.text() for entry in part.all("li")][-1]
+        cause = 'bad shape: column 33: "z"; a ballot has a space there: a name has at most 32 bytes'
+        self.expect("many refused texts: the last ones", last, f"lines {told} to 8015: {cause}")
+        self.expect("many refused texts: so many are shown", (int(told) > 5_000, len(page) < publishing.LARGEST_PAGE), (True, True))
 
 
 class FilesTest(publishing.PublishTest):
-    def test_modes(self):
-        try_modes(self.expect, self.scratch)
-
     def test_commands(self):
-        try_commands(self.expect, self.scratch)
+        """Each command of the page is typed in the folder; what it answers is what the page says."""
+        room = room_with(self.scratch / "commands", "cycle_and_casting_vote")
+        ballots = (room / "ballots").read_text()
+        (room / "poll.toml").write_text((room / "poll.toml").read_text() + "last_envelope = 7\n")
+        (room / "ballots").write_text(ballots + "Ada 1,2,3,4\nada 1,2,3,4\nben 1\n")
+        self.expect("commands: its status", publish(room, *FILES, "--casting", "Bottle", "result")[1:], ("", 0))
+        folder = room / "result"
+        before = {file.name: file.read_bytes() for file in folder.iterdir()}
+        said = "Those who publish this page do not say whose casting vote it was, or when it was given."
+        self.expect("commands: whose casting vote", said in (folder / "index.html").read_text(), True)
+        # files that somebody has laid there change nothing of what the commands answer, but that they are named
+        others = {"package.json": '{"type": "module"}', "hmac.py": "boom", "a\nb": "", 'c"d': ""}
+        for name, text in others.items():
+            (folder / name).write_text(text)
+        page = (folder / "index.html").read_text().partition('<h3 id="How-to-verify">')[2]
+        found = re.findall(r"<pre><code>(.*?)</code></pre>\n(?:<p>It prints:</p>\n<pre><code>(.*?)</code></pre>)?", page, re.DOTALL)
+        self.expect("commands: how many", len({command for command, _ in found}), 14)
+        answers = {}
+        for command, wanted in found:
+            if ("| dot " in command and not HAS_PICTURES) or (command.startswith("nodejs") and shutil.which("nodejs") is None):
+                continue
+            environment = {**os.environ, "PATH": PATH, "PYTHONDONTWRITEBYTECODE": "1"}
+            how = {"cwd": folder, "env": environment, "capture_output": True, "text": True, "timeout": SECONDS}
+            ended = subprocess.run(["sh", "-c", html.unescape(command)], **how)
+            answers[html.unescape(command)] = ended.stdout
+            self.expect(f"commands: {command}: its faults", (ended.stderr, ended.returncode), ("", 0))
+            if " ls -A " in command:
+                named = ['"SHA256SUMS"', '"letter.txt"', r'"a\nb"', r'"c\"d"', '"hmac.py"', '"package.json"']
+                self.expect("commands: other files are named", sorted(ended.stdout.splitlines()), sorted(named))
+            elif wanted:
+                self.expect(f"commands: {command}: what it answers", ended.stdout, html.unescape(wanted) + "\n")
+        sheet = (folder / "sheet.txt").read_text()
+        recount = "python3 -I recount.py count --poll poll.toml --ballots ballots.txt --casting Bottle"
+        self.expect("commands: the second count prints the sheet", answers[recount], sheet)
+        self.expect("commands: and so does debvote", answers["debvote count --poll poll.toml --ballots ballots.txt --casting Bottle"], sheet)
+        after = {file.name: file.read_bytes() for file in folder.iterdir() if file.name not in others}
+        self.expect("commands: the folder is as it was, its picture too", after, before)

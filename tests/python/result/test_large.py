@@ -47,48 +47,22 @@ def publish_large(expect, scratch, options, electors):
     return room / name
 
 
-class LargeTest(publishing.PublishTest):
+class LargeTest(looks.LooksTest):
     sizes = ((12, 20), (13, 20), (32, 100))
 
     @classmethod
-    def setUpClass(cls):
-        super().setUpClass()
-        cls.facts = []
-        cls.folders = [publish_large(lambda *fact: cls.facts.append(fact), cls.scratch, *size) for size in cls.sizes]
-
-    def test_files(self):
-        for fact in self.facts:
-            self.expect(*fact)
-
-    @looks.NEEDS_TIDY
-    def test_tidy(self):
-        looks.try_tidy(self.expect, self.folders)
-
-    @looks.NEEDS_BROWSER
-    def test_browser(self):
-        looks.try_pages(self.expect, self.folders, self.scratch)
+    def made(cls):
+        return [publish_large(cls.note, cls.scratch, *size) for size in cls.sizes]
 
     @looks.NEEDS_BROWSER
     @looks.NEEDS_PICTURES
     def test_pictures(self):
-        looks.try_pictures(self.expect, self.folders, self.scratch, {False})
+        self.check_pictures({False})
 
 
-class LargestTest(publishing.PublishTest):
+class LargestTest(looks.LooksTest):
+    widths = looks.DOUBT_WIDTHS
+
     @classmethod
-    def setUpClass(cls):
-        super().setUpClass()
-        cls.facts = []
-        cls.folder = publish_large(lambda *fact: cls.facts.append(fact), cls.scratch, 32, ELECTORS)
-
-    def test_files(self):
-        for fact in self.facts:
-            self.expect(*fact)
-
-    @looks.NEEDS_TIDY
-    def test_tidy(self):
-        looks.try_tidy(self.expect, [self.folder])
-
-    @looks.NEEDS_BROWSER
-    def test_browser(self):
-        looks.try_pages(self.expect, [self.folder], self.scratch, looks.DOUBT_WIDTHS)
+    def made(cls):
+        return [publish_large(cls.note, cls.scratch, 32, ELECTORS)]

@@ -12,7 +12,6 @@ import shutil
 import subprocess
 import signal
 import sqlite3
-import sys
 import tomllib
 import unittest.mock
 from time import sleep
@@ -20,9 +19,7 @@ from time import sleep
 from debvote_tools import files
 from debvote_tools.book import queries
 from debvote_tools.book.book import open_book
-from debvote_tools.book.election import Election
 from debvote_tools.cli import command_line
-from debvote_tools.commands import publish as command
 from debvote_tools.inbox.letter import parse
 from debvote_tools.inbox.letter_lines import as_json
 from debvote_tools.inbox.mailbox import RawLetter
@@ -31,9 +28,7 @@ from debvote_tools.result.folder import Made
 from debvote_tools.text.language import ENGLISH
 from debvote_tools.text.rendering import templates_of
 
-from tests.support import page_parts as pages, publishing, reading
-
-ELECTION = publishing.ROOT / "bin" / "debvote-election"
+from tests.support import elections, expecting, page_parts as pages
 
 POLL = """title = "Wo wir uns treffen: Größe"
 options = ["72 Euro", "Größe"]
@@ -52,50 +47,33 @@ def hostile_name(folder):
     return tomllib.loads((folder / "call" / "poll.toml").read_text())["options"][0]
 
 
-class OfElections(publishing.PublishTest):
+class OfElections(elections.ElectionTest, expecting.Expecting):
     """An election in a folder of its own for each test."""
 
-    poll = POLL
+    poll, members, new_words, call_words = POLL, MEMBERS, ("--language", "de"), None
 
     def setUp(self):
+        expecting.Expecting.setUp(self)
         super().setUp()
-        self.folder = self.scratch / self.id().rpartition(".")[2]
-        self.state = self.scratch / "state"
-        self.say("new", str(self.folder), "--language", "de", cwd=self.scratch)
-        (self.folder / "poll.toml").write_text(self.poll)
-        (self.folder / "members.csv").write_text(MEMBERS)
-        self.say("roll")
         if "secret" in self.poll:
             self.say("codes")
 
-    def run_words(self, *words, cwd=None, path=publishing.PATH, **how):
-        environment = {**os.environ, "PATH": path, "XDG_STATE_HOME": str(self.state)}
-        ended = publishing.forks.run(
-            [sys.executable, str(ELECTION), *words],
-            capture_output=True,
-            text=True,
-            timeout=publishing.SECONDS,
-            cwd=cwd or self.folder,
-            env=environment,
-            **how,
-        )
-        return ended.stdout, ended.stderr, ended.returncode
-
     def state_of_this(self):
         """This process finds the programs, and its notes of books."""
-        return unittest.mock.patch.dict(os.environ, {"XDG_STATE_HOME": str(self.state), "PATH": publishing.PATH})
+        return unittest.mock.patch.dict(os.environ, elections.environment() | {"XDG_STATE_HOME": str(self.state)})
 
     def say(self, *words, status=0, **how):
         """Runs a command, which has to end so, and returns what it printed."""
-        output, faults, found = self.run_words(*words, **how)
-        self.assertEqual(found, status, (words, output, faults))
-        return output
+        ended = self.election(*words, **how)
+        self.assertEqual(ended.status, status, (words, ended))
+        return ended.output
 
-    def stops(self, *words, said=(), status=9, folder="result"):
+    def stops(self, *words, said=(), status=9, folder="result", **how):
         """Runs a command that has to stop with these words; it makes no folder and no act."""
         acts, before = len(self.acts()), (self.folder / folder).exists()
-        output, faults, found = self.run_words(*words)
-        self.expect(f"{words}: {faults}", (output, [text for text in said if text not in faults], found), ("", [], status))
+        ended = self.election(*words, **how)
+        missing = [text for text in said if text not in ended.faults]
+        self.expect(f"{words}: {ended.faults}", (ended.output, missing, ended.status), ("", [], status))
         self.expect(f"{words}: nothing is made", (len(self.acts()), (self.folder / folder).exists()), (acts, before))
 
     def replace(self, *words, **how):
@@ -113,26 +91,32 @@ class OfElections(publishing.PublishTest):
         self.add(lines, words=("--came-before-close", "yes"))
         self.say("close", *words)
 
-    def starts(self, *words, most):
-        """Runs a command, which may start debvote only so often."""
-        program = self.folder / "counting"
-        program.mkdir(exist_ok=True)
-        starts = program / "starts"
-        starts.write_text("")
-        (program / "debvote").write_text(f'#!/bin/sh\necho $1 >> {starts}\nexec {publishing.PROGRAM} "$@"\n')
-        (program / "debvote").chmod(0o755)
-        output, faults, status = self.run_words(*words, path=os.pathsep.join([str(program), publishing.PATH]))
-        self.expect(f"{words}: {output} {faults}", status in (0, 1), True)
-        found = starts.read_text().split()
-        self.expect(f"{words}: {found}", 1 <= len(found) + (words[0] == "close") <= most + (words[0] == "close"), True)
+    def closed(self, lines="ada-lovelace 1,2,3\n", *words):
+        """Calls the vote with these words, adds lines, and closes it."""
+        self.say("call", *words)
+        self.add(lines)
+        self.say("close")
 
-    def add_letters(self):
-        """Letters that were added and wait, of which debvote has to say which lines may be ballots."""
-        now = email.utils.format_datetime(datetime.datetime.now(datetime.UTC))
-        for number, name in enumerate(["zoe-mueller", "cleo"]):
-            text = f"Received: by mx; {now}\nFrom: x@x.example\nSubject: x\n\n{name} 1,2,3\n"
-            (self.folder / f"{number}.eml").write_text(text)
-            self.say("add", f"{number}.eml")
+    def late_letters(self, *letters):
+        """Letters that were entered late: how many seconds after the close each arrived, and its line."""
+        book = open_book(self.folder / "election.db")
+        close = book.last_act().time
+        with self.state_of_this(), contextlib.closing(book.connection), book.act("add") as act:
+            for seconds, line in letters:
+                time = close + datetime.timedelta(seconds=seconds)
+                data = b"Received: by mx; %s\nFrom: x@x.example\n\n%s\n" % (email.utils.format_datetime(time).encode(), line)
+                letter = queries.keep_letter(act, "letter.eml", data, "", as_json(parse(RawLetter("letter.eml", data))))
+                queries.decide(act, letter, "entered")
+                queries.add_envelopes(act, [queries.NewEnvelope(line, letter=letter, time=time)], [None], is_late=True)
+        return close
+
+    def other_debvote(self, text):
+        """A folder with a program debvote that does this first; what it does not end is done by the program itself."""
+        program = self.folder / "bin"
+        program.mkdir(exist_ok=True)
+        (program / "debvote").write_text(f'#!/bin/sh\n{text}\nexec {elections.PROGRAM} "$@"\n')
+        (program / "debvote").chmod(0o755)
+        return program
 
     def in_child(self, patch, *words):
         """Runs a command in a child with this patch, and returns the status of the child."""
@@ -143,7 +127,7 @@ class OfElections(publishing.PublishTest):
                 for output in (1, 2):
                     os.dup2(os.open(os.devnull, os.O_WRONLY), output)
                 with self.state_of_this(), patch:
-                    os._exit(command_line.main(publishing.PROGRAM.parent, list(words)))
+                    os._exit(command_line.main(elections.PROGRAM.parent, list(words)))
             finally:
                 os._exit(70)
         return os.waitstatus_to_exitcode(os.waitpid(child, 0)[1])
@@ -161,6 +145,16 @@ class OfElections(publishing.PublishTest):
 
     def files(self, folder="result"):
         return {file.name: file.read_bytes() for file in (self.folder / folder).iterdir()}
+
+    def what_was_done(self):
+        """The acts that the page tells, without their times."""
+        return [item.text().partition("): ")[2] for item in self.sections()["What-was-done"].all("li")]
+
+    def texts_of_messages(self):
+        """The texts of the messages with the result that go out."""
+        self.say("letters", "result", "--from", "vote@x.example")
+        messages = [email.message_from_bytes(file.read_bytes()) for file in (self.folder / "letters" / "result").rglob("*.eml")]
+        return [message.get_payload(decode=True).decode() for message in messages]
 
     def checksums_of_letters(self, files, ballots):
         """The checksums of the page are those of the letters, each in its place."""
@@ -202,7 +196,7 @@ class OfOpenVotes(OfElections):
         files = self.files()
         names = {"poll.toml", "ballots.txt", "late.txt", "sheet.txt", "standing.txt", "result.json", "votes.csv", "recount.py"}
         names |= {"recount.js", "closed.txt", "READING-A-SHEET.md", "SHA256SUMS", "index.html"}
-        self.expect("the files", set(files), names | ({"picture.svg"} if publishing.HAS_PICTURES else set()))
+        self.expect("the files", set(files), names | ({"picture.svg"} if elections.HAS_PICTURES else set()))
         for name, source in [
             ("poll.toml", "call/poll.toml"),
             ("poll.toml", "exported/poll.toml"),
@@ -260,9 +254,7 @@ class OfOpenVotes(OfElections):
         self.expect("real names are not published", "Lovelace" in (self.folder / "elsewhere" / "index.html").read_text(), False)
 
     def test_another_folder_stays(self):
-        self.say("call")
-        self.add("ada-lovelace 1,2,3\n")
-        self.say("close")
+        self.closed()
         (self.folder / "result").mkdir()
         self.say("publish")
         (self.folder / "result" / "notes").write_text("mine")
@@ -274,9 +266,7 @@ class OfOpenVotes(OfElections):
 
     def test_no_other_result_is_replaced(self):
         """Neither that of another election, nor an earlier one of this, nor one that somebody has changed."""
-        self.say("call")
-        self.add("ada-lovelace 1,2,3\n")
-        self.say("close")
+        self.closed()
         self.say("publish")
         (self.folder / "result" / "picture.svg").unlink(missing_ok=True)
         self.say("publish", "--language", "en")
@@ -310,9 +300,7 @@ class OfOpenVotes(OfElections):
 
     def test_made_again_otherwise(self):
         """What was published is not made otherwise in silence; it can be published once more, with its letter."""
-        self.say("call", "--at", "https://x.example/")
-        self.add(TIE)
-        self.say("close")
+        self.closed(TIE, "--at", "https://x.example/")
         self.say("publish", "--casting", "72 Euro", "--cast-by", "Anna", "--cast-on", "2026-11-20")
         files, letter, acts = self.files(), self.letter(), len(self.acts())
         (self.folder / "members.csv").write_text(MEMBERS.replace("zoe@x", "zoe@y"))
@@ -329,9 +317,7 @@ class OfOpenVotes(OfElections):
 
     def test_the_letter_binds_each_file(self):
         """Whatever file somebody changes, the command of the letter shows it."""
-        self.say("call")
-        self.add("ada-lovelace 1,2,3\n")
-        self.say("close")
+        self.closed()
         self.add("dan 3,2,1\n")
         self.say("publish", "--language", "en")
         [command] = re.findall(r"(?m)^  (sha256sum .*)$", self.letter())
@@ -351,7 +337,7 @@ class OfOpenVotes(OfElections):
         self.expect("as it was published", shown(), False)
         names = sorted(self.files())
         self.expect("each that is changed", [name for name in names if not shown(name)], [])
-        self.expect("how many", len(names), 14 if publishing.HAS_PICTURES else 13)
+        self.expect("how many", len(names), 14 if elections.HAS_PICTURES else 13)
 
     def test_closed_early(self):
         self.say("call", "--until", "2099-12-04 18:00", "--zone", "Europe/Berlin", "--at", "https://x.example/")
@@ -364,29 +350,11 @@ class OfOpenVotes(OfElections):
         self.expect(f"the doubt: {doubt}", doubt.startswith("The vote was closed on ") and doubt.endswith(f"before its announced end: {end}"), True)
         self.expect("the letter of the result", doubt in " ".join(self.letter().split()), True)
         self.say("publish", "--language", "de")
-        self.say("letters", "result", "--from", "vote@x.example")
-        letters = [email.message_from_bytes(file.read_bytes()) for file in (self.folder / "letters" / "result").rglob("*.eml")]
-        texts = [" ".join(letter.get_payload(decode=True).decode().split()) for letter in letters]
+        texts = self.texts_of_messages()
         until = "Freitag, 4. Dezember 2099, 18:00 (UTC+01:00)"
         for text in (*texts, (self.folder / "letters" / "closed.txt").read_text()):
             self.expect(f"until when: {text}", until in " ".join(text.split()), True)
         self.expect("letters", len(texts), 3)
-
-    def test_each_late_letter_is_a_doubt(self):
-        """Also two of the same minute."""
-        self.say("call")
-        self.add("ada-lovelace 1,2,3\n")
-        self.say("close")
-        book = open_book(self.folder / "election.db")
-        with self.state_of_this(), contextlib.closing(book.connection), book.act("add") as act:
-            time = book.acts()[-1].time.replace(second=0)
-            for line in (b"zoe-mueller 1,2,3", b"cleo 1,2,3"):
-                data = b"Received: by mx; %s\nFrom: x@x.example\n\n%s\n" % (email.utils.format_datetime(time).encode(), line)
-                letter = queries.keep_letter(act, "letter.eml", data, "", as_json(parse(RawLetter("letter.eml", data))))
-                queries.decide(act, letter, "entered")
-                queries.add_envelopes(act, [queries.NewEnvelope(line, letter=letter, time=time)], [None], is_late=True)
-        self.say("publish", "--force", "--because", "so be it")
-        self.expect("doubts", len(self.doubts()), 2)
 
     def test_doubts_are_told_at_once(self):
         self.say("call")
@@ -412,46 +380,49 @@ class OfOpenVotes(OfElections):
         """Each kind of act is told on the page, and all but what is plain in the letters of the result."""
         self.say("call")
         self.say("call", "--take-back")
-        self.say("call", "--until", "2099-12-04 18:00", "--zone", "Europe/Berlin", "--at", "https://x.example/")
+        for day in (4, 5):
+            self.say("call", "--until", f"2099-12-0{day} 18:00", "--zone", "Europe/Berlin", "--at", "https://x.example/")
         self.add("ada-lovelace 1,2,3\n")
-        checksum = hashlib.sha256(b"ada-lovelace 1,2,3\n").hexdigest()
-        plain = {"lines": 1, "checksum": checksum, "early": False, "waiting": 0, "after_end": 0}
+        members = MEMBERS
+        for before, after in (("zoe@x", "zoe@y"), ("@x.example", "@z.example")):
+            members = members.replace(before, after)
+            (self.folder / "members.csv").write_text(members)
+            self.say("roll", "--yes")
+        self.say("close", "--early")
+        self.add("zoe-mueller 1,2,3\ncleo 1,2,3\n")
+        self.say("reopen", "--because", "Zoë's letter lay in the <hall>", "--in-time", "2", "3")
+        self.say("strike", "1", "--because", "wrong hand")
+        checksum = hashlib.sha256(b"zoe-mueller 1,2,3\ncleo 1,2,3\n").hexdigest()
+        close = {"lines": 2, "checksum": checksum, "early": True, "waiting": 2, "after_end": 1, "because": "in a hurry"}
         book = open_book(self.folder / "election.db")
         with self.state_of_this(), contextlib.closing(book.connection):
-            for name, detail in [
-                ("addresses", {"electors": 1}),
-                ("addresses", {"electors": 2}),
-                ("extend", {"keyring": "a checksum"}),
-                ("moved", {"noted": {"act": 7}, "there": {"act": 5}, "because": "an old copy"}),
-                ("close", plain),
-                ("reopen", {"because": "a look"}),
-                ("close", plain | {"early": True, "waiting": 2, "after_end": 1, "because": "in a hurry"}),
-            ]:
+            for name, detail in [("extend", {"keyring": "a checksum"}), ("close", close)]:
                 with book.act(name, detail):
                     pass
         self.say("publish", "--language", "en")
         because = " The reason, in the secretary's words:"
         end = "one could vote until Friday, 4 December 2099, 18:00 (UTC+01:00)."
-        closed = f"The vote was closed. Lines in time: 1. Checksum: {checksum}."
-        between = "Since the close before this one, lines that came in: 0; lines that were struck: 0."
+        first = next(act.detail["checksum"] for act in self.acts() if act.name == "close")
+        early = "That was before the time until which one could vote."
         quiet = ["The call was made; it named no time until which one could vote.", "This call was taken back, before any ballot had come."]
-        quiet += [f"The call was made; {end}", "The secretary took newer keys of the electors.", closed]
+        quiet += [f"The call was made; {end}", "The secretary took newer keys of the electors."]
         told = [
+            "The time was extended: one could vote until Saturday, 5 December 2099, 18:00 (UTC+01:00).",
             "1 elector got another address or key.",
             "2 electors got other addresses or keys.",
-            "The secretary went on with a book of this election in which act 5 was the last, though this computer had noted act 7 of it."
-            f"{because} an old copy",
-            f"The vote was opened again, for what had come before the first close.{because} a look",
-            f"{closed} That was before the time until which one could vote. 2 letters that had arrived in time were left waiting. "
-            f"1 letter that had arrived after the end did not go in. {between}{because} in a hurry",
+            f"The vote was closed. Lines in time: 1. Checksum: {first}. {early}",
+            f"The vote was opened again, for what had come before the first close.{because} Zoë's letter lay in the <hall>",
+            f"The secretary struck envelope 1: its line does not count.{because} wrong hand",
+            f"The vote was closed. Lines in time: 2. Checksum: {checksum}. {early} 2 letters that had arrived in time were left waiting. "
+            "1 letter that had arrived after the end did not go in. "
+            f"Since the close before this one, lines that came in: 2; lines that were struck: 1.{because} in a hurry",
         ]
-        done = [item.text().partition("): ")[2] for item in self.sections()["What-was-done"].all("li")]
-        self.expect("on the page", done, [*quiet[:3], *told[:2], quiet[3], told[2], quiet[4], *told[3:]])
+        self.expect("on the page", self.what_was_done(), [*quiet[:3], *told[:-1], quiet[3], told[-1]])
+        self.expect("the late ones stay late", self.files()["late.txt"], b"zoe-mueller 1,2,3\ncleo 1,2,3\n")
+        self.expect("the times are in one zone", self.sections()["What-was-done"].text().count("(UTC+01:00): "), 11)
         self.say("publish", "--language", "de")
-        self.say("letters", "result", "--from", "vote@x.example")
-        letters = [email.message_from_bytes(file.read_bytes()) for file in (self.folder / "letters" / "result").rglob("*.eml")]
-        text = letters[0].get_payload(decode=True).decode().partition("WAS GESCHEHEN IST\n\n")[2]
-        acts = re.findall(r"(?m)^- ((?:.+\n)+(?:  .+\n)*)", text)
+        letters = self.texts_of_messages()
+        acts = re.findall(r"(?m)^- ((?:.+\n)+(?:  .+\n)*)", letters[0].partition("WAS GESCHEHEN IST\n\n")[2])
         self.expect("in the letters", (len(letters), len(acts)), (3, len(told)))
         close = " ".join(acts[-1].split())
         words = ("2 rechtzeitig eingetroffene Schreiben", "1 Schreiben, das nach dem Ende", "(in a hurry)")
@@ -470,36 +441,8 @@ class OfOpenVotes(OfElections):
             self.expect(done, act.is_quiet, done in plain)
             self.expect(f"{done}, in words", told.dated(act).startswith("Friday, 4 December 2026, 00:00 (UTC): "), True)
 
-    def test_what_was_done_after_the_close(self):
-        self.say("call", "--until", "2099-12-04 18:00", "--zone", "Europe/Berlin")
-        self.say("call", "--until", "2099-12-05 18:00", "--zone", "Europe/Berlin")
-        self.add("ada-lovelace 1,2,3\n")
-        self.say("close", "--early")
-        self.add("zoe-mueller 1,2,3\ncleo 1,2,3\n")
-        self.say("reopen", "--because", "Zoë's letter lay in the <hall>", "--in-time", "2", "3")
-        self.say("strike", "1", "--because", "wrong hand")
-        self.say("close", "--early")
-        self.say("publish", "--language", "en")
-        done = [item.text().partition("): ")[2] for item in self.sections()["What-was-done"].all("li")]
-        sums = [act.detail["checksum"] for act in self.acts() if act.name == "close"]
-        early = "That was before the time until which one could vote."
-        because = "The reason, in the secretary's words:"
-        wanted = [
-            "The call was made; one could vote until Friday, 4 December 2099, 18:00 (UTC+01:00).",
-            "The time was extended: one could vote until Saturday, 5 December 2099, 18:00 (UTC+01:00).",
-            f"The vote was closed. Lines in time: 1. Checksum: {sums[0]}. {early}",
-            f"The vote was opened again, for what had come before the first close. {because} Zoë's letter lay in the <hall>",
-            f"The secretary struck envelope 1: its line does not count. {because} wrong hand",
-            f"The vote was closed. Lines in time: 2. Checksum: {sums[1]}. {early} Since the close before this one, lines that came in: 2; lines that were struck: 1.",
-        ]
-        self.expect("what was done", done, wanted)
-        self.expect("the late ones stay late", (self.folder / "result" / "late.txt").read_bytes(), b"zoe-mueller 1,2,3\ncleo 1,2,3\n")
-        self.expect("the times are in one zone", self.sections()["What-was-done"].text().count("(UTC+01:00): "), 6)
-
     def test_a_moved_book(self):
-        self.say("call")
-        self.add("ada-lovelace 1,2,3\n")
-        self.say("close")
+        self.closed()
         self.state = self.scratch / "other computer"
         self.stops("publish", said=["this computer has never seen this election"])
         self.say("publish", "--moved", "--because", "a new <laptop>", "--language", "en")
@@ -523,36 +466,23 @@ class OfOpenVotes(OfElections):
             connection.commit()
 
     def test_late_letters(self):
-        self.say("call")
-        self.add("ada-lovelace 1,2,3\n")
-        self.say("close")
-        book = open_book(self.folder / "election.db")
-        close = book.last_act().time
-        with self.state_of_this(), contextlib.closing(book.connection), book.act("add") as act:
-            # the last one arrives between the first close and the second
-            lines = [(-60, b"zoe-mueller 1,2,3"), (60, b"cleo 1,2,3"), (0, b"dan 2,1,3"), (1, b"ada-lovelace 3,2,1")]
-            for seconds, line in lines:
-                time = close + datetime.timedelta(seconds=seconds)
-                data = b"Received: by mx; %s\nFrom: x@x.example\n\n%s\n" % (email.utils.format_datetime(time).encode(), line)
-                known = as_json(parse(RawLetter("letter.eml", data)))
-                letter = queries.keep_letter(act, "letter.eml", data, "", known)
-                queries.decide(act, letter, "entered")
-                queries.add_envelopes(act, [queries.NewEnvelope(line, letter=letter, time=time)], [None], is_late=True)
-        self.stops("publish", said=["the ballot of letter 1 is late", "the ballot of letter 3 is late"])
+        self.closed()
+        # each is a doubt, also two of the same minute; the fourth arrives between the first close and the second
+        lines = [(-60, b"zoe-mueller 1,2,3"), (60, b"cleo 1,2,3"), (0, b"dan 2,1,3"), (1, b"ada-lovelace 3,2,1"), (-60, b"zoe-mueller 1,3,2")]
+        close = self.late_letters(*lines)
+        self.stops("publish", said=[f"the ballot of letter {number} is late" for number in (1, 3, 5)])
         self.say("publish", "--force", "--because", "so be it", "--language", "en")
-        self.expect("doubts", [text.partition("before")[0].partition("on ")[0] for text in self.doubts()], ["A letter arrived "] * 2)
-        self.say("reopen", "--because", "they were in time", "--in-time", "2", "4")
+        self.expect("doubts", [text.partition("before")[0].partition("on ")[0] for text in self.doubts()], ["A letter arrived "] * 3)
+        self.say("reopen", "--because", "they were in time", "--in-time", "2", "4", "6")
         sleep(max(0, (close + datetime.timedelta(seconds=1) - datetime.datetime.now(datetime.UTC)).total_seconds()))
         self.say("close")
         self.expect("the close after that letter", self.acts()[-1].time > close, True)
         self.replace("--language", "en")
-        self.expect("entered in time", (self.doubts(), (self.folder / "result" / "late.txt").read_text().count("\n")), ([], 4))
+        self.expect("entered in time", (self.doubts(), (self.folder / "result" / "late.txt").read_text().count("\n")), ([], 5))
 
     def test_a_late_letter_before_a_later_ballot(self):
         """It would not count, and `reopen` would refuse it: so it is no doubt, as that of who has no ballot is."""
-        self.say("call")
-        self.add("ada-lovelace 1,2,3\n")
-        self.say("close")
+        self.closed()
         book = open_book(self.folder / "election.db")
         time = book.last_act().time - datetime.timedelta(seconds=60)
         with self.state_of_this(), contextlib.closing(book.connection), book.act("add") as act:
@@ -566,30 +496,27 @@ class OfOpenVotes(OfElections):
 
     def test_what_comes_after_the_end(self):
         """Lines and ballots of a desk are told that came after the end; not those that were struck, nor letters, which wait."""
-        clock = self.folder / "clock"
-        where = {"PYTHONPATH": str(publishing.ROOT / "tests" / "clock"), "DEBVOTE_CLOCK": str(clock)}
-        clock.write_text("2027-03-01T10:00:00+00:00")
         letter = "Received: by mx; Mon, 1 Mar 2027 12:30:00 +0000\nFrom: cleo@x.example\n\ncleo 3,2,1\n"
-        with unittest.mock.patch.dict(os.environ, where):
-            self.say("call", "--until", "2027-03-01 12:00", "--zone", "UTC")
-            self.add("ada-lovelace 1,2,3\n")
-            clock.write_text("2027-03-01T13:00:00+00:00")
-            self.add("zoe-mueller 1,2,3\ncleo 1,2,3\ndan 1,2,3\n")
-            (self.folder / "letter.eml").write_text(letter)
-            self.say("add", "letter.eml")
-            self.say("held", "1", "--enter", "1", "--force")
-            self.say("strike", "3", "--because", "on paper")
-            clock.write_text("2027-03-01T12:50:00+00:00")
-            self.say("close")
-            clock.write_text("2027-03-01T14:00:00+00:00")
-            self.say("reopen", "--because", "a lost letter", "--in-time")
-            self.add("dan 1,3,2\n", words=("--came-before-close", "yes"))
-            self.say("close")
-            (self.folder / "letter.eml").write_text(letter.replace("12:30", "12:40").replace("cleo 3", "zoe-mueller 3"))
-            self.say("add", "letter.eml")
-            self.say("held", "2", "--enter", "1", "--force")
-            # a late one that arrived after the end is no doubt
-            self.say("publish", "--language", "en")
+        self.set_clock("2027-03-01T10:00:00+00:00")
+        self.say("call", "--until", "2027-03-01 12:00", "--zone", "UTC")
+        self.add("ada-lovelace 1,2,3\n")
+        self.set_clock("2027-03-01T13:00:00+00:00")
+        self.add("zoe-mueller 1,2,3\ncleo 1,2,3\ndan 1,2,3\n")
+        (self.folder / "letter.eml").write_text(letter)
+        self.say("add", "letter.eml")
+        self.say("held", "1", "--enter", "1", "--force")
+        self.say("strike", "3", "--because", "on paper")
+        self.set_clock("2027-03-01T12:50:00+00:00")
+        self.say("close")
+        self.set_clock("2027-03-01T14:00:00+00:00")
+        self.say("reopen", "--because", "a lost letter", "--in-time")
+        self.add("dan 1,3,2\n", words=("--came-before-close", "yes"))
+        self.say("close")
+        (self.folder / "letter.eml").write_text(letter.replace("12:30", "12:40").replace("cleo 3", "zoe-mueller 3"))
+        self.say("add", "letter.eml")
+        self.say("held", "2", "--enter", "1", "--force")
+        # a late one that arrived after the end is no doubt
+        self.say("publish", "--language", "en")
         told = "2 ballots came after the end, and count, since the vote was not closed yet."
         done = self.sections()["What-was-done"].text()
         self.expect("what came after the end, and before the first close", told in done, True)
@@ -599,9 +526,7 @@ class OfOpenVotes(OfElections):
 
     def test_words_of_a_publication_end_with_its_close(self):
         """Without words the last publication is made again; after another close it is a new one, without a casting vote."""
-        self.say("call")
-        self.add(TIE)
-        self.say("close")
+        self.closed(TIE)
         self.say("publish", "--casting", "72 Euro", "--cast-by", "Anna", "--cast-on", "2026-11-20")
         self.add("cleo 1,2,3\n")
         self.say("reopen", "--because", "a lost letter", "--in-time", "3")
@@ -610,9 +535,7 @@ class OfOpenVotes(OfElections):
         self.expect("a tie again", self.replace(status=1).splitlines()[0], "Tie: 1 2")
 
     def test_bad_texts(self):
-        self.say("call")
-        self.add("ada-lovelace 1,2,3\n")
-        self.say("close")
+        self.closed()
         for data, said in [
             (b"Anna\nM\xfcller\n", "about:2: it is not in UTF-8"),
             (b"A\n\x1b[1m", "about:2: it has the character U+001B, which no plain text has"),
@@ -631,9 +554,7 @@ class OfOpenVotes(OfElections):
         self.expect("the paragraphs of a text", about, ["One", "\u05d3 <i>two</i>"])
 
     def test_casting_votes(self):
-        self.say("call")
-        self.add(TIE)
-        self.say("close")
+        self.closed(TIE)
         self.expect("a tie", self.say("publish", status=1).splitlines()[0], "Tie: 1 2")
         cast = ("--cast-by", "Anna <b>", "--cast-on", "2026-11-20")
         for words, said, status in [
@@ -669,32 +590,12 @@ class OfOpenVotes(OfElections):
         self.say("publish")
         self.expect("and again", self.files() == files, True)
 
-    def test_a_kill_between_act_and_folder(self):
-        self.say("call")
-        self.add("ada-lovelace 1,2,3\n")
-        self.say("close")
-        election = Election(self.folder, publishing.PROGRAM.parent)
-        given = {field: None for owner in command.Arguments.__mro__ for field in vars(owner).get("__annotations__", {})}
-        arguments = command.Arguments(**given | {"language": "en"})
-        killed = unittest.mock.patch.object(Made, "take_place", side_effect=KeyboardInterrupt)
-        with self.state_of_this(), killed, self.assertRaises(KeyboardInterrupt):
-            command.run(election, arguments)
-        election.book.connection.close()
-        acts = self.acts()
-        self.expect("the book knows it, and no folder is there", (acts[-1].name, (self.folder / "result").exists()), ("publish", False))
-        self.say("publish")
-        sums = {name: hashlib.sha256((self.folder / "result" / name).read_bytes()).hexdigest() for name in acts[-1].detail["checksums"]}
-        self.expect("the same folder, and no act", (sums, len(self.acts())), (acts[-1].detail["checksums"], len(acts)))
-
     def left(self):
         return [name for name in os.listdir(self.folder) if name.startswith(".")]
 
     def test_a_publication_that_is_killed_after_its_act(self):
         """Made again it comes back in its place, whatever a kill has left there, and nothing else is left."""
-        self.say("call")
-        self.add("ada-lovelace 1,2,3\n")
-        self.say("close")
-        self.say("publish")
+        self.closed()
         rename, moved = pathlib.Path.rename, []
 
         def kill(*_):
@@ -704,10 +605,11 @@ class OfOpenVotes(OfElections):
             moved.append(kill() if moved else rename(file, target))
 
         for language, patch, is_there, left in [
+            ("de", unittest.mock.patch.object(Made, "take_place", kill), False, 1),
             ("en", unittest.mock.patch.object(Made, "take_place", kill), True, 1),
             ("fr", unittest.mock.patch.object(pathlib.Path, "rename", kill_between), False, 2),
         ]:
-            before, acts = self.files(), len(self.acts())
+            before, acts = {} if language == "de" else self.files(), len(self.acts())
             self.expect(f"{language}: killed", self.in_child(patch, "publish", "--language", language), -signal.SIGKILL)
             self.expect(f"{language}: what is left", ((self.folder / "result").exists(), len(self.left())), (is_there, left))
             self.say("publish")
@@ -725,9 +627,7 @@ class OfOpenVotes(OfElections):
 
     def test_a_folder_that_can_not_take_its_place(self):
         """The one that was there comes back; once it can, the new one takes its place."""
-        self.say("call")
-        self.add("ada-lovelace 1,2,3\n")
-        self.say("close")
+        self.closed()
         self.say("publish")
         before, rename, moved = self.files(), pathlib.Path.rename, []
 
@@ -749,26 +649,10 @@ class OfOpenVotes(OfElections):
         self.say("close")
         self.say("publish")
         files, acts = self.files(), len(self.acts())
-        program = self.folder / "bin"
-        program.mkdir()
-        for task, answer in [("verify", 'echo "differs at line 1"; exit 9'), ("standing", 'echo "ada-lovelace 3,2,1"')]:
-            (program / "debvote").write_text(f'#!/bin/sh\ncase $1 in {task}) {answer} ;; *) exec {publishing.PROGRAM} "$@" ;; esac\n')
-            (program / "debvote").chmod(0o755)
-            path = os.pathsep.join([str(program), publishing.PATH])
-            output, faults, status = self.run_words("publish", "--language", "es", path=path)
-            self.expect(f"{task}: {faults}", (status, NOTHING_DONE in faults), (9, True))
+        for task, answer in [("verify", 'echo "differs at line 1"; exit 9'), ("standing", 'echo "ada-lovelace 3,2,1"; exit')]:
+            ended = self.election("publish", "--language", "es", path=self.other_debvote(f"case $1 in {task}) {answer} ;; esac"))
+            self.expect(f"{task}: {ended.faults}", (ended.status, NOTHING_DONE in ended.faults), (9, True))
             self.expect(f"{task}: nothing was changed", (self.files() == files, len(self.acts())), (True, acts))
-        self.starts("publish", "--language", "es", most=8)
-
-    def test_how_often_debvote_is_started(self):
-        self.say("call")
-        self.add("ada-lovelace 1,2,3\nno-one 1,2,3\n")
-        self.add_letters()
-        self.starts("count", most=3)
-        self.starts("close", "--force", "--because", "no ballots", most=3)
-        self.starts("count", most=3)
-        self.starts("publish", most=8)
-        self.starts("publish", most=8)
 
     def test_hostile_texts(self):
         """Each text of a person stands as text on the page, whatever is in it, and in the letters."""
@@ -789,7 +673,7 @@ class OfOpenVotes(OfElections):
         (self.folder / "about").write_text(f"about {hostile}")
         cast = ("--casting", hostile_name(self.folder), "--cast-by", f"by {hostile}", "--cast-on", "2026-11-20")
         self.say("publish", *cast, "--about", "about", "--force", "--because", f"force {hostile}", "--language", "en")
-        reading.try_page(self.expect, "hostile", self.folder / "result")
+        pages.try_page(self.expect, "hostile", self.folder / "result")
         seen = ["Result", "Why", "Find-your-ballot", "Check-it", "About-this-vote"]
         self.expect("the text about the vote stands above what is folded", list(self.sections())[: len(seen)], seen)
         page = pages.tree_of((self.folder / "result" / "index.html").read_text())
@@ -802,23 +686,6 @@ class OfOpenVotes(OfElections):
         whose = f"About Option 1: {hostile} 1, in the words of those who publish this page. The program has not checked them:"
         self.expect("the text about an option", [text.startswith(whose) and text.endswith(f"text {hostile}") for text in about], [True])
         self.expect("a refused line", [hostile[:50] in line for line in refused][:1], [True])
-
-    def test_count(self):
-        self.say("call")
-        self.add(TIE)
-        sheet, said, status = self.run_words("count")
-        self.expect("a sheet alone", (sheet.startswith("Poll: Wo wir uns treffen: Groesse\n"), sheet.endswith("Tie: 1 2\n"), status), (True, True, 1))
-        cast = "--cast-by WHO --cast-on DATE"
-        first = f"debvote-election publish --casting '72 Euro' {cast} or debvote-election publish --casting Groesse {cast}"
-        over = "this is not the result yet: when the vote is over, run debvote-election close; now"
-        choose = f"it is a tie between '72 Euro', Groesse; the holder of the casting vote chooses one of them: {first}"
-        self.expect("what comes next", said, f"Next: {over} {choose}\n")
-        self.say("close")
-        output, said, status = self.run_words("count", "--casting", "Groesse")
-        self.expect("a casting vote", (output.splitlines()[-1], status), ("Winner: 2 Groesse by casting vote", 0))
-        self.expect("and then", said, f"Next: debvote-election publish --casting Groesse {cast}\n")
-        self.expect("an option that is not left", self.run_words("count", "--casting", "Nichts davon")[2], 8)
-        self.stops("count", "--casting", "x", said=["no option has this name", "'72 Euro', Groesse, 'Nichts davon'"], status=8)
 
 
 class OfSecretVotes(OfElections):
@@ -860,7 +727,7 @@ class OfSecretVotes(OfElections):
             # an example, which the guide and the page have
             words = [word for word in words if not (word == "17,33" and name in ("index.html", "READING-A-SHEET.md"))]
             self.expect(f"{name} tells nothing", [word for word in words if word.lower() in text], [])
-        private = self.run_words("count")[0]
+        private = self.election("count").output
         public = files["sheet.txt"].decode()
         self.expect("the sheet from Voters on", public.partition("\nVoters")[2], private.partition("\nVoters")[2])
         sections = self.sections()
@@ -888,7 +755,8 @@ class OfSecretVotes(OfElections):
         self.say("publish", status=1)
         self.expect("the same again is not asked for", (self.files() == files, len(self.acts())), (True, acts))
         self.state = self.scratch / "other computer of a secret vote"
-        output, faults, status = self.run_words("publish", "--moved", "--because", "of <Ada>")
+        ended = self.election("publish", "--moved", "--because", "of <Ada>")
+        output, faults, status = ended.output, ended.faults, ended.status
         self.expect(f"a reason of --moved: {output} {faults}", ("these texts may tell" in faults, faults.count("  of <Ada>\n"), status), (True, 1, 9))
         self.expect("is an act, and no publication", [act.name for act in self.acts()[acts:]], ["moved"])
         self.say("publish", "--force", "--yes", status=1)
@@ -904,18 +772,19 @@ class OfSecretVotes(OfElections):
         (self.folder / "texts").mkdir()
         (self.folder / "texts" / "1.txt").write_text("Zoë is for it.\n")
         acts = len(self.acts())
-        output, faults, status = self.run_words("call")
+        ended = self.election("call")
+        output, faults, status = ended.output, ended.faults, ended.status
         shown = "texts/1.txt:\n  Zoë is for it.\n"
         self.expect(f"it stops: {output} {faults}", (faults.startswith(shown), "--yes" in faults, status), (True, True, 9))
         self.expect("nothing is made", (len(self.acts()), (self.folder / "call").exists()), (acts, False))
         code = self.secrets()[0].code
         (self.folder / "texts" / "2.txt").write_text(f"x {code}\n")
-        self.expect("a code", " would have the code of an elector in it" in self.run_words("call", "--yes")[1], True)
+        self.expect("a code", " would have the code of an elector in it" in self.election("call", "--yes").faults, True)
         (self.folder / "texts" / "2.txt").unlink()
         self.say("call", "--yes")
         self.expect("the act", self.acts()[-1].detail["agreed"], [hashlib.sha256("Zoë is for it.\n".encode()).hexdigest()])
         (self.folder / "letter.txt").write_text("Zoë counts.\n")
-        faults = self.run_words("call")[1]
+        faults = self.election("call").faults
         self.expect(f"so does letter.txt: {faults}", (faults.startswith("letter.txt:\n  Zoë counts.\n"), "--yes" in faults), (True, True))
         self.say("call", "--yes")
         self.say("call")
@@ -925,17 +794,6 @@ class OfSecretVotes(OfElections):
         self.add("ada-lovelace 3,2,9\n")
         self.say("close")
         self.say("publish")
-
-    def test_how_often_debvote_is_started(self):
-        self.called()
-        self.add_letters()
-        self.starts("close", "--force", "--because", "no ballots", most=3)
-        self.starts("count", most=3)
-        self.starts("publish", "--yes", most=8)
-        self.add("cleo 1,2,3\n")
-        self.say("reopen", "--because", "Cleo's letter", "--in-time", "6")
-        self.starts("close", "--force", "--because", "no ballots", most=3)
-        self.starts("publish", "result-2", "--yes", most=8)
 
     def test_a_text_of_an_option_that_nobody_was_asked_about(self):
         """A call that did not ask leaves the question to the publication."""
@@ -966,15 +824,10 @@ class OfSecretVotes(OfElections):
     def test_a_sheet_that_is_not_that_of_the_votes(self):
         self.called()
         self.say("close")
-        program = self.folder / "bin"
-        program.mkdir()
         # answers for the private files that are not theirs
         for task, change, said in [
             ("standing", "s/2,1,3/1,2,3/", "the ballots have the checksum"),
             ("count", "s/Voters: 2/Voters: 3/", "the sheet under aliases differs from the sheet of the votes as they came"),
         ]:
-            other = f'case "$*" in "{task} "*/dev/stdin*) {publishing.PROGRAM} "$@" | sed "{change}" ;; *) exec {publishing.PROGRAM} "$@" ;; esac'
-            (program / "debvote").write_text(f"#!/bin/sh\n{other}\n")
-            (program / "debvote").chmod(0o755)
-            output, faults, status = self.run_words("publish", path=os.pathsep.join([str(program), publishing.PATH]))
-            self.expect(f"{task}: {faults}", (said in faults, status, (self.folder / "result").exists()), (True, 9, False))
+            other = f'case "$*" in "{task} "*/dev/stdin*) {elections.PROGRAM} "$@" | sed "{change}"; exit ;; esac'
+            self.stops("publish", path=self.other_debvote(other), said=[said])

@@ -10,51 +10,6 @@ import time
 from tests.support import publishing
 
 
-def try_refusals(expect, scratch):
-    """What is refused leaves no folder, and nothing beside it."""
-    example = publishing.EXAMPLES / "plain_win"
-    poll, ballots = example / "poll.toml", example / "ballots"
-    room = scratch / "refusals"
-    (room / "full").mkdir(parents=True)
-    (room / "full" / "file").touch()
-    bad_poll, many = scratch / "bad.toml", scratch / "many"
-    bad_poll.write_text("title = 1\n")
-    many.write_bytes(b"\n" * 100_001)
-    for name, words, wanted in [
-        ("a folder that is not empty", (poll, ballots, room / "full"), 2),
-        ("a file in place of a folder", (poll, ballots, room / "full" / "file"), 2),
-        ("a folder in a folder that is not there", (poll, ballots, room / "none" / "result"), 7),
-        ("a poll that is refused", (bad_poll, ballots, room / "result"), 3),
-        ("no poll", (room / "none", ballots, room / "result"), 3),
-        ("no ballots", (poll, room / "none", room / "result"), 4),
-        ("too many ballots", (poll, many, room / "result"), 4),
-        ("a casting vote for no option", (poll, ballots, room / "result", "--casting", "Zed"), 8),
-        ("a casting vote for an option that is not left", (poll, ballots, room / "result", "--casting", "B"), 8),
-        ("a word that went", (poll, ballots, room / "result", "--even-so"), 2),
-        ("desks that are none", (poll, ballots, room / "result", "--desks", "9"), 2),
-    ]:
-        output, faults, status = publishing.publish_files(*words)
-        expect(f"{name}: its status", (output, status, bool(faults)), ("", wanted, True))
-        expect(f"{name}: what is left", sorted(os.listdir(room)), ["full"])
-    with open("/dev/full", "w") as full:
-        words = [sys.executable, publishing.PUBLISH, "--poll", poll, "--ballots", ballots, room / "result"]
-        where = {**os.environ, "PATH": publishing.PATH}
-        ended = subprocess.run(words, stdout=full, stderr=subprocess.PIPE, text=True, timeout=publishing.SECONDS, env=where)
-    said = ended.stderr.splitlines()[-1:]
-    words = f"debvote-publish: the output failed; the folder {room / 'result'} was made nevertheless: look at its page index.html"
-    expect("a full disk for what is said", (ended.returncode, said), (7, [words]))
-    before = {file.name: file.read_bytes() for file in (room / "result").iterdir()}
-    _, faults, status = publishing.publish_files(poll, ballots, room / "result" / "x")
-    words = f"debvote-publish: {room}/result/x: it would be in {room}/result, whose files are published as they are; nothing was published: "
-    expect("a folder in a published one", (faults, status), (f"{words}name a folder outside of it\n", 2))
-    now = {file.name: file.read_bytes() for file in (room / "result").iterdir()}
-    expect("the published one", now == before, True)
-    shutil.rmtree(room / "result")
-    nowhere = publishing.publish_files(poll, ballots, room / "result", path="/nowhere")
-    expect("no program", (nowhere[2], os.listdir(room)), (127, ["full"]))
-    try_stand_ins(expect, poll, ballots, room, scratch)
-
-
 def stand_in(folder, text):
     """A folder with a program debvote of this text, and nothing of Graphviz."""
     folder.mkdir()
@@ -89,22 +44,59 @@ def try_stand_ins(expect, poll, ballots, room, scratch):
     expect("a run that is asked to end", (status, sorted(os.listdir(room))), (128 + signal.SIGTERM, ["full", "result"]))
 
 
-def try_empty_folder(expect, scratch):
-    """A folder that is there and empty is taken, by any name; and an input may come from /dev/stdin."""
-    example = publishing.EXAMPLES / "plain_win"
-    (scratch / "empty").mkdir()
-    (scratch / "link").symlink_to("empty")
-    with open(example / "ballots") as ballots:
-        found = publishing.publish_files(example / "poll.toml", "/dev/stdin", scratch / "link", stdin=ballots)
-    expect("an empty folder by a link", (found[2], (scratch / "empty" / "index.html").exists()), (0, True))
-
-
 class RefusedTest(publishing.PublishTest):
     def test_what_is_refused(self):
-        try_refusals(self.expect, self.scratch)
+        """What is refused leaves no folder, and nothing beside it."""
+        example = publishing.EXAMPLES / "plain_win"
+        poll, ballots = example / "poll.toml", example / "ballots"
+        room = self.scratch / "refusals"
+        (room / "full").mkdir(parents=True)
+        (room / "full" / "file").touch()
+        bad_poll, many = self.scratch / "bad.toml", self.scratch / "many"
+        bad_poll.write_text("title = 1\n")
+        many.write_bytes(b"\n" * 100_001)
+        for name, words, wanted in [
+            ("a folder that is not empty", (poll, ballots, room / "full"), 2),
+            ("a file in place of a folder", (poll, ballots, room / "full" / "file"), 2),
+            ("a folder in a folder that is not there", (poll, ballots, room / "none" / "result"), 7),
+            ("a poll that is refused", (bad_poll, ballots, room / "result"), 3),
+            ("no poll", (room / "none", ballots, room / "result"), 3),
+            ("no ballots", (poll, room / "none", room / "result"), 4),
+            ("too many ballots", (poll, many, room / "result"), 4),
+            ("a casting vote for no option", (poll, ballots, room / "result", "--casting", "Zed"), 8),
+            ("a casting vote for an option that is not left", (poll, ballots, room / "result", "--casting", "B"), 8),
+            ("a word that went", (poll, ballots, room / "result", "--even-so"), 2),
+            ("desks that are none", (poll, ballots, room / "result", "--desks", "9"), 2),
+        ]:
+            output, faults, status = publishing.publish_files(*words)
+            self.expect(f"{name}: its status", (output, status, bool(faults)), ("", wanted, True))
+            self.expect(f"{name}: what is left", sorted(os.listdir(room)), ["full"])
+        with open("/dev/full", "w") as full:
+            words = [sys.executable, publishing.PUBLISH, "--poll", poll, "--ballots", ballots, room / "result"]
+            where = {**os.environ, "PATH": publishing.PATH}
+            ended = subprocess.run(words, stdout=full, stderr=subprocess.PIPE, text=True, timeout=publishing.SECONDS, env=where)
+        said = ended.stderr.splitlines()[-1:]
+        words = f"debvote-publish: the output failed; the folder {room / 'result'} was made nevertheless: look at its page index.html"
+        self.expect("a full disk for what is said", (ended.returncode, said), (7, [words]))
+        before = {file.name: file.read_bytes() for file in (room / "result").iterdir()}
+        _, faults, status = publishing.publish_files(poll, ballots, room / "result" / "x")
+        words = f"debvote-publish: {room}/result/x: it would be in {room}/result, whose files are published as they are; nothing was published: "
+        self.expect("a folder in a published one", (faults, status), (f"{words}name a folder outside of it\n", 2))
+        now = {file.name: file.read_bytes() for file in (room / "result").iterdir()}
+        self.expect("the published one", now == before, True)
+        shutil.rmtree(room / "result")
+        nowhere = publishing.publish_files(poll, ballots, room / "result", path="/nowhere")
+        self.expect("no program", (nowhere[2], os.listdir(room)), (127, ["full"]))
+        try_stand_ins(self.expect, poll, ballots, room, self.scratch)
 
     def test_an_empty_folder(self):
-        try_empty_folder(self.expect, self.scratch)
+        """A folder that is there and empty is taken, by any name; and an input may come from /dev/stdin."""
+        example = publishing.EXAMPLES / "plain_win"
+        (self.scratch / "empty").mkdir()
+        (self.scratch / "link").symlink_to("empty")
+        with open(example / "ballots") as ballots:
+            found = publishing.publish_files(example / "poll.toml", "/dev/stdin", self.scratch / "link", stdin=ballots)
+        self.expect("an empty folder by a link", (found[2], (self.scratch / "empty" / "index.html").exists()), (0, True))
 
     def test_numbers_that_no_float_holds(self):
         """The second count takes and refuses the same ones as debvote."""

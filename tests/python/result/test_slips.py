@@ -3,7 +3,7 @@
 import os
 import sys
 
-from tests.support import looks, page_parts, publishing, reading
+from tests.support import looks, page_parts, publishing, result_checks
 
 NOBODY = "No elector has a ballot that counts: nobody's vote has decided this."
 NOBODY_TOLD = "no elector has a ballot that counts; check that these are the ballots of this poll"
@@ -40,67 +40,50 @@ def try_slip(expect, name, scratch):
     expect(f"{name}: what the page says", page_parts.doubts_of(text), shown)
     is_below = "doubts" in text.partition("<body>")[2].partition("</section>")[2].partition("<script>")[0]
     expect(f"{name}: doubts stand in the part of the result alone", is_below, False)
-    reading.try_page(expect, name, room / "result")
+    page_parts.try_page(expect, name, room / "result")
+    result_checks.try_published(expect, name, room / "result", None)
     return room / "result"
 
 
-def try_refused(expect, scratch):
-    """Where the poll is refused, the fault says what tells more (also that two files are exchanged), and nothing is made."""
-    room = publishing.plain_room(scratch / "refused")
-    (room / "bad.toml").write_text("title = 1\n")
-    (room / "new.toml").write_text(publishing.PLAIN_POLL + 'note = "\\e"\n')
-    for poll, ballots, wanted in [
-        ("ballots", "poll.toml", "ballots: poll refused: syntax; nothing was published: debvote explain --poll ballots says what"),
-        ("bad.toml", "ballots", "bad.toml: poll refused: key title; nothing was published: debvote explain --poll bad.toml says what"),
-        ("new.toml", "ballots", "new.toml: it can't be read (Unescaped '\\' in a string"),
-    ]:
-        output, faults, status = publishing.run([sys.executable, publishing.PUBLISH, "--poll", poll, "--ballots", ballots, "result"], cwd=room)
-        expect(f"{poll} and {ballots}: {faults}", (output, faults.startswith(f"debvote-publish: {wanted}"), status), ("", True, 3))
-    expect("what is left", sorted(os.listdir(room)), ["bad.toml", "ballots", "new.toml", "poll.toml"])
-
-
-def try_secret(expect, scratch):
-    """A poll that says that its vote is secret is published with aliases alone."""
-    room = publishing.plain_room(scratch / "secret", poll=publishing.PLAIN_POLL + "secret = true\n")
-    output, faults, status = publishing.publish(room, *publishing.FILES, "result")
-    wanted = "poll.toml: the vote is secret, and this would publish each name with its vote; publish it from its election, "
-    expect(f"a secret vote with names: {faults}", (output, faults.startswith(f"debvote-publish: {wanted}"), status), ("", True, 9))
-    roll = ["0" * 31 + digit for digit in "0123"]
-    poll = publishing.PLAIN_POLL.replace('["ada", "ben", "cleo", "dan"]', str(roll).replace("'", '"')) + "secret = true\n"
-    twice = publishing.plain_room(scratch / "twice", poll=poll, ballots=f"{roll[0]} 1,2,3\n{roll[1]} 2,1,3\n{roll[0]} 2,1,3\n")
-    output, faults, status = publishing.publish(twice, *publishing.FILES, "result")
-    expect(f"an alias twice: {faults}", ("a line of this secret vote does not count, or counts more than once" in faults, status), (True, 9))
-    room = publishing.plain_room(scratch / "aliases", poll=poll, ballots=f"{roll[0]} 1,2,3\n{roll[1]} 2,1,3\n{roll[2]} 1,2,3\n")
-    expect("a secret vote with aliases", publishing.publish(room, *publishing.FILES, "result")[1:], ("", 0))
-    sections = page_parts.sections_of((room / "result" / "index.html").read_text())
-    expect("nobody is listed as one who voted", "Who-voted" in sections, False)
-    expect("the refused lines", "What was refused or came late is not published." in sections["Refused-lines"].text(), True)
-    expect("those who did not vote", [item.text() for item in sections["Find-your-ballot"].all("li")], [roll[3]])
-
-
-class SlipsTest(publishing.PublishTest):
+class SlipsTest(looks.LooksTest):
     @classmethod
-    def setUpClass(cls):
-        super().setUpClass()
-        cls.facts = []
-        cls.folders = publishing.side_by_side(lambda name: try_slip(lambda *fact: cls.facts.append(fact), name, cls.scratch), SLIPS)
-
-    def test_slips(self):
-        for fact in self.facts:
-            self.expect(*fact)
-
-    @looks.NEEDS_TIDY
-    def test_tidy(self):
-        looks.try_tidy(self.expect, self.folders)
+    def made(cls):
+        return publishing.side_by_side(lambda name: try_slip(cls.note, name, cls.scratch), SLIPS)
 
     @looks.NEEDS_BROWSER
     def test_doubts_are_seen(self):
-        looks.try_doubts(self.expect, self.folders[:3], self.scratch)
+        self.check_doubts(self.folders[:3])
 
 
 class NoPublicationTest(publishing.PublishTest):
     def test_refused_polls(self):
-        try_refused(self.expect, self.scratch)
+        """Where the poll is refused, the fault says what tells more (also that two files are exchanged), and nothing is made."""
+        room = publishing.plain_room(self.scratch / "refused")
+        (room / "bad.toml").write_text("title = 1\n")
+        (room / "new.toml").write_text(publishing.PLAIN_POLL + 'note = "\\e"\n')
+        for poll, ballots, wanted in [
+            ("ballots", "poll.toml", "ballots: poll refused: syntax; nothing was published: debvote explain --poll ballots says what"),
+            ("bad.toml", "ballots", "bad.toml: poll refused: key title; nothing was published: debvote explain --poll bad.toml says what"),
+            ("new.toml", "ballots", "new.toml: it can't be read (Unescaped '\\' in a string"),
+        ]:
+            output, faults, status = publishing.run([sys.executable, publishing.PUBLISH, "--poll", poll, "--ballots", ballots, "result"], cwd=room)
+            self.expect(f"{poll} and {ballots}: {faults}", (output, faults.startswith(f"debvote-publish: {wanted}"), status), ("", True, 3))
+        self.expect("what is left", sorted(os.listdir(room)), ["bad.toml", "ballots", "new.toml", "poll.toml"])
 
     def test_secret_votes(self):
-        try_secret(self.expect, self.scratch)
+        """A poll that says that its vote is secret is published with aliases alone."""
+        room = publishing.plain_room(self.scratch / "secret", poll=publishing.PLAIN_POLL + "secret = true\n")
+        output, faults, status = publishing.publish(room, *publishing.FILES, "result")
+        wanted = "poll.toml: the vote is secret, and this would publish each name with its vote; publish it from its election, "
+        self.expect(f"a secret vote with names: {faults}", (output, faults.startswith(f"debvote-publish: {wanted}"), status), ("", True, 9))
+        roll = ["0" * 31 + digit for digit in "0123"]
+        poll = publishing.PLAIN_POLL.replace('["ada", "ben", "cleo", "dan"]', str(roll).replace("'", '"')) + "secret = true\n"
+        twice = publishing.plain_room(self.scratch / "twice", poll=poll, ballots=f"{roll[0]} 1,2,3\n{roll[1]} 2,1,3\n{roll[0]} 2,1,3\n")
+        output, faults, status = publishing.publish(twice, *publishing.FILES, "result")
+        self.expect(f"an alias twice: {faults}", ("a line of this secret vote does not count, or counts more than once" in faults, status), (True, 9))
+        room = publishing.plain_room(self.scratch / "aliases", poll=poll, ballots=f"{roll[0]} 1,2,3\n{roll[1]} 2,1,3\n{roll[2]} 1,2,3\n")
+        self.expect("a secret vote with aliases", publishing.publish(room, *publishing.FILES, "result")[1:], ("", 0))
+        sections = page_parts.sections_of((room / "result" / "index.html").read_text())
+        self.expect("nobody is listed as one who voted", "Who-voted" in sections, False)
+        self.expect("the refused lines", "What was refused or came late is not published." in sections["Refused-lines"].text(), True)
+        self.expect("those who did not vote", [item.text() for item in sections["Find-your-ballot"].all("li")], [roll[3]])

@@ -9,44 +9,32 @@ from debvote_tools.text.ballots import ranks_in_words
 from tests.support import expecting
 
 
-def try_ballots_in_words(expect):
-    """What other commands say of a ballot: equal options and unranked ones are told from the others."""
-    names = ["At the lake", "In the town hall", "Sell the house", "Further discussion"]
-    for ranks, wanted in [
-        ("1,2,3,4", "At the lake, then In the town hall, then Sell the house, then Further discussion"),
-        ("10,2,99,1", "Further discussion, then In the town hall, then At the lake, then Sell the house"),
-        ("2,1,1,3", "In the town hall and Sell the house equally, then At the lake, then Further discussion"),
-        ("5,5,5,5", "At the lake, In the town hall, Sell the house and Further discussion equally"),
-        ("1,-,-,2", "At the lake, then Further discussion; not ranked, and so behind all others: In the town hall and Sell the house"),
-        ("-,-,-,-", "no option is ranked, so nothing is preferred"),
-    ]:
-        expect(f"{ranks} in words", ranks_in_words(ranks, names), wanted)
-
-
-def try_shares(expect):
-    """How many have voted, in per cent: none alone is 0, all alone are 100, and it is rounded."""
-    wanted = {(0, 10_000): "0 %", (1, 10_000): "0.1 %", (9_999, 10_000): "99.9 %", (10_000, 10_000): "100 %"}
-    wanted |= {(1, 3): "33.3 %", (2, 3): "66.7 %", (1, 8): "12.5 %", (1, 400): "0.3 %", (80, 100): "80 %", (1, 1): "100 %"}
-    for (voters, electors), words in wanted.items():
-        expect(f"{voters} of {electors}", share(voters, electors), words)
-
-
-def try_plain_closes(expect):
-    """The letters of the result tell each close of which more is to be told than its time."""
-    time = datetime.datetime.now(datetime.UTC)
-    plain = {"lines": 1, "checksum": "", "early": False, "waiting": 0, "after_end": 0, "came": None, "struck": None}
-    expect("a plain close", Act(time, "closed", plain).is_quiet, True)
-    expect("a close with a reason", Act(time, "closed", plain, "a reason").is_quiet, False)
-    for more in ({"early": True}, {"waiting": 1}, {"after_end": 1}, {"came": 0, "struck": 0}):
-        expect(f"a close with {more}", Act(time, "closed", plain | more).is_quiet, False)
-
-
 class WordsTest(expecting.Expecting):
     def test_plain_closes(self):
-        try_plain_closes(self.expect)
+        """The letters of the result tell each close of which more is to be told than its time."""
+        time = datetime.datetime.now(datetime.UTC)
+        plain = {"lines": 1, "checksum": "", "early": False, "waiting": 0, "after_end": 0, "came": None, "struck": None}
+        self.expect("a plain close", Act(time, "closed", plain).is_quiet, True)
+        self.expect("a close with a reason", Act(time, "closed", plain, "a reason").is_quiet, False)
+        for more in ({"early": True}, {"waiting": 1}, {"after_end": 1}, {"came": 0, "struck": 0}):
+            self.expect(f"a close with {more}", Act(time, "closed", plain | more).is_quiet, False)
 
     def test_ballots_in_words(self):
-        try_ballots_in_words(self.expect)
+        """What other commands say of a ballot: equal options and unranked ones are told from the others."""
+        names = ["At the lake", "In the town hall", "Sell the house", "Further discussion"]
+        for ranks, wanted in [
+            ("1,2,3,4", "At the lake, then In the town hall, then Sell the house, then Further discussion"),
+            ("10,2,99,1", "Further discussion, then In the town hall, then At the lake, then Sell the house"),
+            ("2,1,1,3", "In the town hall and Sell the house equally, then At the lake, then Further discussion"),
+            ("5,5,5,5", "At the lake, In the town hall, Sell the house and Further discussion equally"),
+            ("1,-,-,2", "At the lake, then Further discussion; not ranked, and so behind all others: In the town hall and Sell the house"),
+            ("-,-,-,-", "no option is ranked, so nothing is preferred"),
+        ]:
+            self.expect(f"{ranks} in words", ranks_in_words(ranks, names), wanted)
 
     def test_shares(self):
-        try_shares(self.expect)
+        """How many have voted, in per cent: none alone is 0, all alone are 100, and it is rounded."""
+        wanted = {(0, 10_000): "0 %", (1, 10_000): "0.1 %", (9_999, 10_000): "99.9 %", (10_000, 10_000): "100 %"}
+        wanted |= {(1, 3): "33.3 %", (2, 3): "66.7 %", (1, 8): "12.5 %", (1, 400): "0.3 %", (80, 100): "80 %", (1, 1): "100 %"}
+        for (voters, electors), words in wanted.items():
+            self.expect(f"{voters} of {electors}", share(voters, electors), words)

@@ -1,0 +1,28 @@
+"""The call for votes that tests of its page and its letters begin with, and its other kinds."""
+
+import dataclasses
+import datetime
+
+from debvote_tools.poll.call import CallData
+from debvote_tools.poll.sealed import SealedPoll, with_roll
+from debvote_tools.text.language import language_of
+
+BERLIN = datetime.timezone(datetime.timedelta(hours=1))
+UNTIL = datetime.datetime(2026, 12, 4, 18, tzinfo=BERLIN)
+ADDRESS, PAGE = "vote+club@example.org", "https://example.org/vote/"
+ROLL = ("ada", "ben", "cleo", "dan")
+CODES = tuple(f"{number:x}" * 32 for number in range(10, 14))
+POLL = SealedPoll(
+    title="Where we meet",
+    options=("At the lake", "72 Euro", "Sell the house"),
+    ratios=(1, 1, 3),
+    default="None of the above",
+    quorum=1,
+    roll=ROLL,
+    deadline=UNTIL.isoformat(),
+    address=ADDRESS,
+)
+CALL = CallData(language_of("en"), POLL, 2, until=UNTIL, to=ADDRESS, at=PAGE)
+SECRET = dataclasses.replace(CALL, poll=dataclasses.replace(with_roll(POLL, CODES), secret=True), has_aliases=True)
+WITH_CODES = dataclasses.replace(SECRET, has_aliases=False, has_codes_on_roll=True)
+KINDS = {"open": CALL, "secret": SECRET, "codes": WITH_CODES, "signed": dataclasses.replace(CALL, is_signed=True, has_form=True)}
