@@ -280,7 +280,10 @@ class LettersDue:
         before = {(letter.elector, letter.address): letter for letter in of_act}
         for elector in self.electors.values():
             letter = before.get((elector.number, address_in(elector.addresses)))
-            (self.written if letter else self.new).append(letter or self.letter_to(elector))
+            if letter is None:
+                self.new.append(self.letter_to(elector))
+            else:
+                self.written.append(letter)
 
     def letter_to(
         self, elector: Elector, address: str | None = None, about: Sequence[About] = ()
