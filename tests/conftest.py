@@ -7,6 +7,7 @@ tests were skipped, and above pytest's own last line 'N passed, M failed', as th
 import collections
 import locale
 import os
+import shutil
 
 import pytest
 from _pytest.terminal import TerminalReporter
@@ -45,8 +46,12 @@ def pytest_collection_modifyitems(items: list[pytest.Item]) -> None:
 
 def pytest_terminal_summary(terminalreporter: TerminalReporter) -> None:
     stats = terminalreporter.stats
-    reasons = (report.longrepr[2].removeprefix("Skipped: ") for report in stats.get("skipped", []))
-    for why, number in collections.Counter(reasons).most_common():
+    reasons = collections.Counter(report.longrepr[2].removeprefix("Skipped: ") for report in stats.get("skipped", []))
+    # without these some tests look at less
+    for tool, what in (("dot", "pictures"), ("nodejs", "recount.js")):
+        if shutil.which(tool) is None and not any(why.startswith(tool) for why in reasons):
+            reasons[f"{tool} is not installed, so nobody looked at {what}"] += 1
+    for why, number in reasons.most_common():
         terminalreporter.write_line(f"skipped: {why} ({number})")
     failed = len(stats.get("failed", [])) + len(stats.get("error", []))
     terminalreporter.write_line(f"{len(stats.get('passed', []))} passed, {failed} failed")

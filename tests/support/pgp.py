@@ -9,9 +9,6 @@ import shutil
 import subprocess
 import tempfile
 
-HAS_GPG = shutil.which("gpg") is not None and shutil.which("gpgv") is not None
-MISSING = "gpg and gpgv are not installed"
-
 # keys are older than all elections of the tests; the expired one has expired by the clock of any computer
 # at a time with this mark the clock of gpg stops
 BORN, EXPIRY = "20240101T000000!", "2024-06-01"

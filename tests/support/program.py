@@ -29,7 +29,7 @@ def named() -> pathlib.Path:
     if not os.environ.get("DEBVOTE"):
         return BUILT
     file = pathlib.Path(os.environ["DEBVOTE"]).absolute()
-    program = file if file.name == "debvote" or not file.exists() else link_to(file)
+    program = file if file.name == "debvote" or not file.is_file() else link_to(file)
     # so that processes of the tests do not make their own links
     os.environ["DEBVOTE"] = str(program)
     return program
@@ -40,11 +40,11 @@ PROGRAM = named()
 
 def missing(file: pathlib.Path = PROGRAM) -> str | None:
     """If there is no program: where it was looked for, and how to make one."""
-    if file.is_file():
+    if file.is_file() and os.access(file, os.X_OK):
         return None
     looked = "as DEBVOTE says" if os.environ.get("DEBVOTE") else "where make build makes it, with its proof, in 20 minutes"
     quick = "tests/unproved /tmp/checked /tmp/debvote makes one without proof in two minutes; then set DEBVOTE=/tmp/debvote"
-    return f"there is no program at {file}, {looked}. {quick}"
+    return f"there is no program that can be run at {file}, {looked}. {quick}"
 
 
 def demand(file: pathlib.Path = PROGRAM) -> None:

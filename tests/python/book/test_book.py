@@ -1,4 +1,4 @@
-"""The book: what happens to an election whose book was copied, put back, rewritten, damaged, or lies where it can't be kept."""
+"""The book, `log --check`, `backup`: what happens to an election whose book was copied, put back, rewritten, damaged, or lies where it can't be kept."""
 
 import contextlib
 import hashlib

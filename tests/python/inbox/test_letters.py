@@ -2,7 +2,6 @@
 
 import hashlib
 import re
-import unittest
 from unittest import mock
 
 from debvote_tools.book import queries
@@ -607,7 +606,6 @@ class Meanwhile(LettersTest):
         self.assertNotIn("receipt", self.told("show", "ada"))
 
 
-@unittest.skipUnless(pgp.HAS_GPG, pgp.MISSING)
 class Signed(LettersTest):
     """Letters have to be signed, and a member's key came later, or gpgv was slow."""
 

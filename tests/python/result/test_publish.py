@@ -1,4 +1,4 @@
-"""What debvote-election publishes of its book: the files, what was done, doubts, casting votes, secret votes, and the same bytes again."""
+"""`publish`: the files, what was done, doubts, casting votes, secret votes, and the same bytes again."""
 
 import contextlib
 import datetime
