@@ -15,8 +15,8 @@ from debvote_tools.book.election import Election, History
 from debvote_tools.book.queries import Envelope, NewEnvelope
 from debvote_tools.cli.console import count_of, shown_line, tell, tell_many
 from debvote_tools.cli.faults import Fault, stop_at
-from debvote_tools.inbox import came, entering
-from debvote_tools.inbox.came import HYPHEN, CameFile
+from debvote_tools.inbox import entering, given_files
+from debvote_tools.inbox.given_files import HYPHEN, GivenFile
 from debvote_tools.inbox.lines import MARK, NOTHING_ADDED, Line, bad_words, doubt, lines_in
 from debvote_tools.inbox.tables import OptionNames, are_table, heads_of, lines_of_table
 from debvote_tools.inbox.vote import LATE_REPLY, JudgedLine, Vote, summary
@@ -72,8 +72,8 @@ def run(election: Election, arguments: Arguments) -> None:
     if not arguments.look:
         election.book_for(arguments)
     vote = Vote(election, election.history())
-    found = came.read_files(election, arguments.files, is_table=arguments.csv)
-    if not came.are_all_letters(found):
+    found = given_files.read_files(election, arguments.files, is_table=arguments.csv)
+    if not given_files.are_all_letters(found):
         take_lines(vote, [file for file in found.values() if file], arguments)
         return
     if of_lines := given(arguments, "csv", "again", "force"):
@@ -96,7 +96,7 @@ def demand_words(arguments: Arguments) -> None:
     gone = [name for name in arguments.files if name != HYPHEN and not os.path.lexists(name)]
     if arguments.ranks is not None and (gone or arguments.ranks.rstrip().endswith(",")):
         comma = f"the list of columns ends with a comma: {arguments.ranks}"
-        reason = f"there is no file {came.safe(gone[0])}" if gone else comma
+        reason = f"there is no file {given_files.safe(gone[0])}" if gone else comma
         cure = "name the file, and put single quotes around headers with spaces, as in --ranks 'First, Second'"
         raise bad_words("--csv", reason, cure)
 
@@ -105,7 +105,7 @@ def demand_words(arguments: Arguments) -> None:
 class FileLines(NamedTuple):
     """A file and its lines in the order of entering, the new ones, and those that came before."""
 
-    came: CameFile
+    file: GivenFile
     lines: Sequence[JudgedLine]
     empty: Sequence[Line]
     new: Sequence[JudgedLine] = ()
@@ -113,6 +113,10 @@ class FileLines(NamedTuple):
     repeated: Sequence[tuple[JudgedLine, str | None]] = ()
     # the envelopes of lines that go in again: from then on such a line is known by its new envelope
     again: Sequence[int] = ()
+
+    @property
+    def name(self) -> str:
+        return self.file.name
 
 
 class NewLines(NamedTuple):
@@ -128,20 +132,20 @@ class NewLines(NamedTuple):
     def envelopes(self, act: NewAct) -> Iterator[NewEnvelope]:
         """Each file is stored whole before its lines."""
         for file in self.files:
-            source = queries.keep_source(act, file.came.kept_name, file.came.data)
+            source = queries.keep_source(act, file.file.kept_name, file.file.data)
             yield from (NewEnvelope(line.as_entered, line.line.place, source) for line in file.new)
 
 
-def take_lines(vote: Vote, came_files: Sequence[CameFile], arguments: Arguments) -> None:
+def take_lines(vote: Vote, files: Sequence[GivenFile], arguments: Arguments) -> None:
     """Enters the lines that are new, and prints the replies; or tells what would become of them."""
-    files, book, command = file_lines(vote, came_files, arguments), vote.book, vote.election.command
+    of_files, book, command = file_lines(vote, files, arguments), vote.book, vote.election.command
     answer: bool | None = None
 
     def plan() -> NewLines:
         """It asks nothing of debvote, so it is made again within the act."""
         history = History(book.acts())
         vote.demand_same_call(history, NOTHING_ADDED)
-        return NewLines(history.openness(), sorted_out(book, files, history, arguments.again))
+        return NewLines(history.openness(), sorted_out(book, of_files, history, arguments.again))
 
     def show(new: NewLines) -> bool:
         nonlocal answer
@@ -180,7 +184,7 @@ def take_lines(vote: Vote, came_files: Sequence[CameFile], arguments: Arguments)
         tell(f"Next: {command('status')}; {more}, and when the vote is over: {command('close')}")
 
 
-def file_lines(vote: Vote, files: Sequence[CameFile], arguments: Arguments) -> list[FileLines]:
+def file_lines(vote: Vote, files: Sequence[GivenFile], arguments: Arguments) -> list[FileLines]:
     """The lines of each file, with what debvote says of them."""
     if arguments.name is None or arguments.ranks is None:
         lists = [lines_in(file.data, file.name) for file in files]
@@ -269,7 +273,7 @@ def change_since(
 
 def detail_of(vote: Vote, new: NewLines, arguments: Arguments, answer: bool | None) -> Detail:
     detail: Detail = {
-        "files": [file.came.kept_name for file in new.files],
+        "files": [file.file.kept_name for file in new.files],
         "lines": len(new.lines),
         "passed_over": sum(len(file.repeated) for file in new.files),
     }
@@ -307,12 +311,12 @@ def doubts(vote: Vote, new: NewLines, arguments: Arguments) -> Iterator[Fault]:
             rows = " and ".join(map(place_in, pair))
             words = f"it has two different ballots of {pair[0].voter} ({rows}), and the one that is entered last counts"
             cure = "say how its rows are sorted: --oldest-first or --newest-first"
-            yield doubt(file.came.name, words, cure)
+            yield doubt(file.name, words, cure)
     is_reasoned = arguments.force and has_reason(arguments.because)
     if new.lines and vote.is_signed and not is_reasoned:
         words = "in this vote letters must be signed, and nothing shows who sent a line of a file"
         cure = "add the letters themselves; or, if you know by other means who sent each line, give --force --because TEXT"
-        yield doubt(new.files[0].came.name, words, cure)
+        yield doubt(new.files[0].name, words, cure)
     if arguments.force:
         return
     for file in new.files:
@@ -326,7 +330,7 @@ def doubts(vote: Vote, new: NewLines, arguments: Arguments) -> Iterator[Fault]:
             "the lines look like a table; its columns may stand in another order than the options"
         )
         cure = "write a header line above them, and add the file with --csv --name COLUMN --ranks COLUMN,COLUMN,.."
-        yield doubt(file.came.name, words, f"{cure}, or {FORCE}")
+        yield doubt(file.name, words, f"{cure}, or {FORCE}")
     if not arguments.csv:
         yield from under_other_names(vote, with_new_lines)
     yield from few_ballots(vote, [file for file in with_new_lines if file not in tables], arguments)
@@ -334,7 +338,7 @@ def doubts(vote: Vote, new: NewLines, arguments: Arguments) -> Iterator[Fault]:
         if pair := new_one_above(file):
             older, newer = map(place_in, pair)
             words = f"the ballot of {pair[0].voter} in {older} is older than that in {newer}, which came before, and would replace it"
-            yield doubt(file.came.name, words, f"take the older ballot out, or {FORCE}")
+            yield doubt(file.name, words, f"take the older ballot out, or {FORCE}")
     if new.lines and arguments.blank_is_unranked and not vote.has_form:
         words = "the call does not say that an empty cell counts as a hyphen, so electors may have meant something else"
         cure = "ask the electors whose rows have empty cells; if they knew it from elsewhere"
@@ -355,7 +359,7 @@ def under_other_names(vote: Vote, files: Sequence[FileLines]) -> Iterator[Fault]
                 place = place_in(line)
                 words = f"{place} names options of the poll in another order than the poll has them: the ranks below it may stand in that order"
                 cure = f"if they do, put them into the order of the poll, and take {place} out; if they do not, {FORCE}"
-                yield doubt(file.came.name, words, cure)
+                yield doubt(file.name, words, cure)
                 break
 
 
@@ -406,7 +410,7 @@ def few_ballots(vote: Vote, files: Sequence[FileLines], arguments: Arguments) ->
         if count and len(refused) > MAX_REFUSED:
             tell(f"and {len(refused) - MAX_REFUSED} more lines that are not ballots")
         reason = f"debvote takes {f'only {count}' if count else 'none'} of the {len(file.lines)} lines as ballots"
-        yield doubt(file.came.name, reason, f"{cure_of(file, refused[0], arguments)}, or {FORCE}")
+        yield doubt(file.name, reason, f"{cure_of(file, refused[0], arguments)}, or {FORCE}")
 
 
 def has_few_ballots(lines: Sequence[JudgedLine]) -> bool:
@@ -417,7 +421,7 @@ def has_few_ballots(lines: Sequence[JudgedLine]) -> bool:
 def cure_of(file: FileLines, refused: JudgedLine, arguments: Arguments) -> str:
     if arguments.csv:
         return "check that --name and --ranks name the right columns, and the ranks in the order of the options"
-    head = file.came.data.removeprefix(MARK).lstrip().partition(b"\n")[0].decode("utf-8", "replace")
+    head = file.file.data.removeprefix(MARK).lstrip().partition(b"\n")[0].decode("utf-8", "replace")
     if MEMBERS_HEADS <= {cell.strip(' \t\r"').casefold() for cell in re.split("[,;\t]", head)}:
         return "it looks like the list of members: name the file of ballots"
     words = [line.finding.word for line in file.lines if line.finding is not None]
@@ -452,7 +456,7 @@ def repeated_words(file: FileLines) -> Iterator[str]:
         return
     ignored = "is ignored, since it" if count == 1 else "are ignored, since they"
     new = f"{len(file.new)} {'is' if len(file.new) == 1 else 'are'} new"
-    yield f"{file.came.name}: {count_of(count, 'line')} {ignored} came before; {new}"
+    yield f"{file.name}: {count_of(count, 'line')} {ignored} came before; {new}"
     changed = [(line, change) for line, change in file.repeated if change is not None]
     for line, change in changed[:MAX_REPEATED]:
         yield f"  {line.line.where}: `{shown_line(line.as_entered)}` came before, and {change}; --again enters it again"
@@ -468,4 +472,4 @@ def duplicate_words(file: FileLines) -> Iterator[str]:
     for name, places in by_name.items():
         if len(places) > 1:
             listed = ", ".join(places[:5]) + (", .." if places[5:] else "")
-            yield f"Note: {file.came.name} has {len(places)} ballots of {name.decode()} ({listed}); the last one counts."
+            yield f"Note: {file.name} has {len(places)} ballots of {name.decode()} ({listed}); the last one counts."

@@ -83,7 +83,7 @@ class Line(NamedTuple):
     source: str
     place: str
     # with its byte-order mark and carriage return, or the line feeds in the cells of its row
-    came: bytes
+    as_it_came: bytes
     # without them
     unframed: bytes
     repaired: bytes
@@ -98,33 +98,35 @@ class Line(NamedTuple):
 
     @property
     def why_too_long(self) -> str | None:
-        words = f"the line has {len(self.came)} bytes, and a ballot has a few dozen"
-        return words if len(self.came) > LONGEST_LINE else None
+        words = f"the line has {len(self.as_it_came)} bytes, and a ballot has a few dozen"
+        return words if len(self.as_it_came) > LONGEST_LINE else None
 
     @property
     def had_mark(self) -> bool:
         """Whether it lost only a byte-order mark, and perhaps a carriage return."""
         is_first = not self.unframed.startswith(MARK)
-        return is_first and self.came.removesuffix(b"\r") == MARK + self.unframed
+        return is_first and self.as_it_came.removesuffix(b"\r") == MARK + self.unframed
 
     @property
     def had_return(self) -> bool:
         """Whether it lost only a carriage return, and perhaps a byte-order mark."""
-        return self.came == self.unframed + b"\r" or (self.had_mark and self.came.endswith(b"\r"))
+        return self.as_it_came == self.unframed + b"\r" or (
+            self.had_mark and self.as_it_came.endswith(b"\r")
+        )
 
     @property
     def without_frame(self) -> bytes:
         """The line without such a mark and carriage return, which are told once for a file."""
-        return self.unframed if self.had_mark or self.had_return else self.came
+        return self.unframed if self.had_mark or self.had_return else self.as_it_came
 
 
 def lines_in(data: bytes, name: str, first: int = 1) -> list[Line]:
     """The lines of a file, numbered from `first`; a carriage return alone ends one, too."""
     lines = []
     for number, line in enumerate(data.splitlines(keepends=True), start=first):
-        came = line.removesuffix(b"\n")
-        unframed = came.removesuffix(b"\r").removeprefix(MARK if number == 1 else b"")
-        lines.append(Line(name, f":{number}", came, unframed, changed(unframed)))
+        as_it_came = line.removesuffix(b"\n")
+        unframed = as_it_came.removesuffix(b"\r").removeprefix(MARK if number == 1 else b"")
+        lines.append(Line(name, f":{number}", as_it_came, unframed, changed(unframed)))
     return lines
 
 

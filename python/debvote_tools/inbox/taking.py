@@ -13,7 +13,7 @@ from debvote_tools.book.queries import NewEnvelope
 from debvote_tools.cli.console import count_of, is_terminal, is_yes, shown_text, tell
 from debvote_tools.cli.faults import Fault
 from debvote_tools.inbox import letter_words
-from debvote_tools.inbox.came import CameFile, safe
+from debvote_tools.inbox.given_files import GivenFile, safe
 from debvote_tools.inbox.entering import agreed_act, enter_lines, late_notes
 from debvote_tools.inbox.judging import judged
 from debvote_tools.inbox.letter_lines import ReadLetter, as_json, read_letters
@@ -24,16 +24,16 @@ from debvote_tools.inbox.vote import Vote
 
 
 def take_letters(
-    vote: Vote, files: Mapping[str, CameFile | None], *, is_look: bool, is_agreed: bool
+    vote: Vote, files: Mapping[str, GivenFile | None], *, is_look: bool, is_agreed: bool
 ) -> None:
     """Keeps new letters, and enters the ballots that go in; or tells what would become of them."""
-    came = split_letters(files)
-    raws = [raw for raw in came if raw.why_not_read is None]
+    split = split_letters(files)
+    raws = [raw for raw in split if raw.why_not_read is None]
     new = new_of(vote, raws)
     read = read_letters(vote, new)
     if not is_look:
         keep(vote, new, read)
-    for raw in came:
+    for raw in split:
         if why := raw.why_not_read:
             tell(f"{shown_text(raw.where)}: {why.what}, and was passed over; {why.cure}")
     came_before = f"{count_of(len(new), 'new letter')}; {len(raws) - len(new)} came before."
@@ -49,7 +49,7 @@ def take_letters(
 
 
 # ---- keeping
-def split_letters(files: Mapping[str, CameFile | None]) -> list[RawLetter]:
+def split_letters(files: Mapping[str, GivenFile | None]) -> list[RawLetter]:
     """The letters of files and folders, each read whole, and what is passed over."""
     found = list[RawLetter]()
     for path, file in files.items():

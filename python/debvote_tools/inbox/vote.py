@@ -168,7 +168,7 @@ class Vote:
         """Each line that went in, or would, by the number of its envelope and the reply to it."""
         yield from frame_words(line.line for line in lines)
         for number, reply, line in zip(numbers, replies, lines):
-            if line.line.came != line.as_entered:
+            if line.line.as_it_came != line.as_entered:
                 yield from change_words(line)
             yield f"{number} {reply}  {self.in_words(line, reply)}"
             finding, other = line.finding, line.finding_of_repaired
@@ -226,7 +226,7 @@ def in_parts(lines: Sequence[bytes]) -> Iterator[list[bytes]]:
 
 def frame_words(lines: Iterable[Line]) -> Iterator[str]:
     """The marks and line ends of Windows that were removed, once a file."""
-    changed = [line for line in lines if line.came != line.repaired]
+    changed = [line for line in lines if line.as_it_came != line.repaired]
     marked = {line.source for line in changed if line.had_mark}
     returns = collections.Counter(line.source for line in changed if line.had_return)
     for name in dict.fromkeys(line.source for line in changed):

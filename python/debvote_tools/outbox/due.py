@@ -12,7 +12,7 @@ from debvote_tools.book.queries import Elector
 from debvote_tools.book.sent import REFUSED, TAKEN, WRITTEN, About, SentLetter
 from debvote_tools.cli.faults import Fault, bad_words
 from debvote_tools.text.ballots import ballot_file
-from debvote_tools.inbox.of_electors import NOBODY, Became, Came, of_electors
+from debvote_tools.inbox.fates import NOBODY, Became, Fate, fates_of
 from debvote_tools.inbox.rules import Outcome
 from debvote_tools.outbox.reached import CAME_BACK, reached_by_call
 from debvote_tools.outbox.words import Composer
@@ -68,11 +68,11 @@ class LettersDue:
         # each kind has a method of its name
         self.text_of: TextOf = getattr(self, kind)()
 
-    def what_came(self) -> dict[str, list[Came]]:
-        came = of_electors(self.election, self.history)
-        letters = (one.letter for items in came.values() for one in items)
+    def fates(self) -> dict[str, list[Fate]]:
+        fates = fates_of(self.election, self.history)
+        letters = (one.letter for items in fates.values() for one in items)
         self.letters_waiting = len({one.number for one in letters if one and one.waits})
-        return came
+        return fates
 
     @property
     def waiting(self) -> list[SentLetter]:
@@ -135,11 +135,11 @@ class LettersDue:
         was cut off, or the server refused some for now; else each run is a new one.
         """
         self.demand_not_over()
-        came = self.what_came()
+        fates = self.fates()
         silent = {
             number: elector
             for number, elector in self.electors.items()
-            if not any(one.became is Became.COUNTS for one in came[elector.name])
+            if not any(one.became is Became.COUNTS for one in fates[elector.name])
         }
         last = max((letter.for_act for letter in self.letters), default=0)
         # to the address of now
@@ -162,7 +162,7 @@ class LettersDue:
 
         def text_of(elector: Elector, letter: SentLetter) -> str:
             waiting = (Outcome.WAITS, Outcome.GOES_IN)
-            told = told_of(came[elector.name]).values()
+            told = told_of(fates[elector.name]).values()
             return self.composer.reminder(elector, [one for one in told if one.became in waiting])
 
         return text_of
@@ -179,13 +179,13 @@ class LettersDue:
         """A letter to each elector about all that came since the last one, also to an earlier
         address, and those that no server has taken yet.
         """
-        came = self.what_came()
+        fates = self.fates()
         self.in_no_receipt = [
             one.letter.number
-            for one in came[NOBODY]
+            for one in fates[NOBODY]
             if one.letter and one.became is Outcome.WAITS and not one.letter.parsed.is_automatic
         ]
-        told = {one.number: told_of(came[one.name]) for one in self.electors.values()}
+        told = {one.number: told_of(fates[one.name]) for one in self.electors.values()}
         # not to people who left the list, nor about a letter that has become a ballot: a new
         # receipt is about that
         self.earlier = [
@@ -300,22 +300,22 @@ class LettersDue:
 
 
 # ---------------------------------------------------------------- what electors are told
-def is_told(came: Came) -> bool:
+def is_told(fate: Fate) -> bool:
     """Whether an elector is told of something that came. A copy is the letter that it copies. A
     program that answers by itself would answer; and a letter of ours that came back has the name of
     its elector.
     """
-    letter = came.letter
+    letter = fate.letter
     if letter is None:
         return True
-    is_automatic = letter.parsed.is_automatic and (came.is_own or not letter.ballots)
-    return came.became in (Outcome.WAITS, Outcome.GOES_IN, Outcome.SET_ASIDE) and not is_automatic
+    is_automatic = letter.parsed.is_automatic and (fate.is_own or not letter.ballots)
+    return fate.became in (Outcome.WAITS, Outcome.GOES_IN, Outcome.SET_ASIDE) and not is_automatic
 
 
-def told_of(items: Sequence[Came]) -> dict[About, Came]:
+def told_of(items: Sequence[Fate]) -> dict[About, Fate]:
     """What an elector is told of, in its order; of a letter by the ballots from it."""
     entered = {one.envelope.letter for one in items if one.envelope}
-    found: dict[About, Came] = {}
+    found: dict[About, Fate] = {}
     for one in filter(is_told, items):
         if one.envelope is not None:
             found["envelope", one.envelope.number, one.envelope.is_struck] = one
@@ -324,13 +324,13 @@ def told_of(items: Sequence[Came]) -> dict[About, Came]:
     return found
 
 
-def about_now(about: Sequence[About], told: Mapping[About, Came]) -> list[About]:
+def about_now(about: Sequence[About], told: Mapping[About, Fate]) -> list[About]:
     """What a receipt is about, as it is now: a ballot may have been struck since it was written."""
     numbers = {key[:2] for key in about}
     return [key for key in told if key[:2] in numbers]
 
 
-def beside_what_counts(about: Sequence[About], told: Mapping[About, Came]) -> list[Came]:
+def beside_what_counts(about: Sequence[About], told: Mapping[About, Fate]) -> list[Fate]:
     """What a receipt says: what it is about, and the ballot that counts. Who reads that another one
     waits, or does not count, learns that an earlier ballot does.
     """

@@ -47,7 +47,7 @@ class Changes(unittest.TestCase):
         self.assertEqual(len(changed(b", " * 1_000_000)), 1_000_000)
 
     def test_the_names_of_changes(self) -> None:
-        came = b"\xef\xbb\xbfAda\t1, 2\r"
+        as_it_came = b"\xef\xbb\xbfAda\t1, 2\r"
         self.assertEqual(differences(came, b"ada 1,2"), ["byte-order mark", "carriage return", "tabs", "capital letters"])
         self.assertEqual(differences(b"ada  1", b"ada 1"), ["spaces"])
 
@@ -71,7 +71,7 @@ class Ends(unittest.TestCase):
         self.assertEqual(self.texts(mark + b"ada 1\n" + mark + b"ben 2\n"), [("f:1", b"ada 1"), ("f:2", mark + b"ben 2")])
         self.assertEqual(self.texts(mark + b"ada 1\n", 2), [("f:2", mark + b"ada 1")])
         (line,) = lines_in(mark + b"Ada;1\r\n", "f")
-        self.assertEqual((line.came, line.unframed), (mark + b"Ada;1\r", b"Ada;1"))
+        self.assertEqual((line.as_it_came, line.unframed), (mark + b"Ada;1\r", b"Ada;1"))
 
     def test_what_is_told_of_the_whole_file(self) -> None:
         lines = lines_in(b"\xef\xbb\xbfAda 1\r\nben 2\r\ncleo  3\n", "f")

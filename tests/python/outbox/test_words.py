@@ -13,7 +13,7 @@ import unittest
 from debvote_tools.book.queries import Elector, Envelope
 from debvote_tools.book.sent import SentLetter
 from debvote_tools.inbox.letter_lines import Near
-from debvote_tools.inbox.of_electors import Became, Came
+from debvote_tools.inbox.fates import Became, Fate
 from debvote_tools.inbox.reasons import Reason, for_elector
 from debvote_tools.inbox.rules import Outcome
 from debvote_tools.outbox.files import message, rows_to_print
@@ -45,7 +45,7 @@ def vote(code: str = "en", *, is_over: bool = False, **how: object) -> Composer:
     return Composer(dataclasses.replace(data, **how), is_over, typed_acts={2})  # type: ignore[arg-type]
 
 
-def all_that_came() -> list[Came]:
+def all_that_came() -> list[Fate]:
     """Something of each kind, with each fault that a line may have."""
     near = (
         Near(1, "ada 1,2", False, "bad rank count: 2 ranks, the poll has 3 options"), Near(2, "bob 1,2,3", True, "bad not on roll: bob is not on the roll"),
@@ -53,15 +53,15 @@ def all_that_came() -> list[Came]:
         Near(5, "ada 1,2,3", False, None), Near(6, "ada 1,2,3", True, None),
     )  # fmt: skip
 
-    def envelope(number: int, became: Became, answer: str | None = None) -> Came:
+    def envelope(number: int, became: Became, answer: str | None = None) -> Fate:
         line = b"ada 1,2,3" if answer is None else b"ada 1"
-        return Came(TIME, became, Envelope(number, number, 1, line, None, 1, "", TIME, False, None), answer)
+        return Fate(TIME, became, Envelope(number, number, 1, line, None, 1, "", TIME, False, None), answer)
 
     ballots = [envelope(number, became) for number, became in enumerate(Became) if became is not Became.REFUSED]
     refused = ["bad rank count: 1 ranks, the poll has 3 options", 'bad shape: column 2: "!"']
     letter = types.SimpleNamespace(reason=Reason.NO_BALLOT(), near=near)
     outcomes = itertools.product((Outcome.WAITS, Outcome.SET_ASIDE), (True, False))
-    letters = [Came(TIME, outcome, letter=letter, is_own=is_own) for outcome, is_own in outcomes]  # type: ignore[arg-type]
+    letters = [Fate(TIME, outcome, letter=letter, is_own=is_own) for outcome, is_own in outcomes]  # type: ignore[arg-type]
     return [*ballots, *(envelope(9, Became.REFUSED, answer) for answer in refused), *letters]
 
 

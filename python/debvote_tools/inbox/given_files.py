@@ -31,7 +31,7 @@ CURES = {
 POLL_KEY = re.compile(rb"(?m)^[ \t]*\"?(%b)\"?[ \t]*=" % "|".join(REQUIRED).encode())
 
 
-class CameFile(NamedTuple):
+class GivenFile(NamedTuple):
     name: str
     data: bytes
 
@@ -46,12 +46,12 @@ def safe(text: str) -> str:
     return os.fsencode(text).decode("utf-8", "backslashreplace")
 
 
-def is_letters(file: CameFile | None) -> bool:
+def is_letters(file: GivenFile | None) -> bool:
     of_outlook = (NotRead.OUTLOOK_LETTER, NotRead.OUTLOOK_MAILBOX)
     return file is None or are_letters(file.data) or kind_not_read(file.data) in of_outlook
 
 
-def are_all_letters(files: Mapping[str, CameFile | None]) -> bool:
+def are_all_letters(files: Mapping[str, GivenFile | None]) -> bool:
     """Whether all that came are letters. Stops if some are letters and some are not."""
     with_letters = [path for path, file in files.items() if is_letters(file)]
     if 0 < len(with_letters) < len(files):
@@ -64,9 +64,9 @@ def are_all_letters(files: Mapping[str, CameFile | None]) -> bool:
 
 def read_files(
     election: Election, paths: Sequence[str], *, is_table: bool
-) -> dict[str, CameFile | None]:
+) -> dict[str, GivenFile | None]:
     """What these paths name; a folder is None. Stops at what has neither ballots nor letters."""
-    files: dict[str, CameFile | None] = {}
+    files: dict[str, GivenFile | None] = {}
     faults = []
     for path in paths or [HYPHEN]:
         try:
@@ -80,20 +80,20 @@ def read_files(
     return files
 
 
-def read_file(election: Election, path: str) -> CameFile:
+def read_file(election: Election, path: str) -> GivenFile:
     """Reads a file or standard input, once: it may be a pipe. At a terminal it says how to end."""
     if path == HYPHEN:
         if sys.stdin is None:
             raise bad_ballots(STANDARD_INPUT, "it is closed", "name a file")
         if sys.stdin.isatty():
             tell("Type the ballots, one on each line; to end, type Ctrl-D on an empty line.")
-        return CameFile(STANDARD_INPUT, bytes_in(sys.stdin.buffer))
+        return GivenFile(STANDARD_INPUT, bytes_in(sys.stdin.buffer))
     # no other handle may be opened on the book: closing it would end the locks of this process
     if os.path.exists(path) and os.path.samefile(path, election.book.path):
         raise bad_ballots(path, "it is the book of this election", "name a file of ballots")
     try:
         with open(path, "rb") as file:
-            return CameFile(path, bytes_in(file))
+            return GivenFile(path, bytes_in(file))
     except OSError as error:
         cure = "name a file of ballots that you may read"
         raise bad_ballots(path, error.strerror, cure) from None
@@ -105,7 +105,7 @@ def bytes_in(file: BinaryIO) -> bytes:
     return data + file.read() if are_letters(data) else data
 
 
-def demand_lines(file: CameFile, *, is_table: bool) -> None:
+def demand_lines(file: GivenFile, *, is_table: bool) -> None:
     if not file.data:
         words, cure = "it is empty", "write one ballot on each line"
         raise doubt(file.name, words, cure)
