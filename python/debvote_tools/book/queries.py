@@ -292,7 +292,7 @@ def sources(book: Book) -> list[tuple[int, str, bytes]]:
 
 
 # ---------------------------------------------------------------- letters that came
-WAITS, ENTERED, TAKEN_BACK, STRUCK = "waits", "entered", "taken back", "struck"
+NEVER_DECIDED, ENTERED, TAKEN_BACK, STRUCK = "waits", "entered", "taken back", "struck"
 # acts have these names, too
 SET_ASIDE: Final = "set aside"
 PUT_BACK: Final = "put back"
@@ -309,12 +309,12 @@ class KeptLetter(NamedTuple):
     # what a copy of it has in common with it
     identity: str
     # what its bytes, the keyring and the sealed poll alone decide
-    parsed_json: str
+    read_json: str
     state: str
 
     @property
     def is_undecided(self) -> bool:
-        return self.state in (WAITS, PUT_BACK, TAKEN_BACK)
+        return self.state in (NEVER_DECIDED, PUT_BACK, TAKEN_BACK)
 
 
 def letters(book: Book) -> list[KeptLetter]:
@@ -351,10 +351,10 @@ def undecided(kept: list[KeptLetter]) -> list[KeptLetter]:
     return [letter for letter in kept if letter.identity in identities]
 
 
-def keep_letter(act: NewAct, where: str, data: bytes, identity: str, parsed_json: str) -> int:
+def keep_letter(act: NewAct, where: str, data: bytes, identity: str, read_json: str) -> int:
     """Keeps a letter, byte for byte, and returns its number."""
     return act.insert(
-        "letter", source=keep_source(act, where, data), identity=identity, known=parsed_json
+        "letter", source=keep_source(act, where, data), identity=identity, known=read_json
     )
 
 

@@ -234,7 +234,7 @@ def write_lost(due: LettersDue, kind_folder: pathlib.Path) -> dict[pathlib.Path,
 
 def send_waiting(book: Book, due: LettersDue, server: Server) -> list[SentLetter]:
     """Sends the letters that wait, and returns them with what the server said."""
-    letters, tried = due.waiting, list[SentLetter]()
+    letters, tried = due.to_send, list[SentLetter]()
     if not letters:
         return tried
     detail: Detail = {"kind": due.kind, "server": str(server)}

@@ -57,7 +57,7 @@ def elector_named(election: Election, vote: Vote, name: str) -> queries.Elector:
 def words_of(vote: Vote, history: History, fate: Fate) -> Iterator[str]:
     envelope, letter = fate.envelope, fate.letter
     if letter is not None:
-        if letter.waits:
+        if letter.needs_secretary:
             yield from letter_words.waiting(letter)
         else:
             why = letter.outcome.value if letter.reason is None else for_secretary(letter.reason)

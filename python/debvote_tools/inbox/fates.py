@@ -99,10 +99,10 @@ def fates_of(
     kept = queries.letters(election.book)
     kept_at = {letter.number: history.act(letter.act).time for letter in kept}
     for letter in judged(vote, history, kept):
-        time = letter.parsed.arrived or kept_at[letter.number]
+        time = letter.read.arrived or kept_at[letter.number]
         names_of = filter(None, (*letter.electors, letter.sending_elector))
         for name in dict.fromkeys(names_of) or [NOBODY]:
             if name in found:
-                is_own = letter.parsed.sender in addresses.get(name, ())
+                is_own = letter.read.sender in addresses.get(name, ())
                 found[name].append(Fate(time, letter.outcome, letter=letter, is_own=is_own))
     return {name: sorted(items, key=lambda one: one.time) for name, items in found.items()}

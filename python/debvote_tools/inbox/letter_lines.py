@@ -287,7 +287,7 @@ def answers_in(letters: Iterable[ReadLetter], roll: Collection[str]) -> dict[byt
 
 
 # ---- as the book keeps it
-def as_json(letter: ParsedLetter) -> str:
+def to_json(letter: ReadLetter) -> str:
     return json.dumps(vars(letter), default=as_plain)
 
 

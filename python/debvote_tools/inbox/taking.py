@@ -16,7 +16,7 @@ from debvote_tools.inbox import letter_words
 from debvote_tools.inbox.given_files import GivenFile, safe
 from debvote_tools.inbox.entering import agreed_act, enter_lines, late_notes
 from debvote_tools.inbox.judging import judged
-from debvote_tools.inbox.letter_lines import ReadLetter, as_json, read_letters
+from debvote_tools.inbox.letter_lines import ReadLetter, read_letters, to_json
 from debvote_tools.inbox.lines import NOTHING_ADDED, bad_ballots
 from debvote_tools.inbox.mailbox import RawLetter, letters_of_file, letters_of_folder
 from debvote_tools.inbox.rules import JudgedLetter, Outcome
@@ -90,8 +90,8 @@ def keep(vote: Vote, raws: Sequence[RawLetter], read: Sequence[ReadLetter]) -> N
         for raw, letter in zip(raws, read):
             # another command may have kept it meanwhile
             if is_not_kept(letter.digest, letter.is_parted_off, kept):
-                where, parsed_json = safe(raw.where), as_json(letter)
-                queries.keep_letter(act, where, raw.data, letter.identity, parsed_json)
+                where, read_json = safe(raw.where), to_json(letter)
+                queries.keep_letter(act, where, raw.data, letter.identity, read_json)
 
 
 # ---- entering
@@ -148,7 +148,7 @@ def enter_letters(vote: Vote, *, is_agreed: bool) -> None:
         elif is_agreed or agreed(count_of(len(new.done), "ballot")):
             return True
         else:
-            waits = letter_words.wait_words(sum(letter.waits for letter in found))
+            waits = letter_words.wait_words(sum(letter.needs_secretary for letter in found))
             tell(f"Nothing was entered. The letters are kept, and wait: {waits}.")
         return False
 

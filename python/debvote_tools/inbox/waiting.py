@@ -35,7 +35,7 @@ def waiting_letters(election: Election, history: History) -> dict[int, Arrived]:
         kept = queries.undecided(kept)
     found = {}
     for letter in judged(Vote(election, history), history, kept):
-        if letter.waits:
+        if letter.needs_secretary:
             arrived = Arrived.LATE if letter.arrived_late else Arrived.IN_TIME
             is_before = letter.arrived_before_call
             found[letter.number] = Arrived.BEFORE_THE_CALL if is_before else arrived

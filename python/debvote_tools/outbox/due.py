@@ -71,11 +71,11 @@ class LettersDue:
     def fates(self) -> dict[str, list[Fate]]:
         fates = fates_of(self.election, self.history)
         letters = (one.letter for items in fates.values() for one in items)
-        self.letters_waiting = len({one.number for one in letters if one and one.waits})
+        self.letters_waiting = len({one.number for one in letters if one and one.needs_secretary})
         return fates
 
     @property
-    def waiting(self) -> list[SentLetter]:
+    def to_send(self) -> list[SentLetter]:
         return list(filter(self.can_be_sent, (*self.written, *self.new)))
 
     def can_be_sent(self, letter: SentLetter) -> bool:
@@ -183,7 +183,7 @@ class LettersDue:
         self.in_no_receipt = [
             one.letter.number
             for one in fates[NOBODY]
-            if one.letter and one.became is Outcome.WAITS and not one.letter.parsed.is_automatic
+            if one.letter and one.became is Outcome.WAITS and not one.letter.read.is_automatic
         ]
         told = {one.number: told_of(fates[one.name]) for one in self.electors.values()}
         # not to people who left the list, nor about a letter that has become a ballot: a new
@@ -308,7 +308,7 @@ def is_told(fate: Fate) -> bool:
     letter = fate.letter
     if letter is None:
         return True
-    is_automatic = letter.parsed.is_automatic and (fate.is_own or not letter.ballots)
+    is_automatic = letter.read.is_automatic and (fate.is_own or not letter.ballots)
     return fate.became in (Outcome.WAITS, Outcome.GOES_IN, Outcome.SET_ASIDE) and not is_automatic
 
 

@@ -236,7 +236,7 @@ def late_letters_in_time(book: Book, history: History) -> list[Doubt]:
         numbers.setdefault(envelope.letter, []).append(str(envelope.number))
     found = []
     for kept in queries.letters(book):
-        arrived = json.loads(kept.parsed_json)["arrived"] if kept.number in numbers else None
+        arrived = json.loads(kept.read_json)["arrived"] if kept.number in numbers else None
         if arrived is not None and from_text(arrived) <= last:
             places = {
                 "letter": kept.number,
