@@ -241,7 +241,7 @@ class LettersDue:
         poll, language = self.composer.call.poll, self.election.language
         text = closing_letter(self.history, poll, language).decode()
         self.to_each(self.history.closes[-1].number)
-        return lambda elector, _: self.composer.text(self.kind, elector, letter=text)
+        return lambda elector, _: self.composer.text("closed_to_elector.txt", elector, letter=text)
 
     def result(self) -> TextOf:
         act = last_publication(self.history)
@@ -260,7 +260,7 @@ class LettersDue:
             self.composer = dataclasses.replace(self.composer, call=call)
         self.to_each(act.number)
         return lambda elector, _: self.composer.text(
-            self.kind, elector, has_ballot=elector.name in standing, letter=letter
+            "result_to_elector.txt", elector, has_ballot=elector.name in standing, letter=letter
         )
 
     def stops(self, words: str, first: str) -> Fault:

@@ -113,7 +113,7 @@ class Composer:
         does not remind.
         """
         is_reminding = not any(one.is_own for one in waits)
-        return self.text("reminders", elector, fates=waits, is_reminding=is_reminding)
+        return self.text("reminders.txt", elector, fates=waits, is_reminding=is_reminding)
 
     def receipt(self, elector: Elector, fates: Sequence[Fate]) -> str:
         """What became of all that came of an elector. It has the right line if what came last was
@@ -124,10 +124,10 @@ class Composer:
         )
         last = next(reversed([one.became for one in decides]), Became.COUNTS)
         is_refusing = not self.is_over and last is not Became.COUNTS
-        return self.text("receipts", elector, fates=fates, is_refusing=is_refusing)
+        return self.text("receipts.txt", elector, fates=fates, is_refusing=is_refusing)
 
-    def text(self, kind: str, elector: Elector, **values: object) -> str:
-        return self.rendered(PACKAGE, f"{kind}.txt", elector, said_of=self.said_of, **values)
+    def text(self, template: str, elector: Elector, **values: object) -> str:
+        return self.rendered(PACKAGE, template, elector, said_of=self.said_of, **values)
 
     def rendered(self, package: str, template: str, elector: Elector, **values: object) -> str:
         call = self.call

@@ -63,7 +63,7 @@ def letter_of(facts: Facts, sheet: Sheet, checksums: Mapping[str, str]) -> bytes
     """
     why = Why(sheet, numbered_options(facts.poll.names, facts.language))
     values = {"facts": facts, "sheet": sheet, "why": why, "checksums": checksums}
-    return render_letter(__package__, "letter.txt", facts.language, **values).encode()
+    return render_letter(__package__, "result.txt", facts.language, **values).encode()
 
 
 def page_of(facts: Facts, answers: Answers, checksums: Mapping[str, str]) -> bytes:

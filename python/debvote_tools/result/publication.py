@@ -157,7 +157,7 @@ def closing_letter(history: History, poll: SealedPoll, language: Language) -> by
     close = history.closes[-1]
     time = close.time.astimezone(zone_of(history))
     values = {"close": close, "time": time, "poll": poll, "early_end": early_end(history)}
-    return render_letter("debvote_tools.outbox", "closing.txt", language, **values).encode()
+    return render_letter(__package__, "closed.txt", language, **values).encode()
 
 
 def demand_as_closed(history: History, ballots: bytes) -> None:

@@ -77,8 +77,8 @@ def texts(now: Composer) -> list[str]:
         now.reminder(ADA, [WAITS]),
         now.reminder(ADA, []),
         now.receipt(ADA, all_that_came()),
-        now.text("closed", ADA, letter="CLOSED\n"),
-        *(now.text("result", ADA, letter="RESULT\n", has_ballot=has_ballot) for has_ballot in (True, False)),
+        now.text("closed_to_elector.txt", ADA, letter="CLOSED\n"),
+        *(now.text("result_to_elector.txt", ADA, letter="RESULT\n", has_ballot=has_ballot) for has_ballot in (True, False)),
     ]
 
 
@@ -128,7 +128,7 @@ class Texts(unittest.TestCase):
         rest = "THE FILES OF THE RESULT\n\nDownload them.\n"
         place = "The result is published at:\n  https://club.example/vote/\n"
         for letter in ("RESULT\n", f"RESULT\n\n{rest}", f"RESULT\n\n{place}\nDOUBTS\n\n{rest}"):
-            texts = [now.text("result", ADA, letter=letter, has_ballot=True) for now in (vote(), vote(has_aliases=True))]
+            texts = [now.text("result_to_elector.txt", ADA, letter=letter, has_ballot=True) for now in (vote(), vote(has_aliases=True))]
             end = letter.removeprefix("RESULT\n").removeprefix(f"\n{place}")
             for text in texts:
                 self.assertTrue(text.startswith(f"Dear Ada L.,\n\nRESULT\n\n{place}\nYour "), text)
@@ -136,7 +136,7 @@ class Texts(unittest.TestCase):
             self.assertIn("Your own ballot, in words:\n  https://club.example/vote/#ada\n", texts[0])
             self.assertNotIn("#", texts[1])
             self.assertIn("find it with your name, ada, and your code", " ".join(texts[1].split()))
-            self.assertIn("The result has no ballot of yours", vote().text("result", ADA, letter=letter, has_ballot=False))
+            self.assertIn("The result has no ballot of yours", vote().text("result_to_elector.txt", ADA, letter=letter, has_ballot=False))
 
 
 class CallLetter(unittest.TestCase):
@@ -325,6 +325,6 @@ class Bytes(unittest.TestCase):
 
     def test_a_name_is_one_line(self) -> None:
         elector = ADA._replace(who="Ada\r\nBcc: x@y.example\n\nada 1,2,3\u2028" + "x" * 500)
-        text = vote().text("closed", elector, letter="CLOSED\n")
+        text = vote().text("closed_to_elector.txt", elector, letter="CLOSED\n")
         self.assertEqual(len(text.split("\n\n")), 2)
         self.assertEqual(one_line(parsed(self.message(text)))[:9], "Dear Ada ")
