@@ -73,6 +73,7 @@ def run(election: Election, arguments: Arguments) -> int:
     # two runs at once would send each letter twice
     with locked(election.path(LETTERS) / ".lock"):
         due = LettersDue(election, arguments.kind, sender, is_sending=arguments.send)
+        due.find()
         if due.reminded and console.is_terminal() and not arguments.yes:
             question = f"Reminders were written at {act_time(due.reminded)}. Remind again?"
             if not console.is_yes(question):

@@ -31,7 +31,9 @@ TextOf = Callable[[Elector, SentLetter], str]
 
 
 class LettersDue:
-    """The letters of a kind, by the book as it is now."""
+    """The letters of a kind, by the book as it is now. `find` has to be called first: until then
+    none is due.
+    """
 
     def __init__(self, election: Election, kind: str, sender: str, *, is_sending: bool) -> None:
         self.election, self.kind, self.sender, self.is_sending = election, kind, sender, is_sending
@@ -65,8 +67,18 @@ class LettersDue:
         # the receipts of earlier runs that have files, or had them; the numbers of the letters that
         # wait and are in no elector's receipt; how many wait in all, if they were looked at
         self.earlier, self.in_no_receipt, self.letters_waiting = list[SentLetter](), list[int](), 0
-        # each kind has a method of its name
-        self.text_of: TextOf = getattr(self, kind)()
+        self.text_of: TextOf
+
+    def find(self) -> None:
+        """Finds the letters that are due, and what each says."""
+        of_kinds = {
+            "call": self.due_call,
+            "reminders": self.due_reminders,
+            "receipts": self.due_receipts,
+            "closed": self.due_closed,
+            "result": self.due_result,
+        }
+        self.text_of = of_kinds[self.kind]()
 
     def fates(self) -> dict[str, list[Fate]]:
         fates = fates_of(self.election, self.history)
@@ -112,7 +124,7 @@ class LettersDue:
         return elector if self.is_present(letter) else elector._replace(mark="")
 
     # ------------------------------------------------------------ each kind
-    def call(self) -> TextOf:
+    def due_call(self) -> TextOf:
         """The call to each elector; after an extension that, to those who have the call."""
         self.demand_not_over()
         *earlier, last = (act.number for act in self.history.since_call("call", "extend"))
@@ -130,7 +142,7 @@ class LettersDue:
             elector, is_extension=self.is_extension(letter)
         )
 
-    def reminders(self) -> TextOf:
+    def due_reminders(self) -> TextOf:
         """A letter to each elector whose ballot does not count yet. A run of this day goes on if it
         was cut off, or the server refused some for now; else each run is a new one.
         """
@@ -175,7 +187,7 @@ class LettersDue:
         times = (one.time for one in self.letters if self.time - one.time < LASTING)
         return max(times, default=None)
 
-    def receipts(self) -> TextOf:
+    def due_receipts(self) -> TextOf:
         """A letter to each elector about all that came since the last one, also to an earlier
         address, and those that no server has taken yet.
         """
@@ -235,7 +247,7 @@ class LettersDue:
         states = (REFUSED, *([WRITTEN] if self.is_sending else []))
         return letter.state in states and not self.is_present(letter)
 
-    def closed(self) -> TextOf:
+    def due_closed(self) -> TextOf:
         if not self.history.is_closed:
             raise self.stops("the vote is not closed", "close")
         poll, language = self.composer.call.poll, self.election.language
@@ -243,7 +255,7 @@ class LettersDue:
         self.to_each(self.history.closes[-1].number)
         return lambda elector, _: self.composer.text("closed_to_elector.txt", elector, letter=text)
 
-    def result(self) -> TextOf:
+    def due_result(self) -> TextOf:
         act = last_publication(self.history)
         if act is None or not self.history.is_closed:
             raise self.stops("nothing is published", "publish")
