@@ -70,7 +70,7 @@ class Arguments(entering.Arguments):
 def run(election: Election, arguments: Arguments) -> None:
     demand_words(arguments)
     if not arguments.look:
-        election.book_for(arguments)
+        election.demand_right_book(arguments)
     vote = Vote(election, election.history())
     found = given_files.read_files(election, arguments.files, is_table=arguments.csv)
     if not given_files.are_all_letters(found):
@@ -122,7 +122,7 @@ class FileLines(NamedTuple):
 class NewLines(NamedTuple):
     """Which lines would be entered, by the book as it is now."""
 
-    openness: History
+    opening: History
     files: list[FileLines]
 
     @property
@@ -145,7 +145,7 @@ def take_lines(vote: Vote, files: Sequence[GivenFile], arguments: Arguments) -> 
         """It asks nothing of debvote, so it is made again within the act."""
         history = History(book.acts())
         vote.demand_same_call(history, NOTHING_ADDED)
-        return NewLines(history.openness(), sorted_out(book, of_files, history, arguments.again))
+        return NewLines(history.acts_of_opening(), sorted_out(book, of_files, history, arguments.again))
 
     def show(new: NewLines) -> bool:
         nonlocal answer
@@ -154,7 +154,7 @@ def take_lines(vote: Vote, files: Sequence[GivenFile], arguments: Arguments) -> 
             tell(*report(vote, new, (), ()), "There is nothing new, and nothing was added.")
             return False
         said = arguments.came_before_close
-        answer = entering.came_before_close(new.openness, said, NOTHING_ADDED)
+        answer = entering.came_before_close(new.opening, said, NOTHING_ADDED)
         return True
 
     def act(new: NewLines, seen: int) -> None:
@@ -169,7 +169,7 @@ def take_lines(vote: Vote, files: Sequence[GivenFile], arguments: Arguments) -> 
             new.envelopes,
             told,
             seen,
-            is_late=new.openness.is_late(answer),
+            is_late=new.opening.is_late(answer),
             is_same=lambda: plan() == new,
         )
 
@@ -177,7 +177,7 @@ def take_lines(vote: Vote, files: Sequence[GivenFile], arguments: Arguments) -> 
         with book.snapshot():
             new, lines, first = plan(), queries.lines_in_time(book), queries.last_envelope(book)
         look(vote, new, lines, first + 1, arguments)
-    elif entering.agreed_act(vote, plan, show, act).openness.is_closed:
+    elif entering.agreed_act(vote, plan, show, act).opening.is_closed:
         tell(f"Next: {command('count')}")
     else:
         more = f"add more ballots with {command('add', 'FILE')}"
@@ -292,9 +292,9 @@ def look(
 ) -> None:
     """Says what would become of the lines, and stops if `add` would."""
     numbers, replies = range(first, first + len(new.lines)), [LATE_REPLY] * len(new.lines)
-    if numbers and not new.openness.is_late(arguments.came_before_close != "no"):
+    if numbers and not new.opening.is_late(arguments.came_before_close != "no"):
         replies = vote.replies(lines, [line.as_entered for line in new.lines])
-    if new.openness.is_reopened and arguments.came_before_close is None:
+    if new.opening.is_reopened and arguments.came_before_close is None:
         asks = "Note: add will ask whether these lines came before the close"
         tell(f"{asks}; this preview assumes that they did.")
     tell_many(report(vote, new, numbers, replies))
@@ -442,7 +442,7 @@ def report(
     vote: Vote, new: NewLines, numbers: Sequence[int], replies: Sequence[str]
 ) -> Iterator[str]:
     if numbers:
-        yield from entering.late_notes(vote.election, new.openness, "what is added")
+        yield from entering.late_notes(vote.election, new.opening, "what is added")
     for file in new.files:
         yield from (f"{line.where}: it is empty, and was left out" for line in file.empty)
         yield from repeated_words(file)

@@ -80,7 +80,7 @@ class Arguments(Acting):
 
 
 def run(election: Election, arguments: Arguments) -> None:
-    election.book_for(arguments)
+    election.demand_right_book(arguments)
     if arguments.take_back:
         take_back(election)
         return

@@ -32,7 +32,7 @@ class Arguments(Acting, checks=True):
 
 
 def run(election: Election, arguments: Arguments) -> None:
-    election.book_for(arguments)
+    election.demand_right_book(arguments)
     sealed, is_new = election.sealed(), not election.history().is_closed
     if is_new:
         close(election, sealed, arguments)

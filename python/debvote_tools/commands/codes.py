@@ -26,7 +26,7 @@ class Arguments(Acting):
 
 
 def run(election: Election, arguments: Arguments) -> None:
-    election.book_for(arguments)
+    election.demand_right_book(arguments)
     if election.history().call is None:
         poll, number = make_codes(election, arguments)
         tell(f"Made {count_of(number, 'code')}.")

@@ -76,7 +76,7 @@ class Desk:
         def plan() -> Seen:
             history = History(vote.book.acts())
             vote.demand_same_call(history, NOTHING_CAST, "start the desk again")
-            return history.openness(), queries.envelopes(vote.book, "elector = ?", elector)
+            return history.acts_of_opening(), queries.envelopes(vote.book, "elector = ?", elector)
 
         def show_all(now: Seen) -> bool:
             self.ask_if_reopened(now[0])
@@ -109,7 +109,7 @@ def run(election: Election, arguments: Arguments) -> None:
     if sys.stdin is None:
         cure = "run it at a terminal"
         raise Fault("standard input", "it is closed", cure, Status.BAD_BALLOTS, NOTHING_CAST)
-    election.book_for(arguments)
+    election.demand_right_book(arguments)
     desk = Desk(election, arguments.came_before_close)
     history = election.history()
     tell(*entering.late_notes(election, history, "what is entered"))

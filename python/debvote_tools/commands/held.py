@@ -43,7 +43,7 @@ class Arguments(Acting):
 def run(election: Election, arguments: Arguments) -> None:
     is_act = demand_words(arguments)
     if is_act:
-        election.book_for(arguments)
+        election.demand_right_book(arguments)
     # stops before the call
     vote = Vote(election, election.history())
     if arguments.set_aside or arguments.wait:

@@ -59,7 +59,7 @@ def run(election: Election, arguments: Arguments) -> int:
     demand_words(arguments)
     named = None if arguments.server is None else smtp.server_of(arguments.server)
     book = election.book_for(arguments)
-    election.called(election.history())
+    election.demand_called(election.history())
     server = server_of(election.history(), named, arguments) if arguments.send else None
     history = election.history()
     if arguments.at not in (None, history.announced("at")):
