@@ -19,7 +19,7 @@ from debvote_tools.inbox import entering, given_files
 from debvote_tools.inbox.given_files import HYPHEN, GivenFile
 from debvote_tools.inbox.lines import MARK, NOTHING_ADDED, Line, bad_words, doubt, lines_in
 from debvote_tools.inbox.tables import OptionNames, are_table, heads_of, lines_of_table
-from debvote_tools.inbox.vote import LATE_REPLY, JudgedLine, Vote, summary
+from debvote_tools.inbox.vote import LATE_REPLY, CheckedLine, Vote, summary
 
 FORCE = "add it anyway with --force"
 
@@ -106,11 +106,11 @@ class FileLines(NamedTuple):
     """A file and its lines in the order of entering, the new ones, and those that came before."""
 
     file: GivenFile
-    lines: Sequence[JudgedLine]
+    lines: Sequence[CheckedLine]
     empty: Sequence[Line]
-    new: Sequence[JudgedLine] = ()
+    new: Sequence[CheckedLine] = ()
     # each with what has happened since, if it no longer counts: then `--again` takes it
-    repeated: Sequence[tuple[JudgedLine, str | None]] = ()
+    repeated: Sequence[tuple[CheckedLine, str | None]] = ()
     # the envelopes of lines that go in again: from then on such a line is known by its new envelope
     again: Sequence[int] = ()
 
@@ -126,14 +126,16 @@ class NewLines(NamedTuple):
     files: list[FileLines]
 
     @property
-    def lines(self) -> list[JudgedLine]:
+    def lines(self) -> list[CheckedLine]:
         return [line for file in self.files for line in file.new]
 
     def envelopes(self, act: NewAct) -> Iterator[NewEnvelope]:
         """Each file is stored whole before its lines."""
         for file in self.files:
             source = queries.keep_source(act, file.file.kept_name, file.file.data)
-            yield from (NewEnvelope(line.as_entered, line.line.place, source) for line in file.new)
+            yield from (
+                NewEnvelope(line.as_entered, line.original.place, source) for line in file.new
+            )
 
 
 def take_lines(vote: Vote, files: Sequence[GivenFile], arguments: Arguments) -> None:
@@ -145,7 +147,9 @@ def take_lines(vote: Vote, files: Sequence[GivenFile], arguments: Arguments) -> 
         """It asks nothing of debvote, so it is made again within the act."""
         history = History(book.acts())
         vote.demand_same_call(history, NOTHING_ADDED)
-        return NewLines(history.acts_of_opening(), sorted_out(book, of_files, history, arguments.again))
+        return NewLines(
+            history.acts_of_opening(), sorted_out(book, of_files, history, arguments.again)
+        )
 
     def show(new: NewLines) -> bool:
         nonlocal answer
@@ -199,12 +203,12 @@ def file_lines(vote: Vote, files: Sequence[GivenFile], arguments: Arguments) -> 
     stop_at([doubt(file.name, what, "write one ballot on each line") for file in empty])
     if arguments.newest_first:
         lists = [lines[::-1] for lines in lists]
-    judged = iter(vote.judge([line for lines in lists for line in lines if not line.is_empty]))
+    checked = iter(vote.checked([line for lines in lists for line in lines if not line.is_empty]))
     found = []
     for file, lines in zip(files, lists):
         left_out = [line for line in lines if line.is_empty]
-        read = [*itertools.islice(judged, len(lines) - len(left_out))]
-        found.append(FileLines(file, read, left_out))
+        its_lines = [*itertools.islice(checked, len(lines) - len(left_out))]
+        found.append(FileLines(file, its_lines, left_out))
     return found
 
 
@@ -247,8 +251,8 @@ def sorted_out(
 
 
 def copies_of(
-    lines: Iterable[JudgedLine], before: Mapping[bytes, Sequence[Envelope]]
-) -> Iterator[tuple[JudgedLine, int, Envelope | None]]:
+    lines: Iterable[CheckedLine], before: Mapping[bytes, Sequence[Envelope]]
+) -> Iterator[tuple[CheckedLine, int, Envelope | None]]:
     """Each line with its number among its copies, and with its envelope if it came before."""
     counts: collections.Counter[bytes] = collections.Counter()
     for line in lines:
@@ -258,7 +262,7 @@ def copies_of(
 
 
 def change_since(
-    envelope: Envelope, line: JudgedLine, last: Mapping[int, tuple[int, bytes]], is_reopened: bool
+    envelope: Envelope, line: CheckedLine, last: Mapping[int, tuple[int, bytes]], is_reopened: bool
 ) -> str | None:
     """Why a line that came no longer counts."""
     if envelope.is_struck:
@@ -320,7 +324,9 @@ def doubts(vote: Vote, new: NewLines, arguments: Arguments) -> Iterator[Fault]:
     if arguments.force:
         return
     for file in new.files:
-        for line in itertools.islice((one.line for one in file.new if one.line.why_too_long), 1):
+        for line in itertools.islice(
+            (one.original for one in file.new if one.original.why_too_long), 1
+        ):
             cure = f"take the line out if it is not a ballot, or {FORCE}"
             yield doubt(line.where, str(line.why_too_long), cure)
     with_new_lines = [file for file in new.files if file.new]
@@ -347,7 +353,7 @@ def doubts(vote: Vote, new: NewLines, arguments: Arguments) -> Iterator[Fault]:
 
 def is_table(file: FileLines) -> bool:
     has_ballots = any(line.is_ballot for line in file.lines)
-    return not has_ballots and are_table([line.line.unframed for line in file.lines])
+    return not has_ballots and are_table([line.original.unframed for line in file.lines])
 
 
 def under_other_names(vote: Vote, files: Sequence[FileLines]) -> Iterator[Fault]:
@@ -355,7 +361,7 @@ def under_other_names(vote: Vote, files: Sequence[FileLines]) -> Iterator[Fault]
     options = OptionNames(vote.poll)
     for file in files:
         for line in file.lines:
-            if not line.is_ballot and options.are_in_another_order(line.line.unframed):
+            if not line.is_ballot and options.are_in_another_order(line.original.unframed):
                 place = place_in(line)
                 words = f"{place} names options of the poll in another order than the poll has them: the ranks below it may stand in that order"
                 cure = f"if they do, put them into the order of the poll, and take {place} out; if they do not, {FORCE}"
@@ -363,33 +369,33 @@ def under_other_names(vote: Vote, files: Sequence[FileLines]) -> Iterator[Fault]
                 break
 
 
-def of_unknown_order(file: FileLines) -> tuple[JudgedLine, JudgedLine] | None:
+def of_unknown_order(file: FileLines) -> tuple[CheckedLine, CheckedLine] | None:
     """Two different ballots of one elector, one of them new, and nobody said which is newer."""
-    new = {line.line.place for line in file.new}
-    above: dict[str, list[JudgedLine]] = collections.defaultdict(list)
+    new = {line.original.place for line in file.new}
+    above: dict[str, list[CheckedLine]] = collections.defaultdict(list)
     for line in filter(is_ballot, file.lines):
         for other in above[line.voter]:
-            if other.ranks != line.ranks and new & {other.line.place, line.line.place}:
+            if other.ranks != line.ranks and new & {other.original.place, line.original.place}:
                 return other, line
         above[line.voter].append(line)
     return None
 
 
-def new_one_above(file: FileLines) -> tuple[JudgedLine, JudgedLine] | None:
+def new_one_above(file: FileLines) -> tuple[CheckedLine, CheckedLine] | None:
     """A new ballot, and one of its elector below it that came before, which it would replace."""
-    new = {line.line.place for line in file.new} if file.repeated else set()
-    above: dict[str, JudgedLine] = {}
+    new = {line.original.place for line in file.new} if file.repeated else set()
+    above: dict[str, CheckedLine] = {}
     for line in filter(is_ballot, file.lines if new else ()):
-        if line.line.place in new:
+        if line.original.place in new:
             above[line.voter] = line
         elif above.get(line.voter, line).ranks != line.ranks:
             return above[line.voter], line
     return None
 
 
-def place_in(line: JudgedLine) -> str:
+def place_in(line: CheckedLine) -> str:
     """Where a line is in its file, as `line 3` or `row 3`."""
-    place = line.line.place.lstrip(": ")
+    place = line.original.place.lstrip(": ")
     return f"line {place}" if place.isdigit() else place
 
 
@@ -406,26 +412,26 @@ def few_ballots(vote: Vote, files: Sequence[FileLines], arguments: Arguments) ->
         refused = [line for line in file.lines if not line.is_ballot]
         count = len(file.lines) - len(refused)
         for line in refused[:MAX_REFUSED] if count else ():
-            tell(f"{line.line.where}: not a ballot: {vote.in_words(line)}")
+            tell(f"{line.original.where}: not a ballot: {vote.in_words(line)}")
         if count and len(refused) > MAX_REFUSED:
             tell(f"and {len(refused) - MAX_REFUSED} more lines that are not ballots")
         reason = f"debvote takes {f'only {count}' if count else 'none'} of the {len(file.lines)} lines as ballots"
         yield doubt(file.name, reason, f"{cure_of(file, refused[0], arguments)}, or {FORCE}")
 
 
-def has_few_ballots(lines: Sequence[JudgedLine]) -> bool:
+def has_few_ballots(lines: Sequence[CheckedLine]) -> bool:
     """One line alone is looked at by whoever adds it."""
     return len(lines) > 1 and sum(line.is_ballot for line in lines) * 2 < len(lines)
 
 
-def cure_of(file: FileLines, refused: JudgedLine, arguments: Arguments) -> str:
+def cure_of(file: FileLines, refused: CheckedLine, arguments: Arguments) -> str:
     if arguments.csv:
         return "check that --name and --ranks name the right columns, and the ranks in the order of the options"
     head = file.file.data.removeprefix(MARK).lstrip().partition(b"\n")[0].decode("utf-8", "replace")
     if MEMBERS_HEADS <= {cell.strip(' \t\r"').casefold() for cell in re.split("[,;\t]", head)}:
         return "it looks like the list of members: name the file of ballots"
     words = [line.finding.word for line in file.lines if line.finding is not None]
-    lines = [line.line.unframed for line in file.lines]
+    lines = [line.original.unframed for line in file.lines]
     counts = [{line.count(sign) for line in lines} for sign in (b",", b";", b"\t")]
     # most have no shape of a ballot, and all the same number of delimiters
     if words.count("bad shape") * 2 > len(lines) and any(
@@ -459,7 +465,7 @@ def repeated_words(file: FileLines) -> Iterator[str]:
     yield f"{file.name}: {count_of(count, 'line')} {ignored} came before; {new}"
     changed = [(line, change) for line, change in file.repeated if change is not None]
     for line, change in changed[:MAX_REPEATED]:
-        yield f"  {line.line.where}: `{shown_line(line.as_entered)}` came before, and {change}; --again enters it again"
+        yield f"  {line.original.where}: `{shown_line(line.as_entered)}` came before, and {change}; --again enters it again"
     if len(changed) > MAX_REPEATED:
         yield f"  and {len(changed) - MAX_REPEATED} more; --again enters them again"
 
@@ -468,7 +474,7 @@ def duplicate_words(file: FileLines) -> Iterator[str]:
     by_name: dict[bytes, list[str]] = collections.defaultdict(list)
     for line in file.new:
         if line.finding is None:
-            by_name[line.as_entered.partition(b" ")[0]].append(line.line.place.lstrip(": "))
+            by_name[line.as_entered.partition(b" ")[0]].append(line.original.place.lstrip(": "))
     for name, places in by_name.items():
         if len(places) > 1:
             listed = ", ".join(places[:5]) + (", .." if places[5:] else "")

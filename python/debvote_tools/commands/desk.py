@@ -17,7 +17,7 @@ from debvote_tools.cli.faults import Fault, Status
 from debvote_tools.files import BALLOTS_LIMIT
 from debvote_tools.inbox import entering
 from debvote_tools.inbox.lines import Line, lines_in
-from debvote_tools.inbox.vote import JudgedLine, Vote, change_words, summary
+from debvote_tools.inbox.vote import CheckedLine, Vote, change_words, summary
 from debvote_tools.poll.plain_names import alike
 
 QUIT = b"q"
@@ -66,7 +66,7 @@ class Desk:
 
     def enter(
         self,
-        lines: list[JudgedLine],
+        lines: list[CheckedLine],
         show: Callable[[History], bool] = lambda _: True,
         elector: int | None = None,
     ) -> None:
@@ -94,7 +94,7 @@ class Desk:
                 vote,
                 "desk",
                 detail,
-                lambda _: [NewEnvelope(one.as_entered, one.line.place) for one in lines],
+                lambda _: [NewEnvelope(one.as_entered, one.original.place) for one in lines],
                 report,
                 seen,
                 is_late=now[0].is_late(self.came_before_close),
@@ -139,7 +139,7 @@ def from_pipe(desk: Desk) -> None:
             else:
                 lines.append(line)
         if lines:
-            desk.enter(desk.vote.judge(lines))
+            desk.enter(desk.vote.checked(lines))
 
 
 def whole_lines() -> Iterator[bytes]:
@@ -179,19 +179,19 @@ def ask_and_cast(desk: Desk, line: Line) -> bool:
     if (meant := completed(desk, line)) is None:
         tell("It was not entered.")
         return True
-    [read] = desk.vote.judge([meant])
-    [elector] = desk.vote.electors_of([read.as_entered])
+    [checked] = desk.vote.checked([meant])
+    [elector] = desk.vote.electors_of([checked.as_entered])
     answer: bool | None = None
 
     def show(history: History) -> bool:
         nonlocal answer
-        asked = question(desk, read, history, elector)
+        asked = question(desk, checked, history, elector)
         answer = is_yes(asked, "Type y to enter it, or n to drop it.")
         if answer is False:
             tell("It was not entered.")
         return bool(answer)
 
-    desk.enter([read], show, elector)
+    desk.enter([checked], show, elector)
     return answer is not None
 
 
@@ -220,10 +220,10 @@ def completed(desk: Desk, line: Line) -> Line | None:
         if not chosen:
             return None
     full = f"{chosen[0].name} {ranks}".encode()
-    return Line(line.source, line.place, full, full, full)
+    return Line(line.file_name, line.place, full, full, full)
 
 
-def question(desk: Desk, line: JudgedLine, history: History, elector: int | None) -> str:
+def question(desk: Desk, line: CheckedLine, history: History, elector: int | None) -> str:
     """Shows what a ballot would be, or why it would be refused. Returns what is asked."""
     tell(*change_words(line))
     if not line.is_ballot:

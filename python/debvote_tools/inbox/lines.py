@@ -76,11 +76,11 @@ def doubt(where: object, reason: str, cure: str) -> Fault:
 
 
 class Line(NamedTuple):
-    """A line that came. `source` names the file, as `more.txt`, and `place` the line in it, as
+    """A line that came. `file_name` names the file, as `more.txt`, and `place` the line in it, as
     `:3`, or of a table as `: row 3`. If debvote refuses the repaired line, `unframed` is entered.
     """
 
-    source: str
+    file_name: str
     place: str
     # with its byte-order mark and carriage return, or the line feeds in the cells of its row
     as_it_came: bytes
@@ -90,7 +90,7 @@ class Line(NamedTuple):
 
     @property
     def where(self) -> str:
-        return f"{self.source}{self.place}"
+        return f"{self.file_name}{self.place}"
 
     @property
     def is_empty(self) -> bool:
@@ -126,7 +126,7 @@ def lines_in(data: bytes, name: str, first: int = 1) -> list[Line]:
     for number, line in enumerate(data.splitlines(keepends=True), start=first):
         as_it_came = line.removesuffix(b"\n")
         unframed = as_it_came.removesuffix(b"\r").removeprefix(MARK if number == 1 else b"")
-        lines.append(Line(name, f":{number}", as_it_came, unframed, changed(unframed)))
+        lines.append(Line(name, f":{number}", as_it_came, unframed, repaired_line(unframed)))
     return lines
 
 
@@ -141,7 +141,7 @@ def has_code(text: str) -> bool:
     return TYPED_CODE.search(text) is not None
 
 
-def changed(line: bytes) -> bytes:
+def repaired_line(line: bytes) -> bytes:
     if NOTHING_TO_REPAIR.fullmatch(line):
         return line
     if len(line) > LONGEST_REPAIRED or b"\r" in line or b"\n" in line:
@@ -150,7 +150,7 @@ def changed(line: bytes) -> bytes:
         text = line.decode("utf-8")
     except UnicodeDecodeError:
         return spaced(line)
-    return spaced(repaired(text).encode("utf-8"))
+    return spaced(without_typography(text).encode("utf-8"))
 
 
 def spaced(line: bytes) -> bytes:
@@ -160,7 +160,7 @@ def spaced(line: bytes) -> bytes:
     return name.lower() + b" " + ranks[0] if ranks else joined
 
 
-def repaired(text: str) -> str:
+def without_typography(text: str) -> str:
     """A line without what mail programs and word processors put there."""
     bare = text.translate({ord(character): " " for character in NO_BREAK}).strip(" \t")
     # quotation marks may enclose a full stop, or precede it
