@@ -155,15 +155,17 @@ def take_lines(vote: Vote, files: Sequence[GivenFile], arguments: Arguments) -> 
         nonlocal answer
         stop_at(list(doubts(vote, new, arguments)))
         if not new.lines:
-            tell(*report(vote, new, (), ()), "There is nothing new, and nothing was added.")
+            tell(
+                *report_of_files(vote, new, (), ()), "There is nothing new, and nothing was added."
+            )
             return False
         said = arguments.came_before_close
         answer = entering.came_before_close(new.opening, said, NOTHING_ADDED)
         return True
 
     def act(new: NewLines, seen: int) -> None:
-        def told(numbers: range, replies: Sequence[str]) -> Iterator[str]:
-            yield from report(vote, new, numbers, replies)
+        def report_on(numbers: range, replies: Sequence[str]) -> Iterator[str]:
+            yield from report_of_files(vote, new, numbers, replies)
             yield f"Added {summary(replies)}."
 
         entering.enter_lines(
@@ -171,7 +173,7 @@ def take_lines(vote: Vote, files: Sequence[GivenFile], arguments: Arguments) -> 
             "add",
             detail_of(vote, new, arguments, answer),
             new.envelopes,
-            told,
+            report_on,
             seen,
             is_late=new.opening.is_late(answer),
             is_same=lambda: plan() == new,
@@ -301,7 +303,7 @@ def look(
     if new.opening.is_reopened and arguments.came_before_close is None:
         asks = "Note: add will ask whether these lines came before the close"
         tell(f"{asks}; this preview assumes that they did.")
-    tell_many(report(vote, new, numbers, replies))
+    tell_many(report_of_files(vote, new, numbers, replies))
     stop_at(list(doubts(vote, new, arguments)))
     tell(f"These would be {summary(replies)}. Nothing was changed.")
 
@@ -444,7 +446,7 @@ def cure_of(file: FileLines, refused: CheckedLine, arguments: Arguments) -> str:
 
 
 # ---- what is printed
-def report(
+def report_of_files(
     vote: Vote, new: NewLines, numbers: Sequence[int], replies: Sequence[str]
 ) -> Iterator[str]:
     if numbers:
@@ -452,7 +454,7 @@ def report(
     for file in new.files:
         yield from (f"{line.where}: it is empty, and was left out" for line in file.empty)
         yield from repeated_words(file)
-    yield from vote.report(new.lines, numbers, replies)
+    yield from vote.report_of_lines(new.lines, numbers, replies)
     for file in new.files:
         yield from duplicate_words(file)
 

@@ -89,7 +89,7 @@ def run(election: Election, arguments: Arguments) -> None:
     else:
         call_again(election, arguments)
     make_folders(election)
-    report(election, current_data(election))
+    report_of_call(election, current_data(election))
 
 
 # ---------------------------------------------------------------- the acts
@@ -297,7 +297,7 @@ def make_folders(election: Election) -> None:
         write_slips(election, history, election.sealed().counted)
 
 
-def report(election: Election, data: CallData) -> None:
+def report_of_call(election: Election, data: CallData) -> None:
     folder, slips = election.path(CALL), election.path(PRIVATE) / SLIPS
     lines = [f"Made the folder {folder} with the page index.html and the letter call.txt."]
     if data.has_aliases:

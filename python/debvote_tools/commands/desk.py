@@ -82,9 +82,9 @@ class Desk:
             self.ask_if_reopened(now[0])
             return show(now[0])
 
-        def report(numbers: range, replies: Sequence[str]) -> Iterator[str]:
+        def report_on(numbers: range, replies: Sequence[str]) -> Iterator[str]:
             self.replies += replies
-            return vote.report(lines, numbers, replies)
+            return vote.report_of_lines(lines, numbers, replies)
 
         def act(now: Seen, seen: int) -> None:
             detail: Detail = {"lines": len(lines)}
@@ -95,7 +95,7 @@ class Desk:
                 "desk",
                 detail,
                 lambda _: [NewEnvelope(one.as_entered, one.original.place) for one in lines],
-                report,
+                report_on,
                 seen,
                 is_late=now[0].is_late(self.came_before_close),
                 is_same=lambda: plan() == now,

@@ -64,21 +64,22 @@ def enter_lines(
     name: ActName,
     detail: Detail,
     envelopes: Callable[[NewAct], Iterable[NewEnvelope]],
-    report: Callable[[range, Sequence[str]], Iterable[str]],
+    report_on: Callable[[range, Sequence[str]], Iterable[str]],
     seen: int,
     *,
     is_late: bool,
     is_same: Callable[[], bool] = lambda: False,
     what: str = "lines",
 ) -> None:
-    """The act that enters lines, and the report on it, by the numbers of the envelopes and the
-    replies. `envelopes` gives what goes in, and may write rows of its own.
+    """The act that enters lines, and what `report_on` says of it, by the numbers of the envelopes
+    and the replies. `envelopes` gives what goes in, and may write rows of its own.
 
     If other acts came since the one that was seen, `is_same` says within the act whether the plan
     would be the same.
     """
     book = vote.book
     with contextlib.ExitStack() as stack:
+        # without `seen`: the plan may be the same after other acts, and is looked at here
         with book.act(name, detail) as act:
             if act.number != seen + 1 and not is_same():
                 raise Overtaken
@@ -97,7 +98,7 @@ def enter_lines(
                 # replies depend on the lines of the same electors alone
                 same = frozenset(filter(None, electors))
                 replies = vote.replies(queries.lines_after(book, act.number - 1, same), lines)
-            console.tell_many(report(numbers, replies))
+            console.tell_many(report_on(numbers, replies))
         except console.OutputFailed as fault:
             cure, done = "see debvote-election status", f"the {what} {done}"
             raise Fault(None, "the output failed", cure, fault.status, done) from None

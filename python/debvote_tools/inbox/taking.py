@@ -116,12 +116,12 @@ def enter_ballots(
             queries.decide(act, number, queries.ENTERED)
         return new.envelopes
 
-    def report(numbers: range, replies: Sequence[str]) -> Iterator[str]:
+    def report_on(numbers: range, replies: Sequence[str]) -> Iterator[str]:
         for number, reply, envelope in zip(numbers, replies, new.envelopes):
             yield f"{number} {reply}  {vote.ballot_in_words(envelope.line.decode('ascii'))}"
         yield from end
 
-    enter_lines(vote, name, detail, envelopes, report, seen, is_late=new.is_late)
+    enter_lines(vote, name, detail, envelopes, report_on, seen, is_late=new.is_late)
 
 
 def going_in(found: Iterable[JudgedLetter]) -> list[JudgedLetter]:

@@ -166,7 +166,7 @@ class Vote:
         return self.debvote.standing(self.poll_bytes, ballot_file(lines)) if lines else {}
 
     # ---- words
-    def report(
+    def report_of_lines(
         self, lines: Sequence[CheckedLine], numbers: Iterable[int], replies: Sequence[str]
     ) -> Iterator[str]:
         """Each line that went in, or would, by the number of its envelope and the reply to it."""
