@@ -17,7 +17,8 @@ from debvote_tools.cli.console import count_of, shown_line, tell, tell_many
 from debvote_tools.cli.faults import Fault, stop_at
 from debvote_tools.inbox import entering, given_files
 from debvote_tools.inbox.given_files import HYPHEN, GivenFile
-from debvote_tools.inbox.lines import MARK, NOTHING_ADDED, Line, bad_words, doubt, lines_in
+from debvote_tools.inbox.lines import MARK, Line, lines_in
+from debvote_tools.inbox.not_added import NOTHING_ADDED, bad_words, doubtful
 from debvote_tools.inbox.tables import OptionNames, are_table, heads_of, lines_of_table
 from debvote_tools.inbox.vote import LATE_REPLY, CheckedLine, Vote, summary
 
@@ -202,7 +203,7 @@ def file_lines(vote: Vote, files: Sequence[GivenFile], arguments: Arguments) -> 
         lists = [lines_of_table(file.data, file.name, heads, vote.poll, *how) for file in files]
         what = "it has no row with a ballot"
     empty = [file for file, lines in zip(files, lists) if all(line.is_empty for line in lines)]
-    stop_at([doubt(file.name, what, "write one ballot on each line") for file in empty])
+    stop_at([doubtful(file.name, what, "write one ballot on each line") for file in empty])
     if arguments.newest_first:
         lists = [lines[::-1] for lines in lists]
     checked = iter(vote.checked([line for lines in lists for line in lines if not line.is_empty]))
@@ -317,12 +318,12 @@ def doubts(vote: Vote, new: NewLines, arguments: Arguments) -> Iterator[Fault]:
             rows = " and ".join(map(place_in, pair))
             words = f"it has two different ballots of {pair[0].voter} ({rows}), and the one that is entered last counts"
             cure = "say how its rows are sorted: --oldest-first or --newest-first"
-            yield doubt(file.name, words, cure)
+            yield doubtful(file.name, words, cure)
     is_reasoned = arguments.force and has_reason(arguments.because)
     if new.lines and vote.is_signed and not is_reasoned:
         words = "in this vote letters must be signed, and nothing shows who sent a line of a file"
         cure = "add the letters themselves; or, if you know by other means who sent each line, give --force --because TEXT"
-        yield doubt(new.files[0].name, words, cure)
+        yield doubtful(new.files[0].name, words, cure)
     if arguments.force:
         return
     for file in new.files:
@@ -330,7 +331,7 @@ def doubts(vote: Vote, new: NewLines, arguments: Arguments) -> Iterator[Fault]:
             (one.original for one in file.new if one.original.why_too_long), 1
         ):
             cure = f"take the line out if it is not a ballot, or {FORCE}"
-            yield doubt(line.where, str(line.why_too_long), cure)
+            yield doubtful(line.where, str(line.why_too_long), cure)
     with_new_lines = [file for file in new.files if file.new]
     tables = [] if arguments.csv else [file for file in with_new_lines if is_table(file)]
     for file in tables:
@@ -338,7 +339,7 @@ def doubts(vote: Vote, new: NewLines, arguments: Arguments) -> Iterator[Fault]:
             "the lines look like a table; its columns may stand in another order than the options"
         )
         cure = "write a header line above them, and add the file with --csv --name COLUMN --ranks COLUMN,COLUMN,.."
-        yield doubt(file.name, words, f"{cure}, or {FORCE}")
+        yield doubtful(file.name, words, f"{cure}, or {FORCE}")
     if not arguments.csv:
         yield from under_other_names(vote, with_new_lines)
     yield from few_ballots(vote, [file for file in with_new_lines if file not in tables], arguments)
@@ -346,11 +347,11 @@ def doubts(vote: Vote, new: NewLines, arguments: Arguments) -> Iterator[Fault]:
         if pair := new_one_above(file):
             older, newer = map(place_in, pair)
             words = f"the ballot of {pair[0].voter} in {older} is older than that in {newer}, which came before, and would replace it"
-            yield doubt(file.name, words, f"take the older ballot out, or {FORCE}")
+            yield doubtful(file.name, words, f"take the older ballot out, or {FORCE}")
     if new.lines and arguments.blank_is_unranked and not vote.has_form:
         words = "the call does not say that an empty cell counts as a hyphen, so electors may have meant something else"
         cure = "ask the electors whose rows have empty cells; if they knew it from elsewhere"
-        yield doubt("--blank-is-unranked", words, f"{cure}, {FORCE}")
+        yield doubtful("--blank-is-unranked", words, f"{cure}, {FORCE}")
 
 
 def is_table(file: FileLines) -> bool:
@@ -367,7 +368,7 @@ def under_other_names(vote: Vote, files: Sequence[FileLines]) -> Iterator[Fault]
                 place = place_in(line)
                 words = f"{place} names options of the poll in another order than the poll has them: the ranks below it may stand in that order"
                 cure = f"if they do, put them into the order of the poll, and take {place} out; if they do not, {FORCE}"
-                yield doubt(file.name, words, cure)
+                yield doubtful(file.name, words, cure)
                 break
 
 
@@ -418,7 +419,7 @@ def few_ballots(vote: Vote, files: Sequence[FileLines], arguments: Arguments) ->
         if count and len(refused) > MAX_REFUSED:
             tell(f"and {len(refused) - MAX_REFUSED} more lines that are not ballots")
         reason = f"debvote takes {f'only {count}' if count else 'none'} of the {len(file.lines)} lines as ballots"
-        yield doubt(file.name, reason, f"{cure_of(file, refused[0], arguments)}, or {FORCE}")
+        yield doubtful(file.name, reason, f"{cure_of(file, refused[0], arguments)}, or {FORCE}")
 
 
 def has_few_ballots(lines: Sequence[CheckedLine]) -> bool:

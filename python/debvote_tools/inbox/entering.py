@@ -15,6 +15,7 @@ from debvote_tools.cli.arguments import Acting, option
 from debvote_tools.cli.console import act_time, count_of, tell
 from debvote_tools.cli.faults import Fault, Status
 from debvote_tools.files import BALLOTS_LIMIT, LINES_LIMIT, uninterrupted
+from debvote_tools.inbox.not_added import NOTHING_ADDED
 from debvote_tools.inbox.vote import LATE_REPLY, Vote, envelope_words
 from debvote_tools.text.times import now, time_in_words
 
@@ -115,7 +116,7 @@ def demand_room(book: Book, new: Sequence[NewEnvelope]) -> None:
         if line_count + count > LINES_LIMIT or size + added > BALLOTS_LIMIT:
             words = f"with the new lines there would be {count_of(line_count + count, 'line')} and {size + added} bytes of ballots"
             cure = f"debvote takes at most {LINES_LIMIT} lines and {BALLOTS_LIMIT} bytes: add fewer"
-            raise Fault(book.path, words, cure, Status.BAD_BALLOTS, "nothing was added")
+            raise Fault(book.path, words, cure, Status.BAD_BALLOTS, NOTHING_ADDED)
 
 
 # ---- whether it comes in time

@@ -13,8 +13,8 @@ from debvote_tools.book.election import Election
 from debvote_tools.cli.console import tell
 from debvote_tools.cli.faults import Fault, stop_at
 from debvote_tools.files import BALLOTS_LIMIT
-from debvote_tools.inbox.lines import bad_ballots, bad_words, doubt
 from debvote_tools.inbox.mailbox import NotRead, are_letters, kind_not_read
+from debvote_tools.inbox.not_added import bad_ballots, bad_words, doubtful
 from debvote_tools.inbox.tables import PACKED, PDF, kind_of
 from debvote_tools.poll.sealed import REQUIRED
 
@@ -108,7 +108,7 @@ def bytes_in(file: BinaryIO) -> bytes:
 def demand_lines(file: GivenFile, *, is_table: bool) -> None:
     if not file.data:
         words, cure = "it is empty", "write one ballot on each line"
-        raise doubt(file.name, words, cure)
+        raise doubtful(file.name, words, cure)
     if len(file.data) > BALLOTS_LIMIT:
         words = f"it is longer than {BALLOTS_LIMIT} bytes, the most that debvote takes"
         raise bad_ballots(file.name, words, "add it in parts")
@@ -120,4 +120,4 @@ def demand_lines(file: GivenFile, *, is_table: bool) -> None:
         raise bad_ballots(file.name, f"it is {what}", cure)
     if len({key[1] for key in POLL_KEY.finditer(file.data)}) > 1:
         words = "it looks like a poll, not like ballots"
-        raise doubt(file.name, words, "name the file of the ballots")
+        raise doubtful(file.name, words, "name the file of the ballots")

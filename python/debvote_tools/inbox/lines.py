@@ -12,8 +12,6 @@ import codecs
 import re
 from typing import NamedTuple
 
-from debvote_tools.cli.faults import Fault, Status
-
 MARK, BLANKS = codecs.BOM_UTF8, b" \t"
 
 # in bytes; a longer line is no ballot, and nothing of it is repaired
@@ -58,21 +56,6 @@ REPAIRED = {
     "colon": (b":",),
     "dashes": tuple(character.encode() for character in DASHES),
 }
-
-
-NOTHING_ADDED = "nothing was added"
-
-
-def bad_words(where: object, reason: object, cure: str) -> Fault:
-    return Fault(where, reason, cure, Status.BAD_WORDS, NOTHING_ADDED)
-
-
-def bad_ballots(where: object, reason: object, cure: str) -> Fault:
-    return Fault(where, reason, cure, Status.BAD_BALLOTS, NOTHING_ADDED)
-
-
-def doubt(where: object, reason: str, cure: str) -> Fault:
-    return Fault(where, reason, cure, Status.DOUBT, NOTHING_ADDED)
 
 
 class Line(NamedTuple):

@@ -17,8 +17,8 @@ from debvote_tools.inbox.given_files import GivenFile, safe
 from debvote_tools.inbox.entering import agreed_act, enter_lines, late_notes
 from debvote_tools.inbox.judging import judged
 from debvote_tools.inbox.letter_lines import ReadLetter, read_letters, to_json
-from debvote_tools.inbox.lines import NOTHING_ADDED, bad_ballots
 from debvote_tools.inbox.mailbox import RawLetter, letters_of_file, letters_of_folder
+from debvote_tools.inbox.not_added import NOTHING_ADDED, bad_ballots
 from debvote_tools.inbox.rules import JudgedLetter, Outcome
 from debvote_tools.inbox.vote import Vote
 
