@@ -19,17 +19,8 @@ from debvote_tools.inbox.waiting import left
 from debvote_tools.poll.secret import aliased_ballots, sealed_checksum
 from debvote_tools.poll.call import CallData
 from debvote_tools.poll.sealed import SealedPoll
-from debvote_tools.result.facts import (
-    BALLOTS,
-    CHECKSUMS,
-    PAGE,
-    POLL,
-    Act,
-    Doubt,
-    Facts,
-    SecretVote,
-    Words,
-)
+from debvote_tools.result.facts import Act, Doubt, Facts, SecretVote, Words
+from debvote_tools.result.file_names import BALLOTS, CHECKSUMS, PAGE, POLL
 from debvote_tools.text.ballots import ballot_file, in_normal_form
 from debvote_tools.text.language import Language, language_of
 from debvote_tools.text.rendering import render_letter
@@ -110,7 +101,8 @@ def facts_of(election: Election, words: Words, waiting: Sequence[int]) -> Facts:
         )
         is_secret, has_names = sealed.counted.secret, history.announced("names")
         electors = queries.electors(book) if has_names or is_secret else []
-        acts, late_count = acts_of(book, history, is_secret=is_secret), after_the_end(book, history)
+        acts = acts_of(book, history, is_secret=is_secret)
+        count_after_end = after_the_end(book, history)
         doubts = doubts_of(book, history, sealed.public, words.casting, waiting)
     secret = None
     if is_secret:
@@ -132,7 +124,7 @@ def facts_of(election: Election, words: Words, waiting: Sequence[int]) -> Facts:
         language=election.language if words.language is None else language_of(words.language),
         words=words,
         acts=acts,
-        after_the_end=late_count,
+        after_the_end=count_after_end,
         late=None if is_secret else late,
         closed=closing_letter(history, sealed.public, election.language)
         if history.closes
@@ -264,8 +256,8 @@ def acts_of(book: Book, history: History, *, is_secret: bool) -> tuple[Act, ...]
 
 
 def after_the_end(book: Book, history: History) -> int:
-    """How many lines, rows and ballots of desks came after the end, and count. What came in after a
-    close had come before it, as its act says.
+    """How many lines, rows and ballots of desks came after the end, and count. What was entered
+    after the first close is left out: whoever entered it said that it came before that close.
     """
     if history.until is None:
         return 0
