@@ -188,7 +188,7 @@ def returned_in(data: bytes, sender: str) -> tuple[str, ...]:
     somebody who is away, and a delivery that is only late, are none.
     """
     parts = [part for part, _ in itertools.islice(Part(data).walk(), RETURNED_PARTS)]
-    if reports := [part.below for part in parts if part.kind == REPORT]:
+    if reports := [part.body_bytes for part in parts if part.kind == REPORT]:
         if not any(map(FAILED.search, reports)):
             return ()
     elif sender.partition("@")[0] not in SERVERS:
@@ -260,7 +260,7 @@ def identity_of(letter: Part, sender: str, body: Body) -> str:
     lines = (line[line.startswith(">From ") :].rstrip() for line in body.lines)
     text = "\n".join(lines).rstrip("\n")
     if not body.lines:
-        text = letter.below.decode("latin-1").replace("\r\n", "\n").rstrip()
+        text = letter.body_bytes.decode("latin-1").replace("\r\n", "\n").rstrip()
     parts = [" ".join(letter.values("message-id")).strip(), sender, text]
     return hashlib.sha256("\0".join(parts).encode("utf-8", "surrogatepass")).hexdigest()
 
@@ -272,7 +272,7 @@ def body_of(letter: Part) -> Body:
     if len(parts) == MAX_PARTS:
         letter.found(Reason.TOO_MANY_PARTS())
     texts = [(part, is_own) for part, is_own in parts if part.kind.startswith("text/")]
-    lengths = [len(part.below) for part, _ in texts] + [len(part.around) for part, _ in parts]
+    lengths = [len(part.body_bytes) for part, _ in texts] + [len(part.around) for part, _ in parts]
     is_long = letter.has_more(max(lengths, default=0), "bytes in a text", MAX_TEXT)
     if is_long or letter.has_more(sum(lengths), "bytes in all its texts", MAX_TEXTS):
         return Body(trouble=letter.trouble)
@@ -290,7 +290,7 @@ def body_of(letter: Part) -> Body:
     # no program shows text around the parts, but it may be a letter that a mailbox did not part
     # off; so may text below an encoded one
     around = [line for part, _ in parts for line in lines_of(part.around)]
-    below = lines_of(first.below)
+    below = lines_of(first.body_bytes)
     trouble = next(filter(None, (part.trouble for part, _ in parts)), None)
     if letter.fields and any(map(RECEIVED.match, (*text.lines, *pieces, *around, *below))):
         trouble = Reason.PARTED_OFF()
