@@ -75,7 +75,8 @@ def run(election: Election, arguments: Arguments) -> None:
     vote = Vote(election, election.history())
     found = given_files.read_files(election, arguments.files, is_table=arguments.csv)
     if not given_files.are_all_letters(found):
-        take_lines(vote, [file for file in found.values() if file], arguments)
+        files = [one for one in found.values() if isinstance(one, GivenFile)]
+        take_lines(vote, files, arguments)
         return
     if of_lines := given(arguments, "csv", "again", "force"):
         words = "only for lines and tables, and these are letters"

@@ -32,6 +32,8 @@ POLL_KEY = re.compile(rb"(?m)^[ \t]*\"?(%b)\"?[ \t]*=" % "|".join(REQUIRED).enco
 
 
 class GivenFile(NamedTuple):
+    """A file or standard input, which was read."""
+
     name: str
     data: bytes
 
@@ -41,20 +43,28 @@ class GivenFile(NamedTuple):
         return safe(pathlib.Path(self.name).name or self.name)
 
 
+class GivenFolder(NamedTuple):
+    """A folder, of which nothing was read yet. All that is in a folder are letters."""
+
+    path: pathlib.Path
+
+
 def safe(text: str) -> str:
     """A text from the command line, in which bytes that are no UTF-8 are written as \\xff."""
     return os.fsencode(text).decode("utf-8", "backslashreplace")
 
 
-def is_letters(file: GivenFile | None) -> bool:
+def has_letters(file: GivenFile) -> bool:
     of_outlook = (NotRead.OUTLOOK_LETTER, NotRead.OUTLOOK_MAILBOX)
-    return file is None or are_letters(file.data) or kind_not_read(file.data) in of_outlook
+    return are_letters(file.data) or kind_not_read(file.data) in of_outlook
 
 
-def are_all_letters(files: Mapping[str, GivenFile | None]) -> bool:
-    """Whether all that came are letters. Stops if some are letters and some are not."""
-    with_letters = [path for path, file in files.items() if is_letters(file)]
-    if 0 < len(with_letters) < len(files):
+def are_all_letters(given: Mapping[str, GivenFile | GivenFolder]) -> bool:
+    """Whether all that is given are letters. Stops if some are letters and some are not."""
+    with_letters = [
+        path for path, one in given.items() if isinstance(one, GivenFolder) or has_letters(one)
+    ]
+    if 0 < len(with_letters) < len(given):
         names = ", ".join(STANDARD_INPUT if path == HYPHEN else path for path in with_letters)
         words = "it has letters, and the other files have none"
         cure = "add letters and other files with separate commands"
@@ -64,20 +74,22 @@ def are_all_letters(files: Mapping[str, GivenFile | None]) -> bool:
 
 def read_files(
     election: Election, paths: Sequence[str], *, is_table: bool
-) -> dict[str, GivenFile | None]:
-    """What these paths name; a folder is None. Stops at what has neither ballots nor letters."""
-    files: dict[str, GivenFile | None] = {}
+) -> dict[str, GivenFile | GivenFolder]:
+    """What these paths name. Stops at a file that has neither ballots nor letters."""
+    given: dict[str, GivenFile | GivenFolder] = {}
     faults = []
     for path in paths or [HYPHEN]:
+        if path != HYPHEN and os.path.isdir(path):
+            given[path] = GivenFolder(pathlib.Path(path))
+            continue
         try:
-            is_folder = path != HYPHEN and os.path.isdir(path)
-            files[path] = file = None if is_folder else read_file(election, path)
-            if file is not None and not is_letters(file):
+            given[path] = file = read_file(election, path)
+            if not has_letters(file):
                 demand_lines(file, is_table=is_table)
         except Fault as fault:
             faults.append(fault)
     stop_at(faults)
-    return files
+    return given
 
 
 def read_file(election: Election, path: str) -> GivenFile:

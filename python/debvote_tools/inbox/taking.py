@@ -2,7 +2,6 @@
 in.
 """
 
-import pathlib
 from collections.abc import Collection, Iterable, Iterator, Mapping, Sequence
 from typing import NamedTuple
 
@@ -13,7 +12,7 @@ from debvote_tools.book.queries import NewEnvelope
 from debvote_tools.cli.console import count_of, is_terminal, is_yes, shown_text, tell
 from debvote_tools.cli.faults import Fault
 from debvote_tools.inbox import letter_words
-from debvote_tools.inbox.given_files import GivenFile, safe
+from debvote_tools.inbox.given_files import GivenFile, GivenFolder, safe
 from debvote_tools.inbox.entering import agreed_act, enter_lines, late_notes
 from debvote_tools.inbox.judging import judged
 from debvote_tools.inbox.letter_lines import ReadLetter, read_letters, to_json
@@ -24,10 +23,14 @@ from debvote_tools.inbox.vote import Vote
 
 
 def take_letters(
-    vote: Vote, files: Mapping[str, GivenFile | None], *, is_look: bool, is_agreed: bool
+    vote: Vote,
+    given: Mapping[str, GivenFile | GivenFolder],
+    *,
+    is_look: bool,
+    is_agreed: bool,
 ) -> None:
     """Keeps new letters, and enters the ballots that go in; or tells what would become of them."""
-    split = split_letters(files)
+    split = split_letters(given)
     raws = [raw for raw in split if raw.why_not_read is None]
     new = new_of(vote, raws)
     read = read_letters(vote, new)
@@ -49,15 +52,15 @@ def take_letters(
 
 
 # ---- keeping
-def split_letters(files: Mapping[str, GivenFile | None]) -> list[RawLetter]:
+def split_letters(given: Mapping[str, GivenFile | GivenFolder]) -> list[RawLetter]:
     """The letters of files and folders, each read whole, and what is passed over."""
     found = list[RawLetter]()
-    for path, file in files.items():
+    for path, one in given.items():
         try:
             found += (
-                letters_of_folder(pathlib.Path(path))
-                if file is None
-                else letters_of_file(safe(file.name), file.data)
+                letters_of_folder(one.path)
+                if isinstance(one, GivenFolder)
+                else letters_of_file(safe(one.name), one.data)
             )
         except OSError as error:
             cure = "name letters that you may read"
