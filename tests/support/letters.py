@@ -12,7 +12,7 @@ from debvote_tools.inbox.judging import Ballot, judge_all
 from debvote_tools.inbox.letter import ParsedLetter, parse
 from debvote_tools.inbox.letter_lines import Names, ReadLetter, from_json, to_json, with_lines
 from debvote_tools.inbox.mailbox import NotRead, RawLetter
-from debvote_tools.inbox.reasons import Because
+from debvote_tools.inbox.reasons import ReasonWithValues
 from debvote_tools.inbox.rules import Circumstances, JudgedLetter, Outcome
 
 from tests.support.program import PROGRAM, ROOT
@@ -186,9 +186,9 @@ def judged(
     return judge_all(given, known(**of_others), lambda _: ballots or {})
 
 
-def label(because: Because) -> str:
+def label(why: ReasonWithValues) -> str:
     """A reason in a word or two."""
-    return because.reason.name.lower().replace("_", " ")
+    return why.reason.name.lower().replace("_", " ")
 
 
 def outcome(one: JudgedLetter) -> str:

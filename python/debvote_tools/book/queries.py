@@ -317,7 +317,7 @@ class KeptLetter(NamedTuple):
         return self.state in (NEVER_DECIDED, PUT_BACK, TAKEN_BACK)
 
 
-def letters(book: Book) -> list[KeptLetter]:
+def kept_letters(book: Book) -> list[KeptLetter]:
     words = "SELECT letter, act, source, identity, known, state FROM letter_now ORDER BY letter"
     return [KeptLetter(*row) for row in book.rows(words)]
 

@@ -87,7 +87,7 @@ def demand_words(arguments: Arguments) -> bool:
 
 
 def all_letters(vote: Vote) -> list[JudgedLetter]:
-    kept, history = queries.letters(vote.book), vote.election.history()
+    kept, history = queries.kept_letters(vote.book), vote.election.history()
     return judged(vote, history, kept)
 
 

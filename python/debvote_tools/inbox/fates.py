@@ -96,7 +96,7 @@ def fates_of(
             fate = Fate(envelope.time, became(envelope), envelope, answers[envelope.line])
             found[name].append(fate)
     addresses = {one.name: {*filter(None, map(address_key, one.addresses))} for one in electors}
-    kept = queries.letters(election.book)
+    kept = queries.kept_letters(election.book)
     kept_at = {letter.number: history.act(letter.act).time for letter in kept}
     for letter in judged(vote, history, kept):
         time = letter.read.arrived or kept_at[letter.number]

@@ -16,7 +16,7 @@ from debvote_tools.book.queries import KeptLetter
 from debvote_tools.inbox.letter import Body
 from debvote_tools.inbox.letter_lines import ReadLetter, answers_in, from_json, read_letters
 from debvote_tools.inbox.mailbox import RawLetter
-from debvote_tools.inbox.reasons import Because, Reason
+from debvote_tools.inbox.reasons import ReasonWithValues, Reason
 from debvote_tools.inbox.rules import Circumstances, JudgedLetter, Outcome
 from debvote_tools.inbox.vote import Vote
 from debvote_tools.poll.call import SUBJECT
@@ -50,7 +50,7 @@ def judged(
     """Letters that came, as they are judged now, by their times; and others that are looked at."""
     if not kept and not looked_at:
         return []
-    found = kept_letters(vote, kept)
+    found = read_kept(vote, kept)
     by_key = {letter.key: kept_letter for letter, kept_letter in zip(found, kept)}
     circumstances = circumstances_now(vote, history, by_key)
     letters_now = judge_all(
@@ -65,7 +65,7 @@ def judged(
 
 
 # ---- what they are judged by
-def kept_letters(vote: Vote, kept: Sequence[KeptLetter]) -> list[ReadLetter]:
+def read_kept(vote: Vote, kept: Sequence[KeptLetter]) -> list[ReadLetter]:
     """What the book keeps of letters. A signature is checked anew if the letter came before the
     present keyring, or gpgv was too slow: of a letter that waits; and, if a signed one waits, of
     those that were decided without a good signature, since only then a copy is known as one.
@@ -176,7 +176,7 @@ def set_outcomes(cases: Sequence[JudgedLetter], box: Box) -> None:
         set_copies(group, firsts, box)
 
 
-def why_not_latest(case: JudgedLetter, box: Box, at_once: set[str]) -> Because | None:
+def why_not_latest(case: JudgedLetter, box: Box, at_once: set[str]) -> ReasonWithValues | None:
     """Its time is later than that of each other ballot of its elector, but for the same one."""
     assert case.time is not None
     elector, time, ballots = case.elector, case.time, box[case.elector]
@@ -197,7 +197,7 @@ def set_copies(group: Sequence[JudgedLetter], firsts: Collection[JudgedLetter], 
     is_hidden = any(case.decision is not None or case.outcome is Outcome.GOES_IN for case in hiding)
     hiding.sort(key=lambda case: (case.read.arrived is None, case.read.arrived))
     first = next(iter(hiding), None)
-    waiting: dict[tuple[Because | None, Body], JudgedLetter] = {}
+    waiting: dict[tuple[ReasonWithValues | None, Body], JudgedLetter] = {}
     for case in sorted(group, key=lambda case: case.decision is None):
         before = waiting.setdefault((case.why_by_itself, case.read.body), case)
         if case.decision is not None or case in firsts:

@@ -14,7 +14,7 @@ from collections.abc import Sequence
 from debvote_tools.inbox.html import read_html
 from debvote_tools.inbox.mailbox import RawLetter
 from debvote_tools.inbox.mime import MAX_PARTS, Part, address_key
-from debvote_tools.inbox.reasons import Because, Reason
+from debvote_tools.inbox.reasons import ReasonWithValues, Reason
 from debvote_tools.poll.sealed import OWN_LENGTH, OWN_SIGNS, marks_in
 
 # in bytes: a text, and all texts of a letter
@@ -90,7 +90,7 @@ class Body:
     plain_lines: int = 0
     first_other: str = ""
     other_lines: tuple[str, ...] = ()
-    trouble: Because | None = None
+    trouble: ReasonWithValues | None = None
 
 
 @dataclasses.dataclass(frozen=True)
@@ -129,7 +129,7 @@ class ParsedLetter:
     body: Body
     # if letters have to be signed: the good signature, or why there is none
     signature: Signature | None = None
-    why_unsigned: Because | None = None
+    why_unsigned: ReasonWithValues | None = None
 
     @property
     def key(self) -> str:

@@ -14,7 +14,7 @@ import re
 import string
 from collections.abc import Iterator
 
-from debvote_tools.inbox.reasons import Because, Reason
+from debvote_tools.inbox.reasons import ReasonWithValues, Reason
 
 # in bytes: the longest letter and the longest head that are read; then the most parts, their
 # deepest nesting, and the longest field about a part, in characters
@@ -69,7 +69,7 @@ class Part:
     """A letter, or a part of one. Its `trouble` is the first form in it that is not accepted."""
 
     def __init__(self, data: bytes) -> None:
-        self.trouble: Because | None = None
+        self.trouble: ReasonWithValues | None = None
         end = END_OF_HEAD.search(data, 0, MAX_HEAD)
         head = data[: MAX_HEAD if end is None else end.start()]
         self.body_bytes = b"" if end is None else data[end.end() :]
@@ -97,7 +97,7 @@ class Part:
                 self.found_ambiguous("content-transfer-encoding")
             self.open()
 
-    def found(self, trouble: Because) -> None:
+    def found(self, trouble: ReasonWithValues) -> None:
         self.trouble = self.trouble or trouble
 
     def has_more(self, length: int, what: str, limit: int) -> bool:

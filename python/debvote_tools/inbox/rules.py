@@ -21,7 +21,7 @@ from debvote_tools.book.queries import Elector
 from debvote_tools.inbox.letter import END, is_quoted
 from debvote_tools.inbox.letter_lines import MAX_BALLOTS, MAX_NEAR, Near, ReadLetter, ReadLine
 from debvote_tools.inbox.mime import address_key
-from debvote_tools.inbox.reasons import Because, Reason
+from debvote_tools.inbox.reasons import ReasonWithValues, Reason
 from debvote_tools.poll.sealed import MARKS, marks_in
 
 # how far the clock of a mail server or of an elector may be ahead
@@ -119,7 +119,7 @@ class BallotLine:
         return any(rank != "-" and int(rank) > len(self.ranks) for rank in self.ranks)
 
 
-class View(NamedTuple):
+class LinesBySender(NamedTuple):
     """What the lines of a letter are, by who sent it: the ballots; those with the real name of
     somebody else, as in the letter of a family; what is offered to the secretary, with the reason
     why it is no ballot by itself; and what is near to a ballot.
@@ -131,7 +131,9 @@ class View(NamedTuple):
     near: Sequence[Near]
 
 
-def view_of(lines: Sequence[ReadLine], sharing: Sequence[str], marked: str | None) -> View:
+def lines_by_sender(
+    lines: Sequence[ReadLine], sharing: Sequence[str], marked: str | None
+) -> LinesBySender:
     """What the lines are if it was sent by one of the electors who have the sender's address, or by
     the one whose own mark is in the subject.
 
@@ -160,9 +162,9 @@ def view_of(lines: Sequence[ReadLine], sharing: Sequence[str], marked: str | Non
         elif line.answer is None and line.real:
             others.append(ballot)
     if own or refused:
-        return View(own, others, {}, list(refused.values())[:MAX_NEAR])
+        return LinesBySender(own, others, {}, list(refused.values())[:MAX_NEAR])
     near = [line.near for line in lines if line.near is not None]
-    return View((), (), offered, near[:MAX_NEAR])
+    return LinesBySender((), (), offered, near[:MAX_NEAR])
 
 
 def is_name_of(elector: str, line: ReadLine) -> bool:
@@ -175,7 +177,7 @@ class JudgedLetter:
     """A letter, and what becomes of it. The `reason` says why it waits or was set aside."""
 
     outcome = Outcome.WAITS
-    reason: Because | None = None
+    reason: ReasonWithValues | None = None
     has_voted_since = False
     # its number and its source in the book; 0 if it is only looked at
     number = source = 0
@@ -189,23 +191,23 @@ class JudgedLetter:
         self.sharing = circumstances.electors_by_address.get(letter.sender, [])
         owns = {own for mark, own in letter.marks if own and mark == circumstances.mark}
         self.marked_elector = circumstances.electors_by_mark.get(*owns) if len(owns) == 1 else None
-        self.view = view_of(letter.read_lines, self.sharing, self.marked_elector)
+        self.lines_by_sender = lines_by_sender(letter.read_lines, self.sharing, self.marked_elector)
         # that of its ballot: if letters have to be signed, that of the signature
         signature = letter.signature if circumstances.is_signed else None
         self.time = letter.arrived if signature is None else signature.time
         self.decision = circumstances.decisions.get(letter.key)
         # the ballot that may go in, and its index among the lines
-        end, lines = above_end(letter.body.lines), self.view.lines
+        end, lines = above_end(letter.body.lines), self.lines_by_sender.lines
         self.ballot = next((line for line in lines if line.number <= end), None)
         self.index = -1 if self.ballot is None else self.ballot.number - 1
         self.elector = "" if self.ballot is None else self.ballot.elector
         # all lines that read as ballots, first that one; and lines that are no ballots by
         # themselves. Each can be entered by its number
         own = [self.ballot] if self.ballot else []
-        self.ballots = tuple(dict.fromkeys((*own, *lines, *self.view.others)))
-        self.offered = tuple(self.view.offered)
+        self.ballots = tuple(dict.fromkeys((*own, *lines, *self.lines_by_sender.others)))
+        self.offered = tuple(self.lines_by_sender.offered)
         # a letter that a program wrote quotes others, so nothing is said of its lines
-        self.near = () if self.ballots or letter.is_automatic else tuple(self.view.near)
+        self.near = () if self.ballots or letter.is_automatic else tuple(self.lines_by_sender.near)
 
     @property
     def has_own_mark(self) -> bool:
@@ -213,7 +215,7 @@ class JudgedLetter:
         return self.ballot is not None and self.marked_elector == self.elector
 
     @functools.cached_property
-    def why_by_itself(self) -> Because | None:
+    def why_by_itself(self) -> ReasonWithValues | None:
         """Why it waits, whatever other letters there are."""
         return next(filter(None, (rule(self) for rule in RULES)), None)
 
@@ -246,7 +248,7 @@ class JudgedLetter:
     def electors(self) -> tuple[str, ...]:
         """The electors on its ballots, or near to one; else the one who has the sender's address."""
         named = [line.elector for line in (*self.ballots, *self.offered)]
-        near = (near.ballot.partition(" ")[0] for near in self.view.near)
+        near = (near.ballot.partition(" ")[0] for near in self.lines_by_sender.near)
         named += [name for name in near if name in self.circumstances.electors]
         return tuple(dict.fromkeys(named or filter(None, [self.sending_elector])))
 
@@ -257,7 +259,7 @@ class JudgedLetter:
 
 
 # ---- the rules
-def can_be_read(case: JudgedLetter) -> Because | None:
+def can_be_read(case: JudgedLetter) -> ReasonWithValues | None:
     letter, body = case.read, case.read.body
     if letter.is_parted_off:
         return Reason.PARTED_OFF()
@@ -272,7 +274,7 @@ def can_be_read(case: JudgedLetter) -> Because | None:
     return Reason.HTML(element=body.first_other) if is_odd else None
 
 
-def arrived_in_time(case: JudgedLetter) -> Because | None:
+def arrived_in_time(case: JudgedLetter) -> ReasonWithValues | None:
     arrived, circumstances = case.read.arrived, case.circumstances
     if arrived is None:
         return Reason.NO_ARRIVAL()
@@ -285,7 +287,7 @@ def arrived_in_time(case: JudgedLetter) -> Because | None:
     return Reason.IN_THE_FUTURE(arrived=arrived) if arrived > circumstances.now + AHEAD else None
 
 
-def is_sent_by_its_elector(case: JudgedLetter) -> Because | None:
+def is_sent_by_its_elector(case: JudgedLetter) -> ReasonWithValues | None:
     """It comes from an address of its elector, after `call --marked` with the own mark, too."""
     sender, elector, circumstances = case.read.sender, case.elector, case.circumstances
     listed = circumstances.electors[elector].addresses if elector in circumstances.electors else ()
@@ -304,7 +306,7 @@ def is_sent_by_its_elector(case: JudgedLetter) -> Because | None:
     return Reason.OTHER_SENDER(sender=sender, listed=" and ".join(listed), elector=elector)
 
 
-def is_signed_by_its_elector(case: JudgedLetter) -> Because | None:
+def is_signed_by_its_elector(case: JudgedLetter) -> ReasonWithValues | None:
     """It has a good signature, if it must. This comes first: only what was signed is the text."""
     letter, signature = case.read, case.read.signature
     elector, circumstances = case.elector, case.circumstances
@@ -325,7 +327,7 @@ def is_signed_by_its_elector(case: JudgedLetter) -> Because | None:
     return None if has_mark else Reason.NO_MARK(mark=circumstances.mark)
 
 
-def has_one_ballot(case: JudgedLetter) -> Because | None:
+def has_one_ballot(case: JudgedLetter) -> ReasonWithValues | None:
     """No other line reads as a ballot that differs. `ballot_is_first` would say less."""
     if len({line.ballot for line in case.ballots}) <= 1:
         return None
@@ -335,13 +337,13 @@ def has_one_ballot(case: JudgedLetter) -> Because | None:
     return Reason.SEVERAL_ELECTORS(electors=", ".join(electors))
 
 
-def ballot_is_first(case: JudgedLetter) -> Because | None:
+def ballot_is_first(case: JudgedLetter) -> ReasonWithValues | None:
     """The ballot is the first line, but for a greeting. In an answer to a letter that only this
     elector has, a quotation of it may be above the ballot.
     """
     flowing, ballot = case.read.body.flowing, case.ballot
     if ballot is None and not case.ballots:
-        return next(iter(case.view.offered.values()), Reason.NO_BALLOT)()
+        return next(iter(case.lines_by_sender.offered.values()), Reason.NO_BALLOT)()
     if ballot is None and not flowing:
         return Reason.ELSEWHERE(number=case.ballots[0].number)
     if ballot is None or case.index in flowing:
@@ -353,7 +355,7 @@ def ballot_is_first(case: JudgedLetter) -> Because | None:
     return next(filter(None, (why_not_first(case, joined) for joined in views)), None)
 
 
-def is_of_this_vote(case: JudgedLetter) -> Because | None:
+def is_of_this_vote(case: JudgedLetter) -> ReasonWithValues | None:
     """Its subject has the mark of the poll, and no other; nor has a text that must be signed."""
     own = case.circumstances.mark
     signed = case.read.shown_lines if case.circumstances.is_signed else ()
@@ -411,7 +413,7 @@ def is_subject_of_page(case: JudgedLetter) -> bool:
     return as_compared(subject) == as_compared(case.circumstances.subject)
 
 
-def why_not_first(case: JudgedLetter, joined: Collection[int]) -> Because | None:
+def why_not_first(case: JudgedLetter, joined: Collection[int]) -> ReasonWithValues | None:
     """Why the ballot is not the first line; None if it is."""
     letter, lines, ballot = case.read, case.read.body.lines, case.index
     is_ours = case.has_own_mark

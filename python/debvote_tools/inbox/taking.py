@@ -45,7 +45,7 @@ def take_letters(
         enter_letters(vote, is_agreed=is_agreed)
         return
     history = vote.election.history()
-    found = judged(vote, history, queries.letters(vote.book), read)
+    found = judged(vote, history, queries.kept_letters(vote.book), read)
     tell_letters(vote, history, found)
     would = letter_words.counts(found, len(going_in(found)))
     tell(came_before, would.replace("went in", "would go in"), "Nothing was changed.")
@@ -140,7 +140,7 @@ def enter_letters(vote: Vote, *, is_agreed: bool) -> None:
         nonlocal history, found
         history = election.history()
         vote.demand_same_call(history, NOTHING_ADDED)
-        found = judged(vote, history, queries.letters(vote.book))
+        found = judged(vote, history, queries.kept_letters(vote.book))
         new = [envelope_of(letter, letter.ballots[0].ballot) for letter in going_in(found)]
         return NewBallots(new, [letter.number for letter in going_in(found)], history.is_closed)
 

@@ -23,7 +23,7 @@ class Arrived(enum.Enum):
 
 def waiting_letters(election: Election, history: History) -> dict[int, Arrived]:
     """The letters that wait for the secretary, by their numbers: when each arrived."""
-    kept = queries.letters(election.book)
+    kept = queries.kept_letters(election.book)
     if not kept:
         return {}
     from debvote_tools.inbox.judging import judged

@@ -17,7 +17,8 @@ from debvote_tools.inbox.rules import Outcome
 from debvote_tools.outbox.reached import CAME_BACK, reached_by_call
 from debvote_tools.outbox.words import Composer
 from debvote_tools.poll.announced import address_in
-from debvote_tools.result.publication import closing_letter, current_data, last_publication
+from debvote_tools.poll.current import current_call
+from debvote_tools.result.publication import closing_letter, last_publication
 from debvote_tools.text.language import language_of
 from debvote_tools.text.times import now
 
@@ -48,14 +49,14 @@ class LettersDue:
         self.electors = {elector.number: elector for elector in on_list}
         is_over = bool(self.history.closes) or (until is not None and self.time > until)
         typed = {act.number for act in self.history.named("enter") if not act.detail.get("lines")}
-        self.composer = Composer(current_data(election, self.history), is_over, on_list, typed)
-        self.letters = sent.sent_letters(election.book, kind)
+        self.composer = Composer(current_call(election, self.history), is_over, on_list, typed)
+        self.sent = sent.sent_letters(election.book, kind)
         unreached, _ = reached_by_call(election, self.history)
         back = {elector.number for elector, why, _ in unreached if why == CAME_BACK}
         # the last letter to each of these, which is tried again
         self.came_back = {
             letter.elector: letter.message_id
-            for letter in self.letters
+            for letter in self.sent
             if letter.elector in back and self.is_present(letter)
         }.values()
         # the act to which the letters belong, those that are new, and those that were written
@@ -110,7 +111,7 @@ class LettersDue:
         """The subject of a letter, and the mark that ends it."""
         is_extension, own = self.is_extension(letter), self.elector(letter).mark
         subject = self.composer.subject(self.kind, is_extension=is_extension)
-        return subject, self.composer.call.mark_of(own)
+        return subject, self.composer.call_data.mark_of(own)
 
     def is_extension(self, letter: SentLetter) -> bool:
         """Whether a letter says only that the vote ends later."""
@@ -128,7 +129,7 @@ class LettersDue:
         """The call to each elector; after an extension that, to those who have the call."""
         self.demand_not_over()
         *earlier, last = (act.number for act in self.history.since_call("call", "extend"))
-        letters = [letter for letter in self.letters if letter.for_act in earlier]
+        letters = [letter for letter in self.sent if letter.for_act in earlier]
         by_server = {letter.for_act for letter in letters if letter.state != WRITTEN}
         # a server has taken it, it is on paper, or all for its act were written as files
         self.had_call = {
@@ -153,11 +154,11 @@ class LettersDue:
             for number, elector in self.electors.items()
             if not any(one.became is Became.COUNTS for one in fates[elector.name])
         }
-        last = max((letter.for_act for letter in self.letters), default=0)
+        last = max((letter.for_act for letter in self.sent), default=0)
         # to the address of now
         written = [
             letter
-            for letter in self.letters
+            for letter in self.sent
             if letter.for_act == last
             and letter.elector in silent
             and letter.address == address_in(silent[letter.elector].addresses)
@@ -184,7 +185,7 @@ class LettersDue:
         """When others were reminded, if this run would do so again within a day."""
         if self.kind != "reminders" or not self.new:
             return None
-        times = (one.time for one in self.letters if self.time - one.time < LASTING)
+        times = (one.time for one in self.sent if self.time - one.time < LASTING)
         return max(times, default=None)
 
     def due_receipts(self) -> TextOf:
@@ -202,7 +203,7 @@ class LettersDue:
         # receipt is about that
         self.earlier = [
             one
-            for one in self.letters
+            for one in self.sent
             if (one.state != TAKEN or one.message_id in self.came_back)
             and one.elector in told
             and about_now(one.about, told[one.elector])
@@ -210,7 +211,7 @@ class LettersDue:
         self.written = list(filter(self.can_be_sent, self.earlier)) if self.is_sending else []
         said = {
             (one.elector, key)
-            for one in self.letters
+            for one in self.sent
             if not self.failed_elsewhere(one)
             for key in one.about
         }
@@ -233,7 +234,7 @@ class LettersDue:
         """The addresses of electors before a change after the call, if no receipt was written
         since.
         """
-        last = {letter.elector: letter.for_act for letter in self.letters}
+        last = {letter.elector: letter.for_act for letter in self.sent}
         found: dict[int, list[str]] = collections.defaultdict(list)
         for elector, act, addresses in sent.old_addresses(self.election.book, self.called):
             if act > last.get(elector, 0) and (address := address_in(addresses)):
@@ -250,7 +251,7 @@ class LettersDue:
     def due_closed(self) -> TextOf:
         if not self.history.is_closed:
             raise self.stops("the vote is not closed", "close")
-        poll, language = self.composer.call.poll, self.election.language
+        poll, language = self.composer.call_data.poll, self.election.language
         text = closing_letter(self.history, poll, language).decode()
         self.to_each(self.history.closes[-1].number)
         return lambda elector, _: self.composer.text("closed_to_elector.txt", elector, letter=text)
@@ -259,7 +260,7 @@ class LettersDue:
         act = last_publication(self.history)
         if act is None or not self.history.is_closed:
             raise self.stops("nothing is published", "publish")
-        if self.composer.call.at is None:
+        if self.composer.call_data.at is None:
             why, cure = "the letter must say where the result is published", "give it: --at URL"
             raise bad_words("--at", why, cure, NOTHING_WRITTEN)
         book, code = self.election.book, act.detail["words"]["language"]
@@ -268,8 +269,8 @@ class LettersDue:
         poll = self.election.sealed().counted.as_bytes()
         standing = self.election.debvote.standing(poll, ballots)
         if code is not None:
-            call = dataclasses.replace(self.composer.call, language=language_of(code))
-            self.composer = dataclasses.replace(self.composer, call=call)
+            call_data = dataclasses.replace(self.composer.call_data, language=language_of(code))
+            self.composer = dataclasses.replace(self.composer, call_data=call_data)
         self.to_each(act.number)
         return lambda elector, _: self.composer.text(
             "result_to_elector.txt", elector, has_ballot=elector.name in standing, letter=letter
@@ -288,7 +289,7 @@ class LettersDue:
     def to_each(self, for_act: int) -> None:
         """One letter to each elector. One to the same address for the same act stays as it is."""
         self.for_act = for_act
-        of_act = [letter for letter in self.letters if letter.for_act == for_act]
+        of_act = [letter for letter in self.sent if letter.for_act == for_act]
         before = {(letter.elector, letter.address): letter for letter in of_act}
         for elector in self.electors.values():
             letter = before.get((elector.number, address_in(elector.addresses)))

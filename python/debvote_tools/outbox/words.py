@@ -86,7 +86,7 @@ OF_LETTER = {
 class Composer:
     """Makes all letters of a run. After the end nobody is invited to vote."""
 
-    call: CallData
+    call_data: CallData
     is_over: bool
     electors: Sequence[Elector] = ()
     # the acts that entered what the secretary typed for a letter
@@ -95,7 +95,7 @@ class Composer:
     def subject(self, kind: str, *, is_extension: bool = False) -> str:
         """The subject of a kind of letters, before the mark that ends it."""
         said = EXTENSION if is_extension else SUBJECTS[kind]
-        return self.call.language.say(said, title=one_line(self.call.poll.name))
+        return self.call_data.language.say(said, title=one_line(self.call_data.poll.name))
 
     def call_letter(self, elector: Elector, *, is_extension: bool) -> str:
         """The call; or that it ends later, which repeats no code. On paper it has at most two
@@ -130,7 +130,7 @@ class Composer:
         return self.rendered(PACKAGE, template, elector, said_of=self.said_of, **values)
 
     def rendered(self, package: str, template: str, elector: Elector, **values: object) -> str:
-        call = self.call
+        call = self.call_data
         greeting = call.language.say(
             "Dear {name},", name=one_line(elector.who)[:200] or elector.name
         )
@@ -152,15 +152,15 @@ class Composer:
         return frozenset(self.folded(word) for words in names for word in words)
 
     def folded(self, word: str) -> str:
-        return without_accents(word, self.call.language.code).lower()
+        return without_accents(word, self.call_data.language.code).lower()
 
     def said_of(self, fate: Fate, name: str) -> str:
         """Says what became of something that came, with its time in the zone in which the end was
         announced, and what is wrong with it.
         """
         language, zone = (
-            self.call.language,
-            self.call.until.tzinfo if self.call.until else datetime.UTC,
+            self.call_data.language,
+            self.call_data.until.tzinfo if self.call_data.until else datetime.UTC,
         )
         if not isinstance(fate.became, Became):
             said = OF_LETTER[fate.is_own, fate.became is Outcome.SET_ASIDE]

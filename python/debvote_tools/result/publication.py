@@ -1,5 +1,5 @@
-"""What is published of an election, from its book: the call, the letter of the close, and the facts
-of a result.
+"""What is published of an election, from its book: the letter of the close, and the facts of a
+result.
 """
 
 import dataclasses
@@ -10,62 +10,20 @@ from typing import Any
 
 from debvote_tools.book import queries
 from debvote_tools.book.book import Book, Detail, DoneAct, as_text, from_text
-from debvote_tools.book.election import LETTER_TEXT, Election, History, Sealed
+from debvote_tools.book.election import Election, History, Sealed
 from debvote_tools.cli.console import is_terminal, is_yes, tell_aside
 from debvote_tools.cli.faults import Fault
 from debvote_tools.debvote import casting_words
 from debvote_tools.files import sha256_of
 from debvote_tools.inbox.waiting import left
+from debvote_tools.poll.current import zone_of
 from debvote_tools.poll.secret import aliased_ballots, sealed_checksum
-from debvote_tools.poll.call import CallData
 from debvote_tools.poll.sealed import SealedPoll
 from debvote_tools.result.facts import Act, Doubt, Facts, SecretVote, Words
 from debvote_tools.result.file_names import BALLOTS, CHECKSUMS, PAGE, POLL
 from debvote_tools.text.ballots import ballot_file, in_normal_form
 from debvote_tools.text.language import Language, language_of
 from debvote_tools.text.rendering import render_letter
-
-
-def current_data(
-    election: Election,
-    history: History | None = None,
-    said: Detail | None = None,
-    sealed: Sealed | None = None,
-) -> CallData:
-    """What the page and the letter say as it is now, and with what an act would say or seal."""
-    now, saying, sealed = history or election.history(), said or {}, sealed or election.sealed()
-
-    def value_of(key: str) -> Any:
-        return saying.get(key) or now.announced(key)
-
-    return CallData(
-        language=election.language,
-        poll=sealed.public,
-        quorum_votes=value_of("quorum_votes"),
-        until=until_of(saying) or now.until,
-        to=value_of("to"),
-        at=value_of("at"),
-        real_names={elector.name: elector.who for elector in queries.electors(election.book)}
-        if value_of("names")
-        else None,
-        has_form=bool(value_of("form")),
-        is_signed=bool(value_of("signed")),
-        is_marked=bool(value_of("marked")),
-        letter_text=(queries.sealed(election.book, LETTER_TEXT) or b"").decode(),
-        has_aliases=sealed.is_aliased,
-        has_codes_on_roll=bool(value_of("codes_on_roll")),
-        has_lapsed_codes=now.has_lapsed_codes,
-    )
-
-
-def until_of(said: Detail) -> datetime.datetime | None:
-    """The end that the command line names."""
-    return datetime.datetime.fromisoformat(said["until"]) if "until" in said else None
-
-
-def zone_of(history: History) -> datetime.tzinfo | None:
-    """The zone in which the end was announced."""
-    return history.until.tzinfo if history.until else datetime.UTC
 
 
 # ---------------------------------------------------------------- publications
@@ -227,7 +185,7 @@ def late_letters_in_time(book: Book, history: History) -> list[Doubt]:
     for envelope in late:
         numbers.setdefault(envelope.letter, []).append(str(envelope.number))
     found = []
-    for kept in queries.letters(book):
+    for kept in queries.kept_letters(book):
         arrived = json.loads(kept.read_json)["arrived"] if kept.number in numbers else None
         if arrived is not None and from_text(arrived) <= last:
             places = {

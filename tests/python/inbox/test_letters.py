@@ -9,7 +9,7 @@ from debvote_tools.book import queries
 from debvote_tools.book.election import POLL_WITH_NAMES
 from debvote_tools.commands import held
 from debvote_tools.inbox import signature
-from debvote_tools.outbox import files as letter_files
+from debvote_tools.outbox import letter_folder
 
 from tests.support import elections, letters, pgp
 from tests.support.called import LAKE, LettersTest
@@ -603,7 +603,7 @@ class Meanwhile(LettersTest):
 
     def test_letters_that_another_act_made_untrue_are_not_noted(self) -> None:
         self.told("desk", given=f"ada {RANKS}\n")
-        self.overtaken(letter_files, "letter_files", ("undo", "--yes"), ("letters", "receipts"))
+        self.overtaken(letter_folder, "letter_files", ("undo", "--yes"), ("letters", "receipts"))
         self.assertNotIn("receipt", self.told("show", "ada"))
 
 

@@ -6,7 +6,7 @@ import unittest
 
 from debvote_tools.inbox.letter import may_be_ballot
 from debvote_tools.inbox.letter_lines import repaired_text
-from debvote_tools.inbox.reasons import Because, Reason, for_elector, for_secretary
+from debvote_tools.inbox.reasons import ReasonWithValues, Reason, for_elector, for_secretary
 
 from tests.python.inbox import test_signatures
 from tests.python.inbox import test_table_of_letters
@@ -20,7 +20,7 @@ VALUES: dict[str, str | int | datetime.datetime] = {
 }  # fmt: skip
 
 
-def with_values(reason: Reason) -> Because:
+def with_values(reason: Reason) -> ReasonWithValues:
     """A reason with all values that its sentence names."""
     names = re.findall(r"{(\w+)}", reason.value[0])
     return reason(**{name: VALUES[name] for name in names})

@@ -12,7 +12,7 @@ import subprocess
 import sys
 
 from debvote_tools.inbox.lines import repaired_line
-from debvote_tools.outbox.files import in_place
+from debvote_tools.outbox.letter_folder import in_place
 
 from tests.support import elections
 from tests.support.letters import letter

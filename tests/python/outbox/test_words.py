@@ -16,7 +16,7 @@ from debvote_tools.inbox.letter_lines import Near
 from debvote_tools.inbox.fates import Became, Fate
 from debvote_tools.inbox.reasons import Reason, for_elector
 from debvote_tools.inbox.rules import Outcome
-from debvote_tools.outbox.files import message, rows_to_print
+from debvote_tools.outbox.letter_folder import message, rows_to_print
 from debvote_tools.outbox.words import PACKAGE, SUBJECTS, Composer
 from debvote_tools.poll.announced import is_mail_address
 from debvote_tools.poll.call import CallData
@@ -178,7 +178,7 @@ class CallLetter(unittest.TestCase):
                 begin = "Dear friends,\n\npaper ballots go to the box in the hall.\n|Write\n|ada 1,2,3 or so.\n  |ben 3,2,1\n\nYours, Eve\n\n"
                 self.assertTrue(text.startswith(begin), text)
                 whose = "The words above are those of whoever sends this letter. "
-                said = now.call.language.say(f"{whose}The program debvote wrote the rest, and has not checked them.")
+                said = now.call_data.language.say(f"{whose}The program debvote wrote the rest, and has not checked them.")
                 self.assertEqual(" ".join(text.split()).count(said), 1)
             self.assertNotIn("Dear friends", refusing)
         # a letter that does not remind does not begin so
@@ -234,25 +234,25 @@ class Printed(unittest.TestCase):
     def test_who_has_no_address_gets_the_texts_on_paper_or_reads_where_they_are(self) -> None:
         """As many as two sides have; and all else that others read on the page."""
         for code in LANGUAGES:
-            for number, at in ((1, vote().call.at), (8, None), (9, vote().call.at), (70, vote().call.at), (70, None)):
+            for number, at in ((1, vote().call_data.at), (8, None), (9, vote().call_data.at), (70, vote().call_data.at), (70, None)):
                 poll = dataclasses.replace(POLL, explanations=("A lake, and a meadow with room for forty tents.\n\n" * number, "", ""))
                 now = vote(code, poll=poll, at=at, letter_text="Dear friends,\n\npaper goes into the box in the hall.\n")
                 text, by_mail = (now.call_letter(elector, is_extension=False) for elector in (GUS, ADA))
                 self.assertEqual(text.count("forty tents"), number if number < 70 else 0)
                 self.assertEqual(by_mail.count("forty tents"), 0 if at else number)
-                said = now.call.language.say(TOO_LONG if at else TOO_LONG_WITHOUT_PAGE).split()
+                said = now.call_data.language.say(TOO_LONG if at else TOO_LONG_WITHOUT_PAGE).split()
                 self.assertEqual(" ".join(text.split()).count(" ".join(said)), int(number == 70))
                 for head in ("What decides", "What will be public"):
-                    self.assertIn(now.call.language.say(head).upper(), text)
+                    self.assertIn(now.call_data.language.say(head).upper(), text)
                 self.assertEqual(f"{at}#{GUS.name}/{GUS.mark}" in text, at is not None)
                 self.check_sides(now, text)
 
     def check_sides(self, now: Composer, text: str) -> None:
         """Three letters have at most six sides, each with a place for the rank of each option."""
-        letters = [("Ada", rows_to_print(text, now.call))] * 3
+        letters = [("Ada", rows_to_print(text, now.call_data))] * 3
         style = resources(PACKAGE, "letter.css")
-        page = render_page(PACKAGE, "print.html", now.call.language, style=style, title="Spring", letters=letters)
-        self.assertEqual(page.count(b'<span class="rank"></span>  Op'), 3 * len(now.call.poll.names))
+        page = render_page(PACKAGE, "print.html", now.call_data.language, style=style, title="Spring", letters=letters)
+        self.assertEqual(page.count(b'<span class="rank"></span>  Op'), 3 * len(now.call_data.poll.names))
         with tempfile.TemporaryDirectory() as folder:
             place = pathlib.Path(folder)
             (place / "page.html").write_bytes(page)
