@@ -141,7 +141,9 @@ class NewLines(NamedTuple):
 
 
 def take_lines(vote: Vote, files: Sequence[GivenFile], arguments: Arguments) -> None:
-    """Enters the lines that are new, and prints the replies; or tells what would become of them."""
+    """Enters the lines that are new, and prints the replies; or tells what would become of them.
+    Letters are taken by `take_letters` in `inbox/taking.py`.
+    """
     of_files, book, command = file_lines(vote, files, arguments), vote.book, vote.election.command
     answer: bool | None = None
 

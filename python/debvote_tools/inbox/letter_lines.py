@@ -1,8 +1,10 @@
-"""What is done once, when a letter comes: its bytes are parsed, its signature is checked, and it is
-found out what its lines may be: a ballot, ranks without a name, or something near to a ballot.
+"""Letters are read when they come: `read_letters` has their bytes parsed and their signatures
+checked. Then it finds what each line may be: a ballot, ranks without a name, or something near to a
+ballot; and debvote says which are valid. `to_json` and `from_json` are how the book keeps a letter
+that was read.
 
-The book keeps this, whatever addresses the list has and whatever time it is. So judging a letter
-again reads no letter.
+The addresses on the list and the time decide nothing here. So a letter is judged again from what
+the book keeps, and is read again only if its signature has to be checked anew (`judging.py`).
 """
 
 import collections

@@ -1,5 +1,5 @@
-"""Letters that come: `add` keeps those that are new, has all judged, and enters the ballots that go
-in.
+"""Letters that `add` is given: it keeps those that are new, has all judged, and enters the ballots
+that go in. Lines are taken by `take_lines` in `commands/add.py`.
 """
 
 from collections.abc import Collection, Iterable, Iterator, Mapping, Sequence
