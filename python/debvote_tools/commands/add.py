@@ -78,7 +78,7 @@ def run(election: Election, arguments: Arguments) -> None:
         files = [one for one in found.values() if isinstance(one, GivenFile)]
         take_lines(vote, files, arguments)
         return
-    if of_lines := given(arguments, "csv", "again", "force"):
+    if of_lines := given(arguments, "csv", "again", "force", "came_before_close"):
         words = "only for lines and tables, and these are letters"
         raise bad_words(", ".join(of_lines), words, "leave this out")
     # what reads letters takes a while to be imported

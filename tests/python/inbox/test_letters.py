@@ -194,6 +194,20 @@ class Adding(LettersTest):
                 self.assert_fault(self.election("add", "--yes", *words), status, part)
                 self.assertEqual(self.contents(), before)
 
+    def test_options_of_lines_are_refused(self) -> None:
+        """Each letter has an arrival of its own, so none is asked about when letters are added."""
+        self.write("inbox.mbox", mailbox(letter("ada", f"ada {RANKS}")))
+        before = self.contents()
+        table = ("--csv", "--name", "who", "--ranks", "a,b,c,d")
+        said = "only for lines and tables, and these are letters; nothing was added: leave this out"
+        answers = [("--came-before-close", answer) for answer in ("yes", "no")]
+        for words in (table, ("--again",), ("--force",), *answers):
+            for more in ("--yes", "--look"):
+                with self.subTest(words, more=more):
+                    ended = self.election("add", *words, more, "inbox.mbox")
+                    self.assert_fault(ended, 2, f"{words[0]}: {said}")
+                    self.assertEqual(self.contents(), before)
+
     def test_an_extension_judges_anew(self) -> None:
         self.set_clock("2026-11-20T10:00:00+00:00")
         self.told("call", "--until", "2026-11-23 09:00", "--zone", "UTC")
