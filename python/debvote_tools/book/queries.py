@@ -240,7 +240,9 @@ def envelopes_of(book: Book, electors: Collection[int]) -> list[Envelope]:
 
 
 def lines_of_electors(book: Book, electors: Collection[int], *, without: int = 0) -> list[bytes]:
-    """The same of some electors, as the book is now."""
+    """The lines of some electors that are in time and not struck now, in their order, without those
+    of one act.
+    """
     return lines_after(book, book.last_number(), electors, without=without)
 
 
@@ -323,7 +325,7 @@ def kept_letters(book: Book) -> list[KeptLetter]:
 
 
 def kept_digests(book: Book) -> set[tuple[str, bool]]:
-    """The digests of the letters that came, each with whether it was parted off."""
+    """The digests of the letters that came, each with whether it may be text of another letter."""
     words = (
         "SELECT json_extract(known, '$.digest'), json_extract(known, '$.is_parted_off') FROM letter"
     )

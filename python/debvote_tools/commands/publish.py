@@ -59,8 +59,10 @@ class Arguments(Acting, checks=True):
 
 def run(election: Election, arguments: Arguments) -> int:
     """The folder is whole and counted before the act, and takes its place after the act. So a kill
-    leaves no folder that the book does not know, and `publish` without options makes the folder of
-    the last act again.
+    leaves no folder that the book does not know.
+
+    `given` are the words of the command line, and `before` is the act of the last publication since
+    the last close. It is made `again`, with its own words, if the command line has none.
     """
     book = election.book_for(arguments)
     history, sealed = election.history(), election.sealed()

@@ -52,7 +52,8 @@ def fates_of(
     election: Election, history: History, of: Collection[Elector] | None = None
 ) -> dict[str, list[Fate]]:
     """What came of electors, of all or of some, by their names on the roll, in the order of its
-    times; a letter that arrived at no known time has that of its act. debvote is started twice.
+    times; a letter that arrived at no known time has that of its act. debvote is started twice at
+    most.
 
     The last valid line of an elector that is in time and not struck counts. A letter is of whoever
     has a ballot in it, and of whoever sent it. One that was entered comes beside its envelopes.

@@ -1,4 +1,5 @@
-"""What came for an election, as `add` is given it: each file, folder or standard input, read once.
+"""What `add` is given: files and standard input, each read once and whole, and folders of letters,
+which `taking.py` reads.
 """
 
 import codecs
@@ -118,6 +119,7 @@ def bytes_in(file: BinaryIO) -> bytes:
 
 
 def demand_lines(file: GivenFile, *, is_table: bool) -> None:
+    """Stops at a file that can't have ballots: it is empty, too long, of another kind, or a poll."""
     if not file.data:
         words, cure = "it is empty", "write one ballot on each line"
         raise doubtful(file.name, words, cure)

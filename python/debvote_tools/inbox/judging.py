@@ -110,6 +110,7 @@ def ballots_in(vote: Vote, names: Collection[str]) -> Box:
 def circumstances_now(
     vote: Vote, history: History, by_key: Mapping[str, KeptLetter]
 ) -> Circumstances:
+    """What letters are judged by, as the election is now. `by_key` has the letters of the book."""
     election, call = vote.election, history.call
     assert call is not None
     public, electors = election.sealed().public, queries.electors(election.book)
@@ -190,8 +191,8 @@ def why_not_latest(case: JudgedLetter, box: Box, at_once: set[str]) -> ReasonWit
 
 def set_copies(group: Sequence[JudgedLetter], firsts: Collection[JudgedLetter], box: Box) -> None:
     """Sets what becomes of the other letters of one identity: they are copies of one that went in,
-    or may go in. A letter that waits hides no other, but of those that wait for one reason with one
-    body only the first is shown.
+    or may go in. A letter that waits hides no other. But of letters that wait for the same reason
+    and have the same body, only the first is shown.
     """
     hiding = [case for case in group if case.hides]
     is_hidden = any(case.decision is not None or case.outcome is Outcome.GOES_IN for case in hiding)

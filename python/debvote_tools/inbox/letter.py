@@ -133,7 +133,9 @@ class ParsedLetter:
 
     @property
     def key(self) -> str:
-        """Identifies the letter; the same bytes parted off, and on their own, are two letters."""
+        """Identifies the letter. The same bytes are two letters if they came on their own, and where
+        they may be text of another letter.
+        """
         return f"{self.digest}, parted off" if self.is_parted_off else self.digest
 
     @property
@@ -154,6 +156,9 @@ class ParsedLetter:
 
 
 def parse(raw: RawLetter) -> ParsedLetter:
+    """What the bytes of a letter say; no signature is checked. A letter that is too long, or that
+    can be read in several ways, is parsed as far as it goes: its body has the `trouble`.
+    """
     letter = Part(raw.data)
     senders, subjects = letter.values("from"), letter.values("subject")
     longest = max(map(len, subjects), default=0)
@@ -287,8 +292,8 @@ def body_of(letter: Part) -> Body:
         first.found(Reason.NO_PLAIN_TEXT())
     read = [text_of(part, is_first=part is first) for part, _ in texts]
     text, pieces = read[0] if read else (Body(), [])
-    # no program shows text around the parts, but it may be a letter that a mailbox did not part
-    # off; so may text below an encoded one
+    # no program shows text around the parts, but it may be a letter that the mailbox did not
+    # separate; so may text below an encoded one
     around = [line for part, _ in parts for line in lines_of(part.around)]
     below = lines_of(first.body_bytes)
     trouble = next(filter(None, (part.trouble for part, _ in parts)), None)

@@ -69,8 +69,9 @@ def split_letters(given: Mapping[str, GivenFile | GivenFolder]) -> list[RawLette
 
 
 def new_of(vote: Vote, raws: Sequence[RawLetter]) -> list[RawLetter]:
+    """The letters that the book does not have, each of them once."""
     kept = queries.kept_digests(vote.book)
-    # of letters with the same bytes the first that is not parted off, or else the first
+    # of letters with the same bytes the first that can't be text of another, or else the first
     chosen: dict[str, RawLetter] = {}
     for raw in raws:
         if raw.digest not in chosen or chosen[raw.digest].is_parted_off > raw.is_parted_off:
@@ -79,11 +80,14 @@ def new_of(vote: Vote, raws: Sequence[RawLetter]) -> list[RawLetter]:
 
 
 def is_not_kept(digest: str, is_parted_off: bool, kept: Collection[tuple[str, bool]]) -> bool:
-    """Whether a letter is new; one that only came parted off is, when it comes on its own."""
+    """Whether the book lacks a letter. If it has it only as what may be text of another letter, it
+    lacks the one that comes on its own.
+    """
     return (digest, False) not in kept and not (is_parted_off and (digest, True) in kept)
 
 
 def keep(vote: Vote, raws: Sequence[RawLetter], read: Sequence[ReadLetter]) -> None:
+    """The act that keeps new letters, byte for byte, each with what was read of it."""
     if not raws:
         return
     with vote.book.act("letters", {"letters": len(raws)}) as act:
@@ -114,6 +118,10 @@ def envelope_of(letter: JudgedLetter, ballot: str) -> NewEnvelope:
 def enter_ballots(
     vote: Vote, name: ActName, detail: Detail, new: NewBallots, seen: int, *end: str
 ) -> None:
+    """The act that enters the ballots of letters, and decides of the letters that are done. Prints
+    the reply to each ballot in words, and then `end`.
+    """
+
     def envelopes(act: NewAct) -> list[NewEnvelope]:
         for number in new.done:
             queries.decide(act, number, queries.ENTERED)

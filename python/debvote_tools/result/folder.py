@@ -152,6 +152,9 @@ def made(
 
 # ---------------------------------------------------------------- what is in it
 def fill(folder: pathlib.Path, given: Facts, program_folder: pathlib.Path | None) -> Made:
+    """Writes all files into an empty folder, and has them counted by debvote and by `recount.py`.
+    Stops at doubts that are not forced, at a code of an elector, and if the counts differ.
+    """
     debvote, checksums = Debvote(folder, program_folder), dict[str, str]()
 
     def write(files: dict[str, bytes]) -> None:

@@ -149,6 +149,9 @@ def shown_by_comparison(
 def doubts_of(
     book: Book, history: History, poll: SealedPoll, casting: str | None, waiting: Sequence[int]
 ) -> list[Doubt]:
+    """The doubts that the book shows before the count. `casting` is the option of the casting vote
+    by its plain name; `waiting` are the letters that arrived in time and wait.
+    """
     found = [] if history.is_closed else [Doubt("not closed")]
     if (until := early_end(history)) is not None:
         closed = history.closes[0].time.astimezone(until.tzinfo)
