@@ -1,4 +1,4 @@
-"""What the tests of letters that come share: letters, what is known when they are judged, and debvote, which is asked about lines."""
+"""What the tests of letters that come share: letters, the circumstances in which they are judged, and debvote, which is asked about lines."""
 
 import datetime
 import os
@@ -80,7 +80,7 @@ def names(**other: object) -> Names:
     return Names(**{**usual, **other})  # type: ignore[arg-type]
 
 
-def known(
+def circumstances(
     *,
     addresses: Mapping[str, Sequence[str]] | None = None,
     keys: Mapping[str, str] | None = None,
@@ -88,7 +88,7 @@ def known(
     roll: Collection[str] = NAMES,
     **other: object,
 ) -> Circumstances:
-    """What is known of a vote that was called three days ago and has no end; with `keys` letters have to be signed."""
+    """The circumstances of a vote that was called three days ago and has no end; with `keys` letters have to be signed."""
     listed = {name: [f"{name}@club.example"] for name in NAMES} if addresses is None else addresses
     electors = {
         name: Elector(number, name, number, name, tuple(listed.get(name, ())), (keys or {}).get(name, ""), mark=own_marks[name])
@@ -183,7 +183,7 @@ def judged(
     of_names = {name: value for name, value in other.items() if name in ("roll", "language", "real_names")}
     of_others = {name: value for name, value in other.items() if name not in ("language", "real_names")}
     given = read(*letters, reader=reader, **of_names)
-    return judge_all(given, known(**of_others), lambda _: ballots or {})
+    return judge_all(given, circumstances(**of_others), lambda _: ballots or {})
 
 
 def label(why: ReasonWithValues) -> str:

@@ -209,7 +209,9 @@ def file_lines(vote: Vote, files: Sequence[GivenFile], arguments: Arguments) -> 
     stop_at([doubtful(file.name, what, "write one ballot on each line") for file in empty])
     if arguments.newest_first:
         lists = [lines[::-1] for lines in lists]
-    checked = iter(vote.checked([line for lines in lists for line in lines if not line.is_empty]))
+    checked = iter(
+        vote.checked_lines([line for lines in lists for line in lines if not line.is_empty])
+    )
     found = []
     for file, lines in zip(files, lists):
         left_out = [line for line in lines if line.is_empty]

@@ -139,24 +139,24 @@ def from_pipe(desk: Desk) -> None:
             else:
                 lines.append(line)
         if lines:
-            desk.enter(desk.vote.checked(lines))
+            desk.enter(desk.vote.checked_lines(lines))
 
 
 def whole_lines() -> Iterator[bytes]:
     """The lines that each read completes. A line end of Windows may come in two reads."""
-    waiting, ended_with_return = bytearray(), False
+    unfinished, ended_with_return = bytearray(), False
     while data := os.read(sys.stdin.fileno(), READ):
-        waiting += data.removeprefix(b"\n") if ended_with_return else data
+        unfinished += data.removeprefix(b"\n") if ended_with_return else data
         ended_with_return = data.endswith(b"\r")
-        end = max(waiting.rfind(b"\n"), waiting.rfind(b"\r")) + 1
+        end = max(unfinished.rfind(b"\n"), unfinished.rfind(b"\r")) + 1
         # a line that is too long for debvote ends here
-        if len(waiting) - end > BALLOTS_LIMIT:
-            end = len(waiting)
+        if len(unfinished) - end > BALLOTS_LIMIT:
+            end = len(unfinished)
         if end:
-            yield bytes(waiting[:end])
-            del waiting[:end]
-    if waiting:
-        yield bytes(waiting)
+            yield bytes(unfinished[:end])
+            del unfinished[:end]
+    if unfinished:
+        yield bytes(unfinished)
 
 
 # ---- at a terminal
@@ -166,8 +166,8 @@ def at_terminal(desk: Desk) -> None:
     tell(
         f"Type a ballot as {desk.vote.right_line} ({who}, then a rank for each option in this order); q ends."
     )
-    while (came := typed("Ballot: ")) is not None:
-        line = next(iter(desk.lines_of(came)), None)
+    while (answer := typed("Ballot: ")) is not None:
+        line = next(iter(desk.lines_of(answer)), None)
         if line is None or line.is_empty:
             tell("Type a ballot, or q to end.")
         elif line.repaired.lower() == QUIT or not ask_and_cast(desk, line):
@@ -179,7 +179,7 @@ def ask_and_cast(desk: Desk, line: Line) -> bool:
     if (meant := completed(desk, line)) is None:
         tell("It was not entered.")
         return True
-    [checked] = desk.vote.checked([meant])
+    [checked] = desk.vote.checked_lines([meant])
     [elector] = desk.vote.electors_of([checked.as_entered])
     answer: bool | None = None
 

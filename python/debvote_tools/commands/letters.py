@@ -82,7 +82,7 @@ def run(election: Election, arguments: Arguments) -> int:
         place = election.path(LETTERS) / due.kind / str(due.for_act)
         written = write(book, due, place)
         lost = write_lost(due, place.parent)
-        tried = [] if server is None else send_waiting(book, due, server)
+        tried = [] if server is None else send_letters(book, due, server)
     for folder, letters in {place: [*due.written, *due.new], **lost}.items():
         if names := [due.electors[one.elector].name for one in letters if not one.address]:
             tell(
@@ -235,8 +235,8 @@ def write_lost(due: LettersDue, kind_folder: pathlib.Path) -> dict[pathlib.Path,
     return lost
 
 
-def send_waiting(book: Book, due: LettersDue, server: Server) -> list[SentLetter]:
-    """Sends the letters that wait, and returns them with what the server said."""
+def send_letters(book: Book, due: LettersDue, server: Server) -> list[SentLetter]:
+    """Sends the letters that no server has taken, and returns them with what the server said."""
     letters, tried = due.to_send, list[SentLetter]()
     if not letters:
         return tried

@@ -62,7 +62,8 @@ def run(election: Election, arguments: Arguments) -> int:
     leaves no folder that the book does not know.
 
     `given` are the words of the command line, and `before` is the act of the last publication since
-    the last close. It is made `again`, with its own words, if the command line has none.
+    the last close. It is made `again`, with its own words, if the command line has none, or --force
+    alone.
     """
     book = election.book_for(arguments)
     history, sealed = election.history(), election.sealed()

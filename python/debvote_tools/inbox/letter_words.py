@@ -73,9 +73,9 @@ def going_in_words(letters: Sequence[JudgedLetter], vote: Vote) -> Iterator[str]
 def ballot_words(letter: JudgedLetter, vote: Vote) -> str:
     line = letter.ballots[0]
     written = letter.read.shown_lines[line.number - 1].strip()
-    read = "" if written == line.ballot else f", written `{shown_line(written.encode())}`"
+    as_written = "" if written == line.ballot else f", written `{shown_line(written.encode())}`"
     ranks = vote.ranks_in_words(line.ballot.partition(" ")[2])
-    return f"{line.elector} ({name_of(letter)}{read}): {ranks}"
+    return f"{line.elector} ({name_of(letter)}{as_written}): {ranks}"
 
 
 def more_words(letter: JudgedLetter) -> list[str]:

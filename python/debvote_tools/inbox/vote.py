@@ -94,7 +94,7 @@ class Vote:
         return list(map(numbers.get, names))
 
     # ---- what debvote says
-    def checked(self, lines: Sequence[Line]) -> list[CheckedLine]:
+    def checked_lines(self, lines: Sequence[Line]) -> list[CheckedLine]:
         """Lines with what debvote says of them, none of them empty. It is started twice at most.
 
         If the repaired line is refused, the line goes in as it came, but without a byte-order mark

@@ -163,20 +163,20 @@ class LettersDue:
             and letter.elector in silent
             and letter.address == address_in(silent[letter.elector].addresses)
         ]
-        waits = (
+        are_unsent = (
             letter.address and letter.state != TAKEN and not letter.is_refused_for_good
             for letter in written
             if self.time - letter.time < LASTING
         )
-        if self.is_sending and any(waits):
+        if self.is_sending and any(are_unsent):
             self.for_act, self.written = last, written
         else:
             self.new = list(map(self.letter_to, silent.values()))
 
         def text_of(elector: Elector, letter: SentLetter) -> str:
-            waiting = (Outcome.WAITS, Outcome.GOES_IN)
+            held = (Outcome.WAITS, Outcome.GOES_IN)
             told = told_of(fates[elector.name]).values()
-            return self.composer.reminder(elector, [one for one in told if one.became in waiting])
+            return self.composer.reminder(elector, [one for one in told if one.became in held])
 
         return text_of
 
@@ -215,7 +215,7 @@ class LettersDue:
             if not self.failed_elsewhere(one)
             for key in one.about
         }
-        waiting = {(one.elector, one.address): set(one.about) for one in self.earlier}
+        in_earlier = {(one.elector, one.address): set(one.about) for one in self.earlier}
         old = self.old_addresses()
         for number, elector in self.electors.items():
             keys = [key for key in told[number] if (number, key) not in said]
@@ -223,7 +223,7 @@ class LettersDue:
             self.new += [
                 self.letter_to(elector, address, keys)
                 for address in addresses
-                if keys and not waiting.get((number, address), set()).issuperset(keys)
+                if keys and not in_earlier.get((number, address), set()).issuperset(keys)
             ]
 
         return lambda elector, letter: self.composer.receipt(
