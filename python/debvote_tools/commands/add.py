@@ -144,16 +144,16 @@ def take_lines(vote: Vote, files: Sequence[GivenFile], arguments: Arguments) -> 
     """Enters the lines that are new, and prints the replies; or tells what would become of them.
     Letters are taken by `take_letters` in `inbox/taking.py`.
     """
-    of_files, book, command = file_lines(vote, files, arguments), vote.book, vote.election.command
+    lines_of_files, book = file_lines(vote, files, arguments), vote.book
+    command = vote.election.command
     answer: bool | None = None
 
     def plan() -> NewLines:
         """It asks nothing of debvote, so it is made again within the act."""
         history = History(book.acts())
         vote.demand_same_call(history, NOTHING_ADDED)
-        return NewLines(
-            history.acts_of_opening(), sorted_out(book, of_files, history, arguments.again)
-        )
+        sorted_files = sorted_out(book, lines_of_files, history, arguments.again)
+        return NewLines(history.acts_of_opening(), sorted_files)
 
     def show(new: NewLines) -> bool:
         nonlocal answer

@@ -30,8 +30,9 @@ class Became(enum.Enum):
 
 
 class Fate(NamedTuple):
-    """An envelope or a letter that came. Of an envelope `answer` is what debvote says of the line,
-    None of a valid one. A letter is an elector's own if it came from an address of theirs.
+    """An envelope or a letter that came, and what became of it. Of an envelope `answer` is what
+    debvote says of the line, None of a valid one. A letter is an elector's own if it came from an
+    address of theirs.
     """
 
     time: datetime.datetime

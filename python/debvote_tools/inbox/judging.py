@@ -16,7 +16,7 @@ from debvote_tools.book.queries import KeptLetter
 from debvote_tools.inbox.letter import Body
 from debvote_tools.inbox.letter_lines import ReadLetter, answers_in, from_json, read_letters
 from debvote_tools.inbox.mailbox import RawLetter
-from debvote_tools.inbox.reasons import ReasonWithValues, Reason
+from debvote_tools.inbox.reasons import Reason, ReasonWithValues
 from debvote_tools.inbox.rules import Circumstances, JudgedLetter, Outcome
 from debvote_tools.inbox.vote import Vote
 from debvote_tools.poll.call import SUBJECT

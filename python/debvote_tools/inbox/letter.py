@@ -14,7 +14,7 @@ from collections.abc import Sequence
 from debvote_tools.inbox.html import read_html
 from debvote_tools.inbox.mailbox import RawLetter
 from debvote_tools.inbox.mime import MAX_PARTS, Part, address_key
-from debvote_tools.inbox.reasons import ReasonWithValues, Reason
+from debvote_tools.inbox.reasons import Reason, ReasonWithValues
 from debvote_tools.poll.sealed import OWN_LENGTH, OWN_SIGNS, marks_in
 
 # in bytes: a text, and all texts of a letter

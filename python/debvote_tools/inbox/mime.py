@@ -14,7 +14,7 @@ import re
 import string
 from collections.abc import Iterator
 
-from debvote_tools.inbox.reasons import ReasonWithValues, Reason
+from debvote_tools.inbox.reasons import Reason, ReasonWithValues
 
 # in bytes: the longest letter and the longest head that are read; then the most parts, their
 # deepest nesting, and the longest field about a part, in characters

@@ -21,7 +21,7 @@ from debvote_tools.book.queries import Elector
 from debvote_tools.inbox.letter import END, is_quoted
 from debvote_tools.inbox.letter_lines import MAX_BALLOTS, MAX_NEAR, Near, ReadLetter, ReadLine
 from debvote_tools.inbox.mime import address_key
-from debvote_tools.inbox.reasons import ReasonWithValues, Reason
+from debvote_tools.inbox.reasons import Reason, ReasonWithValues
 from debvote_tools.poll.sealed import MARKS, marks_in
 
 # how far the clock of a mail server or of an elector may be ahead

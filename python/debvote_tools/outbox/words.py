@@ -108,12 +108,12 @@ class Composer:
                 break
         return text
 
-    def reminder(self, elector: Elector, waits: Sequence[Fate]) -> str:
+    def reminder(self, elector: Elector, held: Sequence[Fate]) -> str:
         """A letter to an elector without a ballot. If a letter of theirs waits, it says so, and
         does not remind.
         """
-        is_reminding = not any(one.is_own for one in waits)
-        return self.text("reminders.txt", elector, fates=waits, is_reminding=is_reminding)
+        is_reminding = not any(one.is_own for one in held)
+        return self.text("reminders.txt", elector, fates=held, is_reminding=is_reminding)
 
     def receipt(self, elector: Elector, fates: Sequence[Fate]) -> str:
         """What became of all that came of an elector. It has the right line if what came last was

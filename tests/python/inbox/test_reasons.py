@@ -6,7 +6,7 @@ import unittest
 
 from debvote_tools.inbox.letter import may_be_ballot
 from debvote_tools.inbox.letter_lines import repaired_text
-from debvote_tools.inbox.reasons import ReasonWithValues, Reason, for_elector, for_secretary
+from debvote_tools.inbox.reasons import Reason, ReasonWithValues, for_elector, for_secretary
 
 from tests.python.inbox import test_signatures
 from tests.python.inbox import test_table_of_letters
