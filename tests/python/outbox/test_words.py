@@ -290,7 +290,7 @@ class NoBallot(unittest.TestCase):
 class Bytes(unittest.TestCase):
     def message(self, text: str, subject: str = "Vote: Fr\u00fchling", sender_name: str = "") -> bytes:
         due = types.SimpleNamespace(sender="vote@club.example", sender_name=sender_name)
-        due.composer = types.SimpleNamespace(call=types.SimpleNamespace(to=None))
+        due.composer = types.SimpleNamespace(call_data=types.SimpleNamespace(to=None))
         due.text, due.subject = lambda letter: text, lambda letter: (subject, "[0123456789abcdef-abcdefghjk]")
         return message(due, LETTER, is_draft=False)  # type: ignore[arg-type]
 
