@@ -1,4 +1,4 @@
-"""What the tests of letters that come share: letters, what is known when they are judged, and debvote, which is asked about lines."""
+"""What the tests of letters that come share: letters, the circumstances in which they are judged, and debvote, which is asked about lines."""
 
 import datetime
 import os
@@ -10,10 +10,10 @@ from debvote_tools.book.queries import Elector
 from debvote_tools.debvote import findings_in
 from debvote_tools.inbox.judging import Ballot, judge_all
 from debvote_tools.inbox.letter import ParsedLetter, parse
-from debvote_tools.inbox.letter_lines import Names, ReadLetter, as_json, from_json, with_lines
+from debvote_tools.inbox.letter_lines import Names, ReadLetter, from_json, to_json, with_lines
 from debvote_tools.inbox.mailbox import NotRead, RawLetter
-from debvote_tools.inbox.reasons import Because
-from debvote_tools.inbox.rules import JudgedLetter, Known, Outcome
+from debvote_tools.inbox.reasons import ReasonWithValues
+from debvote_tools.inbox.rules import Circumstances, JudgedLetter, Outcome
 
 from tests.support.program import PROGRAM, ROOT
 
@@ -80,15 +80,15 @@ def names(**other: object) -> Names:
     return Names(**{**usual, **other})  # type: ignore[arg-type]
 
 
-def known(
+def circumstances(
     *,
     addresses: Mapping[str, Sequence[str]] | None = None,
     keys: Mapping[str, str] | None = None,
     own_marks: Mapping[str, str] = OWN,
     roll: Collection[str] = NAMES,
     **other: object,
-) -> Known:
-    """What is known of a vote that was called three days ago and has no end; with `keys` letters have to be signed."""
+) -> Circumstances:
+    """The circumstances of a vote that was called three days ago and has no end; with `keys` letters have to be signed."""
     listed = {name: [f"{name}@club.example"] for name in NAMES} if addresses is None else addresses
     electors = {
         name: Elector(number, name, number, name, tuple(listed.get(name, ())), (keys or {}).get(name, ""), mark=own_marks[name])
@@ -107,7 +107,7 @@ def known(
         "our_letters": OURS,
         "decisions": {},
     }
-    return Known(**{**usual, **other})  # type: ignore[arg-type]
+    return Circumstances(**{**usual, **other})  # type: ignore[arg-type]
 
 
 def letter(
@@ -168,7 +168,7 @@ def read(*letters: bytes | ParsedLetter, reader: DebvoteReader | None = None, **
     new = [one for one in given if not isinstance(one, ReadLetter)]
     fresh = iter(with_lines(new, names(**of_names), (reader or DebvoteReader()).answers))
     found = [one if isinstance(one, ReadLetter) else next(fresh) for one in given]
-    kept = [from_json(as_json(one)) for one in found]
+    kept = [from_json(to_json(one)) for one in found]
     assert kept == found and len(found) == len(given)
     return kept
 
@@ -183,12 +183,12 @@ def judged(
     of_names = {name: value for name, value in other.items() if name in ("roll", "language", "real_names")}
     of_others = {name: value for name, value in other.items() if name not in ("language", "real_names")}
     given = read(*letters, reader=reader, **of_names)
-    return judge_all(given, known(**of_others), lambda _: ballots or {})
+    return judge_all(given, circumstances(**of_others), lambda _: ballots or {})
 
 
-def label(because: Because) -> str:
+def label(why: ReasonWithValues) -> str:
     """A reason in a word or two."""
-    return because.reason.name.lower().replace("_", " ")
+    return why.reason.name.lower().replace("_", " ")
 
 
 def outcome(one: JudgedLetter) -> str:

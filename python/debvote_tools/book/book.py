@@ -120,8 +120,8 @@ class NewAct(NamedTuple):
         self, table: str, columns: Sequence[str], rows: Iterable[Sequence[object]]
     ) -> None:
         """Adds rows of this act, each with its values in these columns."""
-        row, waiting = f"({self.number}{', ?' * len(columns)})", iter(rows)
-        while part := list(itertools.islice(waiting, ROWS_AT_ONCE)):
+        row, rest = f"({self.number}{', ?' * len(columns)})", iter(rows)
+        while part := list(itertools.islice(rest, ROWS_AT_ONCE)):
             words = f"INSERT INTO {table} (act, {', '.join(columns)}) VALUES {row}"
             values = list(itertools.chain.from_iterable(part))
             self.connection.execute(words + f", {row}" * (len(part) - 1), values)

@@ -99,7 +99,7 @@ class History(NamedTuple):
         """Whether lines that are entered now are late, by the answer of whoever enters them."""
         return self.is_closed or (self.is_reopened and not came_before_close)
 
-    def openness(self) -> "History":
+    def acts_of_opening(self) -> "History":
         """The acts on which it depends whether the vote is open, and until when."""
         return History(self.named("call", "take back", "extend", "close", "reopen"))
 
@@ -156,8 +156,13 @@ class Election:
         return self.book
 
     def book_for(self, arguments: Acting) -> Book:
-        """The book for an act, and for what others rely on. Stops if it is not the one that this
-        machine knows, unless --moved says that it is right.
+        """The book for an act, and for what others rely on, once `demand_right_book` has passed."""
+        self.demand_right_book(arguments)
+        return self.book
+
+    def demand_right_book(self, arguments: Acting) -> None:
+        """Stops if the book is not the one that this machine knows, unless --moved says that it is
+        right.
         """
         book = self.opened
         if arguments.writes:
@@ -170,7 +175,6 @@ class Election:
         self.book = book
         if arguments.checks:
             book.demand_whole()
-        return book
 
     def demand_writable(self) -> None:
         if self.opened.is_read_only:
@@ -204,6 +208,9 @@ class Election:
             return Sealed(read_plain(public), read_plain(counted))
         except Fault:
             raise damaged(self.path(NAME), "its sealed poll is not in plain form") from None
+
+    def demand_called(self, history: History) -> None:
+        self.called(history)
 
     def called(self, history: History) -> DoneAct:
         """The act of the call. Stops before it."""

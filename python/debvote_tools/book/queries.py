@@ -240,7 +240,9 @@ def envelopes_of(book: Book, electors: Collection[int]) -> list[Envelope]:
 
 
 def lines_of_electors(book: Book, electors: Collection[int], *, without: int = 0) -> list[bytes]:
-    """The same of some electors, as the book is now."""
+    """The lines of some electors that are in time and not struck now, in their order, without those
+    of one act.
+    """
     return lines_after(book, book.last_number(), electors, without=without)
 
 
@@ -292,7 +294,7 @@ def sources(book: Book) -> list[tuple[int, str, bytes]]:
 
 
 # ---------------------------------------------------------------- letters that came
-WAITS, ENTERED, TAKEN_BACK, STRUCK = "waits", "entered", "taken back", "struck"
+NEVER_DECIDED, ENTERED, TAKEN_BACK, STRUCK = "waits", "entered", "taken back", "struck"
 # acts have these names, too
 SET_ASIDE: Final = "set aside"
 PUT_BACK: Final = "put back"
@@ -309,21 +311,21 @@ class KeptLetter(NamedTuple):
     # what a copy of it has in common with it
     identity: str
     # what its bytes, the keyring and the sealed poll alone decide
-    parsed_json: str
+    read_json: str
     state: str
 
     @property
     def is_undecided(self) -> bool:
-        return self.state in (WAITS, PUT_BACK, TAKEN_BACK)
+        return self.state in (NEVER_DECIDED, PUT_BACK, TAKEN_BACK)
 
 
-def letters(book: Book) -> list[KeptLetter]:
+def kept_letters(book: Book) -> list[KeptLetter]:
     words = "SELECT letter, act, source, identity, known, state FROM letter_now ORDER BY letter"
     return [KeptLetter(*row) for row in book.rows(words)]
 
 
 def kept_digests(book: Book) -> set[tuple[str, bool]]:
-    """The digests of the letters that came, each with whether it was parted off."""
+    """The digests of the letters that came, each with whether it may be text of another letter."""
     words = (
         "SELECT json_extract(known, '$.digest'), json_extract(known, '$.is_parted_off') FROM letter"
     )
@@ -351,10 +353,10 @@ def undecided(kept: list[KeptLetter]) -> list[KeptLetter]:
     return [letter for letter in kept if letter.identity in identities]
 
 
-def keep_letter(act: NewAct, where: str, data: bytes, identity: str, parsed_json: str) -> int:
+def keep_letter(act: NewAct, where: str, data: bytes, identity: str, read_json: str) -> int:
     """Keeps a letter, byte for byte, and returns its number."""
     return act.insert(
-        "letter", source=keep_source(act, where, data), identity=identity, known=parsed_json
+        "letter", source=keep_source(act, where, data), identity=identity, known=read_json
     )
 
 

@@ -60,8 +60,8 @@ def tell(*lines: str) -> None:
 
 def tell_many(lines: Iterable[str]) -> None:
     """Writes lines in parts, so that they are not all in memory."""
-    waiting = iter(lines)
-    while part := list(itertools.islice(waiting, LINES_AT_ONCE)):
+    rest = iter(lines)
+    while part := list(itertools.islice(rest, LINES_AT_ONCE)):
         tell(*part)
 
 

@@ -15,11 +15,12 @@ from debvote_tools.book.election import Election, History
 from debvote_tools.book.queries import Envelope, NewEnvelope
 from debvote_tools.cli.console import count_of, shown_line, tell, tell_many
 from debvote_tools.cli.faults import Fault, stop_at
-from debvote_tools.inbox import came, entering
-from debvote_tools.inbox.came import HYPHEN, CameFile
-from debvote_tools.inbox.lines import MARK, NOTHING_ADDED, Line, bad_words, doubt, lines_in
+from debvote_tools.inbox import entering, given_files
+from debvote_tools.inbox.given_files import HYPHEN, GivenFile
+from debvote_tools.inbox.lines import MARK, Line, lines_in
+from debvote_tools.inbox.not_added import NOTHING_ADDED, bad_words, doubtful
 from debvote_tools.inbox.tables import OptionNames, are_table, heads_of, lines_of_table
-from debvote_tools.inbox.vote import LATE_REPLY, JudgedLine, Vote, summary
+from debvote_tools.inbox.vote import LATE_REPLY, CheckedLine, Vote, summary
 
 FORCE = "add it anyway with --force"
 
@@ -70,13 +71,14 @@ class Arguments(entering.Arguments):
 def run(election: Election, arguments: Arguments) -> None:
     demand_words(arguments)
     if not arguments.look:
-        election.book_for(arguments)
+        election.demand_right_book(arguments)
     vote = Vote(election, election.history())
-    found = came.read_files(election, arguments.files, is_table=arguments.csv)
-    if not came.are_all_letters(found):
-        take_lines(vote, [file for file in found.values() if file], arguments)
+    found = given_files.read_files(election, arguments.files, is_table=arguments.csv)
+    if not given_files.are_all_letters(found):
+        files = [one for one in found.values() if isinstance(one, GivenFile)]
+        take_lines(vote, files, arguments)
         return
-    if of_lines := given(arguments, "csv", "again", "force"):
+    if of_lines := given(arguments, "csv", "again", "force", "came_before_close"):
         words = "only for lines and tables, and these are letters"
         raise bad_words(", ".join(of_lines), words, "leave this out")
     # what reads letters takes a while to be imported
@@ -96,7 +98,7 @@ def demand_words(arguments: Arguments) -> None:
     gone = [name for name in arguments.files if name != HYPHEN and not os.path.lexists(name)]
     if arguments.ranks is not None and (gone or arguments.ranks.rstrip().endswith(",")):
         comma = f"the list of columns ends with a comma: {arguments.ranks}"
-        reason = f"there is no file {came.safe(gone[0])}" if gone else comma
+        reason = f"there is no file {given_files.safe(gone[0])}" if gone else comma
         cure = "name the file, and put single quotes around headers with spaces, as in --ranks 'First, Second'"
         raise bad_words("--csv", reason, cure)
 
@@ -105,57 +107,69 @@ def demand_words(arguments: Arguments) -> None:
 class FileLines(NamedTuple):
     """A file and its lines in the order of entering, the new ones, and those that came before."""
 
-    came: CameFile
-    lines: Sequence[JudgedLine]
+    file: GivenFile
+    lines: Sequence[CheckedLine]
     empty: Sequence[Line]
-    new: Sequence[JudgedLine] = ()
+    new: Sequence[CheckedLine] = ()
     # each with what has happened since, if it no longer counts: then `--again` takes it
-    repeated: Sequence[tuple[JudgedLine, str | None]] = ()
+    repeated: Sequence[tuple[CheckedLine, str | None]] = ()
     # the envelopes of lines that go in again: from then on such a line is known by its new envelope
     again: Sequence[int] = ()
+
+    @property
+    def name(self) -> str:
+        return self.file.name
 
 
 class NewLines(NamedTuple):
     """Which lines would be entered, by the book as it is now."""
 
-    openness: History
+    opening: History
     files: list[FileLines]
 
     @property
-    def lines(self) -> list[JudgedLine]:
+    def lines(self) -> list[CheckedLine]:
         return [line for file in self.files for line in file.new]
 
     def envelopes(self, act: NewAct) -> Iterator[NewEnvelope]:
         """Each file is stored whole before its lines."""
         for file in self.files:
-            source = queries.keep_source(act, file.came.kept_name, file.came.data)
-            yield from (NewEnvelope(line.as_entered, line.line.place, source) for line in file.new)
+            source = queries.keep_source(act, file.file.kept_name, file.file.data)
+            yield from (
+                NewEnvelope(line.as_entered, line.original.place, source) for line in file.new
+            )
 
 
-def take_lines(vote: Vote, came_files: Sequence[CameFile], arguments: Arguments) -> None:
-    """Enters the lines that are new, and prints the replies; or tells what would become of them."""
-    files, book, command = file_lines(vote, came_files, arguments), vote.book, vote.election.command
+def take_lines(vote: Vote, files: Sequence[GivenFile], arguments: Arguments) -> None:
+    """Enters the lines that are new, and prints the replies; or tells what would become of them.
+    Letters are taken by `take_letters` in `inbox/taking.py`.
+    """
+    lines_of_files, book = file_lines(vote, files, arguments), vote.book
+    command = vote.election.command
     answer: bool | None = None
 
     def plan() -> NewLines:
         """It asks nothing of debvote, so it is made again within the act."""
         history = History(book.acts())
         vote.demand_same_call(history, NOTHING_ADDED)
-        return NewLines(history.openness(), sorted_out(book, files, history, arguments.again))
+        sorted_files = sorted_out(book, lines_of_files, history, arguments.again)
+        return NewLines(history.acts_of_opening(), sorted_files)
 
     def show(new: NewLines) -> bool:
         nonlocal answer
         stop_at(list(doubts(vote, new, arguments)))
         if not new.lines:
-            tell(*report(vote, new, (), ()), "There is nothing new, and nothing was added.")
+            tell(
+                *report_of_files(vote, new, (), ()), "There is nothing new, and nothing was added."
+            )
             return False
         said = arguments.came_before_close
-        answer = entering.came_before_close(new.openness, said, NOTHING_ADDED)
+        answer = entering.came_before_close(new.opening, said, NOTHING_ADDED)
         return True
 
     def act(new: NewLines, seen: int) -> None:
-        def told(numbers: range, replies: Sequence[str]) -> Iterator[str]:
-            yield from report(vote, new, numbers, replies)
+        def report_on(numbers: range, replies: Sequence[str]) -> Iterator[str]:
+            yield from report_of_files(vote, new, numbers, replies)
             yield f"Added {summary(replies)}."
 
         entering.enter_lines(
@@ -163,9 +177,9 @@ def take_lines(vote: Vote, came_files: Sequence[CameFile], arguments: Arguments)
             "add",
             detail_of(vote, new, arguments, answer),
             new.envelopes,
-            told,
+            report_on,
             seen,
-            is_late=new.openness.is_late(answer),
+            is_late=new.opening.is_late(answer),
             is_same=lambda: plan() == new,
         )
 
@@ -173,14 +187,14 @@ def take_lines(vote: Vote, came_files: Sequence[CameFile], arguments: Arguments)
         with book.snapshot():
             new, lines, first = plan(), queries.lines_in_time(book), queries.last_envelope(book)
         look(vote, new, lines, first + 1, arguments)
-    elif entering.agreed_act(vote, plan, show, act).openness.is_closed:
+    elif entering.agreed_act(vote, plan, show, act).opening.is_closed:
         tell(f"Next: {command('count')}")
     else:
         more = f"add more ballots with {command('add', 'FILE')}"
         tell(f"Next: {command('status')}; {more}, and when the vote is over: {command('close')}")
 
 
-def file_lines(vote: Vote, files: Sequence[CameFile], arguments: Arguments) -> list[FileLines]:
+def file_lines(vote: Vote, files: Sequence[GivenFile], arguments: Arguments) -> list[FileLines]:
     """The lines of each file, with what debvote says of them."""
     if arguments.name is None or arguments.ranks is None:
         lists = [lines_in(file.data, file.name) for file in files]
@@ -192,15 +206,17 @@ def file_lines(vote: Vote, files: Sequence[CameFile], arguments: Arguments) -> l
         lists = [lines_of_table(file.data, file.name, heads, vote.poll, *how) for file in files]
         what = "it has no row with a ballot"
     empty = [file for file, lines in zip(files, lists) if all(line.is_empty for line in lines)]
-    stop_at([doubt(file.name, what, "write one ballot on each line") for file in empty])
+    stop_at([doubtful(file.name, what, "write one ballot on each line") for file in empty])
     if arguments.newest_first:
         lists = [lines[::-1] for lines in lists]
-    judged = iter(vote.judge([line for lines in lists for line in lines if not line.is_empty]))
+    checked = iter(
+        vote.checked_lines([line for lines in lists for line in lines if not line.is_empty])
+    )
     found = []
     for file, lines in zip(files, lists):
         left_out = [line for line in lines if line.is_empty]
-        read = [*itertools.islice(judged, len(lines) - len(left_out))]
-        found.append(FileLines(file, read, left_out))
+        its_lines = [*itertools.islice(checked, len(lines) - len(left_out))]
+        found.append(FileLines(file, its_lines, left_out))
     return found
 
 
@@ -243,8 +259,8 @@ def sorted_out(
 
 
 def copies_of(
-    lines: Iterable[JudgedLine], before: Mapping[bytes, Sequence[Envelope]]
-) -> Iterator[tuple[JudgedLine, int, Envelope | None]]:
+    lines: Iterable[CheckedLine], before: Mapping[bytes, Sequence[Envelope]]
+) -> Iterator[tuple[CheckedLine, int, Envelope | None]]:
     """Each line with its number among its copies, and with its envelope if it came before."""
     counts: collections.Counter[bytes] = collections.Counter()
     for line in lines:
@@ -254,7 +270,7 @@ def copies_of(
 
 
 def change_since(
-    envelope: Envelope, line: JudgedLine, last: Mapping[int, tuple[int, bytes]], is_reopened: bool
+    envelope: Envelope, line: CheckedLine, last: Mapping[int, tuple[int, bytes]], is_reopened: bool
 ) -> str | None:
     """Why a line that came no longer counts."""
     if envelope.is_struck:
@@ -269,7 +285,7 @@ def change_since(
 
 def detail_of(vote: Vote, new: NewLines, arguments: Arguments, answer: bool | None) -> Detail:
     detail: Detail = {
-        "files": [file.came.kept_name for file in new.files],
+        "files": [file.file.kept_name for file in new.files],
         "lines": len(new.lines),
         "passed_over": sum(len(file.repeated) for file in new.files),
     }
@@ -288,12 +304,12 @@ def look(
 ) -> None:
     """Says what would become of the lines, and stops if `add` would."""
     numbers, replies = range(first, first + len(new.lines)), [LATE_REPLY] * len(new.lines)
-    if numbers and not new.openness.is_late(arguments.came_before_close != "no"):
+    if numbers and not new.opening.is_late(arguments.came_before_close != "no"):
         replies = vote.replies(lines, [line.as_entered for line in new.lines])
-    if new.openness.is_reopened and arguments.came_before_close is None:
+    if new.opening.is_reopened and arguments.came_before_close is None:
         asks = "Note: add will ask whether these lines came before the close"
         tell(f"{asks}; this preview assumes that they did.")
-    tell_many(report(vote, new, numbers, replies))
+    tell_many(report_of_files(vote, new, numbers, replies))
     stop_at(list(doubts(vote, new, arguments)))
     tell(f"These would be {summary(replies)}. Nothing was changed.")
 
@@ -307,18 +323,20 @@ def doubts(vote: Vote, new: NewLines, arguments: Arguments) -> Iterator[Fault]:
             rows = " and ".join(map(place_in, pair))
             words = f"it has two different ballots of {pair[0].voter} ({rows}), and the one that is entered last counts"
             cure = "say how its rows are sorted: --oldest-first or --newest-first"
-            yield doubt(file.came.name, words, cure)
+            yield doubtful(file.name, words, cure)
     is_reasoned = arguments.force and has_reason(arguments.because)
     if new.lines and vote.is_signed and not is_reasoned:
         words = "in this vote letters must be signed, and nothing shows who sent a line of a file"
         cure = "add the letters themselves; or, if you know by other means who sent each line, give --force --because TEXT"
-        yield doubt(new.files[0].came.name, words, cure)
+        yield doubtful(new.files[0].name, words, cure)
     if arguments.force:
         return
     for file in new.files:
-        for line in itertools.islice((one.line for one in file.new if one.line.why_too_long), 1):
+        for line in itertools.islice(
+            (one.original for one in file.new if one.original.why_too_long), 1
+        ):
             cure = f"take the line out if it is not a ballot, or {FORCE}"
-            yield doubt(line.where, str(line.why_too_long), cure)
+            yield doubtful(line.where, str(line.why_too_long), cure)
     with_new_lines = [file for file in new.files if file.new]
     tables = [] if arguments.csv else [file for file in with_new_lines if is_table(file)]
     for file in tables:
@@ -326,7 +344,7 @@ def doubts(vote: Vote, new: NewLines, arguments: Arguments) -> Iterator[Fault]:
             "the lines look like a table; its columns may stand in another order than the options"
         )
         cure = "write a header line above them, and add the file with --csv --name COLUMN --ranks COLUMN,COLUMN,.."
-        yield doubt(file.came.name, words, f"{cure}, or {FORCE}")
+        yield doubtful(file.name, words, f"{cure}, or {FORCE}")
     if not arguments.csv:
         yield from under_other_names(vote, with_new_lines)
     yield from few_ballots(vote, [file for file in with_new_lines if file not in tables], arguments)
@@ -334,16 +352,16 @@ def doubts(vote: Vote, new: NewLines, arguments: Arguments) -> Iterator[Fault]:
         if pair := new_one_above(file):
             older, newer = map(place_in, pair)
             words = f"the ballot of {pair[0].voter} in {older} is older than that in {newer}, which came before, and would replace it"
-            yield doubt(file.came.name, words, f"take the older ballot out, or {FORCE}")
+            yield doubtful(file.name, words, f"take the older ballot out, or {FORCE}")
     if new.lines and arguments.blank_is_unranked and not vote.has_form:
         words = "the call does not say that an empty cell counts as a hyphen, so electors may have meant something else"
         cure = "ask the electors whose rows have empty cells; if they knew it from elsewhere"
-        yield doubt("--blank-is-unranked", words, f"{cure}, {FORCE}")
+        yield doubtful("--blank-is-unranked", words, f"{cure}, {FORCE}")
 
 
 def is_table(file: FileLines) -> bool:
     has_ballots = any(line.is_ballot for line in file.lines)
-    return not has_ballots and are_table([line.line.unframed for line in file.lines])
+    return not has_ballots and are_table([line.original.unframed for line in file.lines])
 
 
 def under_other_names(vote: Vote, files: Sequence[FileLines]) -> Iterator[Fault]:
@@ -351,41 +369,41 @@ def under_other_names(vote: Vote, files: Sequence[FileLines]) -> Iterator[Fault]
     options = OptionNames(vote.poll)
     for file in files:
         for line in file.lines:
-            if not line.is_ballot and options.are_in_another_order(line.line.unframed):
+            if not line.is_ballot and options.are_in_another_order(line.original.unframed):
                 place = place_in(line)
                 words = f"{place} names options of the poll in another order than the poll has them: the ranks below it may stand in that order"
                 cure = f"if they do, put them into the order of the poll, and take {place} out; if they do not, {FORCE}"
-                yield doubt(file.came.name, words, cure)
+                yield doubtful(file.name, words, cure)
                 break
 
 
-def of_unknown_order(file: FileLines) -> tuple[JudgedLine, JudgedLine] | None:
+def of_unknown_order(file: FileLines) -> tuple[CheckedLine, CheckedLine] | None:
     """Two different ballots of one elector, one of them new, and nobody said which is newer."""
-    new = {line.line.place for line in file.new}
-    above: dict[str, list[JudgedLine]] = collections.defaultdict(list)
+    new = {line.original.place for line in file.new}
+    above: dict[str, list[CheckedLine]] = collections.defaultdict(list)
     for line in filter(is_ballot, file.lines):
         for other in above[line.voter]:
-            if other.ranks != line.ranks and new & {other.line.place, line.line.place}:
+            if other.ranks != line.ranks and new & {other.original.place, line.original.place}:
                 return other, line
         above[line.voter].append(line)
     return None
 
 
-def new_one_above(file: FileLines) -> tuple[JudgedLine, JudgedLine] | None:
+def new_one_above(file: FileLines) -> tuple[CheckedLine, CheckedLine] | None:
     """A new ballot, and one of its elector below it that came before, which it would replace."""
-    new = {line.line.place for line in file.new} if file.repeated else set()
-    above: dict[str, JudgedLine] = {}
+    new = {line.original.place for line in file.new} if file.repeated else set()
+    above: dict[str, CheckedLine] = {}
     for line in filter(is_ballot, file.lines if new else ()):
-        if line.line.place in new:
+        if line.original.place in new:
             above[line.voter] = line
         elif above.get(line.voter, line).ranks != line.ranks:
             return above[line.voter], line
     return None
 
 
-def place_in(line: JudgedLine) -> str:
+def place_in(line: CheckedLine) -> str:
     """Where a line is in its file, as `line 3` or `row 3`."""
-    place = line.line.place.lstrip(": ")
+    place = line.original.place.lstrip(": ")
     return f"line {place}" if place.isdigit() else place
 
 
@@ -402,26 +420,26 @@ def few_ballots(vote: Vote, files: Sequence[FileLines], arguments: Arguments) ->
         refused = [line for line in file.lines if not line.is_ballot]
         count = len(file.lines) - len(refused)
         for line in refused[:MAX_REFUSED] if count else ():
-            tell(f"{line.line.where}: not a ballot: {vote.in_words(line)}")
+            tell(f"{line.original.where}: not a ballot: {vote.in_words(line)}")
         if count and len(refused) > MAX_REFUSED:
             tell(f"and {len(refused) - MAX_REFUSED} more lines that are not ballots")
         reason = f"debvote takes {f'only {count}' if count else 'none'} of the {len(file.lines)} lines as ballots"
-        yield doubt(file.came.name, reason, f"{cure_of(file, refused[0], arguments)}, or {FORCE}")
+        yield doubtful(file.name, reason, f"{cure_of(file, refused[0], arguments)}, or {FORCE}")
 
 
-def has_few_ballots(lines: Sequence[JudgedLine]) -> bool:
+def has_few_ballots(lines: Sequence[CheckedLine]) -> bool:
     """One line alone is looked at by whoever adds it."""
     return len(lines) > 1 and sum(line.is_ballot for line in lines) * 2 < len(lines)
 
 
-def cure_of(file: FileLines, refused: JudgedLine, arguments: Arguments) -> str:
+def cure_of(file: FileLines, refused: CheckedLine, arguments: Arguments) -> str:
     if arguments.csv:
         return "check that --name and --ranks name the right columns, and the ranks in the order of the options"
-    head = file.came.data.removeprefix(MARK).lstrip().partition(b"\n")[0].decode("utf-8", "replace")
+    head = file.file.data.removeprefix(MARK).lstrip().partition(b"\n")[0].decode("utf-8", "replace")
     if MEMBERS_HEADS <= {cell.strip(' \t\r"').casefold() for cell in re.split("[,;\t]", head)}:
         return "it looks like the list of members: name the file of ballots"
     words = [line.finding.word for line in file.lines if line.finding is not None]
-    lines = [line.line.unframed for line in file.lines]
+    lines = [line.original.unframed for line in file.lines]
     counts = [{line.count(sign) for line in lines} for sign in (b",", b";", b"\t")]
     # most have no shape of a ballot, and all the same number of delimiters
     if words.count("bad shape") * 2 > len(lines) and any(
@@ -434,15 +452,15 @@ def cure_of(file: FileLines, refused: JudgedLine, arguments: Arguments) -> str:
 
 
 # ---- what is printed
-def report(
+def report_of_files(
     vote: Vote, new: NewLines, numbers: Sequence[int], replies: Sequence[str]
 ) -> Iterator[str]:
     if numbers:
-        yield from entering.late_notes(vote.election, new.openness, "what is added")
+        yield from entering.late_notes(vote.election, new.opening, "what is added")
     for file in new.files:
         yield from (f"{line.where}: it is empty, and was left out" for line in file.empty)
         yield from repeated_words(file)
-    yield from vote.report(new.lines, numbers, replies)
+    yield from vote.report_of_lines(new.lines, numbers, replies)
     for file in new.files:
         yield from duplicate_words(file)
 
@@ -452,10 +470,10 @@ def repeated_words(file: FileLines) -> Iterator[str]:
         return
     ignored = "is ignored, since it" if count == 1 else "are ignored, since they"
     new = f"{len(file.new)} {'is' if len(file.new) == 1 else 'are'} new"
-    yield f"{file.came.name}: {count_of(count, 'line')} {ignored} came before; {new}"
+    yield f"{file.name}: {count_of(count, 'line')} {ignored} came before; {new}"
     changed = [(line, change) for line, change in file.repeated if change is not None]
     for line, change in changed[:MAX_REPEATED]:
-        yield f"  {line.line.where}: `{shown_line(line.as_entered)}` came before, and {change}; --again enters it again"
+        yield f"  {line.original.where}: `{shown_line(line.as_entered)}` came before, and {change}; --again enters it again"
     if len(changed) > MAX_REPEATED:
         yield f"  and {len(changed) - MAX_REPEATED} more; --again enters them again"
 
@@ -464,8 +482,8 @@ def duplicate_words(file: FileLines) -> Iterator[str]:
     by_name: dict[bytes, list[str]] = collections.defaultdict(list)
     for line in file.new:
         if line.finding is None:
-            by_name[line.as_entered.partition(b" ")[0]].append(line.line.place.lstrip(": "))
+            by_name[line.as_entered.partition(b" ")[0]].append(line.original.place.lstrip(": "))
     for name, places in by_name.items():
         if len(places) > 1:
             listed = ", ".join(places[:5]) + (", .." if places[5:] else "")
-            yield f"Note: {file.came.name} has {len(places)} ballots of {name.decode()} ({listed}); the last one counts."
+            yield f"Note: {file.name} has {len(places)} ballots of {name.decode()} ({listed}); the last one counts."

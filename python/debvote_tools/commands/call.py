@@ -9,7 +9,8 @@ from debvote_tools.book import queries
 from debvote_tools.book.book import ActName, Detail
 from debvote_tools.poll.call import CallData, call_files, extension_letter
 from debvote_tools.cli.console import act_time, tell
-from debvote_tools.result.publication import agreed_texts, current_data, texts_of_poll, until_of
+from debvote_tools.poll.current import current_call, until_of
+from debvote_tools.result.publication import agreed_texts, texts_of_poll
 from debvote_tools.commands.codes import CODES, SLIPS, write_slips
 from debvote_tools.commands.roll import demand_read
 from debvote_tools.book.election import (
@@ -80,7 +81,7 @@ class Arguments(Acting):
 
 
 def run(election: Election, arguments: Arguments) -> None:
-    election.book_for(arguments)
+    election.demand_right_book(arguments)
     if arguments.take_back:
         take_back(election)
         return
@@ -89,7 +90,7 @@ def run(election: Election, arguments: Arguments) -> None:
     else:
         call_again(election, arguments)
     make_folders(election)
-    report(election, current_data(election))
+    report_of_call(election, current_call(election))
 
 
 # ---------------------------------------------------------------- the acts
@@ -141,7 +142,7 @@ def call_again(election: Election, arguments: Arguments) -> None:
     said = announced(arguments, history.announced("zone"), faults)
     stop_at(faults)
     demand_no_change(election, history, arguments, said)
-    before = current_data(election, history).letter_text
+    before = current_call(election, history).letter_text
     # after a close no letter begins with it
     letter_text = before if history.closes else letter_text_in(election.folder)
     if not said and arguments.keyring is None and letter_text == before:
@@ -214,7 +215,7 @@ def sealed_by(
     the text of the letters if it is new, and the keyring.
     """
     data = dataclasses.replace(
-        current_data(election, said=said, sealed=sealed), letter_text=letter_text
+        current_call(election, said=said, sealed=sealed), letter_text=letter_text
     )
     files = {}
     if letter_text.encode() != (queries.sealed(election.book, LETTER_TEXT) or b""):
@@ -297,7 +298,7 @@ def make_folders(election: Election) -> None:
         write_slips(election, history, election.sealed().counted)
 
 
-def report(election: Election, data: CallData) -> None:
+def report_of_call(election: Election, data: CallData) -> None:
     folder, slips = election.path(CALL), election.path(PRIVATE) / SLIPS
     lines = [f"Made the folder {folder} with the page index.html and the letter call.txt."]
     if data.has_aliases:

@@ -14,7 +14,7 @@ from debvote_tools.inbox.waiting import Arrived, in_time, stopping, waiting_lett
 from debvote_tools.result.publication import closing_letter
 from debvote_tools.cli.faults import Fault, stop_at
 from debvote_tools.text.ballots import ballot_file
-from debvote_tools.result.facts import CLOSED
+from debvote_tools.result.file_names import CLOSED
 from debvote_tools.poll.secret import aliased_ballots, seal_line, sealed_checksum
 
 
@@ -32,7 +32,7 @@ class Arguments(Acting, checks=True):
 
 
 def run(election: Election, arguments: Arguments) -> None:
-    election.book_for(arguments)
+    election.demand_right_book(arguments)
     sealed, is_new = election.sealed(), not election.history().is_closed
     if is_new:
         close(election, sealed, arguments)

@@ -5,7 +5,7 @@ from debvote_tools.book import queries
 from debvote_tools.book.book import Detail
 from debvote_tools.poll.call import CallData
 from debvote_tools.cli.console import count_of, tell
-from debvote_tools.result.publication import current_data
+from debvote_tools.poll.current import current_call
 from debvote_tools.commands.check import what_next
 from debvote_tools.commands.roll import demand_read
 from debvote_tools.book.election import POLL_FILE, PRIVATE, Election, History
@@ -26,7 +26,7 @@ class Arguments(Acting):
 
 
 def run(election: Election, arguments: Arguments) -> None:
-    election.book_for(arguments)
+    election.demand_right_book(arguments)
     if election.history().call is None:
         poll, number = make_codes(election, arguments)
         tell(f"Made {count_of(number, 'code')}.")
@@ -91,7 +91,7 @@ def write_slips(election: Election, history: History, poll: SealedPoll) -> None:
         election.language, poll, 0, has_codes_on_roll=is_on_roll, has_lapsed_codes=lapsed
     )
     if history.call is not None:
-        call = current_data(election, history)
+        call = current_call(election, history)
     electors = queries.electors(election.book)
     files = {SLIPS: slips(call, electors)}
     if not is_on_roll:

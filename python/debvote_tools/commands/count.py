@@ -1,25 +1,21 @@
 """Print the result sheet."""
 
-import shlex
-from collections.abc import Iterable
-
 from debvote_tools.cli.arguments import Acting, flag, option
 from debvote_tools.book import queries
 from debvote_tools.cli.console import tell_as_it_is, tell_aside
 from debvote_tools.debvote import casting_words
-from debvote_tools.book.election import Election, History, Sealed
+from debvote_tools.book.election import Election, History
 from debvote_tools.inbox.waiting import how_to_go_on, stopping, waiting_letters, why_they_stop
-from debvote_tools.cli.faults import Fault, Status
+from debvote_tools.cli.faults import Fault
 from debvote_tools.text.ballots import ballot_file
-from debvote_tools.poll.sealed import SealedPoll
-from debvote_tools.result.sheet import Sheet, sheet_in
-
-NOTHING_DONE = "nothing was counted"
-
-CASTING = (
-    "NAME",
-    "The exact name of the option that the casting vote chooses in a tie; write --casting=NAME if the name begins with a hyphen",
+from debvote_tools.result.casting import (
+    CASTING,
+    NOTHING_COUNTED,
+    demand_countable,
+    demand_option,
+    in_shell,
 )
+from debvote_tools.result.sheet import Sheet, sheet_in
 
 
 class Arguments(Acting, writes=False, checks=True):
@@ -35,7 +31,7 @@ def run(election: Election, arguments: Arguments) -> int:
     stops = stopping(waiting_letters(election, history), history) if history.is_closed else []
     if stops and not arguments.force:
         cure = f"{how_to_go_on(election)}; or count without them with --force"
-        raise Fault(None, why_they_stop(stops), cure, done=NOTHING_DONE)
+        raise Fault(None, why_they_stop(stops), cure, done=NOTHING_COUNTED)
     poll, ballots = sealed.counted.as_bytes(), ballot_file(queries.lines_in_time(book))
     answer = election.debvote.answer("count", poll, ballots, *casting_words(arguments.casting))
     # the sheet alone, so that it can go into a file
@@ -44,20 +40,6 @@ def run(election: Election, arguments: Arguments) -> int:
         tell_aside(f"Note: {why_they_stop(stops)}; they are in no count.")
     tell_aside(f"Next: {what_next(election, history, sheet_in(answer.text), arguments.casting)}")
     return answer.status
-
-
-def demand_countable(election: Election, history: History, sealed: Sealed) -> None:
-    """Stops at a secret vote that is not closed: whoever sees its numbers grow sees who voted what."""
-    if sealed.counted.secret and not history.is_closed:
-        words = "the vote is secret, and can be counted only after the close"
-        raise Fault(None, words, f"close it first: {election.command('close')}", done=NOTHING_DONE)
-
-
-def demand_option(poll: SealedPoll, casting: str | None) -> None:
-    if casting is not None and casting not in poll.plain_names:
-        where, words = f"--casting={shlex.quote(casting)}", "no option has this name"
-        cure = f"give one of these names, exactly as written here: {in_shell(poll.plain_names)}"
-        raise Fault(where, words, cure, Status.CASTING_OUTSIDE, NOTHING_DONE)
 
 
 def what_next(election: Election, history: History, sheet: Sheet, casting: str | None) -> str:
@@ -79,7 +61,3 @@ def what_next(election: Election, history: History, sheet: Sheet, casting: str |
         return said
     over = f"when the vote is over, run {election.command('close')}"
     return f"this is not the result yet: {over}{';' if then == 'now' else ','} {then} {said}"
-
-
-def in_shell(names: Iterable[str]) -> str:
-    return ", ".join(map(shlex.quote, names))

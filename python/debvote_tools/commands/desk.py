@@ -17,7 +17,7 @@ from debvote_tools.cli.faults import Fault, Status
 from debvote_tools.files import BALLOTS_LIMIT
 from debvote_tools.inbox import entering
 from debvote_tools.inbox.lines import Line, lines_in
-from debvote_tools.inbox.vote import JudgedLine, Vote, change_words, summary
+from debvote_tools.inbox.vote import CheckedLine, Vote, change_words, summary
 from debvote_tools.poll.plain_names import alike
 
 QUIT = b"q"
@@ -66,7 +66,7 @@ class Desk:
 
     def enter(
         self,
-        lines: list[JudgedLine],
+        lines: list[CheckedLine],
         show: Callable[[History], bool] = lambda _: True,
         elector: int | None = None,
     ) -> None:
@@ -76,15 +76,15 @@ class Desk:
         def plan() -> Seen:
             history = History(vote.book.acts())
             vote.demand_same_call(history, NOTHING_CAST, "start the desk again")
-            return history.openness(), queries.envelopes(vote.book, "elector = ?", elector)
+            return history.acts_of_opening(), queries.envelopes(vote.book, "elector = ?", elector)
 
         def show_all(now: Seen) -> bool:
             self.ask_if_reopened(now[0])
             return show(now[0])
 
-        def report(numbers: range, replies: Sequence[str]) -> Iterator[str]:
+        def report_on(numbers: range, replies: Sequence[str]) -> Iterator[str]:
             self.replies += replies
-            return vote.report(lines, numbers, replies)
+            return vote.report_of_lines(lines, numbers, replies)
 
         def act(now: Seen, seen: int) -> None:
             detail: Detail = {"lines": len(lines)}
@@ -94,8 +94,8 @@ class Desk:
                 vote,
                 "desk",
                 detail,
-                lambda _: [NewEnvelope(one.as_entered, one.line.place) for one in lines],
-                report,
+                lambda _: [NewEnvelope(one.as_entered, one.original.place) for one in lines],
+                report_on,
                 seen,
                 is_late=now[0].is_late(self.came_before_close),
                 is_same=lambda: plan() == now,
@@ -109,7 +109,7 @@ def run(election: Election, arguments: Arguments) -> None:
     if sys.stdin is None:
         cure = "run it at a terminal"
         raise Fault("standard input", "it is closed", cure, Status.BAD_BALLOTS, NOTHING_CAST)
-    election.book_for(arguments)
+    election.demand_right_book(arguments)
     desk = Desk(election, arguments.came_before_close)
     history = election.history()
     tell(*entering.late_notes(election, history, "what is entered"))
@@ -139,24 +139,24 @@ def from_pipe(desk: Desk) -> None:
             else:
                 lines.append(line)
         if lines:
-            desk.enter(desk.vote.judge(lines))
+            desk.enter(desk.vote.checked_lines(lines))
 
 
 def whole_lines() -> Iterator[bytes]:
     """The lines that each read completes. A line end of Windows may come in two reads."""
-    waiting, ended_with_return = bytearray(), False
+    unfinished, ended_with_return = bytearray(), False
     while data := os.read(sys.stdin.fileno(), READ):
-        waiting += data.removeprefix(b"\n") if ended_with_return else data
+        unfinished += data.removeprefix(b"\n") if ended_with_return else data
         ended_with_return = data.endswith(b"\r")
-        end = max(waiting.rfind(b"\n"), waiting.rfind(b"\r")) + 1
+        end = max(unfinished.rfind(b"\n"), unfinished.rfind(b"\r")) + 1
         # a line that is too long for debvote ends here
-        if len(waiting) - end > BALLOTS_LIMIT:
-            end = len(waiting)
+        if len(unfinished) - end > BALLOTS_LIMIT:
+            end = len(unfinished)
         if end:
-            yield bytes(waiting[:end])
-            del waiting[:end]
-    if waiting:
-        yield bytes(waiting)
+            yield bytes(unfinished[:end])
+            del unfinished[:end]
+    if unfinished:
+        yield bytes(unfinished)
 
 
 # ---- at a terminal
@@ -166,8 +166,8 @@ def at_terminal(desk: Desk) -> None:
     tell(
         f"Type a ballot as {desk.vote.right_line} ({who}, then a rank for each option in this order); q ends."
     )
-    while (came := typed("Ballot: ")) is not None:
-        line = next(iter(desk.lines_of(came)), None)
+    while (answer := typed("Ballot: ")) is not None:
+        line = next(iter(desk.lines_of(answer)), None)
         if line is None or line.is_empty:
             tell("Type a ballot, or q to end.")
         elif line.repaired.lower() == QUIT or not ask_and_cast(desk, line):
@@ -179,19 +179,19 @@ def ask_and_cast(desk: Desk, line: Line) -> bool:
     if (meant := completed(desk, line)) is None:
         tell("It was not entered.")
         return True
-    [read] = desk.vote.judge([meant])
-    [elector] = desk.vote.electors_of([read.as_entered])
+    [checked] = desk.vote.checked_lines([meant])
+    [elector] = desk.vote.electors_of([checked.as_entered])
     answer: bool | None = None
 
     def show(history: History) -> bool:
         nonlocal answer
-        asked = question(desk, read, history, elector)
+        asked = question(desk, checked, history, elector)
         answer = is_yes(asked, "Type y to enter it, or n to drop it.")
         if answer is False:
             tell("It was not entered.")
         return bool(answer)
 
-    desk.enter([read], show, elector)
+    desk.enter([checked], show, elector)
     return answer is not None
 
 
@@ -220,10 +220,10 @@ def completed(desk: Desk, line: Line) -> Line | None:
         if not chosen:
             return None
     full = f"{chosen[0].name} {ranks}".encode()
-    return Line(line.source, line.place, full, full, full)
+    return Line(line.file_name, line.place, full, full, full)
 
 
-def question(desk: Desk, line: JudgedLine, history: History, elector: int | None) -> str:
+def question(desk: Desk, line: CheckedLine, history: History, elector: int | None) -> str:
     """Shows what a ballot would be, or why it would be refused. Returns what is asked."""
     tell(*change_words(line))
     if not line.is_ballot:

@@ -43,7 +43,7 @@ class Arguments(Acting):
 def run(election: Election, arguments: Arguments) -> None:
     is_act = demand_words(arguments)
     if is_act:
-        election.book_for(arguments)
+        election.demand_right_book(arguments)
     # stops before the call
     vote = Vote(election, election.history())
     if arguments.set_aside or arguments.wait:
@@ -51,7 +51,7 @@ def run(election: Election, arguments: Arguments) -> None:
     elif is_act:
         enter(vote, arguments)
     found = all_letters(vote)
-    waiting = [letter for letter in found if letter.waits]
+    waiting = [letter for letter in found if letter.needs_secretary]
     if arguments.numbers and not is_act:
         for letter in chosen_letters(found, arguments.numbers):
             tell(*letter_words.whole(letter))
@@ -87,7 +87,7 @@ def demand_words(arguments: Arguments) -> bool:
 
 
 def all_letters(vote: Vote) -> list[JudgedLetter]:
-    kept, history = queries.letters(vote.book), vote.election.history()
+    kept, history = queries.kept_letters(vote.book), vote.election.history()
     return judged(vote, history, kept)
 
 
@@ -188,7 +188,7 @@ def enter(vote: Vote, arguments: Arguments) -> None:
 
 def is_late(history: History, letter: JudgedLetter) -> bool:
     """Whether what is entered of a letter now is late: the vote is closed, or was as it arrived."""
-    arrived, closes = letter.parsed.arrived, history.closes
+    arrived, closes = letter.read.arrived, history.closes
     return history.is_late(arrived is not None and bool(closes) and arrived <= closes[0].time)
 
 

@@ -17,7 +17,7 @@ from debvote_tools.book.sent import TAKEN, SentLetter
 from debvote_tools.cli import console
 from debvote_tools.cli.faults import Fault, Status
 from debvote_tools.files import locked, uninterrupted
-from debvote_tools.outbox import files, smtp
+from debvote_tools.outbox import letter_folder, smtp
 from debvote_tools.outbox.due import LettersDue
 from debvote_tools.outbox.reached import WAS_REFUSED, reached_by_call
 from debvote_tools.outbox.smtp import Server
@@ -59,7 +59,7 @@ def run(election: Election, arguments: Arguments) -> int:
     demand_words(arguments)
     named = None if arguments.server is None else smtp.server_of(arguments.server)
     book = election.book_for(arguments)
-    election.called(election.history())
+    election.demand_called(election.history())
     server = server_of(election.history(), named, arguments) if arguments.send else None
     history = election.history()
     if arguments.at not in (None, history.announced("at")):
@@ -69,10 +69,11 @@ def run(election: Election, arguments: Arguments) -> int:
     if sender is None:
         raise bad_words("--from", "the call names no address", "give the sender's address with it")
     demand_mail_address(sender, "--from")
-    files.make_own(election.path(LETTERS) / arguments.kind)
+    letter_folder.make_own(election.path(LETTERS) / arguments.kind)
     # two runs at once would send each letter twice
     with locked(election.path(LETTERS) / ".lock"):
         due = LettersDue(election, arguments.kind, sender, is_sending=arguments.send)
+        due.find()
         if due.reminded and console.is_terminal() and not arguments.yes:
             question = f"Reminders were written at {act_time(due.reminded)}. Remind again?"
             if not console.is_yes(question):
@@ -81,10 +82,12 @@ def run(election: Election, arguments: Arguments) -> int:
         place = election.path(LETTERS) / due.kind / str(due.for_act)
         written = write(book, due, place)
         lost = write_lost(due, place.parent)
-        tried = [] if server is None else send_waiting(book, due, server)
+        tried = [] if server is None else send_letters(book, due, server)
     for folder, letters in {place: [*due.written, *due.new], **lost}.items():
         if names := [due.electors[one.elector].name for one in letters if not one.address]:
-            tell(f"Without an address: {listed(names, MOST)}. Print {folder}/{files.TO_PRINT}.")
+            tell(
+                f"Without an address: {listed(names, MOST)}. Print {folder}/{letter_folder.TO_PRINT}."
+            )
     if due.in_no_receipt:
         numbers = listed([str(number) for number in due.in_no_receipt], MOST)
         tell(
@@ -209,13 +212,13 @@ def server_of(history: History, server: Server | None, arguments: Arguments) -> 
 # ---------------------------------------------------------------- the acts
 def write(book: Book, due: LettersDue, place: pathlib.Path) -> int:
     """Writes and notes the letters that are due; returns how many a mail program can send."""
-    made = files.letter_files(due, [*due.written, *due.new])
-    with files.in_place(made, place):
+    made = letter_folder.letter_files(due, [*due.written, *due.new])
+    with letter_folder.in_place(made, place):
         if due.new:
             detail: Detail = {"kind": due.kind, "letters": len(due.new)}
             with book.act("letters out", detail, seen=due.history.last.number) as act:
                 sent.note(act, due.new)
-    return len(made.keys() - {files.TO_PRINT})
+    return len(made.keys() - {letter_folder.TO_PRINT})
 
 
 def write_lost(due: LettersDue, kind_folder: pathlib.Path) -> dict[pathlib.Path, list[SentLetter]]:
@@ -225,16 +228,16 @@ def write_lost(due: LettersDue, kind_folder: pathlib.Path) -> dict[pathlib.Path,
     lost = {}
     for act, letters in itertools.groupby(due.earlier, key=lambda letter: letter.for_act):
         folder, its_letters = kind_folder / str(act), list(letters)
-        made = files.letter_files(due, its_letters)
+        made = letter_folder.letter_files(due, its_letters)
         if made and not folder.exists():
-            with files.in_place(made, folder):
+            with letter_folder.in_place(made, folder):
                 lost[folder] = its_letters
     return lost
 
 
-def send_waiting(book: Book, due: LettersDue, server: Server) -> list[SentLetter]:
-    """Sends the letters that wait, and returns them with what the server said."""
-    letters, tried = due.waiting, list[SentLetter]()
+def send_letters(book: Book, due: LettersDue, server: Server) -> list[SentLetter]:
+    """Sends the letters that no server has taken, and returns them with what the server said."""
+    letters, tried = due.to_send, list[SentLetter]()
     if not letters:
         return tried
     detail: Detail = {"kind": due.kind, "server": str(server)}
@@ -245,7 +248,7 @@ def send_waiting(book: Book, due: LettersDue, server: Server) -> list[SentLetter
         with uninterrupted(), book.act("letter sent", detail) as act:
             sent.note(act, [letter])
 
-    outgoing = ((letter, files.message(due, letter, is_draft=False)) for letter in letters)
+    outgoing = ((letter, letter_folder.message(due, letter, is_draft=False)) for letter in letters)
     try:
         show_progress(0, len(letters))
         for letter in smtp.send_all(outgoing, due.sender, server, note):

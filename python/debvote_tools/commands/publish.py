@@ -13,14 +13,15 @@ from debvote_tools.text import times
 from debvote_tools.book.book import DoneAct, Overtaken
 from debvote_tools.cli.console import act_time, odd_sign, tell
 from debvote_tools.debvote import casting_words
-from debvote_tools.commands import count
 from debvote_tools.book.election import LETTERS, RESULT, RESULT_LETTER, Election, History
 from debvote_tools.files import OWN, locked, read_text, uninterrupted, write_made
 from debvote_tools.inbox.waiting import in_time, waiting_letters
 from debvote_tools.cli.faults import Fault, Status
 from debvote_tools.text.language import LANGUAGES
 from debvote_tools.result import folder, publication
-from debvote_tools.result.facts import CHECKSUMS, Facts, Words
+from debvote_tools.result.casting import CASTING, demand_countable, demand_option
+from debvote_tools.result.facts import Facts, Words
+from debvote_tools.result.file_names import CHECKSUMS
 from debvote_tools.result.folder import NOTHING_DONE
 
 # of the text for the page in bytes, and of the name of who gave the casting vote in characters
@@ -31,7 +32,7 @@ REFUSED_IN_NAME = '"\u201c\u201d\u201e\u201f\u2033\uff02\u00ab\u00bb'
 
 
 class Arguments(Acting, checks=True):
-    casting: str | None = option(*count.CASTING)
+    casting: str | None = option(*CASTING)
     cast_by: str | None = option("NAME", "Who had the casting vote; the page says so in your name")
     cast_on: str | None = option("DATE", "The day of the casting vote, as 2026-12-05")
     about: str | None = option(
@@ -58,18 +59,21 @@ class Arguments(Acting, checks=True):
 
 def run(election: Election, arguments: Arguments) -> int:
     """The folder is whole and counted before the act, and takes its place after the act. So a kill
-    leaves no folder that the book does not know, and `publish` without options makes the folder of
-    the last act again.
+    leaves no folder that the book does not know.
+
+    `given` are the words of the command line, and `before` is the act of the last publication since
+    the last close. It is made `again`, with its own words, if the command line has none, or --force
+    alone.
     """
     book = election.book_for(arguments)
     history, sealed = election.history(), election.sealed()
-    count.demand_countable(election, history, sealed)
+    demand_countable(election, history, sealed)
     target = pathlib.Path(arguments.target) if arguments.target else election.path(RESULT)
     before, given = publication.last_publication(history), words_of(arguments)
     demand_place(target, history)
     again = before if given == Words(is_forced=arguments.force) else None
     words = given if again is None else Words(**again.detail["words"])
-    count.demand_option(sealed.public, words.casting)
+    demand_option(sealed.public, words.casting)
     waiting = in_time(waiting_letters(election, history)) if history.is_closed else []
     facts = publication.facts_of(election, words, waiting)
     if again is not None and any(

@@ -56,7 +56,7 @@ def run(election: Election, arguments: Arguments) -> None:
         if is_forced:
             detail["force"] = True
 
-        def report(new_numbers: range, replies: Sequence[str]) -> Iterator[str]:
+        def report_on(new_numbers: range, replies: Sequence[str]) -> Iterator[str]:
             closed = act_time(history.closes[-1].time)
             yield f"The vote is open again; the close at {closed} stays in the log and on the result page."
             for number, envelope in zip(new_numbers, offered):
@@ -66,7 +66,7 @@ def run(election: Election, arguments: Arguments) -> None:
         anew = [
             NewEnvelope(one.line, one.place, one.source, one.letter, one.time) for one in offered
         ]
-        entering.enter_lines(vote, "reopen", detail, lambda _: anew, report, seen, is_late=False)
+        entering.enter_lines(vote, "reopen", detail, lambda _: anew, report_on, seen, is_late=False)
 
     entering.agreed_act(vote, plan, lambda _: True, act)
     if left := ", ".join(str(envelope.number) for envelope in late_left(book)):

@@ -37,7 +37,7 @@ def run(election: Election, arguments: Arguments) -> None:
     roll, after = read_roll(election, history), election.command("check")
     if history.call is None:
         keep_electors(book, roll, history.last.number)
-        report(roll, has_all=arguments.all)
+        report_of_roll(roll, has_all=arguments.all)
     else:
         changed = [one for one in roll.electors if one.changes and (arguments.yes or agreed(one))]
         change_addresses(book, changed, history.last.number)
@@ -118,7 +118,7 @@ def changes_in_words(member: Member) -> str:
 
 
 # ---------------------------------------------------------------- what is told
-def report(roll: Roll, *, has_all: bool) -> None:
+def report_of_roll(roll: Roll, *, has_all: bool) -> None:
     electors = roll.electors
     shown = electors if has_all else electors[:MAX_SHOWN]
     lines = [f"{count_of(len(electors), 'elector')}, each with the name on the roll:"]

@@ -6,7 +6,7 @@ from debvote_tools.cli.arguments import Options, positional
 from debvote_tools.book import queries, sent
 from debvote_tools.cli.console import act_time, shown_line, shown_text, tell
 from debvote_tools.inbox import letter_words
-from debvote_tools.inbox.of_electors import Became, Came, of_electors
+from debvote_tools.inbox.fates import Became, Fate, fates_of
 from debvote_tools.inbox.vote import IS_CODE, Vote
 from debvote_tools.book.election import Election, History
 from debvote_tools.cli.faults import Fault
@@ -25,9 +25,9 @@ def run(election: Election, arguments: Arguments) -> None:
     who = f": {shown_text(elector.who)} {', '.join(map(shown_text, elector.addresses))}"
     # nobody knows whose code it is
     tell(elector.name if vote.has_codes else f"{elector.name}{who.rstrip(': ')}")
-    came = of_electors(election, history, [elector])[elector.name]
-    tell(*(f"  {line}" for one in came for line in words_of(vote, history, one)))
-    current = [vote.ranks_in_words(one.ranks) for one in came if one.became is Became.COUNTS]
+    fates = fates_of(election, history, [elector])[elector.name]
+    tell(*(f"  {line}" for one in fates for line in words_of(vote, history, one)))
+    current = [vote.ranks_in_words(one.ranks) for one in fates if one.became is Became.COUNTS]
     tell(f"The current ballot: {''.join(current) or 'none'}")
     out = sent.sent_letters(election.book, elector=elector.number)
     for letter in sorted(out, key=lambda letter: letter.time):
@@ -54,16 +54,16 @@ def elector_named(election: Election, vote: Vote, name: str) -> queries.Elector:
     raise Fault("show", f"no {what} on the roll is `{shown_text(name)}`", cure, done=None)
 
 
-def words_of(vote: Vote, history: History, came: Came) -> Iterator[str]:
-    envelope, letter = came.envelope, came.letter
+def words_of(vote: Vote, history: History, fate: Fate) -> Iterator[str]:
+    envelope, letter = fate.envelope, fate.letter
     if letter is not None:
-        if letter.waits:
+        if letter.needs_secretary:
             yield from letter_words.waiting(letter)
         else:
             why = letter.outcome.value if letter.reason is None else for_secretary(letter.reason)
             yield f"{letter_words.who_and_when(letter)}: {why}"
     if envelope is not None:
-        said = vote.ranks_in_words(came.ranks) if came.ranks else refused_words(vote, came)
+        said = vote.ranks_in_words(fate.ranks) if fate.ranks else refused_words(vote, fate)
         marks = ["late"] if envelope.is_late else []
         if envelope.struck is not None:
             act = history.act(envelope.struck)
@@ -74,7 +74,7 @@ def words_of(vote: Vote, history: History, came: Came) -> Iterator[str]:
         yield f"envelope {envelope.number}, {act_time(envelope.time)}: {said}{marked}"
 
 
-def refused_words(vote: Vote, came: Came) -> str:
-    line = b"" if came.envelope is None else came.envelope.line
+def refused_words(vote: Vote, fate: Fate) -> str:
+    line = b"" if fate.envelope is None else fate.envelope.line
     is_code = has_code(line.decode("utf-8", "replace")) and not vote.has_codes
-    return f"{shown_line(line)}: {came.answer}{IS_CODE if is_code else ''}"
+    return f"{shown_line(line)}: {fate.answer}{IS_CODE if is_code else ''}"

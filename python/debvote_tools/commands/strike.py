@@ -43,7 +43,7 @@ def run(election: Election, arguments: Arguments) -> None:
         with book.act("strike", detail, seen=seen) as act:
             queries.strike_envelopes(act, [envelope.number])
             # a letter waits on if it has ballots of others that were not entered
-            for kept in queries.letters(book) if envelope.letter else ():
+            for kept in queries.kept_letters(book) if envelope.letter else ():
                 if kept.number == envelope.letter and kept.state in (
                     queries.ENTERED,
                     queries.STRUCK,

@@ -15,6 +15,7 @@ from debvote_tools.cli.arguments import Acting, option
 from debvote_tools.cli.console import act_time, count_of, tell
 from debvote_tools.cli.faults import Fault, Status
 from debvote_tools.files import BALLOTS_LIMIT, LINES_LIMIT, uninterrupted
+from debvote_tools.inbox.not_added import NOTHING_ADDED
 from debvote_tools.inbox.vote import LATE_REPLY, Vote, envelope_words
 from debvote_tools.text.times import now, time_in_words
 
@@ -64,21 +65,22 @@ def enter_lines(
     name: ActName,
     detail: Detail,
     envelopes: Callable[[NewAct], Iterable[NewEnvelope]],
-    report: Callable[[range, Sequence[str]], Iterable[str]],
+    report_on: Callable[[range, Sequence[str]], Iterable[str]],
     seen: int,
     *,
     is_late: bool,
     is_same: Callable[[], bool] = lambda: False,
     what: str = "lines",
 ) -> None:
-    """The act that enters lines, and the report on it, by the numbers of the envelopes and the
-    replies. `envelopes` gives what goes in, and may write rows of its own.
+    """The act that enters lines, and what `report_on` says of it, by the numbers of the envelopes
+    and the replies. `envelopes` gives what goes in, and may write rows of its own.
 
     If other acts came since the one that was seen, `is_same` says within the act whether the plan
     would be the same.
     """
     book = vote.book
     with contextlib.ExitStack() as stack:
+        # without `seen`: the plan may be the same after other acts, and is looked at here
         with book.act(name, detail) as act:
             if act.number != seen + 1 and not is_same():
                 raise Overtaken
@@ -97,7 +99,7 @@ def enter_lines(
                 # replies depend on the lines of the same electors alone
                 same = frozenset(filter(None, electors))
                 replies = vote.replies(queries.lines_after(book, act.number - 1, same), lines)
-            console.tell_many(report(numbers, replies))
+            console.tell_many(report_on(numbers, replies))
         except console.OutputFailed as fault:
             cure, done = "see debvote-election status", f"the {what} {done}"
             raise Fault(None, "the output failed", cure, fault.status, done) from None
@@ -114,7 +116,7 @@ def demand_room(book: Book, new: Sequence[NewEnvelope]) -> None:
         if line_count + count > LINES_LIMIT or size + added > BALLOTS_LIMIT:
             words = f"with the new lines there would be {count_of(line_count + count, 'line')} and {size + added} bytes of ballots"
             cure = f"debvote takes at most {LINES_LIMIT} lines and {BALLOTS_LIMIT} bytes: add fewer"
-            raise Fault(book.path, words, cure, Status.BAD_BALLOTS, "nothing was added")
+            raise Fault(book.path, words, cure, Status.BAD_BALLOTS, NOTHING_ADDED)
 
 
 # ---- whether it comes in time

@@ -16,8 +16,8 @@ from debvote_tools.book.queries import KeptLetter
 from debvote_tools.inbox.letter import Body
 from debvote_tools.inbox.letter_lines import ReadLetter, answers_in, from_json, read_letters
 from debvote_tools.inbox.mailbox import RawLetter
-from debvote_tools.inbox.reasons import Because, Reason
-from debvote_tools.inbox.rules import JudgedLetter, Known, Outcome
+from debvote_tools.inbox.reasons import Reason, ReasonWithValues
+from debvote_tools.inbox.rules import Circumstances, JudgedLetter, Outcome
 from debvote_tools.inbox.vote import Vote
 from debvote_tools.poll.call import SUBJECT
 from debvote_tools.text import times
@@ -50,25 +50,27 @@ def judged(
     """Letters that came, as they are judged now, by their times; and others that are looked at."""
     if not kept and not looked_at:
         return []
-    found = kept_letters(vote, kept)
+    found = read_kept(vote, kept)
     by_key = {letter.key: kept_letter for letter, kept_letter in zip(found, kept)}
-    known = known_now(vote, history, by_key)
-    letters_now = judge_all([*found, *looked_at], known, lambda names: ballots_in(vote, names))
+    circumstances = circumstances_now(vote, history, by_key)
+    letters_now = judge_all(
+        [*found, *looked_at], circumstances, lambda names: ballots_in(vote, names)
+    )
     for letter in letters_now:
-        if (kept_letter := by_key.get(letter.parsed.key)) is not None:
+        if (kept_letter := by_key.get(letter.read.key)) is not None:
             letter.number, letter.source = kept_letter.number, kept_letter.source
         if vote.poll.secret and not vote.has_codes:
-            letter.code_lines = letter.parsed.code_lines
+            letter.code_lines = letter.read.code_lines
     return letters_now
 
 
 # ---- what they are judged by
-def kept_letters(vote: Vote, kept: Sequence[KeptLetter]) -> list[ReadLetter]:
+def read_kept(vote: Vote, kept: Sequence[KeptLetter]) -> list[ReadLetter]:
     """What the book keeps of letters. A signature is checked anew if the letter came before the
     present keyring, or gpgv was too slow: of a letter that waits; and, if a signed one waits, of
     those that were decided without a good signature, since only then a copy is known as one.
     """
-    found = [from_json(letter.parsed_json) for letter in kept]
+    found = [from_json(letter.read_json) for letter in kept]
     # what debvote has said of their lines it is not asked again
     vote.answered |= answers_in(found, vote.roll)
     sealed = queries.last_act_that_sealed(vote.book, KEYRING)
@@ -105,13 +107,16 @@ def ballots_in(vote: Vote, names: Collection[str]) -> Box:
     return box
 
 
-def known_now(vote: Vote, history: History, by_key: Mapping[str, KeptLetter]) -> Known:
+def circumstances_now(
+    vote: Vote, history: History, by_key: Mapping[str, KeptLetter]
+) -> Circumstances:
+    """What letters are judged by, as the election is now. `by_key` has the letters of the book."""
     election, call = vote.election, history.call
     assert call is not None
     public, electors = election.sealed().public, queries.electors(election.book)
     ids = queries.our_message_ids(election.book)
     states = ((key, kept.state) for key, kept in by_key.items())
-    return Known(
+    return Circumstances(
         mark=public.mark,
         subject=election.language.say(SUBJECT, title=public.name),
         electors={elector.name: elector for elector in electors},
@@ -122,19 +127,19 @@ def known_now(vote: Vote, history: History, by_key: Mapping[str, KeptLetter]) ->
         first_close=history.closes[0].time if history.closes else None,
         now=times.now(),
         our_letters={elector.name: ids.get(elector.number, []) for elector in electors},
-        decisions={key: state for key, state in states if state != queries.WAITS},
+        decisions={key: state for key, state in states if state != queries.NEVER_DECIDED},
     )
 
 
 # ---- one letter beside the others
 def judge_all(
     letters: Sequence[ReadLetter],
-    known: Known,
+    circumstances: Circumstances,
     ballots_of: Callable[[Collection[str]], Mapping[str, Sequence[Ballot]]],
 ) -> list[JudgedLetter]:
     """Judges letters, and returns them by their times; those without a time come last."""
-    cases = [JudgedLetter(letter, known) for letter in letters]
-    cases.sort(key=lambda case: (case.time is None, case.time or known.now))
+    cases = [JudgedLetter(letter, circumstances) for letter in letters]
+    cases.sort(key=lambda case: (case.time is None, case.time or circumstances.now))
     electors = {elector for case in cases for elector in case.electors}
     box: Box = collections.defaultdict(list)
     for elector, ballots in ballots_of(electors).items():
@@ -150,7 +155,7 @@ def set_outcomes(cases: Sequence[JudgedLetter], box: Box) -> None:
     """Sets what becomes of letters, by their times. What goes in is added to the box."""
     groups: dict[str, list[JudgedLetter]] = collections.defaultdict(list)
     for case in cases:
-        groups[case.parsed.identity].append(case)
+        groups[case.read.identity].append(case)
         if case.decision is not None:
             case.outcome, case.reason = DECIDED[case.decision]
     firsts: set[JudgedLetter] = set()
@@ -172,7 +177,7 @@ def set_outcomes(cases: Sequence[JudgedLetter], box: Box) -> None:
         set_copies(group, firsts, box)
 
 
-def why_not_latest(case: JudgedLetter, box: Box, at_once: set[str]) -> Because | None:
+def why_not_latest(case: JudgedLetter, box: Box, at_once: set[str]) -> ReasonWithValues | None:
     """Its time is later than that of each other ballot of its elector, but for the same one."""
     assert case.time is not None
     elector, time, ballots = case.elector, case.time, box[case.elector]
@@ -186,16 +191,16 @@ def why_not_latest(case: JudgedLetter, box: Box, at_once: set[str]) -> Because |
 
 def set_copies(group: Sequence[JudgedLetter], firsts: Collection[JudgedLetter], box: Box) -> None:
     """Sets what becomes of the other letters of one identity: they are copies of one that went in,
-    or may go in. A letter that waits hides no other, but of those that wait for one reason with one
-    body only the first is shown.
+    or may go in. A letter that waits hides no other. But of letters that wait for the same reason
+    and have the same body, only the first is shown.
     """
     hiding = [case for case in group if case.hides]
     is_hidden = any(case.decision is not None or case.outcome is Outcome.GOES_IN for case in hiding)
-    hiding.sort(key=lambda case: (case.parsed.arrived is None, case.parsed.arrived))
+    hiding.sort(key=lambda case: (case.read.arrived is None, case.read.arrived))
     first = next(iter(hiding), None)
-    waiting: dict[tuple[Because | None, Body], JudgedLetter] = {}
+    waiting: dict[tuple[ReasonWithValues | None, Body], JudgedLetter] = {}
     for case in sorted(group, key=lambda case: case.decision is None):
-        before = waiting.setdefault((case.why_by_itself, case.parsed.body), case)
+        before = waiting.setdefault((case.why_by_itself, case.read.body), case)
         if case.decision is not None or case in firsts:
             continue
         if first is not None and (is_hidden or case.why_by_itself is None):
@@ -208,7 +213,7 @@ def set_copies(group: Sequence[JudgedLetter], firsts: Collection[JudgedLetter], 
 
 def set_copy(case: JudgedLetter, first: JudgedLetter, box: Box) -> None:
     """Ignores a copy of a letter that arrived before, unless another ballot came between."""
-    arrived, before = case.parsed.arrived, first.parsed.arrived
+    arrived, before = case.read.arrived, first.read.arrived
     case.outcome, case.reason = Outcome.COPY, None
     if first.time is not None and before is not None and arrived is not None and arrived > before:
         for line in (*case.ballots, *case.offered):

@@ -14,7 +14,7 @@ from collections.abc import Sequence
 from debvote_tools.inbox.html import read_html
 from debvote_tools.inbox.mailbox import RawLetter
 from debvote_tools.inbox.mime import MAX_PARTS, Part, address_key
-from debvote_tools.inbox.reasons import Because, Reason
+from debvote_tools.inbox.reasons import Reason, ReasonWithValues
 from debvote_tools.poll.sealed import OWN_LENGTH, OWN_SIGNS, marks_in
 
 # in bytes: a text, and all texts of a letter
@@ -90,7 +90,7 @@ class Body:
     plain_lines: int = 0
     first_other: str = ""
     other_lines: tuple[str, ...] = ()
-    trouble: Because | None = None
+    trouble: ReasonWithValues | None = None
 
 
 @dataclasses.dataclass(frozen=True)
@@ -129,11 +129,13 @@ class ParsedLetter:
     body: Body
     # if letters have to be signed: the good signature, or why there is none
     signature: Signature | None = None
-    why_unsigned: Because | None = None
+    why_unsigned: ReasonWithValues | None = None
 
     @property
     def key(self) -> str:
-        """Identifies the letter; the same bytes parted off, and on their own, are two letters."""
+        """Identifies the letter. The same bytes are two letters if they came on their own, and where
+        they may be text of another letter.
+        """
         return f"{self.digest}, parted off" if self.is_parted_off else self.digest
 
     @property
@@ -154,6 +156,9 @@ class ParsedLetter:
 
 
 def parse(raw: RawLetter) -> ParsedLetter:
+    """What the bytes of a letter say; no signature is checked. A letter that is too long, or that
+    can be read in several ways, is parsed as far as it goes: its body has the `trouble`.
+    """
     letter = Part(raw.data)
     senders, subjects = letter.values("from"), letter.values("subject")
     longest = max(map(len, subjects), default=0)
@@ -188,7 +193,7 @@ def returned_in(data: bytes, sender: str) -> tuple[str, ...]:
     somebody who is away, and a delivery that is only late, are none.
     """
     parts = [part for part, _ in itertools.islice(Part(data).walk(), RETURNED_PARTS)]
-    if reports := [part.below for part in parts if part.kind == REPORT]:
+    if reports := [part.body_bytes for part in parts if part.kind == REPORT]:
         if not any(map(FAILED.search, reports)):
             return ()
     elif sender.partition("@")[0] not in SERVERS:
@@ -260,7 +265,7 @@ def identity_of(letter: Part, sender: str, body: Body) -> str:
     lines = (line[line.startswith(">From ") :].rstrip() for line in body.lines)
     text = "\n".join(lines).rstrip("\n")
     if not body.lines:
-        text = letter.below.decode("latin-1").replace("\r\n", "\n").rstrip()
+        text = letter.body_bytes.decode("latin-1").replace("\r\n", "\n").rstrip()
     parts = [" ".join(letter.values("message-id")).strip(), sender, text]
     return hashlib.sha256("\0".join(parts).encode("utf-8", "surrogatepass")).hexdigest()
 
@@ -272,7 +277,7 @@ def body_of(letter: Part) -> Body:
     if len(parts) == MAX_PARTS:
         letter.found(Reason.TOO_MANY_PARTS())
     texts = [(part, is_own) for part, is_own in parts if part.kind.startswith("text/")]
-    lengths = [len(part.below) for part, _ in texts] + [len(part.around) for part, _ in parts]
+    lengths = [len(part.body_bytes) for part, _ in texts] + [len(part.around) for part, _ in parts]
     is_long = letter.has_more(max(lengths, default=0), "bytes in a text", MAX_TEXT)
     if is_long or letter.has_more(sum(lengths), "bytes in all its texts", MAX_TEXTS):
         return Body(trouble=letter.trouble)
@@ -287,10 +292,10 @@ def body_of(letter: Part) -> Body:
         first.found(Reason.NO_PLAIN_TEXT())
     read = [text_of(part, is_first=part is first) for part, _ in texts]
     text, pieces = read[0] if read else (Body(), [])
-    # no program shows text around the parts, but it may be a letter that a mailbox did not part
-    # off; so may text below an encoded one
+    # no program shows text around the parts, but it may be a letter that the mailbox did not
+    # separate; so may text below an encoded one
     around = [line for part, _ in parts for line in lines_of(part.around)]
-    below = lines_of(first.below)
+    below = lines_of(first.body_bytes)
     trouble = next(filter(None, (part.trouble for part, _ in parts)), None)
     if letter.fields and any(map(RECEIVED.match, (*text.lines, *pieces, *around, *below))):
         trouble = Reason.PARTED_OFF()

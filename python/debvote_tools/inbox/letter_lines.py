@@ -1,8 +1,10 @@
-"""What is done once, when a letter comes: its bytes are parsed, its signature is checked, and it is
-found out what its lines may be: a ballot, ranks without a name, or something near to a ballot.
+"""Letters are read when they come: `read_letters` has their bytes parsed and their signatures
+checked. Then it finds what each line may be: a ballot, ranks without a name, or something near to a
+ballot; and debvote says which are valid. `to_json` and `from_json` are how the book keeps a letter
+that was read.
 
-The book keeps this, whatever addresses the list has and whatever time it is. So judging a letter
-again reads no letter.
+The addresses on the list and the time decide nothing here. So a letter is judged again from what
+the book keeps, and is read again only if its signature has to be checked anew (`judging.py`).
 """
 
 import collections
@@ -20,7 +22,7 @@ from typing import Any
 from debvote_tools.book import queries
 from debvote_tools.book.election import KEYRING
 from debvote_tools.inbox.letter import ParsedLetter, is_quoted, may_be_ballot, parse
-from debvote_tools.inbox.lines import DASHES, LONGEST_REPAIRED, changed, has_code, name_in
+from debvote_tools.inbox.lines import DASHES, LONGEST_REPAIRED, has_code, name_in, repaired_line
 from debvote_tools.inbox.mailbox import RawLetter
 from debvote_tools.inbox.reasons import Reason
 from debvote_tools.inbox.signature import find_gpgv, verified
@@ -173,7 +175,7 @@ def find_lines(letter: ParsedLetter, names: Names) -> ReadLetter:
 
 
 def read_line(number: int, line: str, names: Names) -> ReadLine | None:
-    text = repaired_line(line)
+    text = repaired_text(line)
     found = read_text(number, text, names)
     if found is not None and found.elector:
         return found
@@ -210,7 +212,7 @@ def read_quoted(number: int, line: str, names: Names) -> ReadLine | None:
     bare = filled_in(line).strip().lstrip("> \t\u00a0")
     if re.split(r"[\s:]", bare, maxsplit=1)[0].lower() not in names.roll:
         return None
-    found = read_text(number, repaired_line(bare), names)
+    found = read_text(number, repaired_text(bare), names)
     if found is None or not found.elector:
         return None
     return dataclasses.replace(found, offered_for=Reason.FILLED_IN)
@@ -232,7 +234,7 @@ def with_commas(text: str) -> str:
 def near_in(number: int, line: str, text: str, roll: Collection[str]) -> Near | None:
     """A line shaped as a ballot, with a name of the roll at its start, or with a ballot in it."""
     for found in WITHIN.finditer(line[:MAX_LOOKED_THROUGH]):
-        ballot = repaired_line(f"{found[1]} {found[2]}")
+        ballot = repaired_text(f"{found[1]} {found[2]}")
         has_words = re.search(r"\w", line[: found.start()] + line[found.end() :]) is not None
         if has_words and ballot.partition(" ")[0] in roll:
             return Near(number, ballot, True)
@@ -241,12 +243,12 @@ def near_in(number: int, line: str, text: str, roll: Collection[str]) -> Near | 
     return Near(number, text, False) if is_near else None
 
 
-def repaired_line(line: str) -> str:
+def repaired_text(line: str) -> str:
     """A line with the repairs that are allowed; in one that is too long blanks are joined."""
     data = line.encode("utf-8", "replace")
     if len(data) > LONGEST_REPAIRED:
         data = " ".join(line.split()).encode("utf-8", "replace")
-    return changed(data).decode("utf-8", "replace").replace("\n", " ")
+    return repaired_line(data).decode("utf-8", "replace").replace("\n", " ")
 
 
 # ---- debvote's answers
@@ -287,7 +289,7 @@ def answers_in(letters: Iterable[ReadLetter], roll: Collection[str]) -> dict[byt
 
 
 # ---- as the book keeps it
-def as_json(letter: ParsedLetter) -> str:
+def to_json(letter: ReadLetter) -> str:
     return json.dumps(vars(letter), default=as_plain)
 
 

@@ -48,15 +48,15 @@ def who_and_when(letter: JudgedLetter) -> str:
 
 
 def name_of(letter: JudgedLetter) -> str:
-    return f"letter {letter.number}" if letter.number else shown_text(letter.parsed.where)
+    return f"letter {letter.number}" if letter.number else shown_text(letter.read.where)
 
 
 def sender_of(letter: JudgedLetter) -> str:
-    return shown_text(letter.parsed.shown_sender) or "nobody"
+    return shown_text(letter.read.shown_sender) or "nobody"
 
 
 def arrival_of(letter: JudgedLetter) -> str:
-    arrived = letter.parsed.arrived
+    arrived = letter.read.arrived
     return "at an unknown time" if arrived is None else act_time(arrived)
 
 
@@ -72,10 +72,10 @@ def going_in_words(letters: Sequence[JudgedLetter], vote: Vote) -> Iterator[str]
 
 def ballot_words(letter: JudgedLetter, vote: Vote) -> str:
     line = letter.ballots[0]
-    written = letter.parsed.shown_lines[line.number - 1].strip()
-    read = "" if written == line.ballot else f", written `{shown_line(written.encode())}`"
+    written = letter.read.shown_lines[line.number - 1].strip()
+    as_written = "" if written == line.ballot else f", written `{shown_line(written.encode())}`"
     ranks = vote.ranks_in_words(line.ballot.partition(" ")[2])
-    return f"{line.elector} ({name_of(letter)}{read}): {ranks}"
+    return f"{line.elector} ({name_of(letter)}{as_written}): {ranks}"
 
 
 def more_words(letter: JudgedLetter) -> list[str]:
@@ -94,7 +94,7 @@ def table(letters: Sequence[JudgedLetter]) -> Iterator[str]:
     if letters:
         yield f"letter  {'arrived':{times}}  {'from':{senders}}  subject"
     for letter, (time, sender) in zip(letters, rows):
-        subject = shown_text(letter.parsed.subject) or "(no subject)"
+        subject = shown_text(letter.read.subject) or "(no subject)"
         yield f"{letter.number or 'new':>6}  {time:{times}}  {sender:{senders}}  {subject}"
         yield from (f"        {line}" for line in why_words(letter))
 
@@ -139,8 +139,8 @@ def whole(letter: JudgedLetter) -> Iterator[str]:
     letters is left out, but for lines that may be ballots.
     """
     yield who_and_when(letter)
-    yield f"  subject: {shown_text(letter.parsed.subject)}"
-    lines, hidden, count = letter.parsed.shown_lines, quoted_of_ours(letter), 0
+    yield f"  subject: {shown_text(letter.read.subject)}"
+    lines, hidden, count = letter.read.shown_lines, quoted_of_ours(letter), 0
     for index, line in enumerate((*lines, "")):
         if index in hidden:
             count += 1
@@ -153,7 +153,8 @@ def whole(letter: JudgedLetter) -> Iterator[str]:
     if letter.outcome is Outcome.ENTERED:
         yield "It was entered."
     elif letter.reason is not None:
-        yield f"It {'waits' if letter.waits else 'does not wait'}: {for_secretary(letter.reason)}"
+        waits = "waits" if letter.needs_secretary else "does not wait"
+        yield f"It {waits}: {for_secretary(letter.reason)}"
     yield from near_words(letter)
     yield from (f"  line {number}{IS_CODE}" for number in letter.code_lines)
 
@@ -194,13 +195,14 @@ def quoted_of_ours(letter: JudgedLetter) -> set[int]:
     """The indices of the lines of our letters that a letter quotes, but for those that may be
     ballots: it answers one of ours, or the quotation has the mark of the poll.
     """
-    lines, known, answered = letter.parsed.body.lines, letter.known, letter.parsed.in_reply_to
-    is_answer = answered and any(answered in ids for ids in known.our_letters.values())
+    lines, circumstances = letter.read.body.lines, letter.circumstances
+    answered = letter.read.in_reply_to
+    is_answer = answered and any(answered in ids for ids in circumstances.our_letters.values())
     shown = indices_of_ballots(letter, letter.near)
     return {
         index
         for quotation in quotations(lines)
-        if is_answer or any(known.mark in lines[index] for index in quotation)
+        if is_answer or any(circumstances.mark in lines[index] for index in quotation)
         for index in quotation
         if index not in shown
     }
@@ -214,15 +216,15 @@ def indices_of_ballots(letter: JudgedLetter, near: Sequence[Near]) -> set[int]:
 
 def other_words(letter: JudgedLetter) -> str:
     """What the sender's own words begin with, without greetings and what a telephone adds."""
-    lines, left_out = letter.parsed.body.lines, quoted_of_ours(letter)
+    lines, left_out = letter.read.body.lines, quoted_of_ours(letter)
     for quotation in quotations(lines):
         left_out.update(quotation if is_quoted(lines[quotation[-1]]) else ())
     left_out |= indices_of_ballots(letter, [near for near in letter.near if not near.is_within])
-    names = set(WORD.findall(letter.parsed.shown_sender.partition("<")[0].casefold()))
+    names = set(WORD.findall(letter.read.shown_sender.partition("<")[0].casefold()))
 
     def says_something(line: str) -> bool:
         first, *others = words = WORD.findall(line) or [""]
-        if letter.known.passes_over(line) or names.issuperset(map(str.casefold, words)):
+        if letter.circumstances.passes_over(line) or names.issuperset(map(str.casefold, words)):
             return False
         is_usual = first.lower() in USUAL and len(words) <= MOST_USUAL
         is_usual &= all(word.lower() in USUAL or word.istitle() for word in others)

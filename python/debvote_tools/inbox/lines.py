@@ -12,8 +12,6 @@ import codecs
 import re
 from typing import NamedTuple
 
-from debvote_tools.cli.faults import Fault, Status
-
 MARK, BLANKS = codecs.BOM_UTF8, b" \t"
 
 # in bytes; a longer line is no ballot, and nothing of it is repaired
@@ -60,37 +58,22 @@ REPAIRED = {
 }
 
 
-NOTHING_ADDED = "nothing was added"
-
-
-def bad_words(where: object, reason: object, cure: str) -> Fault:
-    return Fault(where, reason, cure, Status.BAD_WORDS, NOTHING_ADDED)
-
-
-def bad_ballots(where: object, reason: object, cure: str) -> Fault:
-    return Fault(where, reason, cure, Status.BAD_BALLOTS, NOTHING_ADDED)
-
-
-def doubt(where: object, reason: str, cure: str) -> Fault:
-    return Fault(where, reason, cure, Status.DOUBT, NOTHING_ADDED)
-
-
 class Line(NamedTuple):
-    """A line that came. `source` names the file, as `more.txt`, and `place` the line in it, as
+    """A line that came. `file_name` names the file, as `more.txt`, and `place` the line in it, as
     `:3`, or of a table as `: row 3`. If debvote refuses the repaired line, `unframed` is entered.
     """
 
-    source: str
+    file_name: str
     place: str
     # with its byte-order mark and carriage return, or the line feeds in the cells of its row
-    came: bytes
+    as_it_came: bytes
     # without them
     unframed: bytes
     repaired: bytes
 
     @property
     def where(self) -> str:
-        return f"{self.source}{self.place}"
+        return f"{self.file_name}{self.place}"
 
     @property
     def is_empty(self) -> bool:
@@ -98,33 +81,35 @@ class Line(NamedTuple):
 
     @property
     def why_too_long(self) -> str | None:
-        words = f"the line has {len(self.came)} bytes, and a ballot has a few dozen"
-        return words if len(self.came) > LONGEST_LINE else None
+        words = f"the line has {len(self.as_it_came)} bytes, and a ballot has a few dozen"
+        return words if len(self.as_it_came) > LONGEST_LINE else None
 
     @property
     def had_mark(self) -> bool:
         """Whether it lost only a byte-order mark, and perhaps a carriage return."""
         is_first = not self.unframed.startswith(MARK)
-        return is_first and self.came.removesuffix(b"\r") == MARK + self.unframed
+        return is_first and self.as_it_came.removesuffix(b"\r") == MARK + self.unframed
 
     @property
     def had_return(self) -> bool:
         """Whether it lost only a carriage return, and perhaps a byte-order mark."""
-        return self.came == self.unframed + b"\r" or (self.had_mark and self.came.endswith(b"\r"))
+        return self.as_it_came == self.unframed + b"\r" or (
+            self.had_mark and self.as_it_came.endswith(b"\r")
+        )
 
     @property
     def without_frame(self) -> bytes:
         """The line without such a mark and carriage return, which are told once for a file."""
-        return self.unframed if self.had_mark or self.had_return else self.came
+        return self.unframed if self.had_mark or self.had_return else self.as_it_came
 
 
 def lines_in(data: bytes, name: str, first: int = 1) -> list[Line]:
     """The lines of a file, numbered from `first`; a carriage return alone ends one, too."""
     lines = []
     for number, line in enumerate(data.splitlines(keepends=True), start=first):
-        came = line.removesuffix(b"\n")
-        unframed = came.removesuffix(b"\r").removeprefix(MARK if number == 1 else b"")
-        lines.append(Line(name, f":{number}", came, unframed, changed(unframed)))
+        as_it_came = line.removesuffix(b"\n")
+        unframed = as_it_came.removesuffix(b"\r").removeprefix(MARK if number == 1 else b"")
+        lines.append(Line(name, f":{number}", as_it_came, unframed, repaired_line(unframed)))
     return lines
 
 
@@ -139,7 +124,7 @@ def has_code(text: str) -> bool:
     return TYPED_CODE.search(text) is not None
 
 
-def changed(line: bytes) -> bytes:
+def repaired_line(line: bytes) -> bytes:
     if NOTHING_TO_REPAIR.fullmatch(line):
         return line
     if len(line) > LONGEST_REPAIRED or b"\r" in line or b"\n" in line:
@@ -148,7 +133,7 @@ def changed(line: bytes) -> bytes:
         text = line.decode("utf-8")
     except UnicodeDecodeError:
         return spaced(line)
-    return spaced(repaired(text).encode("utf-8"))
+    return spaced(without_typography(text).encode("utf-8"))
 
 
 def spaced(line: bytes) -> bytes:
@@ -158,7 +143,7 @@ def spaced(line: bytes) -> bytes:
     return name.lower() + b" " + ranks[0] if ranks else joined
 
 
-def repaired(text: str) -> str:
+def without_typography(text: str) -> str:
     """A line without what mail programs and word processors put there."""
     bare = text.translate({ord(character): " " for character in NO_BREAK}).strip(" \t")
     # quotation marks may enclose a full stop, or precede it

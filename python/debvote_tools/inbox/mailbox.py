@@ -1,8 +1,8 @@
 """What letters come in: one message, an mbox, a Maildir, or a folder of messages. The bytes say
 what a file is, not its name.
 
-No byte is lost: the parts of a file that `parts_of` returns, joined, are the file. Each letter in
-them is kept, or named as not read.
+No byte is lost: the sections of a file, joined, are the file. A section is the line that begins a
+letter, the letter, and the empty line below. Each letter is kept, or named as not read.
 """
 
 import dataclasses
@@ -82,8 +82,8 @@ class NotRead(enum.Enum):
 
 @dataclasses.dataclass(frozen=True)
 class RawLetter:
-    """A letter as it came, or why it is passed over. One that is parted off may be text of the
-    letter above it, and waits.
+    """A letter as it came, or why it is passed over. One that `is_parted_off` may be text of the
+    letter above it in its mailbox, and waits.
     """
 
     where: str
@@ -120,41 +120,45 @@ def are_letters(data: bytes) -> bool:
 def letters_of_file(name: str, data: bytes) -> list[RawLetter]:
     """The letters of a file that was read whole.
 
-    A letter is parted off if it has others in it, or may be text of the letter above it: no empty
-    line is between, it is within the Content-Length of a letter above, or the parts of that letter
-    do not end. Any sender can write a Content-Length, so it counts only if it ends exactly where
-    the file ends, or before a line with a date that parts letters.
+    A letter waits as `is_parted_off` if it has others in it, or may be text of the letter above it:
+    no empty line is between, it is within the Content-Length of a letter above, or the parts of
+    that letter do not end. Any sender can write a Content-Length, so it counts only if it ends
+    exactly where the file ends, or before a line with a date that separates letters.
     """
     kind = kind_not_read(data) or (None if are_letters(data) else NotRead.NO_LETTER)
     if kind is not None:
         return [RawLetter(name, why_not_read=kind)]
-    found, parts = list[RawLetter](), parts_of(data)
-    possible_ends = ends_of(parts)
+    found, sections = list[RawLetter](), sections_of(data)
+    possible_ends = ends_of(sections)
     place, reach, is_ended = 0, 0, True
-    for number, (above, letter, below) in enumerate(parts, start=1):
-        where = f"{name}, message {number}" if len(parts) > 1 else name
+    for number, (above, letter, below) in enumerate(sections, start=1):
+        where = f"{name}, message {number}" if len(sections) > 1 else name
         if len(letter) > MAX_LETTER:
             found.append(RawLetter(where, why_not_read=NotRead.TOO_LONG))
         else:
             is_parted_off = place < reach or not is_ended or has_others(letter)
             found.append(RawLetter(where, letter, is_parted_off))
         place += len(above + letter)
-        if number < len(parts):
-            read = Part(letter)
-            lengths = map(re.compile(r"\d{1,15}").match, read.values("content-length"))
-            ends = {place - len(read.below) + int(length[0]) for length in lengths if length}
+        if number < len(sections):
+            message = Part(letter)
+            lengths = map(re.compile(r"\d{1,15}").match, message.values("content-length"))
+            ends = {
+                place - len(message.body_bytes) + int(length[0]) for length in lengths if length
+            }
             reach = max({reach, *ends & possible_ends})
-            is_ended = bool(below) and not read.is_open
+            is_ended = bool(below) and not message.is_open
         place += len(below)
     return found
 
 
-def ends_of(parts: Sequence[tuple[bytes, bytes, bytes]]) -> set[int]:
+def ends_of(sections: Sequence[tuple[bytes, bytes, bytes]]) -> set[int]:
     """Where the text of a letter may end in a file: before a line with a date, or at the end of the
     file, each with the empty line or without it. The last one may be missing.
     """
     place, ends = 0, set[int]()
-    for (above, letter, below), begins in zip(parts, [*(above for above, _, _ in parts[1:]), None]):
+    for (above, letter, below), begins in zip(
+        sections, [*(above for above, _, _ in sections[1:]), None]
+    ):
         place += len(above) + len(letter) + len(below)
         if begins is None or DATED.match(begins):
             ends |= {place, place - len(below)}
@@ -182,30 +186,30 @@ def letter_of_file(file: pathlib.Path) -> list[RawLetter]:
     elif not file.is_file():
         why = NotRead.NO_LETTER
     data = b"" if why else file.read_bytes()
-    if why is None and are_letters(data) and len(parts_of(data)) > 1:
+    if why is None and are_letters(data) and len(sections_of(data)) > 1:
         why = NotRead.MAILBOX
     if why is not None:
         return [RawLetter(str(file), why_not_read=why)]
     return letters_of_file(str(file), data)
 
 
-# ---- the parts of a file
-def parts_of(data: bytes) -> list[tuple[bytes, bytes, bytes]]:
-    """The parts of a file: of each the line that begins it, the letter, and the empty line."""
+# ---- the sections of a file
+def sections_of(data: bytes) -> list[tuple[bytes, bytes, bytes]]:
+    """The sections of a file: of each the line that begins it, the letter, and the empty line."""
     start = begin_of(data)
     is_mailbox = begins_mailbox(start)
     begins = [start.span()] + [
         line.span()
         for line in (FROM_LINE.finditer(data, start.end()) if is_mailbox else ())
-        if parts_letters(line[0]) and FIELD.match(data, line.end())
+        if separates_letters(line[0]) and FIELD.match(data, line.end())
     ]
-    parts = []
+    sections = []
     for (begin, letter_begin), (end, _) in zip(begins, [*begins[1:], (len(data), 0)]):
         letter = data[letter_begin:end]
         empty = (line for line in (b"\n", b"\r\n") if is_mailbox and letter.endswith(b"\n" + line))
         below = next(empty, b"")
-        parts.append((data[begin:letter_begin], letter.removesuffix(below), below))
-    return parts
+        sections.append((data[begin:letter_begin], letter.removesuffix(below), below))
+    return sections
 
 
 def begin_of(data: bytes) -> re.Match[bytes]:
@@ -215,15 +219,15 @@ def begin_of(data: bytes) -> re.Match[bytes]:
 
 
 def begins_mailbox(start: re.Match[bytes]) -> bool:
-    return start[1] is not None and parts_letters(start[1])
+    return start[1] is not None and separates_letters(start[1])
 
 
-def parts_letters(line: bytes) -> bool:
+def separates_letters(line: bytes) -> bool:
     return DATED.match(line) is not None or BARE.match(line) is not None
 
 
 def has_others(letter: bytes) -> bool:
-    """Whether other letters may be in a letter: a line may begin one, but parts none."""
+    """Whether other letters may be in a letter: a line may begin one, and separates none."""
     # the expression takes long, and few letters have the word
     lines = FROM_LINE.finditer(letter) if b"from " in letter.lower() else ()
     return any(DATED.match(line[0]) or FIELD.match(letter, line.end()) for line in lines)

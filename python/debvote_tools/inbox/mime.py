@@ -14,7 +14,7 @@ import re
 import string
 from collections.abc import Iterator
 
-from debvote_tools.inbox.reasons import Because, Reason
+from debvote_tools.inbox.reasons import Reason, ReasonWithValues
 
 # in bytes: the longest letter and the longest head that are read; then the most parts, their
 # deepest nesting, and the longest field about a part, in characters
@@ -69,10 +69,10 @@ class Part:
     """A letter, or a part of one. Its `trouble` is the first form in it that is not accepted."""
 
     def __init__(self, data: bytes) -> None:
-        self.trouble: Because | None = None
+        self.trouble: ReasonWithValues | None = None
         end = END_OF_HEAD.search(data, 0, MAX_HEAD)
         head = data[: MAX_HEAD if end is None else end.start()]
-        self.below = b"" if end is None else data[end.end() :]
+        self.body_bytes = b"" if end is None else data[end.end() :]
         self.fields = [
             (name.decode().lower(), on_one_line(value)) for name, value in FIELD.findall(head)
         ]
@@ -97,7 +97,7 @@ class Part:
                 self.found_ambiguous("content-transfer-encoding")
             self.open()
 
-    def found(self, trouble: Because) -> None:
+    def found(self, trouble: ReasonWithValues) -> None:
         self.trouble = self.trouble or trouble
 
     def has_more(self, length: int, what: str, limit: int) -> bool:
@@ -132,7 +132,7 @@ class Part:
         """Splits it into its parts. Each line like a boundary is one, and the last ends them."""
         boundary = self.parameters.get("boundary", "").rstrip()
         if self.kind == "message/rfc822":
-            self.inner = [self.below]
+            self.inner = [self.body_bytes]
             return
         is_plain = (
             self.kind in CONTAINERS
@@ -142,11 +142,11 @@ class Part:
         if not is_plain:
             self.found_ambiguous("content-type")
         if not boundary:
-            self.around = self.below
+            self.around = self.body_bytes
             return
         # without a sign for the begin of a line, since that takes long in a long letter
         line = rb"--%b([^\n]*)\n?" % re.escape(boundary.encode("utf-8", "surrogateescape"))
-        found_lines = filter(self.begins_line, re.finditer(line, self.below))
+        found_lines = filter(self.begins_line, re.finditer(line, self.body_bytes))
         lines = list(itertools.islice(found_lines, MAX_PARTS))
         if len(lines) == MAX_PARTS:
             self.found(Reason.TOO_MANY_PARTS())
@@ -154,16 +154,16 @@ class Part:
         self.is_open = not is_plain or len(lines) < 2 or ends[-1] != b"--" or any(ends[:-1])
         if self.is_open:
             self.found_ambiguous("the lines between its parts")
-        starts = [found.start() for found in lines] + [len(self.below)]
-        below = b"" if self.is_open else self.below[lines[-1].end() :]
-        self.around = self.below[: starts[0]] + below
+        starts = [found.start() for found in lines] + [len(self.body_bytes)]
+        below = b"" if self.is_open else self.body_bytes[lines[-1].end() :]
+        self.around = self.body_bytes[: starts[0]] + below
         for found, end, what in zip(lines, starts[1:], ends):
             if what != b"--":
-                part = self.below[found.end() : end]
+                part = self.body_bytes[found.end() : end]
                 self.inner.append(part[:-2] if part.endswith(b"\r\n") else part.removesuffix(b"\n"))
 
     def begins_line(self, found: re.Match[bytes]) -> bool:
-        return found.start() == 0 or self.below[found.start() - 1 : found.start()] == b"\n"
+        return found.start() == 0 or self.body_bytes[found.start() - 1 : found.start()] == b"\n"
 
     def walk(self, depth: int = 0, *, is_own: bool = True) -> Iterator[tuple["Part", bool]]:
         """Yields it and all parts in it, each with whether programs show it as the text."""
@@ -179,23 +179,23 @@ class Part:
     @property
     def is_cut(self) -> bool:
         """Whether its text ends in a soft line break, in the middle of a line."""
-        return self.coding == "quoted-printable" and SOFT_END.search(self.below) is not None
+        return self.coding == "quoted-printable" and SOFT_END.search(self.body_bytes) is not None
 
     @functools.cached_property
     def payload(self) -> bytes:
         """Its decoded bytes."""
         if self.coding in AS_IT_STANDS:
-            return self.below
-        if self.coding == "quoted-printable" and QUOTED_PRINTABLE.fullmatch(self.below):
-            return binascii.a2b_qp(self.below)
-        bare = LINE_END.sub(b"", self.below)
+            return self.body_bytes
+        if self.coding == "quoted-printable" and QUOTED_PRINTABLE.fullmatch(self.body_bytes):
+            return binascii.a2b_qp(self.body_bytes)
+        bare = LINE_END.sub(b"", self.body_bytes)
         if self.coding == "base64" and BASE64.fullmatch(bare):
             return base64.b64decode(bare)
         self.found_ambiguous("content-transfer-encoding")
         with contextlib.suppress(binascii.Error):
             is_base64 = self.coding == "base64"
-            return base64.b64decode(bare + b"==") if is_base64 else binascii.a2b_qp(self.below)
-        return self.below
+            return base64.b64decode(bare + b"==") if is_base64 else binascii.a2b_qp(self.body_bytes)
+        return self.body_bytes
 
 
 def on_one_line(value: bytes) -> str:

@@ -30,7 +30,7 @@ OTHER_ADDRESS = marked(
 
 
 @dataclasses.dataclass(frozen=True)
-class Because:
+class ReasonWithValues:
     """A reason with its values, such as the address that a letter came from."""
 
     reason: "Reason"
@@ -225,14 +225,14 @@ class Reason(enum.Enum):
         "The reason: no line of what is signed is the mark of this vote, which is in the subject of the call, in square brackets."
     )
 
-    def __call__(self, **values: Value) -> Because:
-        return Because(self, tuple(values.items()))
+    def __call__(self, **values: Value) -> ReasonWithValues:
+        return ReasonWithValues(self, tuple(values.items()))
 
 
-def for_secretary(because: Because) -> str:
+def for_secretary(why: ReasonWithValues) -> str:
     """The reason as the secretary reads it, as a part of a sentence."""
-    values = {name: shown_value(value) for name, value in because.values}
-    return because.reason.value[0].format(**values)
+    values = {name: shown_value(value) for name, value in why.values}
+    return why.reason.value[0].format(**values)
 
 
 def shown_value(value: Value) -> str:
@@ -241,6 +241,6 @@ def shown_value(value: Value) -> str:
     return str(value) if isinstance(value, int) else shown_text(value)
 
 
-def for_elector(because: Because) -> str:
+def for_elector(why: ReasonWithValues) -> str:
     """The reason as the elector reads it: a sentence to be translated."""
-    return because.reason.value[1]
+    return why.reason.value[1]

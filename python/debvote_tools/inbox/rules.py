@@ -21,7 +21,7 @@ from debvote_tools.book.queries import Elector
 from debvote_tools.inbox.letter import END, is_quoted
 from debvote_tools.inbox.letter_lines import MAX_BALLOTS, MAX_NEAR, Near, ReadLetter, ReadLine
 from debvote_tools.inbox.mime import address_key
-from debvote_tools.inbox.reasons import Because, Reason
+from debvote_tools.inbox.reasons import Reason, ReasonWithValues
 from debvote_tools.poll.sealed import MARKS, marks_in
 
 # how far the clock of a mail server or of an elector may be ahead
@@ -54,7 +54,7 @@ class Outcome(enum.Enum):
 
 
 @dataclasses.dataclass(frozen=True)
-class Known:
+class Circumstances:
     """All that a letter is judged by, beside itself, as it is now. Times have a zone."""
 
     # the mark of the poll, and the subject that the page of the call makes, without a mark
@@ -119,7 +119,7 @@ class BallotLine:
         return any(rank != "-" and int(rank) > len(self.ranks) for rank in self.ranks)
 
 
-class View(NamedTuple):
+class LinesBySender(NamedTuple):
     """What the lines of a letter are, by who sent it: the ballots; those with the real name of
     somebody else, as in the letter of a family; what is offered to the secretary, with the reason
     why it is no ballot by itself; and what is near to a ballot.
@@ -131,7 +131,9 @@ class View(NamedTuple):
     near: Sequence[Near]
 
 
-def view_of(lines: Sequence[ReadLine], sharing: Sequence[str], marked: str | None) -> View:
+def lines_by_sender(
+    lines: Sequence[ReadLine], sharing: Sequence[str], marked: str | None
+) -> LinesBySender:
     """What the lines are if it was sent by one of the electors who have the sender's address, or by
     the one whose own mark is in the subject.
 
@@ -160,9 +162,9 @@ def view_of(lines: Sequence[ReadLine], sharing: Sequence[str], marked: str | Non
         elif line.answer is None and line.real:
             others.append(ballot)
     if own or refused:
-        return View(own, others, {}, list(refused.values())[:MAX_NEAR])
+        return LinesBySender(own, others, {}, list(refused.values())[:MAX_NEAR])
     near = [line.near for line in lines if line.near is not None]
-    return View((), (), offered, near[:MAX_NEAR])
+    return LinesBySender((), (), offered, near[:MAX_NEAR])
 
 
 def is_name_of(elector: str, line: ReadLine) -> bool:
@@ -175,37 +177,37 @@ class JudgedLetter:
     """A letter, and what becomes of it. The `reason` says why it waits or was set aside."""
 
     outcome = Outcome.WAITS
-    reason: Because | None = None
+    reason: ReasonWithValues | None = None
     has_voted_since = False
     # its number and its source in the book; 0 if it is only looked at
     number = source = 0
     # in a secret vote with names on the roll: the lines with what looks like a code or an alias
     code_lines: tuple[int, ...] = ()
 
-    def __init__(self, letter: ReadLetter, known: Known) -> None:
-        self.parsed, self.known = letter, known
+    def __init__(self, letter: ReadLetter, circumstances: Circumstances) -> None:
+        self.read, self.circumstances = letter, circumstances
         # the electors who have the sender's address, and the one whose own mark the subject has. A
         # subject with several, or with that of nobody, counts as one with the poll's mark alone
-        self.sharing = known.electors_by_address.get(letter.sender, [])
-        owns = {own for mark, own in letter.marks if own and mark == known.mark}
-        self.marked_elector = known.electors_by_mark.get(*owns) if len(owns) == 1 else None
-        self.view = view_of(letter.read_lines, self.sharing, self.marked_elector)
+        self.sharing = circumstances.electors_by_address.get(letter.sender, [])
+        owns = {own for mark, own in letter.marks if own and mark == circumstances.mark}
+        self.marked_elector = circumstances.electors_by_mark.get(*owns) if len(owns) == 1 else None
+        self.lines_by_sender = lines_by_sender(letter.read_lines, self.sharing, self.marked_elector)
         # that of its ballot: if letters have to be signed, that of the signature
-        signature = letter.signature if known.is_signed else None
+        signature = letter.signature if circumstances.is_signed else None
         self.time = letter.arrived if signature is None else signature.time
-        self.decision = known.decisions.get(letter.key)
+        self.decision = circumstances.decisions.get(letter.key)
         # the ballot that may go in, and its index among the lines
-        end, lines = above_end(letter.body.lines), self.view.lines
+        end, lines = above_end(letter.body.lines), self.lines_by_sender.lines
         self.ballot = next((line for line in lines if line.number <= end), None)
         self.index = -1 if self.ballot is None else self.ballot.number - 1
         self.elector = "" if self.ballot is None else self.ballot.elector
         # all lines that read as ballots, first that one; and lines that are no ballots by
         # themselves. Each can be entered by its number
         own = [self.ballot] if self.ballot else []
-        self.ballots = tuple(dict.fromkeys((*own, *lines, *self.view.others)))
-        self.offered = tuple(self.view.offered)
+        self.ballots = tuple(dict.fromkeys((*own, *lines, *self.lines_by_sender.others)))
+        self.offered = tuple(self.lines_by_sender.offered)
         # a letter that a program wrote quotes others, so nothing is said of its lines
-        self.near = () if self.ballots or letter.is_automatic else tuple(self.view.near)
+        self.near = () if self.ballots or letter.is_automatic else tuple(self.lines_by_sender.near)
 
     @property
     def has_own_mark(self) -> bool:
@@ -213,7 +215,7 @@ class JudgedLetter:
         return self.ballot is not None and self.marked_elector == self.elector
 
     @functools.cached_property
-    def why_by_itself(self) -> Because | None:
+    def why_by_itself(self) -> ReasonWithValues | None:
         """Why it waits, whatever other letters there are."""
         return next(filter(None, (rule(self) for rule in RULES)), None)
 
@@ -224,17 +226,17 @@ class JudgedLetter:
         return self.decision in went_in or self.why_by_itself is None
 
     @property
-    def waits(self) -> bool:
+    def needs_secretary(self) -> bool:
         """Whether it waits for the secretary, who has to agree or to look at it."""
         return self.outcome in (Outcome.GOES_IN, Outcome.WAITS)
 
     @property
     def arrived_before_call(self) -> bool:
-        return self.parsed.arrived is not None and self.parsed.arrived <= self.known.called
+        return self.read.arrived is not None and self.read.arrived <= self.circumstances.called
 
     @property
     def arrived_late(self) -> bool:
-        arrived, ends = self.parsed.arrived, (self.known.end, self.known.first_close)
+        arrived, ends = self.read.arrived, (self.circumstances.end, self.circumstances.first_close)
         return arrived is not None and any(arrived > end for end in filter(None, ends))
 
     @property
@@ -246,8 +248,8 @@ class JudgedLetter:
     def electors(self) -> tuple[str, ...]:
         """The electors on its ballots, or near to one; else the one who has the sender's address."""
         named = [line.elector for line in (*self.ballots, *self.offered)]
-        near = (near.ballot.partition(" ")[0] for near in self.view.near)
-        named += [name for name in near if name in self.known.electors]
+        near = (near.ballot.partition(" ")[0] for near in self.lines_by_sender.near)
+        named += [name for name in near if name in self.circumstances.electors]
         return tuple(dict.fromkeys(named or filter(None, [self.sending_elector])))
 
     @property
@@ -257,8 +259,8 @@ class JudgedLetter:
 
 
 # ---- the rules
-def can_be_read(case: JudgedLetter) -> Because | None:
-    letter, body = case.parsed, case.parsed.body
+def can_be_read(case: JudgedLetter) -> ReasonWithValues | None:
+    letter, body = case.read, case.read.body
     if letter.is_parted_off:
         return Reason.PARTED_OFF()
     if letter.is_automatic:
@@ -272,29 +274,29 @@ def can_be_read(case: JudgedLetter) -> Because | None:
     return Reason.HTML(element=body.first_other) if is_odd else None
 
 
-def arrived_in_time(case: JudgedLetter) -> Because | None:
-    arrived, known = case.parsed.arrived, case.known
+def arrived_in_time(case: JudgedLetter) -> ReasonWithValues | None:
+    arrived, circumstances = case.read.arrived, case.circumstances
     if arrived is None:
         return Reason.NO_ARRIVAL()
     if case.arrived_before_call:
-        return Reason.BEFORE_THE_CALL(called=known.called)
-    if known.end is not None and arrived > known.end:
-        return Reason.AFTER_THE_END(end=known.end)
-    if known.first_close is not None and arrived > known.first_close:
-        return Reason.AFTER_THE_CLOSE(close=known.first_close)
-    return Reason.IN_THE_FUTURE(arrived=arrived) if arrived > known.now + AHEAD else None
+        return Reason.BEFORE_THE_CALL(called=circumstances.called)
+    if circumstances.end is not None and arrived > circumstances.end:
+        return Reason.AFTER_THE_END(end=circumstances.end)
+    if circumstances.first_close is not None and arrived > circumstances.first_close:
+        return Reason.AFTER_THE_CLOSE(close=circumstances.first_close)
+    return Reason.IN_THE_FUTURE(arrived=arrived) if arrived > circumstances.now + AHEAD else None
 
 
-def is_sent_by_its_elector(case: JudgedLetter) -> Because | None:
+def is_sent_by_its_elector(case: JudgedLetter) -> ReasonWithValues | None:
     """It comes from an address of its elector, after `call --marked` with the own mark, too."""
-    sender, elector, known = case.parsed.sender, case.elector, case.known
-    listed = known.electors[elector].addresses if elector in known.electors else ()
+    sender, elector, circumstances = case.read.sender, case.elector, case.circumstances
+    listed = circumstances.electors[elector].addresses if elector in circumstances.electors else ()
     if not sender:
-        return Reason.NO_SENDER(sender=case.parsed.shown_sender)
+        return Reason.NO_SENDER(sender=case.read.shown_sender)
     if case.ballot is None:
         return None
     if sender in map(address_key, listed):
-        if case.has_own_mark or not known.is_marked:
+        if case.has_own_mark or not circumstances.is_marked:
             return None
         return is_of_this_vote(case) or Reason.NO_OWN_MARK(elector=elector)
     if case.has_own_mark:
@@ -304,27 +306,28 @@ def is_sent_by_its_elector(case: JudgedLetter) -> Because | None:
     return Reason.OTHER_SENDER(sender=sender, listed=" and ".join(listed), elector=elector)
 
 
-def is_signed_by_its_elector(case: JudgedLetter) -> Because | None:
+def is_signed_by_its_elector(case: JudgedLetter) -> ReasonWithValues | None:
     """It has a good signature, if it must. This comes first: only what was signed is the text."""
-    letter, signature, elector, known = case.parsed, case.parsed.signature, case.elector, case.known
-    if not known.is_signed or case.ballot is None:
+    letter, signature = case.read, case.read.signature
+    elector, circumstances = case.elector, case.circumstances
+    if not circumstances.is_signed or case.ballot is None:
         return None
     if signature is None:
         return letter.why_unsigned or Reason.NOT_SIGNED()
-    key = known.electors[elector].key if elector in known.electors else ""
+    key = circumstances.electors[elector].key if elector in circumstances.electors else ""
     if not key:
         return Reason.NO_KEY(elector=elector)
     if signature.fingerprint != key:
         return Reason.OTHER_KEY(key=signature.fingerprint, listed=key, elector=elector)
-    if signature.time <= known.called:
+    if signature.time <= circumstances.called:
         return Reason.SIGNED_BEFORE_THE_CALL(time=signature.time)
     if letter.arrived is None or signature.time > letter.arrived + AHEAD:
         return Reason.SIGNED_AHEAD(time=signature.time)
-    has_mark = any(map(known.is_mark, letter.body.lines))
-    return None if has_mark else Reason.NO_MARK(mark=known.mark)
+    has_mark = any(map(circumstances.is_mark, letter.body.lines))
+    return None if has_mark else Reason.NO_MARK(mark=circumstances.mark)
 
 
-def has_one_ballot(case: JudgedLetter) -> Because | None:
+def has_one_ballot(case: JudgedLetter) -> ReasonWithValues | None:
     """No other line reads as a ballot that differs. `ballot_is_first` would say less."""
     if len({line.ballot for line in case.ballots}) <= 1:
         return None
@@ -334,13 +337,13 @@ def has_one_ballot(case: JudgedLetter) -> Because | None:
     return Reason.SEVERAL_ELECTORS(electors=", ".join(electors))
 
 
-def ballot_is_first(case: JudgedLetter) -> Because | None:
+def ballot_is_first(case: JudgedLetter) -> ReasonWithValues | None:
     """The ballot is the first line, but for a greeting. In an answer to a letter that only this
     elector has, a quotation of it may be above the ballot.
     """
-    flowing, ballot = case.parsed.body.flowing, case.ballot
+    flowing, ballot = case.read.body.flowing, case.ballot
     if ballot is None and not case.ballots:
-        return next(iter(case.view.offered.values()), Reason.NO_BALLOT)()
+        return next(iter(case.lines_by_sender.offered.values()), Reason.NO_BALLOT)()
     if ballot is None and not flowing:
         return Reason.ELSEWHERE(number=case.ballots[0].number)
     if ballot is None or case.index in flowing:
@@ -352,17 +355,17 @@ def ballot_is_first(case: JudgedLetter) -> Because | None:
     return next(filter(None, (why_not_first(case, joined) for joined in views)), None)
 
 
-def is_of_this_vote(case: JudgedLetter) -> Because | None:
+def is_of_this_vote(case: JudgedLetter) -> ReasonWithValues | None:
     """Its subject has the mark of the poll, and no other; nor has a text that must be signed."""
-    own = case.known.mark
-    signed = case.parsed.shown_lines if case.known.is_signed else ()
-    marks = [mark for mark, _ in case.parsed.marks]
+    own = case.circumstances.mark
+    signed = case.read.shown_lines if case.circumstances.is_signed else ()
+    marks = [mark for mark, _ in case.read.marks]
     for mark in (*marks, *(mark for line in signed for mark, _ in marks_in(line))):
         if mark != own:
             return Reason.OTHER_MARK(mark=mark)
     if marks:
         return None
-    subject = "".join(case.parsed.subject.split()).lower()
+    subject = "".join(case.read.subject.split()).lower()
     pieces = (own[place : place + PIECE] for place in range(len(own) - PIECE + 1))
     is_changed = any(piece in subject for piece in pieces)
     return (Reason.CHANGED_MARK if is_changed else Reason.NO_SUBJECT_MARK)(mark=own)
@@ -389,13 +392,13 @@ def paragraphs_of(case: JudgedLetter, joined: Collection[int]) -> list[list[int]
     """The paragraphs above the end of a letter, each as the indices of its lines. A line that is
     passed over is in no paragraph, and ends none; nor does an empty line that is joined to others.
     """
-    lines, paragraphs = case.parsed.body.lines, [list[int]()]
+    lines, paragraphs = case.read.body.lines, [list[int]()]
     for index, line in enumerate(lines[: above_end(lines)]):
         # a line of blanks is empty, no-break ones too
         has_text = bool(line.strip())
         if line == STROKE or not (has_text or index in joined):
             paragraphs.append([])
-        elif has_text and not case.known.passes_over(line):
+        elif has_text and not case.circumstances.passes_over(line):
             paragraphs[-1].append(index)
     return [paragraph for paragraph in paragraphs if paragraph]
 
@@ -406,15 +409,16 @@ def is_subject_of_page(case: JudgedLetter) -> bool:
     def as_compared(subject: str) -> str:
         return "".join(subject.split()).casefold()
 
-    subject = MARKS.sub("", as_compared(case.parsed.subject))
-    return as_compared(subject) == as_compared(case.known.subject)
+    subject = MARKS.sub("", as_compared(case.read.subject))
+    return as_compared(subject) == as_compared(case.circumstances.subject)
 
 
-def why_not_first(case: JudgedLetter, joined: Collection[int]) -> Because | None:
+def why_not_first(case: JudgedLetter, joined: Collection[int]) -> ReasonWithValues | None:
     """Why the ballot is not the first line; None if it is."""
-    letter, lines, ballot = case.parsed, case.parsed.body.lines, case.index
+    letter, lines, ballot = case.read, case.read.body.lines, case.index
     is_ours = case.has_own_mark
-    is_answer = is_ours and letter.in_reply_to in case.known.our_letters.get(case.elector, ())
+    ours = case.circumstances.our_letters.get(case.elector, ())
+    is_answer = is_ours and letter.in_reply_to in ours
     is_by_page = is_ours and letter.is_new and is_subject_of_page(case)
     paragraphs = paragraphs_of(case, joined)
     place = next(place for place, own in enumerate(paragraphs) if ballot in own)

@@ -16,7 +16,8 @@ from typing import NamedTuple
 
 from debvote_tools.cli.faults import Fault
 from debvote_tools.cli.console import shown_text
-from debvote_tools.inbox.lines import BLANKS, Line, bad_ballots, bad_words
+from debvote_tools.inbox.lines import BLANKS, Line
+from debvote_tools.inbox.not_added import bad_ballots, bad_words
 from debvote_tools.poll.plain_names import without_accents
 from debvote_tools.poll.sealed import SealedPoll
 from debvote_tools.text.ballots import NUMBERS, UNRANKED
@@ -221,9 +222,9 @@ def lines_of_table(
         elector, *ranks = [on_one_line(cell).strip(BLANKS) for cell in cells]
         if is_blank_unranked and elector:
             ranks = [rank or UNRANKED.encode() for rank in ranks]
-        came = b"%b %b" % (cells[0], b",".join(cells[1:]))
+        as_it_came = b"%b %b" % (cells[0], b",".join(cells[1:]))
         repaired = b"%b %b" % (elector.lower(), b",".join(ranks))
-        lines.append(Line(file_name, place, came, on_one_line(came), repaired))
+        lines.append(Line(file_name, place, as_it_came, on_one_line(as_it_came), repaired))
     demand_ranks(table, indices[1:], OptionNames(poll), file_name)
     if is_newest_first is not None and (contradiction := against_order(table, is_newest_first)):
         option = "--newest-first" if is_newest_first else "--oldest-first"

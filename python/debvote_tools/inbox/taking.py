@@ -1,8 +1,7 @@
-"""Letters that come: `add` keeps those that are new, has all judged, and enters the ballots that go
-in.
+"""Letters that `add` is given: it keeps those that are new, has all judged, and enters the ballots
+that go in. Lines are taken by `take_lines` in `commands/add.py`.
 """
 
-import pathlib
 from collections.abc import Collection, Iterable, Iterator, Mapping, Sequence
 from typing import NamedTuple
 
@@ -13,27 +12,31 @@ from debvote_tools.book.queries import NewEnvelope
 from debvote_tools.cli.console import count_of, is_terminal, is_yes, shown_text, tell
 from debvote_tools.cli.faults import Fault
 from debvote_tools.inbox import letter_words
-from debvote_tools.inbox.came import CameFile, safe
+from debvote_tools.inbox.given_files import GivenFile, GivenFolder, safe
 from debvote_tools.inbox.entering import agreed_act, enter_lines, late_notes
 from debvote_tools.inbox.judging import judged
-from debvote_tools.inbox.letter_lines import ReadLetter, as_json, read_letters
-from debvote_tools.inbox.lines import NOTHING_ADDED, bad_ballots
+from debvote_tools.inbox.letter_lines import ReadLetter, read_letters, to_json
 from debvote_tools.inbox.mailbox import RawLetter, letters_of_file, letters_of_folder
+from debvote_tools.inbox.not_added import NOTHING_ADDED, bad_ballots
 from debvote_tools.inbox.rules import JudgedLetter, Outcome
 from debvote_tools.inbox.vote import Vote
 
 
 def take_letters(
-    vote: Vote, files: Mapping[str, CameFile | None], *, is_look: bool, is_agreed: bool
+    vote: Vote,
+    given: Mapping[str, GivenFile | GivenFolder],
+    *,
+    is_look: bool,
+    is_agreed: bool,
 ) -> None:
     """Keeps new letters, and enters the ballots that go in; or tells what would become of them."""
-    came = split_letters(files)
-    raws = [raw for raw in came if raw.why_not_read is None]
+    split = split_letters(given)
+    raws = [raw for raw in split if raw.why_not_read is None]
     new = new_of(vote, raws)
     read = read_letters(vote, new)
     if not is_look:
         keep(vote, new, read)
-    for raw in came:
+    for raw in split:
         if why := raw.why_not_read:
             tell(f"{shown_text(raw.where)}: {why.what}, and was passed over; {why.cure}")
     came_before = f"{count_of(len(new), 'new letter')}; {len(raws) - len(new)} came before."
@@ -42,22 +45,22 @@ def take_letters(
         enter_letters(vote, is_agreed=is_agreed)
         return
     history = vote.election.history()
-    found = judged(vote, history, queries.letters(vote.book), read)
+    found = judged(vote, history, queries.kept_letters(vote.book), read)
     tell_letters(vote, history, found)
     would = letter_words.counts(found, len(going_in(found)))
     tell(came_before, would.replace("went in", "would go in"), "Nothing was changed.")
 
 
 # ---- keeping
-def split_letters(files: Mapping[str, CameFile | None]) -> list[RawLetter]:
+def split_letters(given: Mapping[str, GivenFile | GivenFolder]) -> list[RawLetter]:
     """The letters of files and folders, each read whole, and what is passed over."""
     found = list[RawLetter]()
-    for path, file in files.items():
+    for path, one in given.items():
         try:
             found += (
-                letters_of_folder(pathlib.Path(path))
-                if file is None
-                else letters_of_file(safe(file.name), file.data)
+                letters_of_folder(one.path)
+                if isinstance(one, GivenFolder)
+                else letters_of_file(safe(one.name), one.data)
             )
         except OSError as error:
             cure = "name letters that you may read"
@@ -66,8 +69,9 @@ def split_letters(files: Mapping[str, CameFile | None]) -> list[RawLetter]:
 
 
 def new_of(vote: Vote, raws: Sequence[RawLetter]) -> list[RawLetter]:
+    """The letters that the book does not have, each of them once."""
     kept = queries.kept_digests(vote.book)
-    # of letters with the same bytes the first that is not parted off, or else the first
+    # of letters with the same bytes the first that can't be text of another, or else the first
     chosen: dict[str, RawLetter] = {}
     for raw in raws:
         if raw.digest not in chosen or chosen[raw.digest].is_parted_off > raw.is_parted_off:
@@ -76,11 +80,14 @@ def new_of(vote: Vote, raws: Sequence[RawLetter]) -> list[RawLetter]:
 
 
 def is_not_kept(digest: str, is_parted_off: bool, kept: Collection[tuple[str, bool]]) -> bool:
-    """Whether a letter is new; one that only came parted off is, when it comes on its own."""
+    """Whether the book lacks a letter. If it has it only as what may be text of another letter, it
+    lacks the one that comes on its own.
+    """
     return (digest, False) not in kept and not (is_parted_off and (digest, True) in kept)
 
 
 def keep(vote: Vote, raws: Sequence[RawLetter], read: Sequence[ReadLetter]) -> None:
+    """The act that keeps new letters, byte for byte, each with what was read of it."""
     if not raws:
         return
     with vote.book.act("letters", {"letters": len(raws)}) as act:
@@ -90,8 +97,8 @@ def keep(vote: Vote, raws: Sequence[RawLetter], read: Sequence[ReadLetter]) -> N
         for raw, letter in zip(raws, read):
             # another command may have kept it meanwhile
             if is_not_kept(letter.digest, letter.is_parted_off, kept):
-                where, parsed_json = safe(raw.where), as_json(letter)
-                queries.keep_letter(act, where, raw.data, letter.identity, parsed_json)
+                where, read_json = safe(raw.where), to_json(letter)
+                queries.keep_letter(act, where, raw.data, letter.identity, read_json)
 
 
 # ---- entering
@@ -111,17 +118,21 @@ def envelope_of(letter: JudgedLetter, ballot: str) -> NewEnvelope:
 def enter_ballots(
     vote: Vote, name: ActName, detail: Detail, new: NewBallots, seen: int, *end: str
 ) -> None:
+    """The act that enters the ballots of letters, and decides of the letters that are done. Prints
+    the reply to each ballot in words, and then `end`.
+    """
+
     def envelopes(act: NewAct) -> list[NewEnvelope]:
         for number in new.done:
             queries.decide(act, number, queries.ENTERED)
         return new.envelopes
 
-    def report(numbers: range, replies: Sequence[str]) -> Iterator[str]:
+    def report_on(numbers: range, replies: Sequence[str]) -> Iterator[str]:
         for number, reply, envelope in zip(numbers, replies, new.envelopes):
             yield f"{number} {reply}  {vote.ballot_in_words(envelope.line.decode('ascii'))}"
         yield from end
 
-    enter_lines(vote, name, detail, envelopes, report, seen, is_late=new.is_late)
+    enter_lines(vote, name, detail, envelopes, report_on, seen, is_late=new.is_late)
 
 
 def going_in(found: Iterable[JudgedLetter]) -> list[JudgedLetter]:
@@ -137,7 +148,7 @@ def enter_letters(vote: Vote, *, is_agreed: bool) -> None:
         nonlocal history, found
         history = election.history()
         vote.demand_same_call(history, NOTHING_ADDED)
-        found = judged(vote, history, queries.letters(vote.book))
+        found = judged(vote, history, queries.kept_letters(vote.book))
         new = [envelope_of(letter, letter.ballots[0].ballot) for letter in going_in(found)]
         return NewBallots(new, [letter.number for letter in going_in(found)], history.is_closed)
 
@@ -148,7 +159,7 @@ def enter_letters(vote: Vote, *, is_agreed: bool) -> None:
         elif is_agreed or agreed(count_of(len(new.done), "ballot")):
             return True
         else:
-            waits = letter_words.wait_words(sum(letter.waits for letter in found))
+            waits = letter_words.wait_words(sum(letter.needs_secretary for letter in found))
             tell(f"Nothing was entered. The letters are kept, and wait: {waits}.")
         return False
 

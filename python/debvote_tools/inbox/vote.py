@@ -26,10 +26,10 @@ LATE_REPLY = "late"
 NUMBER = re.compile(r"-\d+\Z")
 
 
-class JudgedLine(NamedTuple):
+class CheckedLine(NamedTuple):
     """A line that came, how it is entered, and what debvote says of it, whenever it comes."""
 
-    line: Line
+    original: Line
     # with the changes that are allowed if debvote takes it so, and otherwise without them
     as_entered: bytes
     # why debvote refuses the line as it is entered, and why it refuses the repaired one; None if it
@@ -94,26 +94,30 @@ class Vote:
         return list(map(numbers.get, names))
 
     # ---- what debvote says
-    def judge(self, lines: Sequence[Line]) -> list[JudgedLine]:
-        """What debvote says of lines, none of them empty. It is started twice at most.
+    def checked_lines(self, lines: Sequence[Line]) -> list[CheckedLine]:
+        """Lines with what debvote says of them, none of them empty. It is started twice at most.
 
-        If the repaired line is refused, the line goes in as it came, and is refused too, since
-        repairs leave a right line as it is; the reason may be another one.
+        If the repaired line is refused, the line goes in as it came, but without a byte-order mark
+        and carriage return. It is refused too, since repairs leave a right line as it is; the
+        reason may be another one.
         """
         refused = self.findings([line.repaired for line in lines])
-        changed = (line for line in lines if line.repaired in refused)
-        as_they_came = [line.unframed for line in changed if line.unframed != line.repaired]
-        refused_as_they_came = self.findings(as_they_came)
-        judged = []
+        unrepaired = [
+            line.unframed
+            for line in lines
+            if line.repaired in refused and line.unframed != line.repaired
+        ]
+        refused_unrepaired = self.findings(unrepaired)
+        found = []
         for line in lines:
             finding = refused.get(line.repaired)
             if finding is None:
-                judged.append(JudgedLine(line, line.repaired))
+                found.append(CheckedLine(line, line.repaired))
             else:
-                now = refused_as_they_came.get(line.unframed, finding)
+                now = refused_unrepaired.get(line.unframed, finding)
                 others = self.other_names(now)
-                judged.append(JudgedLine(line, line.unframed, now, finding, others))
-        return judged
+                found.append(CheckedLine(line, line.unframed, now, finding, others))
+        return found
 
     def answers(self, lines: Sequence[bytes]) -> dict[bytes, str | None]:
         """What debvote says of each line, such as `bad rank count: ..`; None for a valid ballot. It
@@ -162,18 +166,18 @@ class Vote:
         return self.debvote.standing(self.poll_bytes, ballot_file(lines)) if lines else {}
 
     # ---- words
-    def report(
-        self, lines: Sequence[JudgedLine], numbers: Iterable[int], replies: Sequence[str]
+    def report_of_lines(
+        self, lines: Sequence[CheckedLine], numbers: Iterable[int], replies: Sequence[str]
     ) -> Iterator[str]:
         """Each line that went in, or would, by the number of its envelope and the reply to it."""
-        yield from frame_words(line.line for line in lines)
+        yield from frame_words(line.original for line in lines)
         for number, reply, line in zip(numbers, replies, lines):
-            if line.line.came != line.as_entered:
+            if line.original.as_it_came != line.as_entered:
                 yield from change_words(line)
             yield f"{number} {reply}  {self.in_words(line, reply)}"
             finding, other = line.finding, line.finding_of_repaired
             if finding and other and (other.word, other.hint) != (finding.word, finding.hint):
-                written = f"written as `{shown_line(line.line.repaired)}` it is refused too"
+                written = f"written as `{shown_line(line.original.repaired)}` it is refused too"
                 yield f"  it goes in as it came; {written}: {other.word}: {other.hint}"
         if not all(line.is_ballot for line in lines):
             yield self.right_words()
@@ -181,14 +185,14 @@ class Vote:
             late = count_of(replies.count(LATE_REPLY), "line")
             yield f"{late} came after the close, and late lines do not count."
 
-    def in_words(self, line: JudgedLine, reply: str = "") -> str:
+    def in_words(self, line: CheckedLine, reply: str = "") -> str:
         """A ballot in words, or the line and why debvote refuses it."""
         if line.finding is None:
             return self.ballot_in_words(line.as_entered.decode("ascii"))
         word = "" if line.finding.word == reply else f"{line.finding.word}: "
         # so that nobody takes one elector for another
         others = f" (or {ENGLISH.joined(list(line.other_names))})" if line.other_names else ""
-        is_code = has_code(line.line.repaired.decode("utf-8", "replace")) and not self.has_codes
+        is_code = has_code(line.original.repaired.decode("utf-8", "replace")) and not self.has_codes
         said = f"{shown_line(line.as_entered)}: {word}{line.finding.hint}{others}"
         return said + (IS_CODE if is_code else "")
 
@@ -226,10 +230,10 @@ def in_parts(lines: Sequence[bytes]) -> Iterator[list[bytes]]:
 
 def frame_words(lines: Iterable[Line]) -> Iterator[str]:
     """The marks and line ends of Windows that were removed, once a file."""
-    changed = [line for line in lines if line.came != line.repaired]
-    marked = {line.source for line in changed if line.had_mark}
-    returns = collections.Counter(line.source for line in changed if line.had_return)
-    for name in dict.fromkeys(line.source for line in changed):
+    changed = [line for line in lines if line.as_it_came != line.repaired]
+    marked = {line.file_name for line in changed if line.had_mark}
+    returns = collections.Counter(line.file_name for line in changed if line.had_return)
+    for name in dict.fromkeys(line.file_name for line in changed):
         if name in marked:
             yield f"{name}: it begins with a mark that Windows writes (byte-order mark); it was removed"
         if count := returns[name]:
@@ -237,11 +241,11 @@ def frame_words(lines: Iterable[Line]) -> Iterator[str]:
             yield f"{name}: {count_of(count, 'line')} {verb} as Windows ends {they} (carriage return); that was removed"
 
 
-def change_words(line: JudgedLine) -> Iterator[str]:
-    before = line.line.without_frame
+def change_words(line: CheckedLine) -> Iterator[str]:
+    before = line.original.without_frame
     if before != line.as_entered:
         how = ", ".join(differences(before, line.as_entered))
-        yield f"{line.line.where}: `{shown_line(before)}` was changed to `{shown_line(line.as_entered)}` ({how})"
+        yield f"{line.original.where}: `{shown_line(before)}` was changed to `{shown_line(line.as_entered)}` ({how})"
 
 
 def summary(replies: Sequence[str]) -> str:

@@ -23,7 +23,7 @@ class Arrived(enum.Enum):
 
 def waiting_letters(election: Election, history: History) -> dict[int, Arrived]:
     """The letters that wait for the secretary, by their numbers: when each arrived."""
-    kept = queries.letters(election.book)
+    kept = queries.kept_letters(election.book)
     if not kept:
         return {}
     from debvote_tools.inbox.judging import judged
@@ -35,7 +35,7 @@ def waiting_letters(election: Election, history: History) -> dict[int, Arrived]:
         kept = queries.undecided(kept)
     found = {}
     for letter in judged(Vote(election, history), history, kept):
-        if letter.waits:
+        if letter.needs_secretary:
             arrived = Arrived.LATE if letter.arrived_late else Arrived.IN_TIME
             is_before = letter.arrived_before_call
             found[letter.number] = Arrived.BEFORE_THE_CALL if is_before else arrived

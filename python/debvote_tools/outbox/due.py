@@ -12,12 +12,13 @@ from debvote_tools.book.queries import Elector
 from debvote_tools.book.sent import REFUSED, TAKEN, WRITTEN, About, SentLetter
 from debvote_tools.cli.faults import Fault, bad_words
 from debvote_tools.text.ballots import ballot_file
-from debvote_tools.inbox.of_electors import NOBODY, Became, Came, of_electors
+from debvote_tools.inbox.fates import NOBODY, Became, Fate, fates_of
 from debvote_tools.inbox.rules import Outcome
 from debvote_tools.outbox.reached import CAME_BACK, reached_by_call
 from debvote_tools.outbox.words import Composer
 from debvote_tools.poll.announced import address_in
-from debvote_tools.result.publication import closing_letter, current_data, last_publication
+from debvote_tools.poll.current import current_call
+from debvote_tools.result.publication import closing_letter, last_publication
 from debvote_tools.text.language import language_of
 from debvote_tools.text.times import now
 
@@ -31,7 +32,9 @@ TextOf = Callable[[Elector, SentLetter], str]
 
 
 class LettersDue:
-    """The letters of a kind, by the book as it is now."""
+    """The letters of a kind, by the book as it is now. `find` has to be called first: until then
+    none is due.
+    """
 
     def __init__(self, election: Election, kind: str, sender: str, *, is_sending: bool) -> None:
         self.election, self.kind, self.sender, self.is_sending = election, kind, sender, is_sending
@@ -46,14 +49,14 @@ class LettersDue:
         self.electors = {elector.number: elector for elector in on_list}
         is_over = bool(self.history.closes) or (until is not None and self.time > until)
         typed = {act.number for act in self.history.named("enter") if not act.detail.get("lines")}
-        self.composer = Composer(current_data(election, self.history), is_over, on_list, typed)
-        self.letters = sent.sent_letters(election.book, kind)
+        self.composer = Composer(current_call(election, self.history), is_over, on_list, typed)
+        self.sent = sent.sent_letters(election.book, kind)
         unreached, _ = reached_by_call(election, self.history)
         back = {elector.number for elector, why, _ in unreached if why == CAME_BACK}
         # the last letter to each of these, which is tried again
         self.came_back = {
             letter.elector: letter.message_id
-            for letter in self.letters
+            for letter in self.sent
             if letter.elector in back and self.is_present(letter)
         }.values()
         # the act to which the letters belong, those that are new, and those that were written
@@ -65,17 +68,27 @@ class LettersDue:
         # the receipts of earlier runs that have files, or had them; the numbers of the letters that
         # wait and are in no elector's receipt; how many wait in all, if they were looked at
         self.earlier, self.in_no_receipt, self.letters_waiting = list[SentLetter](), list[int](), 0
-        # each kind has a method of its name
-        self.text_of: TextOf = getattr(self, kind)()
+        self.text_of: TextOf
 
-    def what_came(self) -> dict[str, list[Came]]:
-        came = of_electors(self.election, self.history)
-        letters = (one.letter for items in came.values() for one in items)
-        self.letters_waiting = len({one.number for one in letters if one and one.waits})
-        return came
+    def find(self) -> None:
+        """Finds the letters that are due, and what each says."""
+        of_kinds = {
+            "call": self.due_call,
+            "reminders": self.due_reminders,
+            "receipts": self.due_receipts,
+            "closed": self.due_closed,
+            "result": self.due_result,
+        }
+        self.text_of = of_kinds[self.kind]()
+
+    def fates(self) -> dict[str, list[Fate]]:
+        fates = fates_of(self.election, self.history)
+        letters = (one.letter for items in fates.values() for one in items)
+        self.letters_waiting = len({one.number for one in letters if one and one.needs_secretary})
+        return fates
 
     @property
-    def waiting(self) -> list[SentLetter]:
+    def to_send(self) -> list[SentLetter]:
         return list(filter(self.can_be_sent, (*self.written, *self.new)))
 
     def can_be_sent(self, letter: SentLetter) -> bool:
@@ -98,7 +111,7 @@ class LettersDue:
         """The subject of a letter, and the mark that ends it."""
         is_extension, own = self.is_extension(letter), self.elector(letter).mark
         subject = self.composer.subject(self.kind, is_extension=is_extension)
-        return subject, self.composer.call.mark_of(own)
+        return subject, self.composer.call_data.mark_of(own)
 
     def is_extension(self, letter: SentLetter) -> bool:
         """Whether a letter says only that the vote ends later."""
@@ -112,11 +125,11 @@ class LettersDue:
         return elector if self.is_present(letter) else elector._replace(mark="")
 
     # ------------------------------------------------------------ each kind
-    def call(self) -> TextOf:
+    def due_call(self) -> TextOf:
         """The call to each elector; after an extension that, to those who have the call."""
         self.demand_not_over()
         *earlier, last = (act.number for act in self.history.since_call("call", "extend"))
-        letters = [letter for letter in self.letters if letter.for_act in earlier]
+        letters = [letter for letter in self.sent if letter.for_act in earlier]
         by_server = {letter.for_act for letter in letters if letter.state != WRITTEN}
         # a server has taken it, it is on paper, or all for its act were written as files
         self.had_call = {
@@ -130,40 +143,40 @@ class LettersDue:
             elector, is_extension=self.is_extension(letter)
         )
 
-    def reminders(self) -> TextOf:
+    def due_reminders(self) -> TextOf:
         """A letter to each elector whose ballot does not count yet. A run of this day goes on if it
         was cut off, or the server refused some for now; else each run is a new one.
         """
         self.demand_not_over()
-        came = self.what_came()
+        fates = self.fates()
         silent = {
             number: elector
             for number, elector in self.electors.items()
-            if not any(one.became is Became.COUNTS for one in came[elector.name])
+            if not any(one.became is Became.COUNTS for one in fates[elector.name])
         }
-        last = max((letter.for_act for letter in self.letters), default=0)
+        last = max((letter.for_act for letter in self.sent), default=0)
         # to the address of now
         written = [
             letter
-            for letter in self.letters
+            for letter in self.sent
             if letter.for_act == last
             and letter.elector in silent
             and letter.address == address_in(silent[letter.elector].addresses)
         ]
-        waits = (
+        are_unsent = (
             letter.address and letter.state != TAKEN and not letter.is_refused_for_good
             for letter in written
             if self.time - letter.time < LASTING
         )
-        if self.is_sending and any(waits):
+        if self.is_sending and any(are_unsent):
             self.for_act, self.written = last, written
         else:
             self.new = list(map(self.letter_to, silent.values()))
 
         def text_of(elector: Elector, letter: SentLetter) -> str:
-            waiting = (Outcome.WAITS, Outcome.GOES_IN)
-            told = told_of(came[elector.name]).values()
-            return self.composer.reminder(elector, [one for one in told if one.became in waiting])
+            held = (Outcome.WAITS, Outcome.GOES_IN)
+            told = told_of(fates[elector.name]).values()
+            return self.composer.reminder(elector, [one for one in told if one.became in held])
 
         return text_of
 
@@ -172,25 +185,25 @@ class LettersDue:
         """When others were reminded, if this run would do so again within a day."""
         if self.kind != "reminders" or not self.new:
             return None
-        times = (one.time for one in self.letters if self.time - one.time < LASTING)
+        times = (one.time for one in self.sent if self.time - one.time < LASTING)
         return max(times, default=None)
 
-    def receipts(self) -> TextOf:
+    def due_receipts(self) -> TextOf:
         """A letter to each elector about all that came since the last one, also to an earlier
         address, and those that no server has taken yet.
         """
-        came = self.what_came()
+        fates = self.fates()
         self.in_no_receipt = [
             one.letter.number
-            for one in came[NOBODY]
-            if one.letter and one.became is Outcome.WAITS and not one.letter.parsed.is_automatic
+            for one in fates[NOBODY]
+            if one.letter and one.became is Outcome.WAITS and not one.letter.read.is_automatic
         ]
-        told = {one.number: told_of(came[one.name]) for one in self.electors.values()}
+        told = {one.number: told_of(fates[one.name]) for one in self.electors.values()}
         # not to people who left the list, nor about a letter that has become a ballot: a new
         # receipt is about that
         self.earlier = [
             one
-            for one in self.letters
+            for one in self.sent
             if (one.state != TAKEN or one.message_id in self.came_back)
             and one.elector in told
             and about_now(one.about, told[one.elector])
@@ -198,11 +211,11 @@ class LettersDue:
         self.written = list(filter(self.can_be_sent, self.earlier)) if self.is_sending else []
         said = {
             (one.elector, key)
-            for one in self.letters
+            for one in self.sent
             if not self.failed_elsewhere(one)
             for key in one.about
         }
-        waiting = {(one.elector, one.address): set(one.about) for one in self.earlier}
+        in_earlier = {(one.elector, one.address): set(one.about) for one in self.earlier}
         old = self.old_addresses()
         for number, elector in self.electors.items():
             keys = [key for key in told[number] if (number, key) not in said]
@@ -210,7 +223,7 @@ class LettersDue:
             self.new += [
                 self.letter_to(elector, address, keys)
                 for address in addresses
-                if keys and not waiting.get((number, address), set()).issuperset(keys)
+                if keys and not in_earlier.get((number, address), set()).issuperset(keys)
             ]
 
         return lambda elector, letter: self.composer.receipt(
@@ -221,7 +234,7 @@ class LettersDue:
         """The addresses of electors before a change after the call, if no receipt was written
         since.
         """
-        last = {letter.elector: letter.for_act for letter in self.letters}
+        last = {letter.elector: letter.for_act for letter in self.sent}
         found: dict[int, list[str]] = collections.defaultdict(list)
         for elector, act, addresses in sent.old_addresses(self.election.book, self.called):
             if act > last.get(elector, 0) and (address := address_in(addresses)):
@@ -235,19 +248,19 @@ class LettersDue:
         states = (REFUSED, *([WRITTEN] if self.is_sending else []))
         return letter.state in states and not self.is_present(letter)
 
-    def closed(self) -> TextOf:
+    def due_closed(self) -> TextOf:
         if not self.history.is_closed:
             raise self.stops("the vote is not closed", "close")
-        poll, language = self.composer.call.poll, self.election.language
+        poll, language = self.composer.call_data.poll, self.election.language
         text = closing_letter(self.history, poll, language).decode()
         self.to_each(self.history.closes[-1].number)
-        return lambda elector, _: self.composer.text(self.kind, elector, letter=text)
+        return lambda elector, _: self.composer.text("closed_to_elector.txt", elector, letter=text)
 
-    def result(self) -> TextOf:
+    def due_result(self) -> TextOf:
         act = last_publication(self.history)
         if act is None or not self.history.is_closed:
             raise self.stops("nothing is published", "publish")
-        if self.composer.call.at is None:
+        if self.composer.call_data.at is None:
             why, cure = "the letter must say where the result is published", "give it: --at URL"
             raise bad_words("--at", why, cure, NOTHING_WRITTEN)
         book, code = self.election.book, act.detail["words"]["language"]
@@ -256,11 +269,11 @@ class LettersDue:
         poll = self.election.sealed().counted.as_bytes()
         standing = self.election.debvote.standing(poll, ballots)
         if code is not None:
-            call = dataclasses.replace(self.composer.call, language=language_of(code))
-            self.composer = dataclasses.replace(self.composer, call=call)
+            call_data = dataclasses.replace(self.composer.call_data, language=language_of(code))
+            self.composer = dataclasses.replace(self.composer, call_data=call_data)
         self.to_each(act.number)
         return lambda elector, _: self.composer.text(
-            self.kind, elector, has_ballot=elector.name in standing, letter=letter
+            "result_to_elector.txt", elector, has_ballot=elector.name in standing, letter=letter
         )
 
     def stops(self, words: str, first: str) -> Fault:
@@ -276,7 +289,7 @@ class LettersDue:
     def to_each(self, for_act: int) -> None:
         """One letter to each elector. One to the same address for the same act stays as it is."""
         self.for_act = for_act
-        of_act = [letter for letter in self.letters if letter.for_act == for_act]
+        of_act = [letter for letter in self.sent if letter.for_act == for_act]
         before = {(letter.elector, letter.address): letter for letter in of_act}
         for elector in self.electors.values():
             letter = before.get((elector.number, address_in(elector.addresses)))
@@ -300,22 +313,22 @@ class LettersDue:
 
 
 # ---------------------------------------------------------------- what electors are told
-def is_told(came: Came) -> bool:
+def is_told(fate: Fate) -> bool:
     """Whether an elector is told of something that came. A copy is the letter that it copies. A
     program that answers by itself would answer; and a letter of ours that came back has the name of
     its elector.
     """
-    letter = came.letter
+    letter = fate.letter
     if letter is None:
         return True
-    is_automatic = letter.parsed.is_automatic and (came.is_own or not letter.ballots)
-    return came.became in (Outcome.WAITS, Outcome.GOES_IN, Outcome.SET_ASIDE) and not is_automatic
+    is_automatic = letter.read.is_automatic and (fate.is_own or not letter.ballots)
+    return fate.became in (Outcome.WAITS, Outcome.GOES_IN, Outcome.SET_ASIDE) and not is_automatic
 
 
-def told_of(items: Sequence[Came]) -> dict[About, Came]:
+def told_of(items: Sequence[Fate]) -> dict[About, Fate]:
     """What an elector is told of, in its order; of a letter by the ballots from it."""
     entered = {one.envelope.letter for one in items if one.envelope}
-    found: dict[About, Came] = {}
+    found: dict[About, Fate] = {}
     for one in filter(is_told, items):
         if one.envelope is not None:
             found["envelope", one.envelope.number, one.envelope.is_struck] = one
@@ -324,13 +337,13 @@ def told_of(items: Sequence[Came]) -> dict[About, Came]:
     return found
 
 
-def about_now(about: Sequence[About], told: Mapping[About, Came]) -> list[About]:
+def about_now(about: Sequence[About], told: Mapping[About, Fate]) -> list[About]:
     """What a receipt is about, as it is now: a ballot may have been struck since it was written."""
     numbers = {key[:2] for key in about}
     return [key for key in told if key[:2] in numbers]
 
 
-def beside_what_counts(about: Sequence[About], told: Mapping[About, Came]) -> list[Came]:
+def beside_what_counts(about: Sequence[About], told: Mapping[About, Fate]) -> list[Fate]:
     """What a receipt says: what it is about, and the ballot that counts. Who reads that another one
     waits, or does not count, learns that an earlier ballot does.
     """

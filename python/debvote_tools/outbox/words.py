@@ -13,7 +13,7 @@ from collections.abc import Collection, Iterator, Sequence
 
 from debvote_tools.book.queries import Elector
 from debvote_tools.inbox.rules import Outcome
-from debvote_tools.inbox.of_electors import Became, Came
+from debvote_tools.inbox.fates import Became, Fate
 from debvote_tools.inbox.reasons import for_elector
 from debvote_tools.poll.announced import address_in
 from debvote_tools.poll.call import CallData
@@ -86,7 +86,7 @@ OF_LETTER = {
 class Composer:
     """Makes all letters of a run. After the end nobody is invited to vote."""
 
-    call: CallData
+    call_data: CallData
     is_over: bool
     electors: Sequence[Elector] = ()
     # the acts that entered what the secretary typed for a letter
@@ -95,7 +95,7 @@ class Composer:
     def subject(self, kind: str, *, is_extension: bool = False) -> str:
         """The subject of a kind of letters, before the mark that ends it."""
         said = EXTENSION if is_extension else SUBJECTS[kind]
-        return self.call.language.say(said, title=one_line(self.call.poll.name))
+        return self.call_data.language.say(said, title=one_line(self.call_data.poll.name))
 
     def call_letter(self, elector: Elector, *, is_extension: bool) -> str:
         """The call; or that it ends later, which repeats no code. On paper it has at most two
@@ -108,29 +108,29 @@ class Composer:
                 break
         return text
 
-    def reminder(self, elector: Elector, waits: Sequence[Came]) -> str:
+    def reminder(self, elector: Elector, held: Sequence[Fate]) -> str:
         """A letter to an elector without a ballot. If a letter of theirs waits, it says so, and
         does not remind.
         """
-        is_reminding = not any(one.is_own for one in waits)
-        return self.text("reminders", elector, came=waits, is_reminding=is_reminding)
+        is_reminding = not any(one.is_own for one in held)
+        return self.text("reminders.txt", elector, fates=held, is_reminding=is_reminding)
 
-    def receipt(self, elector: Elector, came: Sequence[Came]) -> str:
+    def receipt(self, elector: Elector, fates: Sequence[Fate]) -> str:
         """What became of all that came of an elector. It has the right line if what came last was
         refused or waits.
         """
         decides = (
-            one for one in came if one.is_own or one.became in (Became.COUNTS, Became.REFUSED)
+            one for one in fates if one.is_own or one.became in (Became.COUNTS, Became.REFUSED)
         )
         last = next(reversed([one.became for one in decides]), Became.COUNTS)
         is_refusing = not self.is_over and last is not Became.COUNTS
-        return self.text("receipts", elector, came=came, is_refusing=is_refusing)
+        return self.text("receipts.txt", elector, fates=fates, is_refusing=is_refusing)
 
-    def text(self, kind: str, elector: Elector, **values: object) -> str:
-        return self.rendered(PACKAGE, f"{kind}.txt", elector, said_of=self.said_of, **values)
+    def text(self, template: str, elector: Elector, **values: object) -> str:
+        return self.rendered(PACKAGE, template, elector, said_of=self.said_of, **values)
 
     def rendered(self, package: str, template: str, elector: Elector, **values: object) -> str:
-        call = self.call
+        call = self.call_data
         greeting = call.language.say(
             "Dear {name},", name=one_line(elector.who)[:200] or elector.name
         )
@@ -152,25 +152,25 @@ class Composer:
         return frozenset(self.folded(word) for words in names for word in words)
 
     def folded(self, word: str) -> str:
-        return without_accents(word, self.call.language.code).lower()
+        return without_accents(word, self.call_data.language.code).lower()
 
-    def said_of(self, came: Came, name: str) -> str:
+    def said_of(self, fate: Fate, name: str) -> str:
         """Says what became of something that came, with its time in the zone in which the end was
         announced, and what is wrong with it.
         """
         language, zone = (
-            self.call.language,
-            self.call.until.tzinfo if self.call.until else datetime.UTC,
+            self.call_data.language,
+            self.call_data.until.tzinfo if self.call_data.until else datetime.UTC,
         )
-        if not isinstance(came.became, Became):
-            said = OF_LETTER[came.is_own, came.became is Outcome.SET_ASIDE]
+        if not isinstance(fate.became, Became):
+            said = OF_LETTER[fate.is_own, fate.became is Outcome.SET_ASIDE]
         else:
-            is_final = self.is_over and came.became is Became.COUNTS
-            said = AT_THE_END if is_final else OF_BALLOT[came.became]
-        sentences = [language.say(said, time=time_in_words(came.time.astimezone(zone), language))]
-        if came.envelope is not None and came.envelope.act in self.typed_acts:
+            is_final = self.is_over and fate.became is Became.COUNTS
+            said = AT_THE_END if is_final else OF_BALLOT[fate.became]
+        sentences = [language.say(said, time=time_in_words(fate.time.astimezone(zone), language))]
+        if fate.envelope is not None and fate.envelope.act in self.typed_acts:
             sentences.append(language.say("The secretary typed it, by a letter that came."))
-        if came.letter is not None and came.is_own and came.letter.reason is not None:
+        if fate.letter is not None and fate.is_own and fate.letter.reason is not None:
             # not the line itself: it may be another's ballot, or have a code
             near = (
                 language.say(
@@ -178,17 +178,17 @@ class Composer:
                     line=line.number,
                     fault=fault,
                 )
-                for line in came.letter.near
+                for line in fate.letter.near
                 for fault in faults_of(line.answer, name, language, is_within=line.is_within)
             )
-            why, _, advice = language.say(for_elector(came.letter.reason)).partition(". ")
+            why, _, advice = language.say(for_elector(fate.letter.reason)).partition(". ")
             # after the end nobody is asked to send it better
             sentences.append(
                 f"{why}. {advice}" if advice and not self.is_over else f"{why.rstrip('.')}."
             )
             sentences += dict.fromkeys(near)
-        elif came.became is Became.REFUSED:
-            sentences += faults_of(came.answer, name, language)
+        elif fate.became is Became.REFUSED:
+            sentences += faults_of(fate.answer, name, language)
         return " ".join(sentences)
 
 

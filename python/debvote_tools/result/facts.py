@@ -14,13 +14,6 @@ from debvote_tools.poll.sealed import SealedPoll
 from debvote_tools.result.sheet import Sheet, sheet_in
 from debvote_tools.text.language import ENGLISH, Language
 
-# the files of a published folder; a plain web server shows a text that ends in .txt
-POLL, BALLOTS, LATE, SHEET = "poll.toml", "ballots.txt", "late.txt", "sheet.txt"
-STANDING, DATA, TABLE, PICTURE = "standing.txt", "result.json", "votes.csv", "picture.svg"
-CLOSED, SEAL, LETTER = "closed.txt", "seal.txt", "letter.txt"
-PAGE, CHECKSUMS = "index.html", "SHA256SUMS"
-RECOUNT, SCRIPT, GUIDE = "recount.py", "recount.js", "READING-A-SHEET.md"
-
 # what the letter of the result does not tell, besides a close of which there is no more to say
 QUIET = ("called", "called until", "taken back", "keyring")
 
@@ -178,6 +171,11 @@ class Facts:
     has_codes: bool = False
     # the web address of the result, if it is known
     at: str | None = None
+
+    @property
+    def is_of_two_files(self) -> bool:
+        """Whether it is made from a poll and ballots alone, by debvote-publish, without a book."""
+        return self.acts is None
 
     @property
     def has_aliases(self) -> bool:

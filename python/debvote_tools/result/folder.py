@@ -18,17 +18,9 @@ from debvote_tools.cli.faults import Fault, Status, bad_words
 from debvote_tools.debvote import Answer, Debvote, findings_in
 from debvote_tools.files import TEMPORARY, locked, sha256_of, sync_folder, write_public
 from debvote_tools.poll.secret import demand_no_code
-from debvote_tools.result import facts
-from debvote_tools.result.facts import (
-    BALLOTS,
-    CHECKSUMS,
-    POLL,
-    RECOUNT,
-    SHEET,
-    Answers,
-    Facts,
-    doubts_about,
-)
+from debvote_tools.result import file_names
+from debvote_tools.result.facts import Answers, Facts, doubts_about
+from debvote_tools.result.file_names import BALLOTS, CHECKSUMS, POLL, RECOUNT, SHEET
 from debvote_tools.result.page import letter_of, page_of, picture_of
 from debvote_tools.result.sheet import Sheet, result_json, sheet_in, votes_csv
 
@@ -39,8 +31,11 @@ HERE = pathlib.Path(__file__).resolve().parent
 TOP = HERE.parents[1]
 BESIDE = {
     RECOUNT: ("the second count", [TOP / RECOUNT, TOP.parent / "tests" / "reference.py"]),
-    facts.SCRIPT: ("the third count", [HERE / facts.SCRIPT]),
-    facts.GUIDE: ("the guide for electors", [TOP / facts.GUIDE, TOP.parent / "docs" / facts.GUIDE]),
+    file_names.SCRIPT: ("the third count", [HERE / file_names.SCRIPT]),
+    file_names.GUIDE: (
+        "the guide for electors",
+        [TOP / file_names.GUIDE, TOP.parent / "docs" / file_names.GUIDE],
+    ),
 }
 
 # how a folder begins that is beside its place; a run holds the lock of its own, so what is not
@@ -108,7 +103,7 @@ def is_free(target_folder: pathlib.Path) -> bool:
 def demand_outside(target_folder: pathlib.Path) -> None:
     """Stops at a place within a published folder, or that of a call, which stays as it is."""
     for above in real_place(target_folder).parents:
-        if all((above / name).is_file() for name in (CHECKSUMS, facts.PAGE)):
+        if all((above / name).is_file() for name in (CHECKSUMS, file_names.PAGE)):
             words = f"it would be in {above}, whose files are published as they are"
             cure = "name a folder outside of it"
             raise bad_words(target_folder, words, cure, NOTHING_DONE)
@@ -157,6 +152,9 @@ def made(
 
 # ---------------------------------------------------------------- what is in it
 def fill(folder: pathlib.Path, given: Facts, program_folder: pathlib.Path | None) -> Made:
+    """Writes all files into an empty folder, and has them counted by debvote and by `recount.py`.
+    Stops at doubts that are not forced, at a code of an elector, and if the counts differ.
+    """
     debvote, checksums = Debvote(folder, program_folder), dict[str, str]()
 
     def write(files: dict[str, bytes]) -> None:
@@ -202,13 +200,13 @@ def fill(folder: pathlib.Path, given: Facts, program_folder: pathlib.Path | None
     write(further_files(full, answers))
     demand_same(folder, full.casting_words, answers)
     # each of these has checksums of those above
-    write({facts.PAGE: page_of(full, answers, checksums)})
+    write({file_names.PAGE: page_of(full, answers, checksums)})
     lines = (f"{checksum}  {name}\n" for name, checksum in sorted(checksums.items()))
     write({CHECKSUMS: "".join(lines).encode()})
     letter = letter_of(full, sheet, checksums)
-    if full.acts is None:
+    if full.is_of_two_files:
         # two files have no other folder for it
-        write({facts.LETTER: letter})
+        write({file_names.LETTER: letter})
     return Made(folder, answers, full, checksums, letter)
 
 
@@ -234,7 +232,8 @@ def demand_publishable(given: Facts, sheet: Sheet, sheet_text: str) -> Facts:
         sheet = given.secret.sheet
     doubts = (*doubts_about(sheet), *given.doubts)
     stopping = [doubt.for_secretary() for doubt in doubts if doubt.stops]
-    if stopping and given.acts is not None and not (given.words.is_forced and given.words.because):
+    is_forced = given.words.is_forced and given.words.because
+    if stopping and not (given.is_of_two_files or is_forced):
         cure = 'put it right, or publish as it is with --force --because "TEXT" (the result page says so)'
         raise Fault(None, "; ".join(stopping), cure, Status.DOUBT, NOTHING_DONE)
     tell_aside(*(f"Note: {doubt.for_secretary()}; the result page says so" for doubt in doubts))
@@ -254,13 +253,13 @@ def further_files(given: Facts, answers: Answers) -> dict[str, bytes]:
     the guide beside them.
     """
     files = {
-        facts.STANDING: answers.standing_text.encode(),
-        facts.DATA: result_json(answers.sheet, given.poll, answers.version).encode(),
-        facts.TABLE: votes_csv(answers.sheet).encode(),
-        facts.PICTURE: answers.picture,
-        facts.LATE: given.late,
-        facts.CLOSED: given.closed,
-        facts.SEAL: f"{given.seal}\n".encode() if given.seal else None,
+        file_names.STANDING: answers.standing_text.encode(),
+        file_names.DATA: result_json(answers.sheet, given.poll, answers.version).encode(),
+        file_names.TABLE: votes_csv(answers.sheet).encode(),
+        file_names.PICTURE: answers.picture,
+        file_names.LATE: given.late,
+        file_names.CLOSED: given.closed,
+        file_names.SEAL: f"{given.seal}\n".encode() if given.seal else None,
     }
     for name, (what, places) in BESIDE.items():
         file = next((place for place in places if place.is_file()), None)

@@ -16,7 +16,7 @@ from debvote_tools.cli.console import seen, tell_aside
 from debvote_tools.debvote import standing_in
 from debvote_tools.poll.secret import BY_OPENSSL, BY_PYTHON, sealed_checksum
 from debvote_tools.poll.call import explanations_of, numbered_options, paragraphs_of
-from debvote_tools.result import facts as files, scripts
+from debvote_tools.result import file_names, scripts
 from debvote_tools.result.facts import Answers, Facts
 from debvote_tools.result.sheet import Sheet
 from debvote_tools.result.why import Why
@@ -63,7 +63,7 @@ def letter_of(facts: Facts, sheet: Sheet, checksums: Mapping[str, str]) -> bytes
     """
     why = Why(sheet, numbered_options(facts.poll.names, facts.language))
     values = {"facts": facts, "sheet": sheet, "why": why, "checksums": checksums}
-    return render_letter(__package__, "letter.txt", facts.language, **values).encode()
+    return render_letter(__package__, "result.txt", facts.language, **values).encode()
 
 
 def page_of(facts: Facts, answers: Answers, checksums: Mapping[str, str]) -> bytes:
@@ -86,13 +86,14 @@ def page_of(facts: Facts, answers: Answers, checksums: Mapping[str, str]) -> byt
         picture, least_width = picture_in_page(answers.picture, language)
         style += f".picture svg {{ min-width: {least_width}px; }}\n"
     refused = ((one.envelope, f"{one.word}: {one.hint}") for one in answers.refused)
+    own_letter = [file_names.LETTER] if facts.is_of_two_files else []
     return render_page(
         __package__,
         "page.html",
         language,
         style=style,
         script=resources(
-            __package__, files.SCRIPT, "names.js", "count_again.js", "find.js", "fold.js"
+            __package__, file_names.SCRIPT, "names.js", "count_again.js", "find.js", "fold.js"
         ),
         head=in_html.say("Result: {title}", title=poll.name),
         title=poll.name,
@@ -110,7 +111,7 @@ def page_of(facts: Facts, answers: Answers, checksums: Mapping[str, str]) -> byt
         because=paragraphs_of(facts.words.because or ""),
         about=paragraphs_of(facts.words.about or ""),
         given_checksum=None
-        if facts.given_checksum == checksums[files.POLL]
+        if facts.given_checksum == checksums[file_names.POLL]
         else facts.given_checksum,
         explanations=explanations_of(poll),
         picture=picture,
@@ -128,9 +129,7 @@ def page_of(facts: Facts, answers: Answers, checksums: Mapping[str, str]) -> byt
         checksums=checksums,
         # in a secret vote that of the close has the line of the seal, too
         sealed_checksum=facts.seal and sealed_checksum(facts.seal, facts.ballots),
-        files=sorted(
-            {*checksums, files.CHECKSUMS, *([files.LETTER] if facts.acts is None else [])}
-        ),
+        files=sorted({*checksums, file_names.CHECKSUMS, *own_letter}),
         casting="".join(f" {word}" for word in map(shlex.quote, facts.casting_words)),
         example=next(iter(standing), "NAME"),
         find_words=scripts.find_words(facts),

@@ -1,5 +1,5 @@
-"""What is published of an election, from its book: the call, the letter of the close, and the facts
-of a result.
+"""What is published of an election, from its book: the letter of the close, and the facts of a
+result.
 """
 
 import dataclasses
@@ -10,71 +10,20 @@ from typing import Any
 
 from debvote_tools.book import queries
 from debvote_tools.book.book import Book, Detail, DoneAct, as_text, from_text
-from debvote_tools.book.election import LETTER_TEXT, Election, History, Sealed
+from debvote_tools.book.election import Election, History, Sealed
 from debvote_tools.cli.console import is_terminal, is_yes, tell_aside
 from debvote_tools.cli.faults import Fault
 from debvote_tools.debvote import casting_words
 from debvote_tools.files import sha256_of
 from debvote_tools.inbox.waiting import left
+from debvote_tools.poll.current import zone_of
 from debvote_tools.poll.secret import aliased_ballots, sealed_checksum
-from debvote_tools.poll.call import CallData
 from debvote_tools.poll.sealed import SealedPoll
-from debvote_tools.result.facts import (
-    BALLOTS,
-    CHECKSUMS,
-    PAGE,
-    POLL,
-    Act,
-    Doubt,
-    Facts,
-    SecretVote,
-    Words,
-)
+from debvote_tools.result.facts import Act, Doubt, Facts, SecretVote, Words
+from debvote_tools.result.file_names import BALLOTS, CHECKSUMS, PAGE, POLL
 from debvote_tools.text.ballots import ballot_file, in_normal_form
 from debvote_tools.text.language import Language, language_of
 from debvote_tools.text.rendering import render_letter
-
-
-def current_data(
-    election: Election,
-    history: History | None = None,
-    said: Detail | None = None,
-    sealed: Sealed | None = None,
-) -> CallData:
-    """What the page and the letter say as it is now, and with what an act would say or seal."""
-    now, saying, sealed = history or election.history(), said or {}, sealed or election.sealed()
-
-    def value_of(key: str) -> Any:
-        return saying.get(key) or now.announced(key)
-
-    return CallData(
-        language=election.language,
-        poll=sealed.public,
-        quorum_votes=value_of("quorum_votes"),
-        until=until_of(saying) or now.until,
-        to=value_of("to"),
-        at=value_of("at"),
-        real_names={elector.name: elector.who for elector in queries.electors(election.book)}
-        if value_of("names")
-        else None,
-        has_form=bool(value_of("form")),
-        is_signed=bool(value_of("signed")),
-        is_marked=bool(value_of("marked")),
-        letter_text=(queries.sealed(election.book, LETTER_TEXT) or b"").decode(),
-        has_aliases=sealed.is_aliased,
-        has_codes_on_roll=bool(value_of("codes_on_roll")),
-        has_lapsed_codes=now.has_lapsed_codes,
-    )
-
-
-def until_of(said: Detail) -> datetime.datetime | None:
-    """The end that the command line names."""
-    return datetime.datetime.fromisoformat(said["until"]) if "until" in said else None
-
-
-def zone_of(history: History) -> datetime.tzinfo | None:
-    """The zone in which the end was announced."""
-    return history.until.tzinfo if history.until else datetime.UTC
 
 
 # ---------------------------------------------------------------- publications
@@ -110,7 +59,8 @@ def facts_of(election: Election, words: Words, waiting: Sequence[int]) -> Facts:
         )
         is_secret, has_names = sealed.counted.secret, history.announced("names")
         electors = queries.electors(book) if has_names or is_secret else []
-        acts, late_count = acts_of(book, history, is_secret=is_secret), after_the_end(book, history)
+        acts = acts_of(book, history, is_secret=is_secret)
+        count_after_end = after_the_end(book, history)
         doubts = doubts_of(book, history, sealed.public, words.casting, waiting)
     secret = None
     if is_secret:
@@ -132,7 +82,7 @@ def facts_of(election: Election, words: Words, waiting: Sequence[int]) -> Facts:
         language=election.language if words.language is None else language_of(words.language),
         words=words,
         acts=acts,
-        after_the_end=late_count,
+        after_the_end=count_after_end,
         late=None if is_secret else late,
         closed=closing_letter(history, sealed.public, election.language)
         if history.closes
@@ -157,7 +107,7 @@ def closing_letter(history: History, poll: SealedPoll, language: Language) -> by
     close = history.closes[-1]
     time = close.time.astimezone(zone_of(history))
     values = {"close": close, "time": time, "poll": poll, "early_end": early_end(history)}
-    return render_letter("debvote_tools.outbox", "closing.txt", language, **values).encode()
+    return render_letter(__package__, "closed.txt", language, **values).encode()
 
 
 def demand_as_closed(history: History, ballots: bytes) -> None:
@@ -199,6 +149,9 @@ def shown_by_comparison(
 def doubts_of(
     book: Book, history: History, poll: SealedPoll, casting: str | None, waiting: Sequence[int]
 ) -> list[Doubt]:
+    """The doubts that the book shows before the count. `casting` is the option of the casting vote
+    by its plain name; `waiting` are the letters that arrived in time and wait.
+    """
     found = [] if history.is_closed else [Doubt("not closed")]
     if (until := early_end(history)) is not None:
         closed = history.closes[0].time.astimezone(until.tzinfo)
@@ -235,8 +188,8 @@ def late_letters_in_time(book: Book, history: History) -> list[Doubt]:
     for envelope in late:
         numbers.setdefault(envelope.letter, []).append(str(envelope.number))
     found = []
-    for kept in queries.letters(book):
-        arrived = json.loads(kept.parsed_json)["arrived"] if kept.number in numbers else None
+    for kept in queries.kept_letters(book):
+        arrived = json.loads(kept.read_json)["arrived"] if kept.number in numbers else None
         if arrived is not None and from_text(arrived) <= last:
             places = {
                 "letter": kept.number,
@@ -264,8 +217,8 @@ def acts_of(book: Book, history: History, *, is_secret: bool) -> tuple[Act, ...]
 
 
 def after_the_end(book: Book, history: History) -> int:
-    """How many lines, rows and ballots of desks came after the end, and count. What came in after a
-    close had come before it, as its act says.
+    """How many lines, rows and ballots of desks came after the end, and count. What was entered
+    after the first close is left out: whoever entered it said that it came before that close.
     """
     if history.until is None:
         return 0

@@ -8,7 +8,7 @@ from debvote_tools.book import queries
 from debvote_tools.book.election import POLL_WITH_NAMES
 from debvote_tools.commands import held
 from debvote_tools.inbox import signature
-from debvote_tools.outbox import files as letter_files
+from debvote_tools.outbox import letter_folder
 
 from tests.support import elections, letters, pgp
 from tests.support.called import LAKE, LettersTest
@@ -192,6 +192,20 @@ class Adding(LettersTest):
             with self.subTest(words):
                 self.assert_fault(self.election("add", "--yes", *words), status, part)
                 self.assertEqual(self.contents(), before)
+
+    def test_options_of_lines_are_refused(self) -> None:
+        """Each letter has an arrival of its own, so none is asked about when letters are added."""
+        self.write("inbox.mbox", mailbox(letter("ada", f"ada {RANKS}")))
+        before = self.contents()
+        table = ("--csv", "--name", "who", "--ranks", "a,b,c,d")
+        said = "only for lines and tables, and these are letters; nothing was added: leave this out"
+        answers = [("--came-before-close", answer) for answer in ("yes", "no")]
+        for words in (table, ("--again",), ("--force",), *answers):
+            for more in ("--yes", "--look"):
+                with self.subTest(words, more=more):
+                    ended = self.election("add", *words, more, "inbox.mbox")
+                    self.assert_fault(ended, 2, f"{words[0]}: {said}")
+                    self.assertEqual(self.contents(), before)
 
     def test_an_extension_judges_anew(self) -> None:
         self.set_clock("2026-11-20T10:00:00+00:00")
@@ -602,7 +616,7 @@ class Meanwhile(LettersTest):
 
     def test_letters_that_another_act_made_untrue_are_not_noted(self) -> None:
         self.told("desk", given=f"ada {RANKS}\n")
-        self.overtaken(letter_files, "letter_files", ("undo", "--yes"), ("letters", "receipts"))
+        self.overtaken(letter_folder, "letter_files", ("undo", "--yes"), ("letters", "receipts"))
         self.assertNotIn("receipt", self.told("show", "ada"))
 
 

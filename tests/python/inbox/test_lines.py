@@ -3,7 +3,7 @@
 import unittest
 
 from debvote_tools.cli.console import shown_line
-from debvote_tools.inbox.lines import changed, differences, lines_in, name_in
+from debvote_tools.inbox.lines import differences, lines_in, name_in, repaired_line
 
 
 class Changes(unittest.TestCase):
@@ -23,7 +23,7 @@ class Changes(unittest.TestCase):
             b"ada 1,-,-": ("ada 1,\u2014,\u2212".encode(),),
         }.items():  # fmt: skip
             for came in lines:
-                self.assertEqual(changed(came), wanted, came)
+                self.assertEqual(repaired_line(came), wanted, came)
 
     def test_what_is_not_changed(self) -> None:
         # a line tabulator, quotation marks within the line, points, a capital that is no rank, letters not in ASCII, half a point, ..
@@ -31,20 +31,20 @@ class Changes(unittest.TestCase):
             b"ada 1,2\x0b", b'"ada" 1,2', b'"ada 1,2', b"ada 1,2..", b"ada 1.,2", b"ada 1*2*3", b"ada *1,2", b"ada 1,X", "Ädä 1,2".encode(), "anna\u2013maria 1,2".encode(),
             "ada 1\u20132".encode(), b"ada 1 2,3", b"A>B>C", b"ada:b", b"ada 1:2", b"\xff 1,2", b"ada 1,2,", b"ada 1,,2", b"ada 1;2,5;3", b"ada 1,5; 2", b"ada;1;2",
         ):  # fmt: skip
-            self.assertEqual(changed(came), came)
+            self.assertEqual(repaired_line(came), came)
 
     def test_a_line_that_is_right_stays(self) -> None:
         for came in (b"ada 1,2,3", b"a -", b"0.-z 99,-,1"):
-            self.assertEqual((changed(came), differences(came, changed(came))), (came, []))
+            self.assertEqual((repaired_line(came), differences(came, repaired_line(came))), (came, []))
 
     def test_the_name_with_which_a_line_begins(self) -> None:
         for line, name in {b"ada 1,2": b"ada", b"ada-b.9,1": b"ada-b.9", b"ada": b"ada", b" ada 1": b"", b"Ada 1": b"", b"": b""}.items():
             self.assertEqual(name_in(line), name)
 
     def test_a_long_line_of_blanks_takes_no_time(self) -> None:
-        self.assertEqual(changed(b" " * 3_000_000), b"")
-        self.assertEqual(changed(b"a" + b" \t" * 1_000_000 + b"1"), b"a 1")
-        self.assertEqual(len(changed(b", " * 1_000_000)), 1_000_000)
+        self.assertEqual(repaired_line(b" " * 3_000_000), b"")
+        self.assertEqual(repaired_line(b"a" + b" \t" * 1_000_000 + b"1"), b"a 1")
+        self.assertEqual(len(repaired_line(b", " * 1_000_000)), 1_000_000)
 
     def test_the_names_of_changes(self) -> None:
         came = b"\xef\xbb\xbfAda\t1, 2\r"
@@ -71,7 +71,7 @@ class Ends(unittest.TestCase):
         self.assertEqual(self.texts(mark + b"ada 1\n" + mark + b"ben 2\n"), [("f:1", b"ada 1"), ("f:2", mark + b"ben 2")])
         self.assertEqual(self.texts(mark + b"ada 1\n", 2), [("f:2", mark + b"ada 1")])
         (line,) = lines_in(mark + b"Ada;1\r\n", "f")
-        self.assertEqual((line.came, line.unframed), (mark + b"Ada;1\r", b"Ada;1"))
+        self.assertEqual((line.as_it_came, line.unframed), (mark + b"Ada;1\r", b"Ada;1"))
 
     def test_what_is_told_of_the_whole_file(self) -> None:
         lines = lines_in(b"\xef\xbb\xbfAda 1\r\nben 2\r\ncleo  3\n", "f")

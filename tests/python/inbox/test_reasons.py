@@ -5,8 +5,8 @@ import re
 import unittest
 
 from debvote_tools.inbox.letter import may_be_ballot
-from debvote_tools.inbox.letter_lines import repaired_line
-from debvote_tools.inbox.reasons import Because, Reason, for_elector, for_secretary
+from debvote_tools.inbox.letter_lines import repaired_text
+from debvote_tools.inbox.reasons import Reason, ReasonWithValues, for_elector, for_secretary
 
 from tests.python.inbox import test_signatures
 from tests.python.inbox import test_table_of_letters
@@ -20,7 +20,7 @@ VALUES: dict[str, str | int | datetime.datetime] = {
 }  # fmt: skip
 
 
-def with_values(reason: Reason) -> Because:
+def with_values(reason: Reason) -> ReasonWithValues:
     """A reason with all values that its sentence names."""
     names = re.findall(r"{(\w+)}", reason.value[0])
     return reason(**{name: VALUES[name] for name in names})
@@ -41,7 +41,7 @@ class Sentences(unittest.TestCase):
                 if isinstance(value, str) and len(value) > 4:
                     self.assertNotRegex(text, rf"(?<!\w){re.escape(value)}(?!\w)")
             self.assertNotIn("@", text)
-            self.assertFalse(may_be_ballot(repaired_line(text)) and any(name in text.split() for name in NAMES), text)
+            self.assertFalse(may_be_ballot(repaired_text(text)) and any(name in text.split() for name in NAMES), text)
 
     def test_how_values_are_shown(self) -> None:
         said = for_secretary(Reason.AFTER_THE_END(end=at(9)))

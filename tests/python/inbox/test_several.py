@@ -33,7 +33,7 @@ def entered(*letters: JudgedLetter) -> dict[str, object]:
     for one in going:
         assert one.time is not None
         ballots.setdefault(one.electors[0], []).append(Ballot(one.time, one.ballots[0].ballot))
-    return {"ballots": ballots, "decisions": {one.parsed.digest: queries.ENTERED for one in going}}
+    return {"ballots": ballots, "decisions": {one.read.digest: queries.ENTERED for one in going}}
 
 
 class Order(unittest.TestCase):
@@ -42,7 +42,7 @@ class Order(unittest.TestCase):
         elsewhere = letter("ben", f"ben {RANKS}", time="Mon, 23 Nov 2026 12:30:00 +0100")
         self.assertEqual(lines_in(other(hour(12)), elsewhere, first()), [BALLOT, f"ben {RANKS}", OTHER])
         found = judged(letter("ada", BALLOT, time=None), letter("ben", f"ben {RANKS}", time=None), first(number=2))
-        self.assertEqual([one.parsed.where for one in found], ["letter 3", "letter 1", "letter 2"])
+        self.assertEqual([one.read.where for one in found], ["letter 3", "letter 1", "letter 2"])
 
     def test_two_of_one_second_that_differ_both_wait(self) -> None:
         others = [letter("ben", f"ben {RANKS}", time=hour(10)), letter("ada", BALLOT, number=3, time=hour(9))]
@@ -57,7 +57,7 @@ class Order(unittest.TestCase):
 
     def test_an_older_letter_that_comes_after_a_newer_one(self) -> None:
         newer = judged(other(hour(12)))
-        self.assertEqual(outcomes(newer[0].parsed, first(), **entered(*newer)), ["waits: later ballot", "entered"])
+        self.assertEqual(outcomes(newer[0].read, first(), **entered(*newer)), ["waits: later ballot", "entered"])
 
 
 class Copies(unittest.TestCase):
@@ -66,7 +66,7 @@ class Copies(unittest.TestCase):
         letters = [first(), other(hour(12)), letter("ben", f"ben {RANKS}", time=hour(11)), letter("ben", "ben", number=2)]
         found = judged(*letters)
         again = [b"X-Mozilla-Status: 0001\n" + data for data in letters]
-        becomes = outcomes(*(one.parsed for one in found), *again, letter("cleo", f"cleo {RANKS}", time=hour(13)), **entered(*found))
+        becomes = outcomes(*(one.read for one in found), *again, letter("cleo", f"cleo {RANKS}", time=hour(13)), **entered(*found))
         self.assertEqual(sorted(becomes), [*["copy"] * 4, *["entered"] * 3, f"in: cleo {RANKS}", "waits: no ballot"])
 
     def test_other_parts_that_differ_make_no_copy(self) -> None:
@@ -95,7 +95,7 @@ class Copies(unittest.TestCase):
         between, again = other(hour(11)), first(time=hour(12))
         self.assertEqual(outcomes(again, between, first()), [f"in: {BALLOT}", f"in: {OTHER}", "waits: came before"])
         found = judged(first(), between)
-        becomes = outcomes(*(one.parsed for one in found), again, **entered(*found))
+        becomes = outcomes(*(one.read for one in found), again, **entered(*found))
         self.assertEqual(becomes, ["entered", "entered", "waits: came before"])
         self.assertEqual(outcomes(first(), again), [f"in: {BALLOT}", "copy"])
         bens = letter("ben", f"ben {RANKS}", time=hour(11))
@@ -114,7 +114,7 @@ class Copies(unittest.TestCase):
         again, new = first(time=hour(12)), other(hour(12))
         self.assertEqual(outcomes(first(), again, new), [f"in: {BALLOT}", "copy", f"in: {OTHER}"])
         found = judged(first())
-        self.assertEqual(outcomes(found[0].parsed, again, new, **entered(*found)), ["entered", "copy", f"in: {OTHER}"])
+        self.assertEqual(outcomes(found[0].read, again, new, **entered(*found)), ["entered", "copy", f"in: {OTHER}"])
 
     def test_a_later_copy_of_one_that_was_entered_or_set_aside_by_hand(self) -> None:
         """Without a Message-ID an elector's third letter may be the first one once more, and is their last word."""
@@ -155,7 +155,7 @@ class Copies(unittest.TestCase):
         late = first(time=hour(13))
         self.assertEqual(lines_in(late, first(), end=at(12)), [BALLOT])
         found = judged(late, end=at(12))
-        self.assertEqual(outcomes(found[0].parsed, first(), end=at(12)), [f"in: {BALLOT}", "copy"])
+        self.assertEqual(outcomes(found[0].read, first(), end=at(12)), [f"in: {BALLOT}", "copy"])
 
     def test_copies_that_wait_for_one_reason_are_told_once(self) -> None:
         data = letter("ada", "when?", time=hour(10))

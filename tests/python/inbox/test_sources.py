@@ -9,7 +9,7 @@ import time
 import unittest
 import unittest.mock
 
-from debvote_tools.inbox.mailbox import MAX_LETTER, NotRead, RawLetter, are_letters, letters_of_file, letters_of_folder, parts_of
+from debvote_tools.inbox.mailbox import MAX_LETTER, NotRead, RawLetter, are_letters, letters_of_file, letters_of_folder, sections_of
 
 from tests.support.letters import NAMES, RANKS, answer, letter, mailbox, outcomes, parsed, passed_over_in, read_in
 
@@ -198,20 +198,20 @@ class Conservation(unittest.TestCase):
         data = b"".join(lines[chance.choice((0, 0, 0, 1)) :])
         return data.replace(b"\n", b"\r\n") if chance.random() < 0.2 else data[: len(data) - chance.choice((0, 0, 1))]
 
-    def test_the_parts_of_a_file_are_the_file(self) -> None:
+    def test_the_sections_of_a_file_are_the_file(self) -> None:
         chance = random.Random(3)
         becomes = collections.Counter[str]()
         for _ in range(800):
             data = self.changed(chance)
-            parts = parts_of(data)
-            self.assertEqual(b"".join(above + one + below for above, one, below in parts), data)
-            # what is in no letter parts letters
-            for above, _, below in parts:
+            sections = sections_of(data)
+            self.assertEqual(b"".join(above + one + below for above, one, below in sections), data)
+            # what is in no letter separates letters
+            for above, _, below in sections:
                 self.assertRegex(above, rb"\A(\xef\xbb\xbf)?[\r\n]*(From [^\n]*\n[\r\n]*)?\Z")
                 self.assertIn(below, (b"", b"\n", b"\r\n"))
             found = letters_of_file("box", data)
             if read_in(found):
-                self.assertEqual([raw.data for raw in read_in(found)], [one for _, one, _ in parts])
+                self.assertEqual([raw.data for raw in read_in(found)], [one for _, one, _ in sections])
                 self.assertEqual(passed_over_in(found), [])
             else:
                 self.assertEqual([one[0] for one in passed_over_in(found)], ["box"])
@@ -225,7 +225,7 @@ class Conservation(unittest.TestCase):
         chance = random.Random(4)
         for _ in range(2_000):
             data = b"".join(chance.choices(self.lines, k=chance.randint(0, 12)))
-            self.assertEqual(b"".join(above + one + below for above, one, below in parts_of(data)), data)
+            self.assertEqual(b"".join(above + one + below for above, one, below in sections_of(data)), data)
 
     def test_each_file_of_a_folder_is_a_letter_or_named(self) -> None:
         chance = random.Random(5)

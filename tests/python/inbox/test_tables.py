@@ -23,7 +23,7 @@ class CsvBallotsTest(unittest.TestCase):
         heads = heads_of(name, ranks, POLL)
         data_bytes = data if isinstance(data, bytes) else data.encode()
         found = lines_of_table(data_bytes, "form.csv", heads, POLL, is_newest_first=is_newest_first, **how)
-        return [(line.where, line.came, line.unframed, line.repaired) for line in found]
+        return [(line.where, line.as_it_came, line.unframed, line.repaired) for line in found]
 
     def assert_refused(self, data: str | bytes, status: Status, *parts: str, **how: Any) -> None:
         with self.assertRaises(Fault) as caught:

@@ -11,8 +11,8 @@ import stat
 import subprocess
 import sys
 
-from debvote_tools.inbox.lines import changed
-from debvote_tools.outbox.files import in_place
+from debvote_tools.inbox.lines import repaired_line
+from debvote_tools.outbox.letter_folder import in_place
 
 from tests.support import elections
 from tests.support.letters import letter
@@ -644,7 +644,7 @@ class NoBallots(OutTest):
                 for start in range(len(words)):
                     lines |= {" ".join(words[start : start + count]).encode() for count in (2, 3, 4)}
         self.assertGreater(len(lines), 1000)
-        ballots = [changed(line) for line in lines]
+        ballots = [repaired_line(line) for line in lines]
         self.write("lines", b"".join(line.replace(b"\n", b" ") + b"\n" for line in ballots if line.strip()))
         steps = ("steps", "--poll", "call/poll.toml", "--ballots", "lines")
         replies = {line.partition(" ")[2] for line in self.debvote(*steps).output.splitlines()}

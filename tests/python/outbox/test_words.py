@@ -13,10 +13,10 @@ import unittest
 from debvote_tools.book.queries import Elector, Envelope
 from debvote_tools.book.sent import SentLetter
 from debvote_tools.inbox.letter_lines import Near
-from debvote_tools.inbox.of_electors import Became, Came
+from debvote_tools.inbox.fates import Became, Fate
 from debvote_tools.inbox.reasons import Reason, for_elector
 from debvote_tools.inbox.rules import Outcome
-from debvote_tools.outbox.files import message, rows_to_print
+from debvote_tools.outbox.letter_folder import message, rows_to_print
 from debvote_tools.outbox.words import PACKAGE, SUBJECTS, Composer
 from debvote_tools.poll.announced import is_mail_address
 from debvote_tools.poll.call import CallData
@@ -45,7 +45,7 @@ def vote(code: str = "en", *, is_over: bool = False, **how: object) -> Composer:
     return Composer(dataclasses.replace(data, **how), is_over, typed_acts={2})  # type: ignore[arg-type]
 
 
-def all_that_came() -> list[Came]:
+def all_that_came() -> list[Fate]:
     """Something of each kind, with each fault that a line may have."""
     near = (
         Near(1, "ada 1,2", False, "bad rank count: 2 ranks, the poll has 3 options"), Near(2, "bob 1,2,3", True, "bad not on roll: bob is not on the roll"),
@@ -53,15 +53,15 @@ def all_that_came() -> list[Came]:
         Near(5, "ada 1,2,3", False, None), Near(6, "ada 1,2,3", True, None),
     )  # fmt: skip
 
-    def envelope(number: int, became: Became, answer: str | None = None) -> Came:
+    def envelope(number: int, became: Became, answer: str | None = None) -> Fate:
         line = b"ada 1,2,3" if answer is None else b"ada 1"
-        return Came(TIME, became, Envelope(number, number, 1, line, None, 1, "", TIME, False, None), answer)
+        return Fate(TIME, became, Envelope(number, number, 1, line, None, 1, "", TIME, False, None), answer)
 
     ballots = [envelope(number, became) for number, became in enumerate(Became) if became is not Became.REFUSED]
     refused = ["bad rank count: 1 ranks, the poll has 3 options", 'bad shape: column 2: "!"']
     letter = types.SimpleNamespace(reason=Reason.NO_BALLOT(), near=near)
     outcomes = itertools.product((Outcome.WAITS, Outcome.SET_ASIDE), (True, False))
-    letters = [Came(TIME, outcome, letter=letter, is_own=is_own) for outcome, is_own in outcomes]  # type: ignore[arg-type]
+    letters = [Fate(TIME, outcome, letter=letter, is_own=is_own) for outcome, is_own in outcomes]  # type: ignore[arg-type]
     return [*ballots, *(envelope(9, Became.REFUSED, answer) for answer in refused), *letters]
 
 
@@ -77,8 +77,8 @@ def texts(now: Composer) -> list[str]:
         now.reminder(ADA, [WAITS]),
         now.reminder(ADA, []),
         now.receipt(ADA, all_that_came()),
-        now.text("closed", ADA, letter="CLOSED\n"),
-        *(now.text("result", ADA, letter="RESULT\n", has_ballot=has_ballot) for has_ballot in (True, False)),
+        now.text("closed_to_elector.txt", ADA, letter="CLOSED\n"),
+        *(now.text("result_to_elector.txt", ADA, letter="RESULT\n", has_ballot=has_ballot) for has_ballot in (True, False)),
     ]
 
 
@@ -128,7 +128,7 @@ class Texts(unittest.TestCase):
         rest = "THE FILES OF THE RESULT\n\nDownload them.\n"
         place = "The result is published at:\n  https://club.example/vote/\n"
         for letter in ("RESULT\n", f"RESULT\n\n{rest}", f"RESULT\n\n{place}\nDOUBTS\n\n{rest}"):
-            texts = [now.text("result", ADA, letter=letter, has_ballot=True) for now in (vote(), vote(has_aliases=True))]
+            texts = [now.text("result_to_elector.txt", ADA, letter=letter, has_ballot=True) for now in (vote(), vote(has_aliases=True))]
             end = letter.removeprefix("RESULT\n").removeprefix(f"\n{place}")
             for text in texts:
                 self.assertTrue(text.startswith(f"Dear Ada L.,\n\nRESULT\n\n{place}\nYour "), text)
@@ -136,7 +136,7 @@ class Texts(unittest.TestCase):
             self.assertIn("Your own ballot, in words:\n  https://club.example/vote/#ada\n", texts[0])
             self.assertNotIn("#", texts[1])
             self.assertIn("find it with your name, ada, and your code", " ".join(texts[1].split()))
-            self.assertIn("The result has no ballot of yours", vote().text("result", ADA, letter=letter, has_ballot=False))
+            self.assertIn("The result has no ballot of yours", vote().text("result_to_elector.txt", ADA, letter=letter, has_ballot=False))
 
 
 class CallLetter(unittest.TestCase):
@@ -178,7 +178,7 @@ class CallLetter(unittest.TestCase):
                 begin = "Dear friends,\n\npaper ballots go to the box in the hall.\n|Write\n|ada 1,2,3 or so.\n  |ben 3,2,1\n\nYours, Eve\n\n"
                 self.assertTrue(text.startswith(begin), text)
                 whose = "The words above are those of whoever sends this letter. "
-                said = now.call.language.say(f"{whose}The program debvote wrote the rest, and has not checked them.")
+                said = now.call_data.language.say(f"{whose}The program debvote wrote the rest, and has not checked them.")
                 self.assertEqual(" ".join(text.split()).count(said), 1)
             self.assertNotIn("Dear friends", refusing)
         # a letter that does not remind does not begin so
@@ -234,25 +234,25 @@ class Printed(unittest.TestCase):
     def test_who_has_no_address_gets_the_texts_on_paper_or_reads_where_they_are(self) -> None:
         """As many as two sides have; and all else that others read on the page."""
         for code in LANGUAGES:
-            for number, at in ((1, vote().call.at), (8, None), (9, vote().call.at), (70, vote().call.at), (70, None)):
+            for number, at in ((1, vote().call_data.at), (8, None), (9, vote().call_data.at), (70, vote().call_data.at), (70, None)):
                 poll = dataclasses.replace(POLL, explanations=("A lake, and a meadow with room for forty tents.\n\n" * number, "", ""))
                 now = vote(code, poll=poll, at=at, letter_text="Dear friends,\n\npaper goes into the box in the hall.\n")
                 text, by_mail = (now.call_letter(elector, is_extension=False) for elector in (GUS, ADA))
                 self.assertEqual(text.count("forty tents"), number if number < 70 else 0)
                 self.assertEqual(by_mail.count("forty tents"), 0 if at else number)
-                said = now.call.language.say(TOO_LONG if at else TOO_LONG_WITHOUT_PAGE).split()
+                said = now.call_data.language.say(TOO_LONG if at else TOO_LONG_WITHOUT_PAGE).split()
                 self.assertEqual(" ".join(text.split()).count(" ".join(said)), int(number == 70))
                 for head in ("What decides", "What will be public"):
-                    self.assertIn(now.call.language.say(head).upper(), text)
+                    self.assertIn(now.call_data.language.say(head).upper(), text)
                 self.assertEqual(f"{at}#{GUS.name}/{GUS.mark}" in text, at is not None)
                 self.check_sides(now, text)
 
     def check_sides(self, now: Composer, text: str) -> None:
         """Three letters have at most six sides, each with a place for the rank of each option."""
-        letters = [("Ada", rows_to_print(text, now.call))] * 3
+        letters = [("Ada", rows_to_print(text, now.call_data))] * 3
         style = resources(PACKAGE, "letter.css")
-        page = render_page(PACKAGE, "print.html", now.call.language, style=style, title="Spring", letters=letters)
-        self.assertEqual(page.count(b'<span class="rank"></span>  Op'), 3 * len(now.call.poll.names))
+        page = render_page(PACKAGE, "print.html", now.call_data.language, style=style, title="Spring", letters=letters)
+        self.assertEqual(page.count(b'<span class="rank"></span>  Op'), 3 * len(now.call_data.poll.names))
         with tempfile.TemporaryDirectory() as folder:
             place = pathlib.Path(folder)
             (place / "page.html").write_bytes(page)
@@ -290,7 +290,7 @@ class NoBallot(unittest.TestCase):
 class Bytes(unittest.TestCase):
     def message(self, text: str, subject: str = "Vote: Fr\u00fchling", sender_name: str = "") -> bytes:
         due = types.SimpleNamespace(sender="vote@club.example", sender_name=sender_name)
-        due.composer = types.SimpleNamespace(call=types.SimpleNamespace(to=None))
+        due.composer = types.SimpleNamespace(call_data=types.SimpleNamespace(to=None))
         due.text, due.subject = lambda letter: text, lambda letter: (subject, "[0123456789abcdef-abcdefghjk]")
         return message(due, LETTER, is_draft=False)  # type: ignore[arg-type]
 
@@ -325,6 +325,6 @@ class Bytes(unittest.TestCase):
 
     def test_a_name_is_one_line(self) -> None:
         elector = ADA._replace(who="Ada\r\nBcc: x@y.example\n\nada 1,2,3\u2028" + "x" * 500)
-        text = vote().text("closed", elector, letter="CLOSED\n")
+        text = vote().text("closed_to_elector.txt", elector, letter="CLOSED\n")
         self.assertEqual(len(text.split("\n\n")), 2)
         self.assertEqual(one_line(parsed(self.message(text)))[:9], "Dear Ada ")

@@ -13,7 +13,7 @@ import unittest
 import urllib.parse
 
 from debvote_tools.cli.faults import Fault, Status
-from debvote_tools.inbox.lines import changed
+from debvote_tools.inbox.lines import repaired_line
 from debvote_tools.poll.announced import demand_mail_address, demand_web_address
 from debvote_tools.poll.call import CallData, call_files, call_letter, extension_letter
 from debvote_tools.poll.sealed import read_plain, with_roll
@@ -256,7 +256,7 @@ class NoBallot(unittest.TestCase):
         words = text.split()
         lines = {" ".join(words[start : start + size]) for size in range(1, 9) for start in range(len(words))}
         # the shortest ballot has two ranks
-        for line in (changed(line.encode()) for line in lines if "," in line and any(map(str.isdigit, line))):
+        for line in (repaired_line(line.encode()) for line in lines if "," in line and any(map(str.isdigit, line))):
             self.assertNotRegex(line, rb"^[a-z0-9.-]{1,32} (?:-|[1-9][0-9]?)(?:,(?:-|[1-9][0-9]?))+$")
 
     def test_of_calls_and_extensions(self) -> None:

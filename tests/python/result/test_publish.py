@@ -21,7 +21,7 @@ from debvote_tools.book import queries
 from debvote_tools.book.book import open_book
 from debvote_tools.cli import command_line
 from debvote_tools.inbox.letter import parse
-from debvote_tools.inbox.letter_lines import as_json
+from debvote_tools.inbox.letter_lines import to_json
 from debvote_tools.inbox.mailbox import RawLetter
 from debvote_tools.result.facts import Act
 from debvote_tools.result.folder import Made
@@ -105,7 +105,7 @@ class OfElections(elections.ElectionTest, expecting.Expecting):
             for seconds, line in letters:
                 time = close + datetime.timedelta(seconds=seconds)
                 data = b"Received: by mx; %s\nFrom: x@x.example\n\n%s\n" % (email.utils.format_datetime(time).encode(), line)
-                letter = queries.keep_letter(act, "letter.eml", data, "", as_json(parse(RawLetter("letter.eml", data))))
+                letter = queries.keep_letter(act, "letter.eml", data, "", to_json(parse(RawLetter("letter.eml", data))))
                 queries.decide(act, letter, "entered")
                 queries.add_envelopes(act, [queries.NewEnvelope(line, letter=letter, time=time)], [None], is_late=True)
         return close
@@ -488,7 +488,7 @@ class OfOpenVotes(OfElections):
         with self.state_of_this(), contextlib.closing(book.connection), book.act("add") as act:
             for name in ("ada-lovelace", "cleo"):
                 data = b"Received: by mx; %s\nFrom: %s@x.example\n\n" % (email.utils.format_datetime(time).encode(), name.encode())
-                letter = queries.keep_letter(act, "a.eml", data, "", as_json(parse(RawLetter("a.eml", data))))
+                letter = queries.keep_letter(act, "a.eml", data, "", to_json(parse(RawLetter("a.eml", data))))
                 queries.decide(act, letter, "entered")
                 new = queries.NewEnvelope(f"{name} 3,2,1".encode(), letter=letter, time=time)
                 queries.add_envelopes(act, [new], queries.elector_numbers(book, [name]).values(), is_late=True)

@@ -29,9 +29,10 @@ class Became(enum.Enum):
     REFUSED = enum.auto()
 
 
-class Came(NamedTuple):
-    """An envelope or a letter that came. Of an envelope `answer` is what debvote says of the line,
-    None of a valid one. A letter is an elector's own if it came from an address of theirs.
+class Fate(NamedTuple):
+    """An envelope or a letter that came, and what became of it. Of an envelope `answer` is what
+    debvote says of the line, None of a valid one. A letter is an elector's own if it came from an
+    address of theirs.
     """
 
     time: datetime.datetime
@@ -48,17 +49,18 @@ class Came(NamedTuple):
         return self.envelope.line.decode().partition(" ")[2] if is_ballot and self.envelope else ""
 
 
-def of_electors(
+def fates_of(
     election: Election, history: History, of: Collection[Elector] | None = None
-) -> dict[str, list[Came]]:
+) -> dict[str, list[Fate]]:
     """What came of electors, of all or of some, by their names on the roll, in the order of its
-    times; a letter that arrived at no known time has that of its act. debvote is started twice.
+    times; a letter that arrived at no known time has that of its act. debvote is started twice at
+    most.
 
     The last valid line of an elector that is in time and not struck counts. A letter is of whoever
     has a ballot in it, and of whoever sent it. One that was entered comes beside its envelopes.
     """
     electors = queries.electors(election.book) if of is None else of
-    found: dict[str, list[Came]] = {elector.name: [] for elector in electors}
+    found: dict[str, list[Fate]] = {elector.name: [] for elector in electors}
     if of is None:
         found[NOBODY] = []
     names = {elector.number: elector.name for elector in electors}
@@ -93,16 +95,16 @@ def of_electors(
     for envelope in envelopes:
         name = names.get(envelope.elector or 0, NOBODY)
         if name in found:
-            came = Came(envelope.time, became(envelope), envelope, answers[envelope.line])
-            found[name].append(came)
+            fate = Fate(envelope.time, became(envelope), envelope, answers[envelope.line])
+            found[name].append(fate)
     addresses = {one.name: {*filter(None, map(address_key, one.addresses))} for one in electors}
-    kept = queries.letters(election.book)
+    kept = queries.kept_letters(election.book)
     kept_at = {letter.number: history.act(letter.act).time for letter in kept}
     for letter in judged(vote, history, kept):
-        time = letter.parsed.arrived or kept_at[letter.number]
+        time = letter.read.arrived or kept_at[letter.number]
         names_of = filter(None, (*letter.electors, letter.sending_elector))
         for name in dict.fromkeys(names_of) or [NOBODY]:
             if name in found:
-                is_own = letter.parsed.sender in addresses.get(name, ())
-                found[name].append(Came(time, letter.outcome, letter=letter, is_own=is_own))
+                is_own = letter.read.sender in addresses.get(name, ())
+                found[name].append(Fate(time, letter.outcome, letter=letter, is_own=is_own))
     return {name: sorted(items, key=lambda one: one.time) for name, items in found.items()}

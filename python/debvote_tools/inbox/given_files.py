@@ -1,4 +1,5 @@
-"""What came for an election, as `add` is given it: each file, folder or standard input, read once.
+"""What `add` is given: files and standard input, each read once and whole, and folders of letters,
+which `taking.py` reads.
 """
 
 import codecs
@@ -13,8 +14,8 @@ from debvote_tools.book.election import Election
 from debvote_tools.cli.console import tell
 from debvote_tools.cli.faults import Fault, stop_at
 from debvote_tools.files import BALLOTS_LIMIT
-from debvote_tools.inbox.lines import bad_ballots, bad_words, doubt
 from debvote_tools.inbox.mailbox import NotRead, are_letters, kind_not_read
+from debvote_tools.inbox.not_added import bad_ballots, bad_words, doubtful
 from debvote_tools.inbox.tables import PACKED, PDF, kind_of
 from debvote_tools.poll.sealed import REQUIRED
 
@@ -31,7 +32,9 @@ CURES = {
 POLL_KEY = re.compile(rb"(?m)^[ \t]*\"?(%b)\"?[ \t]*=" % "|".join(REQUIRED).encode())
 
 
-class CameFile(NamedTuple):
+class GivenFile(NamedTuple):
+    """A file or standard input, which was read."""
+
     name: str
     data: bytes
 
@@ -41,20 +44,28 @@ class CameFile(NamedTuple):
         return safe(pathlib.Path(self.name).name or self.name)
 
 
+class GivenFolder(NamedTuple):
+    """A folder, of which nothing was read yet. All that is in a folder are letters."""
+
+    path: pathlib.Path
+
+
 def safe(text: str) -> str:
     """A text from the command line, in which bytes that are no UTF-8 are written as \\xff."""
     return os.fsencode(text).decode("utf-8", "backslashreplace")
 
 
-def is_letters(file: CameFile | None) -> bool:
+def has_letters(file: GivenFile) -> bool:
     of_outlook = (NotRead.OUTLOOK_LETTER, NotRead.OUTLOOK_MAILBOX)
-    return file is None or are_letters(file.data) or kind_not_read(file.data) in of_outlook
+    return are_letters(file.data) or kind_not_read(file.data) in of_outlook
 
 
-def are_all_letters(files: Mapping[str, CameFile | None]) -> bool:
-    """Whether all that came are letters. Stops if some are letters and some are not."""
-    with_letters = [path for path, file in files.items() if is_letters(file)]
-    if 0 < len(with_letters) < len(files):
+def are_all_letters(given: Mapping[str, GivenFile | GivenFolder]) -> bool:
+    """Whether all that is given are letters. Stops if some are letters and some are not."""
+    with_letters = [
+        path for path, one in given.items() if isinstance(one, GivenFolder) or has_letters(one)
+    ]
+    if 0 < len(with_letters) < len(given):
         names = ", ".join(STANDARD_INPUT if path == HYPHEN else path for path in with_letters)
         words = "it has letters, and the other files have none"
         cure = "add letters and other files with separate commands"
@@ -64,36 +75,38 @@ def are_all_letters(files: Mapping[str, CameFile | None]) -> bool:
 
 def read_files(
     election: Election, paths: Sequence[str], *, is_table: bool
-) -> dict[str, CameFile | None]:
-    """What these paths name; a folder is None. Stops at what has neither ballots nor letters."""
-    files: dict[str, CameFile | None] = {}
+) -> dict[str, GivenFile | GivenFolder]:
+    """What these paths name. Stops at a file that has neither ballots nor letters."""
+    given: dict[str, GivenFile | GivenFolder] = {}
     faults = []
     for path in paths or [HYPHEN]:
+        if path != HYPHEN and os.path.isdir(path):
+            given[path] = GivenFolder(pathlib.Path(path))
+            continue
         try:
-            is_folder = path != HYPHEN and os.path.isdir(path)
-            files[path] = file = None if is_folder else read_file(election, path)
-            if file is not None and not is_letters(file):
+            given[path] = file = read_file(election, path)
+            if not has_letters(file):
                 demand_lines(file, is_table=is_table)
         except Fault as fault:
             faults.append(fault)
     stop_at(faults)
-    return files
+    return given
 
 
-def read_file(election: Election, path: str) -> CameFile:
+def read_file(election: Election, path: str) -> GivenFile:
     """Reads a file or standard input, once: it may be a pipe. At a terminal it says how to end."""
     if path == HYPHEN:
         if sys.stdin is None:
             raise bad_ballots(STANDARD_INPUT, "it is closed", "name a file")
         if sys.stdin.isatty():
             tell("Type the ballots, one on each line; to end, type Ctrl-D on an empty line.")
-        return CameFile(STANDARD_INPUT, bytes_in(sys.stdin.buffer))
+        return GivenFile(STANDARD_INPUT, bytes_in(sys.stdin.buffer))
     # no other handle may be opened on the book: closing it would end the locks of this process
     if os.path.exists(path) and os.path.samefile(path, election.book.path):
         raise bad_ballots(path, "it is the book of this election", "name a file of ballots")
     try:
         with open(path, "rb") as file:
-            return CameFile(path, bytes_in(file))
+            return GivenFile(path, bytes_in(file))
     except OSError as error:
         cure = "name a file of ballots that you may read"
         raise bad_ballots(path, error.strerror, cure) from None
@@ -105,10 +118,11 @@ def bytes_in(file: BinaryIO) -> bytes:
     return data + file.read() if are_letters(data) else data
 
 
-def demand_lines(file: CameFile, *, is_table: bool) -> None:
+def demand_lines(file: GivenFile, *, is_table: bool) -> None:
+    """Stops at a file that can't have ballots: it is empty, too long, of another kind, or a poll."""
     if not file.data:
         words, cure = "it is empty", "write one ballot on each line"
-        raise doubt(file.name, words, cure)
+        raise doubtful(file.name, words, cure)
     if len(file.data) > BALLOTS_LIMIT:
         words = f"it is longer than {BALLOTS_LIMIT} bytes, the most that debvote takes"
         raise bad_ballots(file.name, words, "add it in parts")
@@ -120,4 +134,4 @@ def demand_lines(file: CameFile, *, is_table: bool) -> None:
         raise bad_ballots(file.name, f"it is {what}", cure)
     if len({key[1] for key in POLL_KEY.finditer(file.data)}) > 1:
         words = "it looks like a poll, not like ballots"
-        raise doubt(file.name, words, "name the file of the ballots")
+        raise doubtful(file.name, words, "name the file of the ballots")

@@ -41,7 +41,7 @@ def message(due: LettersDue, letter: SentLetter, *, is_draft: bool) -> bytes:
     """
     coding, body = body_of(due.text(letter))
     subject, mark = due.subject(letter)
-    reply_to = due.composer.call.to
+    reply_to = due.composer.call_data.to
     fields = [
         ("From", sender_of(due.sender_name, due.sender)),
         *([("Reply-To", reply_to)] if reply_to not in (None, due.sender) else []),
@@ -98,7 +98,7 @@ def letter_files(due: LettersDue, letters: Sequence[SentLetter]) -> dict[str, by
     for letter in letters:
         elector = due.electors[letter.elector]
         if not letter.address:
-            rows = rows_to_print(due.text(letter), due.composer.call)
+            rows = rows_to_print(due.text(letter), due.composer.call_data)
             printed.append((one_line(elector.who) or elector.name, rows))
         elif not due.is_sending and due.can_be_sent(letter):
             # no name on a roll has the sign _
@@ -107,7 +107,7 @@ def letter_files(due: LettersDue, letters: Sequence[SentLetter]) -> dict[str, by
             )
             files[f"{name}.eml"] = message(due, letter, is_draft=True)
     if printed:
-        call, style = due.composer.call, resources(PACKAGE, "letter.css")
+        call, style = due.composer.call_data, resources(PACKAGE, "letter.css")
         files[TO_PRINT] = render_page(
             PACKAGE, "print.html", call.language, style=style, title=call.poll.name, letters=printed
         )
