@@ -104,8 +104,6 @@ class Envelope(NamedTuple):
 
 # conditions on envelopes, with the acts that no `undo` took back
 LATE = "late AND struck IS NULL"
-# the elector has no later ballot that counts
-NOT_REPLACED = "NOT EXISTS (SELECT 1 FROM ballot WHERE ballot.elector = entered.elector AND (ballot.time, ballot.envelope) > (entered.time, entered.envelope))"
 NOT_UNDONE = "act NOT IN (SELECT json_extract(detail, '$.act') FROM act WHERE name = 'undo')"
 
 # the envelopes that were entered anew: late ones as in time, and others by `add --again`

@@ -1,6 +1,5 @@
 """Open the vote again after a close, for ballots that came in time; the result page says so."""
 
-import operator
 from collections.abc import Iterator, Sequence
 
 from debvote_tools.cli.arguments import Acting, demand_reason, flag, option
@@ -12,13 +11,10 @@ from debvote_tools.cli.console import act_time, count_of, is_terminal, shown_lin
 from debvote_tools.cli.faults import Fault, Status, stop_at
 from debvote_tools.commands.strike import without_code
 from debvote_tools.inbox import entering
-from debvote_tools.inbox.vote import Vote
+from debvote_tools.inbox.vote import BY_TIME, Vote
 
 # of the number of an envelope
 MAX_DIGITS = 9
-
-# of two ballots the later one has the later time, and within a second the greater number
-ORDER = operator.attrgetter("time", "number")
 
 
 class Arguments(Acting):
@@ -45,7 +41,7 @@ def run(election: Election, arguments: Arguments) -> None:
         if numbers is None:
             numbers = asked(book, has_codes=vote.has_codes) if is_terminal() else []
         offered = chosen(book, numbers)
-        older = list(faults_of_older(book, offered))
+        older = list(faults_of_older(vote, offered))
         if not arguments.force:
             stop_at(older)
         return offered, bool(older)
@@ -98,7 +94,7 @@ def chosen(book: Book, numbers: Sequence[int]) -> list[Envelope]:
     if again := [str(number) for number in numbers if number not in left]:
         words = f"envelope {', '.join(again)} was entered as in time by an earlier reopen"
         raise Fault("--in-time", words, "leave it out")
-    return sorted((late[number] for number in set(numbers)), key=ORDER)
+    return sorted((late[number] for number in set(numbers)), key=BY_TIME)
 
 
 def late_left(book: Book) -> list[Envelope]:
@@ -122,13 +118,10 @@ def asked(book: Book, *, has_codes: bool) -> list[int]:
     return list(map(int, numbers))
 
 
-def faults_of_older(book: Book, offered: Sequence[Envelope]) -> Iterator[Fault]:
+def faults_of_older(vote: Vote, offered: Sequence[Envelope]) -> Iterator[Fault]:
     """A fault for each envelope that would replace a later ballot of its elector."""
     last = {late.elector: late for late in offered if late.elector is not None}
     cure = "leave it out; or, if it must count, repeat the command with --force"
-    for elector, late in last.items():
-        in_time = queries.envelopes(book, "elector = ?", elector, view="ballot")
-        newest = max(in_time, key=ORDER, default=late)
-        if ORDER(newest) > ORDER(late):
-            later = f"envelope {newest.number}, a later ballot of the same elector"
-            yield Fault("--in-time", f"envelope {late.number} would replace {later}", cure)
+    for number, ballot in vote.later_ballots(list(last.values())).items():
+        later = f"envelope {ballot.number}, a later ballot of the same elector"
+        yield Fault("--in-time", f"envelope {number} would replace {later}", cure)

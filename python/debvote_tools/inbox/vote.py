@@ -3,12 +3,14 @@
 import collections
 import functools
 import itertools
+import operator
 import re
 from collections.abc import Collection, Iterable, Iterator, Sequence
 from typing import NamedTuple
 
 from debvote_tools.book import queries
 from debvote_tools.book.election import Election, History
+from debvote_tools.book.queries import Envelope
 from debvote_tools.cli.console import count_of, shown_line
 from debvote_tools.cli.faults import Fault, other_format
 from debvote_tools.debvote import Finding
@@ -21,6 +23,9 @@ IS_CODE = " (32 digits, as in a code or an alias: a ballot has only the elector'
 
 # the reply to a line that came after the close
 LATE_REPLY = "late"
+
+# of two ballots the later one has the later time, and within a second the greater number
+BY_TIME = operator.attrgetter("time", "number")
 
 # the number that makes a name different from others
 NUMBER = re.compile(r"-\d+\Z")
@@ -92,6 +97,23 @@ class Vote:
         names = [name_in(line).decode("ascii") for line in lines]
         numbers = queries.elector_numbers(self.book, self.names_on_roll.intersection(names))
         return list(map(numbers.get, names))
+
+    def later_ballots(self, late: Sequence[Envelope]) -> dict[int, Envelope]:
+        """By the number of a late envelope the last ballot in time of its elector, if it is later.
+        A line that debvote refuses is no ballot.
+        """
+        in_time = {
+            one.number: queries.envelopes(self.book, "elector = ?", one.elector, view="ballot")
+            for one in late
+        }
+        answers = self.answers([line.line for lines in in_time.values() for line in lines])
+        found = {}
+        for one in late:
+            ballots = [line for line in in_time[one.number] if answers[line.line] is None]
+            last = max(ballots, key=BY_TIME, default=one)
+            if BY_TIME(last) > BY_TIME(one):
+                found[one.number] = last
+        return found
 
     # ---- what debvote says
     def checked_lines(self, lines: Sequence[Line]) -> list[CheckedLine]:

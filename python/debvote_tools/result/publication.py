@@ -15,6 +15,7 @@ from debvote_tools.cli.console import is_terminal, is_yes, tell_aside
 from debvote_tools.cli.faults import Fault
 from debvote_tools.debvote import casting_words
 from debvote_tools.files import sha256_of
+from debvote_tools.inbox.vote import Vote
 from debvote_tools.inbox.waiting import left
 from debvote_tools.poll.current import zone_of
 from debvote_tools.poll.secret import aliased_ballots, sealed_checksum
@@ -61,7 +62,7 @@ def facts_of(election: Election, words: Words, waiting: Sequence[int]) -> Facts:
         electors = queries.electors(book) if has_names or is_secret else []
         acts = acts_of(book, history, is_secret=is_secret)
         count_after_end = after_the_end(book, history)
-        doubts = doubts_of(book, history, sealed.public, words.casting, waiting)
+        doubts = doubts_of(election, history, sealed.public, words.casting, waiting)
     secret = None
     if is_secret:
         poll_bytes, casting = sealed.counted.as_bytes(), casting_words(words.casting)
@@ -147,7 +148,11 @@ def shown_by_comparison(
 
 
 def doubts_of(
-    book: Book, history: History, poll: SealedPoll, casting: str | None, waiting: Sequence[int]
+    election: Election,
+    history: History,
+    poll: SealedPoll,
+    casting: str | None,
+    waiting: Sequence[int],
 ) -> list[Doubt]:
     """The doubts that the book shows before the count. `casting` is the option of the casting vote
     by its plain name; `waiting` are the letters that arrived in time and wait.
@@ -158,7 +163,7 @@ def doubts_of(
         places = {"closed": closed, "until": until}
         # `close --early` has agreed to it
         found.append(Doubt("closed early", places, stops=False))
-    found += late_letters_in_time(book, history)
+    found += late_letters_in_time(election, history)
     names = dict(zip(poll.plain_names, poll.names))
     earlier = dict.fromkeys(act.detail["casting"] for act in history.named("publish"))
     others = [option for option in earlier if option is not None and casting not in (None, option)]
@@ -172,15 +177,18 @@ def doubts_of(
     return found
 
 
-def late_letters_in_time(book: Book, history: History) -> list[Doubt]:
+def late_letters_in_time(election: Election, history: History) -> list[Doubt]:
     """A doubt for each letter that arrived before the end and the first close, and whose ballot is
     late, was not entered again, and would count: its elector has no later ballot.
     """
-    condition = f"{queries.LATE} AND letter IS NOT NULL AND {queries.NOT_REPLACED}"
-    late = queries.envelopes(book, condition) if history.closes else []
+    book, late = election.book, list[queries.Envelope]()
+    if history.closes:
+        late = queries.envelopes(book, f"{queries.LATE} AND letter IS NOT NULL")
     if late:
         counting = {line: number for number, line in queries.numbered_lines_in_time(book)}
         late = [envelope for envelope in late if counting.get(envelope.line, 0) < envelope.number]
+        later = Vote(election, history).later_ballots(late)
+        late = [envelope for envelope in late if envelope.number not in later]
     if not late:
         return []
     last = min(time for time in (history.closes[0].time, history.until) if time is not None)

@@ -57,6 +57,13 @@ class Reopened(LettersTest):
         self.assertIn(f"{first}Envelope 5, entered anew from late envelope 2: ada 1,1,4,3\n", self.reopen("--in-time", 2, 3))
         self.assertEqual(self.lines(), [OTHER, BALLOT, "ada 1,1,4,3"])
 
+    def test_a_later_line_that_is_refused_is_no_ballot(self) -> None:
+        self.add_lines("ada 1,2,3", "ben 1,2,3,4")
+        self.told("close")
+        self.add(self.first)
+        self.assertNotIn("force", self.reopen("--in-time", 3))
+        self.assertEqual((self.lines()[-1], self.acts()[-1][1]), (BALLOT, {"because": "it was in time", "in_time": [3]}))
+
     def test_the_times_of_two_closes(self) -> None:
         """What had to come before a close, had to before the first one; the vote is closed since the last one."""
 

@@ -481,18 +481,20 @@ class OfOpenVotes(OfElections):
         self.expect("entered in time", (self.doubts(), (self.folder / "result" / "late.txt").read_text().count("\n")), ([], 5))
 
     def test_a_late_letter_before_a_later_ballot(self):
-        """It would not count, and `reopen` would refuse it: so it is no doubt, as that of who has no ballot is."""
-        self.closed()
+        """It would not count, and `reopen` would refuse it: so it is no doubt, as that of who has no ballot is, or a refused line."""
+        self.closed("ada-lovelace 1,2,3\ndan 9\n")
         book = open_book(self.folder / "election.db")
         time = book.last_act().time - datetime.timedelta(seconds=60)
         with self.state_of_this(), contextlib.closing(book.connection), book.act("add") as act:
-            for name in ("ada-lovelace", "cleo"):
+            for name in ("ada-lovelace", "cleo", "dan"):
                 data = b"Received: by mx; %s\nFrom: %s@x.example\n\n" % (email.utils.format_datetime(time).encode(), name.encode())
                 letter = queries.keep_letter(act, "a.eml", data, "", to_json(parse(RawLetter("a.eml", data))))
                 queries.decide(act, letter, "entered")
                 new = queries.NewEnvelope(f"{name} 3,2,1".encode(), letter=letter, time=time)
                 queries.add_envelopes(act, [new], queries.elector_numbers(book, [name]).values(), is_late=True)
-        self.stops("publish", said=["debvote-election: the ballot of letter 2 is late", "reopen --in-time 3 --because"])
+        late = ["the ballot of letter 2 is late", "reopen --in-time 4 --because", "the ballot of letter 3 is late", "reopen --in-time 5 --because"]
+        self.stops("publish", said=late)
+        self.assertNotIn("letter 1", self.election("publish").faults)
 
     def test_what_comes_after_the_end(self):
         """Lines and ballots of a desk are told that came after the end; not those that were struck, nor letters, which wait."""
