@@ -1,4 +1,4 @@
-"""What is asked of the book about electors, what is sealed, envelopes and their lines, sources, and
+"""What is asked of the book, and the rows that acts add: electors, what is sealed, envelopes and their lines, sources, and
 letters that came.
 """
 
@@ -118,7 +118,7 @@ IN_FILES = f"source IS NOT NULL AND letter IS NULL AND {NOT_UNDONE} AND envelope
 COLUMNS = "envelope, act, elector, line, source, letter, place, time, late, struck"
 
 
-# the views of what was entered: all envelopes, and those that are counted
+# the views of what was entered: all envelopes, and those that came in time and are not struck
 View = Literal["entered", "ballot"]
 
 
@@ -138,8 +138,8 @@ def lines(book: Book, condition: str = "1", *values: object, view: View = "enter
 
 
 def lines_in_time(book: Book) -> list[bytes]:
-    """The ballots that are counted: the line of each envelope that came in time and is not struck,
-    in their order.
+    """What debvote counts from: the line of each envelope that came in time and is not struck, in
+    their order; also those that it refuses, or that a later one replaces.
     """
     return lines(book, view="ballot")
 
@@ -208,7 +208,7 @@ def last_entering_act(book: Book) -> int | None:
     return number
 
 
-def lines_after(
+def lines_as_of(
     book: Book, act: int, electors: Collection[int] | None = None, *, without: int = 0
 ) -> list[bytes]:
     """The line of each envelope that was in time and not struck when an act was done, in their
@@ -241,7 +241,7 @@ def lines_of_electors(book: Book, electors: Collection[int], *, without: int = 0
     """The lines of some electors that are in time and not struck now, in their order, without those
     of one act.
     """
-    return lines_after(book, book.last_number(), electors, without=without)
+    return lines_as_of(book, book.last_number(), electors, without=without)
 
 
 def entered_anew(book: Book) -> set[int]:
@@ -275,7 +275,7 @@ def last_numbers(book: Book) -> dict[int, tuple[int, bytes]]:
 
 
 def size_in_time(book: Book) -> tuple[int, int]:
-    """How many lines and bytes the ballots have that are counted."""
+    """How many lines and bytes debvote counts from."""
     words = "SELECT count(*), coalesce(sum(length(line) + 1), 0) FROM ballot"
     [(count, size)] = book.rows(words)
     return int(count), int(size)

@@ -83,7 +83,7 @@ def run(election: Election, arguments: Arguments) -> int:
         written = write(book, due, place)
         lost = write_lost(due, place.parent)
         tried = [] if server is None else send_letters(book, due, server)
-    for folder, letters in {place: [*due.written, *due.new], **lost}.items():
+    for folder, letters in {place: [*due.going_again, *due.new], **lost}.items():
         if names := [due.electors[one.elector].name for one in letters if not one.address]:
             tell(
                 f"Without an address: {listed(names, MOST)}. Print {folder}/{letter_folder.TO_PRINT}."
@@ -212,7 +212,7 @@ def server_of(history: History, server: Server | None, arguments: Arguments) -> 
 # ---------------------------------------------------------------- the acts
 def write(book: Book, due: LettersDue, place: pathlib.Path) -> int:
     """Writes and notes the letters that are due; returns how many a mail program can send."""
-    made = letter_folder.letter_files(due, [*due.written, *due.new])
+    made = letter_folder.letter_files(due, [*due.going_again, *due.new])
     with letter_folder.in_place(made, place):
         if due.new:
             detail: Detail = {"kind": due.kind, "letters": len(due.new)}
@@ -226,7 +226,7 @@ def write_lost(due: LettersDue, kind_folder: pathlib.Path) -> dict[pathlib.Path,
     letters. A folder from which files were taken out is left alone: they may have been sent.
     """
     lost = {}
-    for act, letters in itertools.groupby(due.earlier, key=lambda letter: letter.for_act):
+    for act, letters in itertools.groupby(due.earlier_receipts, key=lambda letter: letter.for_act):
         folder, its_letters = kind_folder / str(act), list(letters)
         made = letter_folder.letter_files(due, its_letters)
         if made and not folder.exists():

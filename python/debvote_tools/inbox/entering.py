@@ -98,7 +98,7 @@ def enter_lines(
             if not is_late:
                 # replies depend on the lines of the same electors alone
                 same = frozenset(filter(None, electors))
-                replies = vote.replies(queries.lines_after(book, act.number - 1, same), lines)
+                replies = vote.replies(queries.lines_as_of(book, act.number - 1, same), lines)
             console.tell_many(report_on(numbers, replies))
         except console.OutputFailed as fault:
             cure, done = "see debvote-election status", f"the {what} {done}"

@@ -18,7 +18,7 @@ NOBODY = ""
 
 
 class Became(enum.Enum):
-    """What became of an envelope; and the outcome of a letter."""
+    """What became of an envelope; of a letter it is the outcome."""
 
     COUNTS = enum.auto()
     # a later ballot counts

@@ -163,7 +163,7 @@ def set_outcomes(cases: Sequence[JudgedLetter], box: Box) -> None:
     undecided = [group for group in groups.values() if any(case.decision is None for case in group)]
     for group in undecided:
         # the first copy that may go in, unless an act decided of one that hides it
-        may_go_in = (one for one in group if one.decision is None and one.why_by_itself is None)
+        may_go_in = (one for one in group if one.decision is None and one.first_broken_rule is None)
         is_hidden = any(case.decision is not None and case.hides for case in group)
         for case in () if is_hidden else itertools.islice(may_go_in, 1):
             firsts.add(case)
@@ -200,15 +200,15 @@ def set_copies(group: Sequence[JudgedLetter], firsts: Collection[JudgedLetter], 
     first = next(iter(hiding), None)
     waiting: dict[tuple[ReasonWithValues | None, Body], JudgedLetter] = {}
     for case in sorted(group, key=lambda case: case.decision is None):
-        before = waiting.setdefault((case.why_by_itself, case.read.body), case)
+        before = waiting.setdefault((case.first_broken_rule, case.read.body), case)
         if case.decision is not None or case in firsts:
             continue
-        if first is not None and (is_hidden or case.why_by_itself is None):
+        if first is not None and (is_hidden or case.first_broken_rule is None):
             set_copy(case, first, box)
         elif before is not case:
             set_copy(case, before, box)
         else:
-            case.reason = case.why_by_itself
+            case.reason = case.first_broken_rule
 
 
 def set_copy(case: JudgedLetter, first: JudgedLetter, box: Box) -> None:

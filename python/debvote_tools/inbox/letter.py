@@ -162,7 +162,7 @@ def parse(raw: RawLetter) -> ParsedLetter:
     letter = Part(raw.data)
     senders, subjects = letter.values("from"), letter.values("subject")
     longest = max(map(len, subjects), default=0)
-    letter.has_more(longest, "characters in its subject", MAX_FIELD)
+    letter.note_too_long(longest, "characters in its subject", MAX_FIELD)
     body, sender = body_of(letter), sender_of(senders)
     texts = (text for subject in subjects for text in (decoded(subject), subject))
     answered = letter.values("in-reply-to")
@@ -275,21 +275,21 @@ def body_of(letter: Part) -> Body:
     """The text of a letter, and the other lines of all its parts."""
     parts = list(itertools.islice(letter.walk(), MAX_PARTS))
     if len(parts) == MAX_PARTS:
-        letter.found(Reason.TOO_MANY_PARTS())
-    texts = [(part, is_own) for part, is_own in parts if part.kind.startswith("text/")]
+        letter.note_trouble(Reason.TOO_MANY_PARTS())
+    texts = [(part, is_shown) for part, is_shown in parts if part.kind.startswith("text/")]
     lengths = [len(part.body_bytes) for part, _ in texts] + [len(part.around) for part, _ in parts]
-    is_long = letter.has_more(max(lengths, default=0), "bytes in a text", MAX_TEXT)
-    if is_long or letter.has_more(sum(lengths), "bytes in all its texts", MAX_TEXTS):
+    is_long = letter.note_too_long(max(lengths, default=0), "bytes in a text", MAX_TEXT)
+    if is_long or letter.note_too_long(sum(lengths), "bytes in all its texts", MAX_TEXTS):
         return Body(trouble=letter.trouble)
     payloads = [part.payload for part, _ in texts]
     count = sum(len(data) - len(data.translate(None, LINE_OR_MARK)) for data in payloads)
-    if letter.has_more(count, "lines and marks", MAX_LINES):
+    if letter.note_too_long(count, "lines and marks", MAX_LINES):
         shown = lines_of(payloads[0][: SHOWN_LINES * MAX_LINE])
         return Body(tuple(shown[:SHOWN_LINES]), trouble=letter.trouble)
-    first, is_own = texts[0] if texts else (letter, False)
+    first, is_shown = texts[0] if texts else (letter, False)
     is_html_alone = first.kind == "text/html" and len(texts) == 1
-    if not is_own or not (first.kind == "text/plain" or is_html_alone):
-        first.found(Reason.NO_PLAIN_TEXT())
+    if not is_shown or not (first.kind == "text/plain" or is_html_alone):
+        first.note_trouble(Reason.NO_PLAIN_TEXT())
     read = [text_of(part, is_first=part is first) for part, _ in texts]
     text, pieces = read[0] if read else (Body(), [])
     # no program shows text around the parts, but it may be a letter that the mailbox did not
@@ -331,12 +331,12 @@ def text_of(part: Part, *, is_first: bool) -> tuple[Body, list[str]]:
         if is_first:
             part.payload.decode(named)
     except (UnicodeDecodeError, LookupError):
-        part.found(Reason.CHARSET(charset=named))
+        part.note_trouble(Reason.CHARSET(charset=named))
     if is_first and part.is_cut:
-        part.found(Reason.CUT())
+        part.note_trouble(Reason.CUT())
     text = decoded_bytes(part.payload, charset or "utf-8").removeprefix("\ufeff")
     if odd := CONTROL.search(text):
-        part.found(Reason.CONTROL(character=f"U+{ord(odd[0]):04X}"))
+        part.note_trouble(Reason.CONTROL(character=f"U+{ord(odd[0]):04X}"))
     # other kinds of text may be shown as HTML, too
     html = read_html("" if part.kind == "text/plain" else text)
     if part.kind == "text/html":
@@ -345,7 +345,7 @@ def text_of(part: Part, *, is_first: bool) -> tuple[Body, list[str]]:
     flow = part.parameters.get("format", "fixed").lower()
     delsp = part.parameters.get("delsp", "no").lower()
     if flow not in ("fixed", "flowed") or delsp not in ("no", "yes"):
-        part.found_ambiguous("content-type")
+        part.note_ambiguous("content-type")
     flowing, whole = joined(lines, deletes_space=delsp == "yes") if flow == "flowed" else ([], [])
     return Body(tuple(lines), tuple(flowing)), [*whole, *html.lines, *html.pieces]
 

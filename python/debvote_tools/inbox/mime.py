@@ -77,14 +77,14 @@ class Part:
             (name.decode().lower(), on_one_line(value)) for name, value in FIELD.findall(head)
         ]
         limit = MAX_HEAD if end is None else MAX_LETTER
-        self.has_more(len(data), "bytes", limit)
+        self.note_too_long(len(data), "bytes", limit)
         if LONE_RETURN.search(data):
-            self.found(Reason.CONTROL(character="U+000D"))
+            self.note_trouble(Reason.CONTROL(character="U+000D"))
         if not PLAIN_HEAD.fullmatch(head):
-            self.found_ambiguous("a line of its head")
+            self.note_ambiguous("a line of its head")
         for name in DESCRIPTION:
             if len(self.values(name)) > 1 or len(self.value(name)) > MAX_OF_PART:
-                self.found_ambiguous(name)
+                self.note_ambiguous(name)
         self.coding = self.value("content-transfer-encoding").lower()
         self.kind, self.parameters = self.described()
         # whether text after it may be in one of its parts
@@ -94,20 +94,21 @@ class Part:
         self.around = b""
         if self.kind.startswith(("multipart/", "message/")):
             if self.coding not in AS_IT_STANDS:
-                self.found_ambiguous("content-transfer-encoding")
+                self.note_ambiguous("content-transfer-encoding")
             self.open()
 
-    def found(self, trouble: ReasonWithValues) -> None:
+    def note_trouble(self, trouble: ReasonWithValues) -> None:
+        """Keeps the first trouble."""
         self.trouble = self.trouble or trouble
 
-    def has_more(self, length: int, what: str, limit: int) -> bool:
-        """Whether it has more of something than is read, which then is its trouble."""
+    def note_too_long(self, length: int, what: str, limit: int) -> bool:
+        """Whether it has more of something than is read. Then that is noted as its trouble."""
         if length > limit:
-            self.found(Reason.TOO_LONG(length=length, what=what, limit=limit))
+            self.note_trouble(Reason.TOO_LONG(length=length, what=what, limit=limit))
         return length > limit
 
-    def found_ambiguous(self, what: str) -> None:
-        self.found(Reason.AMBIGUOUS(what=what))
+    def note_ambiguous(self, what: str) -> None:
+        self.note_trouble(Reason.AMBIGUOUS(what=what))
 
     def values(self, name: str) -> list[str]:
         """All fields of its head with this name, each on one line."""
@@ -123,9 +124,9 @@ class Part:
         pairs = PARAMETER.findall(read[2]) if read else []
         parameters = {name.lower(): value.strip('"') for name, value in pairs}
         if kind in PACKED:
-            self.found(Reason.ENCRYPTED())
+            self.note_trouble(Reason.ENCRYPTED())
         if len(parameters) < len(pairs) or not (read or NOT_READ.fullmatch(written)):
-            self.found_ambiguous("content-type")
+            self.note_ambiguous("content-type")
         return kind, parameters
 
     def open(self) -> None:
@@ -140,7 +141,7 @@ class Part:
             and len(self.values("content-type")) == 1
         )
         if not is_plain:
-            self.found_ambiguous("content-type")
+            self.note_ambiguous("content-type")
         if not boundary:
             self.around = self.body_bytes
             return
@@ -149,11 +150,11 @@ class Part:
         found_lines = filter(self.begins_line, re.finditer(line, self.body_bytes))
         lines = list(itertools.islice(found_lines, MAX_PARTS))
         if len(lines) == MAX_PARTS:
-            self.found(Reason.TOO_MANY_PARTS())
+            self.note_trouble(Reason.TOO_MANY_PARTS())
         ends = [found[1].strip(b" \t\r") for found in lines]
         self.is_open = not is_plain or len(lines) < 2 or ends[-1] != b"--" or any(ends[:-1])
         if self.is_open:
-            self.found_ambiguous("the lines between its parts")
+            self.note_ambiguous("the lines between its parts")
         starts = [found.start() for found in lines] + [len(self.body_bytes)]
         below = b"" if self.is_open else self.body_bytes[lines[-1].end() :]
         self.around = self.body_bytes[: starts[0]] + below
@@ -165,16 +166,16 @@ class Part:
     def begins_line(self, found: re.Match[bytes]) -> bool:
         return found.start() == 0 or self.body_bytes[found.start() - 1 : found.start()] == b"\n"
 
-    def walk(self, depth: int = 0, *, is_own: bool = True) -> Iterator[tuple["Part", bool]]:
+    def walk(self, depth: int = 0, *, is_shown: bool = True) -> Iterator[tuple["Part", bool]]:
         """Yields it and all parts in it, each with whether programs show it as the text."""
         has_name = any(name.startswith("name") for name in self.parameters)
         is_inline = self.value("content-disposition").lower() in ("", "inline")
-        is_own = is_own and is_inline and not has_name
+        is_shown = is_shown and is_inline and not has_name
         if self.inner and depth == MAX_DEPTH:
-            self.found(Reason.TOO_MANY_PARTS())
-        yield self, is_own
+            self.note_trouble(Reason.TOO_MANY_PARTS())
+        yield self, is_shown
         for part in self.inner if depth < MAX_DEPTH else ():
-            yield from Part(part).walk(depth + 1, is_own=is_own and self.kind in CONTAINERS)
+            yield from Part(part).walk(depth + 1, is_shown=is_shown and self.kind in CONTAINERS)
 
     @property
     def is_cut(self) -> bool:
@@ -191,7 +192,7 @@ class Part:
         bare = LINE_END.sub(b"", self.body_bytes)
         if self.coding == "base64" and BASE64.fullmatch(bare):
             return base64.b64decode(bare)
-        self.found_ambiguous("content-transfer-encoding")
+        self.note_ambiguous("content-transfer-encoding")
         with contextlib.suppress(binascii.Error):
             is_base64 = self.coding == "base64"
             return base64.b64decode(bare + b"==") if is_base64 else binascii.a2b_qp(self.body_bytes)

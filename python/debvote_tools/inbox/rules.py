@@ -215,15 +215,17 @@ class JudgedLetter:
         return self.ballot is not None and self.marked_elector == self.elector
 
     @functools.cached_property
-    def why_by_itself(self) -> ReasonWithValues | None:
-        """Why it waits, whatever other letters there are."""
+    def first_broken_rule(self) -> ReasonWithValues | None:
+        """Runs the rules in order: why the first one does not hold, whatever other letters there
+        are.
+        """
         return next(filter(None, (rule(self) for rule in RULES)), None)
 
     @property
     def hides(self) -> bool:
         """Whether its copies are ignored: it went in, or may go in by itself."""
         went_in = (queries.ENTERED, queries.TAKEN_BACK, queries.STRUCK)
-        return self.decision in went_in or self.why_by_itself is None
+        return self.decision in went_in or self.first_broken_rule is None
 
     @property
     def needs_secretary(self) -> bool:

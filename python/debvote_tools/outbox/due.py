@@ -59,25 +59,29 @@ class LettersDue:
             for letter in self.sent
             if letter.elector in back and self.is_present(letter)
         }.values()
-        # the act to which the letters belong, those that are new, and those that were written
-        # before and belong to it, too
-        self.for_act = self.history.last.number + 1
-        self.new, self.written = list[SentLetter](), list[SentLetter]()
+        # the act to which the letters belong, and those that are new
+        self.for_act, self.new = self.history.last.number + 1, list[SentLetter]()
+        # those that were written before, and go out again with them
+        self.going_again = list[SentLetter]()
         # those who have the call, each at an address, to whom the letter of an extension is due
         self.had_call = set[tuple[int, str]]()
-        # the receipts of earlier runs that have files, or had them; the numbers of the letters that
-        # wait and are in no elector's receipt; how many wait in all, if they were looked at
-        self.earlier, self.in_no_receipt, self.letters_waiting = list[SentLetter](), list[int](), 0
+        # the receipts of earlier runs that have files, or had them
+        self.earlier_receipts = list[SentLetter]()
+        # the numbers of the letters that wait and are in no elector's receipt; and how many wait in
+        # all, if they were looked at
+        self.in_no_receipt, self.letters_waiting = list[int](), 0
         self.text_of: TextOf
 
     def find(self) -> None:
-        """Finds the letters that are due, and what each says."""
+        """Finds the letters that are due, and what each says: of each kind a function fills `new`,
+        `going_again` and `earlier_receipts`, and returns what makes the text of a letter.
+        """
         of_kinds = {
-            "call": self.due_call,
-            "reminders": self.due_reminders,
-            "receipts": self.due_receipts,
-            "closed": self.due_closed,
-            "result": self.due_result,
+            "call": self.find_call,
+            "reminders": self.find_reminders,
+            "receipts": self.find_receipts,
+            "closed": self.find_closed,
+            "result": self.find_result,
         }
         self.text_of = of_kinds[self.kind]()
 
@@ -89,7 +93,7 @@ class LettersDue:
 
     @property
     def to_send(self) -> list[SentLetter]:
-        return list(filter(self.can_be_sent, (*self.written, *self.new)))
+        return list(filter(self.can_be_sent, (*self.going_again, *self.new)))
 
     def can_be_sent(self, letter: SentLetter) -> bool:
         """Whether a server is to take a letter now: one to be printed has no address, and an
@@ -125,7 +129,7 @@ class LettersDue:
         return elector if self.is_present(letter) else elector._replace(mark="")
 
     # ------------------------------------------------------------ each kind
-    def due_call(self) -> TextOf:
+    def find_call(self) -> TextOf:
         """The call to each elector; after an extension that, to those who have the call."""
         self.demand_not_over()
         *earlier, last = (act.number for act in self.history.since_call("call", "extend"))
@@ -143,7 +147,7 @@ class LettersDue:
             elector, is_extension=self.is_extension(letter)
         )
 
-    def due_reminders(self) -> TextOf:
+    def find_reminders(self) -> TextOf:
         """A letter to each elector whose ballot does not count yet. A run of this day goes on if it
         was cut off, or the server refused some for now; else each run is a new one.
         """
@@ -169,7 +173,7 @@ class LettersDue:
             if self.time - letter.time < LASTING
         )
         if self.is_sending and any(are_unsent):
-            self.for_act, self.written = last, written
+            self.for_act, self.going_again = last, written
         else:
             self.new = list(map(self.letter_to, silent.values()))
 
@@ -188,7 +192,7 @@ class LettersDue:
         times = (one.time for one in self.sent if self.time - one.time < LASTING)
         return max(times, default=None)
 
-    def due_receipts(self) -> TextOf:
+    def find_receipts(self) -> TextOf:
         """A letter to each elector about all that came since the last one, also to an earlier
         address, and those that no server has taken yet.
         """
@@ -201,21 +205,23 @@ class LettersDue:
         told = {one.number: told_of(fates[one.name]) for one in self.electors.values()}
         # not to people who left the list, nor about a letter that has become a ballot: a new
         # receipt is about that
-        self.earlier = [
+        self.earlier_receipts = [
             one
             for one in self.sent
             if (one.state != TAKEN or one.message_id in self.came_back)
             and one.elector in told
             and about_now(one.about, told[one.elector])
         ]
-        self.written = list(filter(self.can_be_sent, self.earlier)) if self.is_sending else []
+        self.going_again = (
+            list(filter(self.can_be_sent, self.earlier_receipts)) if self.is_sending else []
+        )
         said = {
             (one.elector, key)
             for one in self.sent
             if not self.failed_elsewhere(one)
             for key in one.about
         }
-        in_earlier = {(one.elector, one.address): set(one.about) for one in self.earlier}
+        in_earlier = {(one.elector, one.address): set(one.about) for one in self.earlier_receipts}
         old = self.old_addresses()
         for number, elector in self.electors.items():
             keys = [key for key in told[number] if (number, key) not in said]
@@ -248,7 +254,7 @@ class LettersDue:
         states = (REFUSED, *([WRITTEN] if self.is_sending else []))
         return letter.state in states and not self.is_present(letter)
 
-    def due_closed(self) -> TextOf:
+    def find_closed(self) -> TextOf:
         if not self.history.is_closed:
             raise self.stops("the vote is not closed", "close")
         poll, language = self.composer.call_data.poll, self.election.language
@@ -256,7 +262,7 @@ class LettersDue:
         self.to_each(self.history.closes[-1].number)
         return lambda elector, _: self.composer.text("closed_to_elector.txt", elector, letter=text)
 
-    def due_result(self) -> TextOf:
+    def find_result(self) -> TextOf:
         act = last_publication(self.history)
         if act is None or not self.history.is_closed:
             raise self.stops("nothing is published", "publish")
@@ -265,7 +271,7 @@ class LettersDue:
             raise bad_words("--at", why, cure, NOTHING_WRITTEN)
         book, code = self.election.book, act.detail["words"]["language"]
         letter = (queries.sealed(book, f"{LETTERS}/{RESULT_LETTER}", act.number) or b"").decode()
-        ballots = ballot_file(queries.lines_after(book, act.number))
+        ballots = ballot_file(queries.lines_as_of(book, act.number))
         poll = self.election.sealed().counted.as_bytes()
         standing = self.election.debvote.standing(poll, ballots)
         if code is not None:
@@ -296,7 +302,7 @@ class LettersDue:
             if letter is None:
                 self.new.append(self.letter_to(elector))
             else:
-                self.written.append(letter)
+                self.going_again.append(letter)
 
     def letter_to(
         self, elector: Elector, address: str | None = None, about: Sequence[About] = ()

@@ -76,7 +76,8 @@ def page_of(facts: Facts, answers: Answers, checksums: Mapping[str, str]) -> byt
         option: name if name == plain else in_html.given(name) for option, (name, plain) in pairs
     }
     named, bold = numbered_options(names.values(), in_html), Markup('<b data-option="{}">{}</b>')
-    standing, lines = standing_in(answers.standing_text), ballot_lines(facts.ballots)
+    # the page shows the ballots that stand, as debvote lists them
+    standing = standing_in(answers.standing_text)
     # many ballots are alike
     have_names = len(standing) * sum(map(len, named.values())) <= NAMES_LIMIT
     shown = [str(name if have_names else key) for key, name in named.items()]
@@ -85,6 +86,7 @@ def page_of(facts: Facts, answers: Answers, checksums: Mapping[str, str]) -> byt
     if answers.picture is not None and len(names) <= MOST_IN_PAGE:
         picture, least_width = picture_in_page(answers.picture, language)
         style += f".picture svg {{ min-width: {least_width}px; }}\n"
+    file_lines = ballot_lines(facts.ballots)
     refused = ((one.envelope, f"{one.word}: {one.hint}") for one in answers.refused)
     own_letter = [file_names.LETTER] if facts.is_of_two_files else []
     return render_page(
@@ -119,7 +121,7 @@ def page_of(facts: Facts, answers: Answers, checksums: Mapping[str, str]) -> byt
         ballot_words={ranks: Markup(in_words_of(ranks)) for ranks in set(standing.values())},
         have_names=have_names,
         standing=standing,
-        refused=runs_of(((at, lines[at - 1], cause) for at, cause in refused), in_html),
+        refused=runs_of(((at, file_lines[at - 1], cause) for at, cause in refused), in_html),
         late=runs_of(
             ((at, line, "") for at, line in enumerate(ballot_lines(facts.late or b""), start=1)),
             in_html,

@@ -138,7 +138,7 @@ def shown_by_comparison(
     earlier = history.named("publish")
     if not earlier or earlier[-1].detail["checksums"][BALLOTS] == sha256_of(ballots):
         return []
-    lines = queries.lines_after(election.book, earlier[-1].number)
+    lines = queries.lines_as_of(election.book, earlier[-1].number)
     before = election.debvote.standing(sealed.counted.as_bytes(), ballot_file(lines))
     then, now = (
         {name: in_normal_form(ranks) for name, ranks in votes.items()}
