@@ -110,10 +110,10 @@ class Composer:
 
     def reminder(self, elector: Elector, waits: Sequence[Came]) -> str:
         """A letter to an elector without a ballot. If a letter of theirs waits, it says so, and
-        does not remind.
+        that they can send a right line now.
         """
-        is_reminding = not any(one.is_own for one in waits)
-        return self.text("reminders", elector, came=waits, is_reminding=is_reminding)
+        has_waiting = any(one.is_own for one in waits)
+        return self.text("reminders", elector, came=waits, has_waiting=has_waiting)
 
     def receipt(self, elector: Elector, came: Sequence[Came]) -> str:
         """What became of all that came of an elector. It has the right line if what came last was

@@ -590,9 +590,11 @@ class Reminders(OutTest):
         begin = f"Dear Ben, No ballot of yours that counts has come yet. {WHEN} {FORM}#ben/"
         self.assertTrue(texts["ben"].startswith(begin), texts["ben"])
         self.assertIn(f"{LINE}ben _,_,_,_", texts["ben"])
-        # whose letter waits is told so, and not reminded
+        # whose letter waits is told so, and what can be done meanwhile
         self.assertIn("No ballot from it is entered yet: the secretary has to look at it first.", texts["cleo"])
-        self.assertNotRegex(texts["cleo"], r"_,_|https|Vote until")
+        self.assertIn(f" You can send a right line now, and need not wait. {WHEN} {FORM}#cleo/", texts["cleo"])
+        self.assertIn(f"{LINE}cleo _,_,_,_", texts["cleo"])
+        self.assertNotIn("need not wait", texts["ben"])
         # a stranger's letter silences nobody
         self.assertIn(ELSEWHERE, texts["dan"])
         self.assertIn("dan _,_,_,_", texts["dan"])
@@ -604,7 +606,7 @@ class Reminders(OutTest):
         )
         text = self.texts("reminders")["ada"]
         self.assertIn(f"{ELSEWHERE} Your letter of Monday, 23 November 2026, 09:00 (UTC) has arrived.", text)
-        self.assertNotRegex(text, r"_,_|https|Vote until")
+        self.assertIn("You can send a right line now", text)
 
     def test_the_end_after_two_extensions(self) -> None:
         for day, words in ((6, "Sunday, 6 December"), (8, "Tuesday, 8 December")):

@@ -181,8 +181,8 @@ class CallLetter(unittest.TestCase):
                 said = now.call.language.say(f"{whose}The program debvote wrote the rest, and has not checked them.")
                 self.assertEqual(" ".join(text.split()).count(said), 1)
             self.assertNotIn("Dear friends", refusing)
-        # a letter that does not remind does not begin so
-        self.assertNotIn("friends", now.reminder(ADA, [WAITS]))
+            # a reminder begins so, too, if a letter waits
+            self.assertTrue(now.reminder(ADA, [WAITS]).startswith(begin))
 
     def test_a_letter_greets_once(self) -> None:
         """By the secretary's own words, or by the name where these do not greet."""
