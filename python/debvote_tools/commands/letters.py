@@ -85,6 +85,11 @@ def run(election: Election, arguments: Arguments) -> int:
     for folder, letters in {place: [*due.written, *due.new], **lost}.items():
         if names := [due.electors[one.elector].name for one in letters if not one.address]:
             tell(f"Without an address: {listed(names, MOST)}. Print {folder}/{files.TO_PRINT}.")
+            if due.kind == "call" and not due.composer.call.letter_text:
+                tell(
+                    "Note: these letters do not say where a ballot on paper goes. Say it in letter.txt, "
+                    f"run {election.command('call')}, and write them again."
+                )
     if due.in_no_receipt:
         numbers = listed([str(number) for number in due.in_no_receipt], MOST)
         tell(

@@ -180,6 +180,7 @@ def letter_to_all(call: CallData, *, is_extension: bool) -> str:
         is_extension=is_extension,
         is_whole=call.at is None,
         are_texts_elsewhere=False,
+        is_on_paper=False,
     )
     return without_ballots(text, len(call.poll.names), lambda word: True)
 

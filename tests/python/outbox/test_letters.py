@@ -20,7 +20,10 @@ from tests.support.outgoing import AT, OTHER_RANKS, RANKS, TITLE, OutTest, one_l
 
 LAKE = "At the lake, then In the town hall, then Further discussion, then Sell the house and meet there"
 FORM = f"The page of the vote, which writes the line of your ballot for you, and on which the result will be: {AT}"
-LINE = "Your line, with a rank in the place of each _. 1 is the best; equal ranks and - for no rank are allowed: "
+LINE = (
+    "Your line, with a rank in the place of each _. The first place is for option 1, and so on; 1 is the best, equal ranks are allowed, "
+    "and - is last: "
+)
 MARKS = r"\[([0-9a-f]{16})-([2-9a-hjkmnp-z]{10})\]"
 WHEN = f"{TITLE} Vote until: Friday, 4 December 2026, 18:00 (UTC)"
 OPTIONS = "Option 1: At the lake Option 2: In the town hall Option 3: Sell the house and meet there Option 4: Further discussion (the default option)"
@@ -35,8 +38,9 @@ class Call(OutTest):
         for name, message in found.items():
             text = one_line(message)
             [(mark, own)] = re.findall(MARKS, message["Subject"])
-            begin = f"Dear {name.title()}, {WHEN} {FORM}#{name}/{own} {LINE}{name} _,_,_,_ The ranks are those of these options, "
-            self.assertTrue(text.startswith(f"{begin}in this order: {OPTIONS} Send it as an answer to this letter, or to "), text)
+            begin = f"Dear {name.title()}, {WHEN} {FORM}#{name}/{own} {LINE}{name} _,_,_,_ The options; the last one is the default "
+            begin += "option, which stays where no other one is good enough: "
+            self.assertTrue(text.startswith(f"{begin}{OPTIONS} Send your line as an answer to this letter, or to "), text)
             self.assertIn(f"whose subject ends with [{mark}-{own}]", text)
             self.assertIn(f"until the result: {hashlib.sha256(self.read('call/poll.toml')).hexdigest()} After the vote", text)
             self.assertLess(message.get_content().index(AT), 300)
@@ -46,8 +50,8 @@ class Call(OutTest):
 
     def test_the_letter_to_all_has_gaps_and_the_mark_of_the_poll(self) -> None:
         text = " ".join(self.read("call/call.txt").decode().split())
-        self.assertTrue(text.startswith(f"{WHEN} {FORM} {LINE}NAME _,_,_,_ Write your name on the roll in the place of NAME. The ranks"), text)
-        self.assertRegex(text, r"Send it to vote@club\.example in a letter whose subject ends with \[[0-9a-f]{16}\]\.")
+        self.assertTrue(text.startswith(f"{WHEN} {FORM} {LINE}NAME _,_,_,_ Write your name on the roll in the place of NAME. The options"), text)
+        self.assertRegex(text, r"Send your line to vote@club\.example in a letter whose subject ends with \[[0-9a-f]{16}\]\.")
         self.assertNotIn("answer to this letter", text)
 
     def test_head_and_modes(self) -> None:
@@ -241,21 +245,28 @@ class Paper(OutTest):
 
     def test_who_has_no_address_gets_a_page(self) -> None:
         ended = self.done("letters", "call")
-        name = re.search(r"Without an address: (\S+), eve\. Print (letters/call/\d+/to-print\.html)\.\n", ended.output)
+        name = re.search(r"Without an address: (\S+), eve\. Print (letters/call/\d+/to-print\.html)\.\nNote: (.*)\n", ended.output)
         assert name is not None, ended
+        self.assertIn("do not say where a ballot on paper goes. Say it in letter.txt", name[3])
         self.assertIn("Wrote 1 letter: ", ended.output)
         page = self.read(name[2]).decode()
         self.assertIn("<bdi>Ada &lt;script&gt;alert(1)&lt;/script&gt; &amp; Söhne</bdi>", page)
         self.assertNotIn("<script>alert", page)
         # each is for the person above it
         letters = [part.partition("</section>")[0] for part in page.split('<section class="letter">')[1:]]
-        self.assertEqual([re.findall(r"(\S+) _,_,_,_", part) for part in letters], [[name[1]], ["eve"]])
+        self.assertEqual([re.findall(r"Name: (\S+)</p>", part) for part in letters], [[name[1]], ["eve"]])
         self.assertEqual(["&lt;script&gt;" in part for part in letters], [True, False])
         self.assertIn("<bdi>Eve</bdi>", letters[1])
         self.assertEqual([state for _, state in self.rows("call")], ["written"] * 3)
         # who asks for it once more gets the same
         self.assertIn("Wrote 1 letter, none of them new: ", self.done("letters", "call").output)
         self.assertEqual(self.read(name[2]).decode(), page)
+        # with letter.txt it says where
+        self.assertIn("give it to whoever sent you this letter", " ".join(page.split()))
+        (self.folder / "letter.txt").write_text("Paper goes into the box.\n")
+        self.done("call")
+        self.assertNotIn("Note", self.done("letters", "call").output)
+        self.assertIn("The words at the head of this letter say where it goes.", " ".join(self.read(name[2]).decode().split()))
 
 
 class Names(OutTest):

@@ -154,7 +154,7 @@ class CallLetter(unittest.TestCase):
                 lines = text.splitlines()
                 self.assertIn("https://club.example/vote/#ada/abcdefghjk", text)
                 [line] = [number for number, one in enumerate(lines) if one == "  ada _,_,_"]
-                self.assertRegex(" ".join(lines[line - 2 : line]), r"\b1 .*; .* - ")
+                self.assertRegex(" ".join(lines[line - 3 : line]), r"\b1\b.*; 1 .* - ")
                 default = language_of(code).say("the default option")
                 names = [one for one in lines[line:] if one.startswith("  ") and one.endswith(("Lake", "Hall", f"None ({default})"))]
                 self.assertEqual(len(names), 3)
@@ -177,9 +177,11 @@ class CallLetter(unittest.TestCase):
             for text in first:
                 begin = "Dear friends,\n\npaper ballots go to the box in the hall.\n|Write\n|ada 1,2,3 or so.\n  |ben 3,2,1\n\nYours, Eve\n\n"
                 self.assertTrue(text.startswith(begin), text)
-                whose = "The words above are those of whoever sends this letter. "
+                whose = "The words at the head of this letter are those of whoever sends it. "
                 said = now.call.language.say(f"{whose}The program debvote wrote the rest, and has not checked them.")
                 self.assertEqual(" ".join(text.split()).count(said), 1)
+                # behind all that is the program's
+                self.assertTrue(" ".join(text.split()).endswith(said))
             self.assertNotIn("Dear friends", refusing)
             # a reminder begins so, too, if a letter waits
             self.assertTrue(now.reminder(ADA, [WAITS]).startswith(begin))
@@ -193,7 +195,7 @@ class CallLetter(unittest.TestCase):
         for first in (*greeting, "Paper goes into the box.", "Das Wichtige steht unten."):
             for text in self.asking(vote(letter_text=f"{first}\n\nMore.\n"))[:3]:
                 begin = first if first in greeting else f"Dear Ada L.,\n\n{first}"
-                self.assertTrue(text.startswith(f"{begin}\n\nMore.\n\nThe words above"), text)
+                self.assertTrue(text.startswith(f"{begin}\n\nMore.\n\n"), text)
 
     def test_a_letter_with_a_code_has_no_command(self) -> None:
         for code in LANGUAGES:
@@ -203,7 +205,7 @@ class CallLetter(unittest.TestCase):
 
     def test_with_marked_it_says_to_answer_or_to_use_the_link(self) -> None:
         for text in self.asking(vote(is_marked=True)):
-            self.assertIn("Open the link in your letter, or answer that letter: then the subject has your own mark", " ".join(text.split()))
+            self.assertIn("Open the link above, or answer this letter: then the subject has your own mark", " ".join(text.split()))
         self.assertNotIn("own mark", "".join(self.asking(vote())))
 
     def test_without_a_page_the_texts_follow(self) -> None:
@@ -213,7 +215,7 @@ class CallLetter(unittest.TestCase):
             text = dataclasses.replace(now, electors=(ADA,)).call_letter(ADA, is_extension=False)
             self.assertIn("\n\nOption 1: Lake\n\nA lake.\n|ada 1,2,3\n\nWHAT DECIDES\n", text)
             self.assertEqual(text.count("checked"), 1)
-            self.assertEqual("The words above, and the texts" in text, bool(letter))
+            self.assertEqual("The words at the head of this letter, and the texts" in " ".join(text.split()), bool(letter))
             self.assertNotIn("A lake", now.call_letter(ADA, is_extension=True))
         self.assertNotIn("A lake", vote(poll=poll).call_letter(ADA, is_extension=False))
 
@@ -227,7 +229,7 @@ class Printed(unittest.TestCase):
         for code in LANGUAGES:
             words = "Paper ballots go into the box in the hall of our house.\n" * 11
             now = vote(code, poll=poll, at=None, has_aliases=True, letter_text=words)
-            text = now.call_letter(ADA._replace(code="c0de" * 8), is_extension=False)
+            text = now.call_letter(GUS._replace(code="c0de" * 8), is_extension=False)
             self.assertGreater(len(text.splitlines()), 70)
             self.check_sides(now, text)
 
@@ -247,12 +249,37 @@ class Printed(unittest.TestCase):
                 self.assertEqual(f"{at}#{GUS.name}/{GUS.mark}" in text, at is not None)
                 self.check_sides(now, text)
 
+    def test_on_paper_the_ballot_is_cut_off_and_has_no_code(self) -> None:
+        """It has all that is given back, and nothing else asks for ranks, or for an e-mail."""
+        for code, letter in itertools.product(LANGUAGES, ("", "Dear friends,\n\npaper goes into the box in the hall.\n")):
+            now = vote(code, has_aliases=True, letter_text=letter)
+            elector = GUS._replace(code="c0de" * 8)
+            asking = [now.call_letter(elector, is_extension=is_extension) for is_extension in (False, True)]
+            for text in (*asking, now.reminder(elector, []), now.receipt(elector, [WAITS])):
+                [read, kept, ballot] = rows_to_print(text)
+                self.assertEqual("c0de" in str(kept), text is asking[0])
+                self.assertNotIn("c0de", str((read, ballot)))
+
+                def say(text: str, **places: object) -> str:
+                    return " ".join(now.call.language.say(text, **places).split())
+
+                head = f"{POLL.name} {say('Name: {name}', name='gus')}"
+                boxes = (
+                    "Write a number into each box: 1 is the best, equal numbers are allowed, and an empty box is last. Return only this part."
+                )
+                found = [(" ".join(row.split()), kind) for row, kind in ballot]
+                self.assertEqual(found[:2], [(head, "paragraph"), (say(boxes), "paragraph")])
+                self.assertEqual([kind for _, kind in found[2:]], ["option"] * 3)
+                self.assertNotRegex(text, r"_,_|@|\[")
+                where = "Your ballot is the last part of this letter: fill it in, cut it off, and give it to whoever sent you this letter."
+                self.assertEqual(say(where) in " ".join(text.split()), not letter or text.count("friends") == 0)
+
     def check_sides(self, now: Composer, text: str) -> None:
         """Three letters have at most six sides, each with a place for the rank of each option."""
-        letters = [("Ada", rows_to_print(text, now.call))] * 3
+        letters = [("Ada", rows_to_print(text))] * 3
         style = resources(PACKAGE, "letter.css")
         page = render_page(PACKAGE, "print.html", now.call.language, style=style, title="Spring", letters=letters)
-        self.assertEqual(page.count(b'<span class="rank"></span>  Op'), 3 * len(now.call.poll.names))
+        self.assertEqual(page.count(b'<p class="option"><span class="rank"></span>  Op'), 3 * len(now.call.poll.names))
         with tempfile.TemporaryDirectory() as folder:
             place = pathlib.Path(folder)
             (place / "page.html").write_bytes(page)

@@ -109,7 +109,7 @@ class Files(unittest.TestCase):
     def test_where_to(self) -> None:
         """Subjects end with the mark."""
         mark = f"[{POLL.mark}]"
-        self.assertIn(f"Send it to {ADDRESS} in a letter whose subject ends with {mark}.", page_of(CALL))
+        self.assertIn(f"Send your line to {ADDRESS} in a letter whose subject ends with {mark}.", page_of(CALL))
         self.assertIn("Send your ballot as the secretary announces. ", page_of(dataclasses.replace(CALL, at=None, to=None)))
         self.assertIn(f"your ballot, and below it the mark of this vote, {mark}, so that", page_of(KINDS["signed"]))
         self.assertIn("In a web form an empty field is a hyphen", page_of(KINDS["signed"]))
@@ -150,7 +150,7 @@ class Files(unittest.TestCase):
         self.assertNotIn("First line", files["call.txt"].decode())
         letter = call_files(dataclasses.replace(data, at=None))["call.txt"].decode()
         said = "The texts about the options are those of whoever sends this letter. The program debvote wrote the rest,"
-        self.assertTrue(" ".join(letter.split()).startswith(f"{said} and has not checked them. Where we meet"), letter)
+        self.assertTrue(" ".join(letter.split()).endswith(f"{said} and has not checked them."), letter)
         self.assertIn("\n\nOption 1: At the lake\n\nFirst line\nsecond <b>line</b>\n\nand more\n\nOption 3: Sell the house\n", letter)
         self.assertIn("\n\nSell \u05d0\u05d1\n\nit\n\nWHAT DECIDES\n\nMajority", letter)
 
