@@ -76,8 +76,7 @@ class ScriptsTest(publishing.PublishTest):
         equal = ['equally Option 2: <i>B</i> & "C" and Option 3: N', "Not ranked: Option 1: 72 Euro", "The line: ben -,1,1"]
         self.expect("equal ranks", window.find("ben")[1:], equal)
         self.expect("hyphens alone", window.find("cleo")[1:], ["nothing is preferred", "The line: cleo -,-,-"])
-        no = "No elector has the name a-d-a. Type it as it is on the roll."
-        self.expect("without its hyphens", window.find("a-d-a"), [no, "On the roll: ada"])
+        self.expect("without its hyphens", window.find("a-d-a"), ["Do you mean ada?"])
         window.ask("document.querySelector('#Answer button').click()")
         window.until("document.getElementById('Answer').textContent.startsWith('This ballot counts for ada:')")
         self.expect("no ballot", window.find("dan"), ["dan is on the roll, and no ballot counts for this name."])
@@ -105,6 +104,28 @@ class ScriptsTest(publishing.PublishTest):
         ]:
             self.page_of(window, change)
             self.expect(what, window.find("ada"), others)
+
+    @at_browser.NEEDS_BROWSER
+    def test_a_family_name_alone(self):
+        """Whoever may be meant is named, with the real name where the page has it, and nobody is told that the name is wrong."""
+        poll = re.sub("roll = .*", 'roll = ["anna-meier", "ben-lee", "eve-lee", "dan"]', publishing.PLAIN_POLL)
+        room = plain_room(self.scratch / "family", poll, "anna-meier 1,2,3\ndan 1,2\ndan-x 1,2,3\nEVE-LEE 1;2\n")
+        made = self.published(room, "family-names", real_names={"anna-meier": "Anna Meier", "dan": "Dan"})
+        window = self.window
+        self.page_of(window, room=made)
+        self.expect("one", window.find("Meier"), ["Do you mean anna-meier (Anna Meier)?"])
+        self.expect("several", window.find("lee"), ["Do you mean ben-leeeve-lee?"])
+        self.expect("none", window.find("Meyer"), ["No elector has the name meyer. Type it as it is on the roll."])
+        window.find("Meier")
+        window.ask("document.querySelector('#Answer button').click()")
+        window.until("document.getElementById('Answer').textContent.startsWith('This ballot counts for anna-meier:')")
+        # of whoever has a line that does not count the page says where it is
+        for name, more in {"dan": True, "ben-lee": False, "eve-lee": True}.items():
+            no = [f"{name} is on the roll, and no ballot counts for this name."]
+            no += ["A line with this name came, and does not count: Refused and late lines"] * more
+            self.expect(f"no ballot of {name}", window.find(name), no)
+        window.ask("document.querySelector('#Answer a').click()")
+        window.until("document.getElementById('Refused-lines').closest('details').open")
 
     @at_browser.NEEDS_BROWSER
     def test_electors_with_names_of_things_of_the_page(self):
