@@ -260,7 +260,7 @@ class LettersDue:
             self.composer = dataclasses.replace(self.composer, call=call)
         self.to_each(act.number)
         return lambda elector, _: self.composer.text(
-            self.kind, elector, has_ballot=elector.name in standing, letter=letter
+            self.kind, elector, ranks=standing.get(elector.name), letter=letter
         )
 
     def stops(self, words: str, first: str) -> Fault:

@@ -299,16 +299,18 @@ class Receipts(OutTest):
         self.assertRegex(texts["ben"], replaced)
         for name, said in (
             ("ada", "has arrived. It counts unless you send a later one."),
-            ("ada", f"It was read as: (ada {RANKS}) In words: {LAKE}. If you have not sent this"),
-            ("ben", f"It was read as: (ben {OTHER_RANKS}) In words: In the town hall, then"),
+            ("ada", f"It was read as (ada {RANKS}), in words: {LAKE}. If you have not sent this"),
+            ("ben", f"It was read as (ben {OTHER_RANKS}), in words: In the town hall, then"),
             ("cleo", "It is not a valid ballot of this vote, so it does not count. It has 2 ranks, and the vote has 4 options."),
             ("dan", "was entered, and the secretary has struck it. It does not count."),
             ("eve", "was entered, and the secretary has taken it back. It does not count unless it is entered again."),
         ):
             self.assertIn(said, texts[name])
         # a receipt that refuses says why, then where the form is and how a right line looks; another has neither
-        begin = f"and the vote has 4 options. You can send a right line now, and need not wait. {WHEN} {FORM}#cleo/"
+        begin = "and the vote has 4 options. If you have not sent this, or it is not what you meant, answer at once. You vote under the name cleo. "
+        begin += f"You can send a right line now, and need not wait. {WHEN.removeprefix(f'{TITLE} ')} {FORM}#cleo/"
         self.assertIn(begin, texts["cleo"])
+        self.assertEqual(texts["cleo"].count(TITLE), 1)
         self.assertIn(f"{LINE}cleo _,_,_,_", texts["cleo"])
         for name in ("ada", "ben", "dan", "eve"):
             self.assertNotIn("_,_", texts[name])
@@ -352,7 +354,7 @@ class Receipts(OutTest):
         self.add_lines(f"ben {RANKS}", "cleo 1,2")
         texts = self.texts("receipts")
         self.assertIn("has arrived, and it counts. It was read as", texts["ada"])
-        self.assertIn("It was entered after the close, so it is late and does not count. It was read as: (ben", texts["ben"])
+        self.assertIn("It was entered after the close, so it is late and does not count. It was read as (ben", texts["ben"])
         self.assertIn("so it is late and does not count.", texts["cleo"])
         for text in texts.values():
             self.assertNotRegex(text, r"_,_|unless you|You can send")
@@ -382,7 +384,7 @@ class Receipts(OutTest):
         for name, text in found.items():
             self.assertNotIn(said[name], first[name])
             counts = "and it counts." if name == "dan" else "It counts unless you send a later one."
-            self.assertRegex(text, rf"{re.escape(counts)} It was read as: \({name} {RANKS}\).* {said[name]}")
+            self.assertRegex(text, rf"{re.escape(counts)} It was read as \({name} {RANKS}\).* {said[name]}")
 
     def test_one_refuses_if_what_came_last_was_refused(self) -> None:
         self.add_lines("ada 1,2", f"ada {RANKS}", f"ben {RANKS}", "ben 1,2")
@@ -455,7 +457,8 @@ class Receipts(OutTest):
             ("cleo", "The reason: the list of members has another address for the name on the ballot."),
             ("dan", ELSEWHERE),
             ("eve", ELSEWHERE),
-            ("gus", f"{none} You can send"),
+            ("gus", f"{none} If you have not sent this"),
+            ("gus", "You vote under the name gus. You can send a right line now"),
             ("hal", "Line 2 of its text is near to a ballot. It has a ballot within other words; the ballot has to be there alone."),
         ):
             self.assertIn(said, texts[name])
@@ -466,7 +469,7 @@ class Receipts(OutTest):
         self.done("held", 3, "--enter", 1)
         texts = self.texts("receipts")
         self.assertEqual(list(texts), ["dan"])
-        self.assertIn(f"It counts unless you send a later one. It was read as: (dan {RANKS})", texts["dan"])
+        self.assertIn(f"It counts unless you send a later one. It was read as (dan {RANKS})", texts["dan"])
 
     def test_a_ballot_that_the_secretary_typed_for_a_letter(self) -> None:
         """It is told as the letter, with its time, and how it was read; one that was entered as it stood is told without that."""
@@ -476,8 +479,8 @@ class Receipts(OutTest):
         self.done("held", 2, "--enter", 2)
         texts = self.texts("receipts")
         said = "10:00 (UTC) has arrived. It counts unless you send a later one."
-        self.assertIn(f"{said} The secretary typed it, by a letter that came. It was read as: (ada {RANKS}) In words: {LAKE}.", texts["ada"])
-        self.assertIn(f"{said} It was read as: (ben {RANKS})", texts["ben"])
+        self.assertIn(f"{said} The secretary typed it, by a letter that came. It was read as (ada {RANKS}), in words: {LAKE}.", texts["ada"])
+        self.assertIn(f"{said} It was read as (ben {RANKS})", texts["ben"])
         self.assertNotIn("No ballot from it", texts["ada"])
 
     def test_a_copy_is_the_letter_that_it_copies(self) -> None:
@@ -710,7 +713,7 @@ class Result(OutTest):
         begin = f"{TITLE} Winner: Option 1: At the lake. It beats each option that was not dropped: "
         numbers = "Option 2: In the town hall by 2 to 0 and Option 4: Further discussion by 2 to 0."
         facts = "2 of 9 voted, quorum 2 reached, 0 lines of 2 refused. The result is published at: "
-        own = f"Your own ballot, in words: {AT}#ada "
+        own = f"Your own ballot is (ada {RANKS}), in words: {LAKE}. The page shows it at: {AT}#ada "
         self.assertIn(f"Dear Ada, {begin}{numbers} {facts}{AT} {own}What is doubtful", texts["ada"])
         self.assertEqual(
             f"Dear Ada, {' '.join(self.read('letters/result.txt').decode().split())}", texts["ada"].replace(own, "")
@@ -723,6 +726,8 @@ class Result(OutTest):
             for text in texts.values():
                 self.assertIn(f"{checksum} {name}", text)
         self.assertIn("sha256sum SHA256SUMS index.html && sha256sum -c --ignore-missing SHA256SUMS", texts["ada"])
+        telephone = "choose the index.html and the SHA256SUMS that you downloaded under Count again here: the page tells their checksums"
+        self.assertIn(telephone, texts["ada"])
         self.assertIn("open the index.html that you downloaded and compared, and read that file", texts["ada"])
         # each act that the page tells
         self.assertIn("That was before the time until which one could vote.", texts["ada"])
@@ -838,6 +843,6 @@ class Secret(OutTest):
         for text in texts:
             self.assertFalse([code for code in [*codes.values(), *aliases] if code in text])
             self.assertNotRegex(text, r"[a-z]+ \d,\d,\d,\d")
-            self.assertNotIn("In words", text)
+            self.assertNotIn("in words", text)
             for checksum in re.findall(r"(?m)^([0-9a-f]{64})", private):
                 self.assertNotIn(checksum, text)

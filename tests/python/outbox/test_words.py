@@ -78,7 +78,7 @@ def texts(now: Composer) -> list[str]:
         now.reminder(ADA, []),
         now.receipt(ADA, all_that_came()),
         now.text("closed", ADA, letter="CLOSED\n"),
-        *(now.text("result", ADA, letter="RESULT\n", has_ballot=has_ballot) for has_ballot in (True, False)),
+        *(now.text("result", ADA, letter="RESULT\n", ranks=ranks) for ranks in ("1,2,3", None)),
     ]
 
 
@@ -96,7 +96,7 @@ class Texts(unittest.TestCase):
 
     def test_a_secret_vote_repeats_no_ranks(self) -> None:
         self.assertIn("(ada 1,2,3)", vote().receipt(ADA, all_that_came()))
-        self.assertNotRegex(vote(has_aliases=True).receipt(ADA, all_that_came()), r"\d,\d|In words|Lake, then")
+        self.assertNotRegex(vote(has_aliases=True).receipt(ADA, all_that_came()), r"\d,\d|in words|Lake, then")
 
     def test_each_kind_has_its_own_subject(self) -> None:
         for code in LANGUAGES:
@@ -128,15 +128,16 @@ class Texts(unittest.TestCase):
         rest = "THE FILES OF THE RESULT\n\nDownload them.\n"
         place = "The result is published at:\n  https://club.example/vote/\n"
         for letter in ("RESULT\n", f"RESULT\n\n{rest}", f"RESULT\n\n{place}\nDOUBTS\n\n{rest}"):
-            texts = [now.text("result", ADA, letter=letter, has_ballot=True) for now in (vote(), vote(has_aliases=True))]
+            texts = [now.text("result", ADA, letter=letter, ranks="2,1,3") for now in (vote(), vote(has_aliases=True))]
             end = letter.removeprefix("RESULT\n").removeprefix(f"\n{place}")
             for text in texts:
                 self.assertTrue(text.startswith(f"Dear Ada L.,\n\nRESULT\n\n{place}\nYour "), text)
                 self.assertTrue(text.endswith(end), text)
-            self.assertIn("Your own ballot, in words:\n  https://club.example/vote/#ada\n", texts[0])
-            self.assertNotIn("#", texts[1])
+            own = "Your own ballot is (ada 2,1,3), in words: Hall, then Lake, then None. The page shows it at: https://club.example/vote/#ada"
+            self.assertIn(own, " ".join(texts[0].split()))
+            self.assertNotRegex(texts[1], "#|2,1,3|Hall")
             self.assertIn("find it with your name, ada, and your code", " ".join(texts[1].split()))
-            self.assertIn("The result has no ballot of yours", vote().text("result", ADA, letter=letter, has_ballot=False))
+            self.assertIn("The result has no ballot of yours", vote().text("result", ADA, letter=letter, ranks=None))
 
 
 class CallLetter(unittest.TestCase):

@@ -188,8 +188,8 @@ class ScriptsTest(publishing.PublishTest):
         self.page_of(window, room=room)
         sealed = hashlib.sha256(f"{seal}\n".encode() + (folder / "ballots.txt").read_bytes()).hexdigest()
         rows = [row for row in window.count_again(sealed) if "as the letter of the close has to have it" in row]
-        said = f"Yours is the same. The checksum of seal.txt and the ballots, as the letter of the close has to have it, is {sealed}."
-        self.expect("sealed", rows, [f"{said} This page names it too."])
+        said = f"The checksum of seal.txt and the ballots, as the letter of the close has to have it, is {sealed}."
+        self.expect("sealed", rows, [f"{said} This page names it too. Yours is the same."])
 
     @at_browser.NEEDS_BROWSER
     def test_what_is_typed(self):
@@ -250,7 +250,7 @@ class ScriptsTest(publishing.PublishTest):
             data = (folder / name).read_bytes()
             said = f"The checksum of {name} is {hashlib.sha256(data).hexdigest()}."
             self.expect(f"{name} alone", window.count_again(files={name: data}), [said])
-            self.expect(f"{name}, typed", window.count_again(hashlib.sha256(data).hexdigest(), {name: data}), [f"Yours is the same. {said}"])
+            self.expect(f"{name}, typed", window.count_again(hashlib.sha256(data).hexdigest(), {name: data}), [f"{said} Yours is the same."])
             other = window.count_again(hashlib.sha256(data).hexdigest(), {name: data + b"x"})
             self.expect(f"{name}, changed", LETTER_OTHER in other[0], True)
         sum_of_poll = sums["poll.toml"]
