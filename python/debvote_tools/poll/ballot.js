@@ -117,7 +117,7 @@
     return `${to}?subject=${subject}&body=${encodeURIComponent(lines.map((text) => `${text}\r\n`).join(""))}`;
   }
 
-  // Two lines of a text are shown, and the rest at a touch.
+  // Two lines of a text are shown, or one in a low window, and the rest at a touch.
   function cut(node) {
     const button = document.createElement("button");
     button.type = "button";

@@ -392,6 +392,14 @@ class Looks(PageTest):
         self.window.ask(f"{buttons}[0].click()")
         self.assertEqual((self.window.ask(shown), self.window.ask(f"{buttons}.length")), ([True, True], 0))
 
+    def test_texts_leave_room_for_the_ranks_on_a_telephone(self) -> None:
+        """With a text, too, the ranks of four options lie above the line that is always seen."""
+        self.open(dataclasses.replace(CALL, poll=dataclasses.replace(POLL, explanations=("A long text. " * 40, "", ""))))
+        self.window.ballot("ada", "21-3")
+        free = """document.getElementById("Bottom").getBoundingClientRect().top
+          - [...document.querySelectorAll("div.rank")].at(-1).getBoundingClientRect().bottom"""
+        self.assertGreaterEqual(self.window.ask(free), 0)
+
     def assert_seen(self, parts: tuple[str, ...], unseen: tuple[str, ...]) -> None:
         seen = self.window.ask("document.body.innerText")
         self.assertEqual([part for part in parts if part not in seen] + [part for part in unseen if part in seen], [])

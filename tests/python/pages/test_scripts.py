@@ -128,6 +128,35 @@ class ScriptsTest(publishing.PublishTest):
         window.until("document.getElementById('Refused-lines').closest('details').open")
 
     @at_browser.NEEDS_BROWSER
+    def test_the_table_of_votes_breaks_no_word(self):
+        """With eight options, on a telephone; the numbers go on beside the names."""
+        names = ["Schwarzwald", "Bodensee", "Nordseebad", "Alpenvorland", "Spreewald", "Rheintal", "Sauerland"]
+        poll = re.sub("options = .*", f"options = {json.dumps([f'Ausflug {name}' for name in names])}", publishing.PLAIN_POLL)
+        poll = poll.replace("ratios = [1, 1]", "ratios = [1, 1, 1, 1, 1, 1, 1]")
+        room = plain_room(self.scratch / "eight", poll, "ada 1,2,3,4,5,6,7,8\n")
+        self.expect("it is published", publish(room, *FILES, "result")[2], 0)
+        window = self.window
+        self.addCleanup(window.resize, 800, 900)
+        window.resize(360, 640)
+        self.page_of(window, room=room)
+        window.ask("document.getElementById('Votes').closest('details').open = true")
+        # a word that is broken lies in two boxes, one below the other
+        broken = window.ask(r"""[...document.querySelectorAll("th[scope=row]")].flatMap((head) => {
+          const walker = document.createTreeWalker(head, NodeFilter.SHOW_TEXT), found = [];
+          for (let node = walker.nextNode(); node; node = walker.nextNode()) {
+            for (const word of node.data.matchAll(/\S+/g)) {
+              const range = document.createRange();
+              range.setStart(node, word.index);
+              range.setEnd(node, word.index + word[0].length);
+              if (range.getClientRects().length > 1) found.push(word[0]);
+            }
+          }
+          return found;
+        })""")
+        self.expect("broken words", broken, [])
+        self.expect("the page is as wide as the window", window.ask("document.documentElement.scrollWidth"), 360)
+
+    @at_browser.NEEDS_BROWSER
     def test_electors_with_names_of_things_of_the_page(self):
         roll = ["find", "code", "show", "answer", "votes", "name", "result", "again", "poll-file", "ballots", "graph0"]
         poll = re.sub("roll = .*", f"roll = {json.dumps(roll)}", publishing.PLAIN_POLL)
