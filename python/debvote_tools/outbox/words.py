@@ -135,7 +135,12 @@ class Composer:
             "Dear {name},", name=one_line(elector.who)[:200] or elector.name
         )
         own = {"call": call, "elector": elector, "greeting": greeting, "has_texts": False}
-        own |= {"own_words": "", "kept": "", "is_titled": False, "is_on_paper": is_on_paper(elector)}
+        own |= {
+            "own_words": "",
+            "kept": "",
+            "is_titled": False,
+            "is_on_paper": is_on_paper(elector),
+        }
         # who has no address may not see the page, either
         own["is_whole"] = call.at is None or is_on_paper(elector)
         text = render_letter(package, template, call.language, **own, **values)

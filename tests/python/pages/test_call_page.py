@@ -13,7 +13,7 @@ import urllib.parse
 
 from debvote_tools.poll.call import CallData, call_files
 from debvote_tools.poll.sealed import SealedPoll, with_roll
-from debvote_tools.text.language import ENGLISH
+from debvote_tools.text.language import ENGLISH, LANGUAGES, language_of
 
 from tests.support.at_browser import NEEDS_BROWSER, Window
 from tests.support.calls import CALL, KINDS, POLL, SECRET, WITH_CODES
@@ -393,12 +393,15 @@ class Looks(PageTest):
         self.assertEqual((self.window.ask(shown), self.window.ask(f"{buttons}.length")), ([True, True], 0))
 
     def test_texts_leave_room_for_the_ranks_on_a_telephone(self) -> None:
-        """With a text, too, the ranks of four options lie above the line that is always seen."""
-        self.open(dataclasses.replace(CALL, poll=dataclasses.replace(POLL, explanations=("A long text. " * 40, "", ""))))
-        self.window.ballot("ada", "21-3")
+        """With texts, too, the ranks of four options lie above the line that is always seen."""
         free = """document.getElementById("Bottom").getBoundingClientRect().top
           - [...document.querySelectorAll("div.rank")].at(-1).getBoundingClientRect().bottom"""
-        self.assertGreaterEqual(self.window.ask(free), 0)
+        poll = dataclasses.replace(POLL, explanations=("A long text. " * 40,) * 3)
+        for code in LANGUAGES:
+            self.open(dataclasses.replace(CALL, language=language_of(code), poll=poll))
+            self.window.ballot("ada", "21-3")
+            self.window.ask("scrollTo(0, 0)")
+            self.assertGreaterEqual(self.window.ask(free), 0, code)
 
     def assert_seen(self, parts: tuple[str, ...], unseen: tuple[str, ...]) -> None:
         seen = self.window.ask("document.body.innerText")

@@ -90,9 +90,11 @@ class Files(unittest.TestCase):
             "late": f"Vote until: {LATER_WORDS} The call did not say it at first. ",
             "never": "You can vote until the time that the secretary announces. ",
         }
+        # seen after the end alone
+        over = "By the clock of this device the time is over. If you send a line all the same, the secretary decides whether it counts. "
         changes = {"extended": "You have more time to vote.", "late": "You can now vote until the time below."}
         for kind, data in said.items():
-            self.assertIn(f"{wanted[kind]}Your name", page_of(data))
+            self.assertIn(f"{wanted[kind]}{over if data.until else ''}Your name", page_of(data))
             if kind in changes:
                 letter = as_read(extension_letter(data))
                 self.assertTrue(letter.startswith(f"{changes[kind]} Nothing else that the call says has changed. "), letter)
