@@ -264,6 +264,10 @@ class Printed(unittest.TestCase):
                 def say(text: str, **places: object) -> str:
                     return " ".join(now.call.language.say(text, **places).split())
 
+                # a head does not stand alone at the foot of a side
+                heads = [row for row, kind in read if kind == "head"]
+                wanted = [say(head).upper() for head in ("What decides", "What will be public")]
+                self.assertEqual(heads, wanted if text is asking[0] else [])
                 head = f"{POLL.name} {say('Name: {name}', name='gus')}"
                 boxes = (
                     "Write a number into each box: 1 is the best, equal numbers are allowed, and an empty box is last. Return only this part."
