@@ -207,6 +207,9 @@ class CallLetter(unittest.TestCase):
     def test_with_marked_it_says_to_answer_or_to_use_the_link(self) -> None:
         for text in self.asking(vote(is_marked=True)):
             self.assertIn("Open the link above, or answer this letter: then the subject has your own mark", " ".join(text.split()))
+        # one to an earlier address has no own mark
+        for text in self.asking(vote(is_marked=True), ADA._replace(mark="")):
+            self.assertIn("Open the link in your letter, or answer that letter: then", " ".join(text.split()))
         self.assertNotIn("own mark", "".join(self.asking(vote())))
 
     def test_without_a_page_the_texts_follow(self) -> None:
