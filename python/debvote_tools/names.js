@@ -60,12 +60,12 @@ function nodesOf(sentence, places) {
   return sentence.split(/(\{[a-z]+\})/).flatMap((part) => (part.startsWith("{") ? places[part.slice(1, -1)] : [part]));
 }
 
-// Buttons for names that are suggested, each of which does something with its name.
-function suggestions(names, choose) {
+// Buttons for names that are suggested, each of which does something with its name. They may show more than the name.
+function suggestions(names, choose, shown = (name) => name) {
   return names.map((name) => {
     const button = document.createElement("button");
     button.type = "button";
-    button.textContent = name;
+    button.textContent = shown(name);
     button.addEventListener("click", () => choose(name));
     return button;
   });

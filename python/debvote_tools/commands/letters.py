@@ -88,6 +88,11 @@ def run(election: Election, arguments: Arguments) -> int:
             tell(
                 f"Without an address: {listed(names, MOST)}. Print {folder}/{letter_folder.TO_PRINT}."
             )
+            if due.kind == "call" and not due.composer.call_data.letter_text:
+                tell(
+                    "Note: these letters do not say where a ballot on paper goes. Say it in letter.txt, "
+                    f"run {election.command('call')}, and write them again."
+                )
     if due.in_no_receipt:
         numbers = listed([str(number) for number in due.in_no_receipt], MOST)
         tell(

@@ -279,7 +279,7 @@ class LettersDue:
             self.composer = dataclasses.replace(self.composer, call_data=call_data)
         self.to_each(act.number)
         return lambda elector, _: self.composer.text(
-            "result_to_elector.txt", elector, has_ballot=elector.name in standing, letter=letter
+            "result_to_elector.txt", elector, ranks=standing.get(elector.name), letter=letter
         )
 
     def stops(self, words: str, first: str) -> Fault:

@@ -20,7 +20,6 @@ from debvote_tools.book.sent import SentLetter
 from debvote_tools.files import TEMPORARY, sync_folder, temporary_folder
 from debvote_tools.outbox.due import LettersDue
 from debvote_tools.outbox.words import PACKAGE
-from debvote_tools.poll.call import OPTION, CallData
 from debvote_tools.text.rendering import one_line, render_page, resources
 
 TO_PRINT = "to-print.html"
@@ -98,7 +97,7 @@ def letter_files(due: LettersDue, letters: Sequence[SentLetter]) -> dict[str, by
     for letter in letters:
         elector = due.electors[letter.elector]
         if not letter.address:
-            rows = rows_to_print(due.text(letter), due.composer.call_data)
+            rows = rows_to_print(due.text(letter))
             printed.append((one_line(elector.who) or elector.name, rows))
         elif not due.is_sending and due.can_be_sent(letter):
             # no name on a roll has the sign _
@@ -114,15 +113,21 @@ def letter_files(due: LettersDue, letters: Sequence[SentLetter]) -> dict[str, by
     return files
 
 
-def rows_to_print(text: str, call: CallData) -> list[tuple[str, bool]]:
-    """The rows of a letter, each with whether it asks for the rank of an option."""
-    said = (
-        call.language.say(OPTION, number=n, name="") for n in range(1, len(call.poll.names) + 1)
-    )
-    starts = tuple(f"  {option.rstrip()}" for option in said)
-    head, gaps, asked = text.partition(f" {call.gaps}\n")
-    rows = [(row, False) for row in (head + gaps).splitlines()]
-    return rows + [(row, row.startswith(starts)) for row in asked.splitlines()]
+def rows_to_print(text: str) -> list[list[tuple[str, str]]]:
+    """The rows of a letter, each with its kind: a paragraph, a head, or an option that asks for a
+    rank. A letter that asks for a ballot has three parts: what is read, what is kept, and the ballot.
+    """
+    parts = [list(filter(None, part.strip("\n").split("\n\n"))) for part in text.split("\f")]
+    kinds = [kind_of_row] * 2 + [kind_of_ballot_row]
+    return [[(row, kind(row)) for row in part] for part, kind in zip(parts, kinds)]
+
+
+def kind_of_row(row: str) -> str:
+    return "head" if row.isupper() else "paragraph"
+
+
+def kind_of_ballot_row(row: str) -> str:
+    return "option" if row.startswith("  ") else "paragraph"
 
 
 @contextlib.contextmanager

@@ -110,10 +110,10 @@ class Composer:
 
     def reminder(self, elector: Elector, held: Sequence[Fate]) -> str:
         """A letter to an elector without a ballot. If a letter of theirs waits, it says so, and
-        does not remind.
+        that they can send a right line now.
         """
-        is_reminding = not any(one.is_own for one in held)
-        return self.text("reminders.txt", elector, fates=held, is_reminding=is_reminding)
+        has_waiting = any(one.is_own for one in held)
+        return self.text("reminders.txt", elector, fates=held, has_waiting=has_waiting)
 
     def receipt(self, elector: Elector, fates: Sequence[Fate]) -> str:
         """What became of all that came of an elector. It has the right line if what came last was
@@ -135,6 +135,12 @@ class Composer:
             "Dear {name},", name=one_line(elector.who)[:200] or elector.name
         )
         own = {"call": call, "elector": elector, "greeting": greeting, "has_texts": False}
+        own |= {
+            "own_words": "",
+            "kept": "",
+            "is_titled": False,
+            "is_on_paper": is_on_paper(elector),
+        }
         # who has no address may not see the page, either
         own["is_whole"] = call.at is None or is_on_paper(elector)
         text = render_letter(package, template, call.language, **own, **values)

@@ -24,6 +24,8 @@
   // the names on the roll, and the real names beside them, where the page shows them
   const electors = [...document.querySelectorAll(".roll li")].map((item) => [...item.children].map((part) => part.textContent));
   const roll = electors.map(([name]) => name);
+  // what to do without an own mark, where a letter needs one
+  const unmarked = document.querySelectorAll(".unmarked");
   // the name and the own mark that the address of the page has
   let linked = {};
 
@@ -115,7 +117,7 @@
     return `${to}?subject=${subject}&body=${encodeURIComponent(lines.map((text) => `${text}\r\n`).join(""))}`;
   }
 
-  // Two lines of a text are shown, and the rest at a touch.
+  // Two lines of a text are shown, or one in a low window, and the rest at a touch.
   function cut(node) {
     const button = document.createElement("button");
     button.type = "button";
@@ -148,10 +150,12 @@
     byId("Ready").hidden = line === "";
     byId("Long").hidden = line.length <= MAIL_LIMIT;
     const own = name === linked.name ? linked.own : undefined;
-    const [letter, unmarked] = [byId("Letter"), byId("Unmarked")];
-    if (unmarked !== null) unmarked.hidden = own !== undefined;
+    for (const node of unmarked) node.hidden = own !== undefined;
+    const over = byId("Over");
+    if (over !== null) over.hidden = Date.now() <= Date.parse(form.dataset.until);
+    const letter = byId("Letter");
     if (letter === null) return;
-    letter.hidden = unmarked !== null && own === undefined;
+    letter.hidden = unmarked.length > 0 && own === undefined;
     if (line === "" || letter.hidden) letter.removeAttribute("href");
     else letter.href = mailTo(line, own);
   }

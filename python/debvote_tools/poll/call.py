@@ -45,7 +45,9 @@ SENTENCES = {
     "and": marked("{entries} and {last}"),
     "rank_missing": marked("Give at least one option a rank."),
     "more": marked("Read on"),
-    "selected": marked("The line is selected. Copy it with Ctrl+C, or Cmd+C on a Mac."),
+    "selected": marked(
+        "The line is selected. Copy it with Ctrl+C, or Cmd+C on a Mac; on a telephone hold a finger on it."
+    ),
     "copied": marked("The line is copied."),
 }
 
@@ -180,6 +182,8 @@ def letter_to_all(call: CallData, *, is_extension: bool) -> str:
         is_extension=is_extension,
         is_whole=call.at is None,
         are_texts_elsewhere=False,
+        is_on_paper=False,
+        is_titled=False,
     )
     return without_ballots(text, len(call.poll.names), lambda word: True)
 

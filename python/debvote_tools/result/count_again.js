@@ -233,7 +233,7 @@ const joined = (texts, and) => (texts.length > 1 ? texts.slice(0, -1).join(", ")
     for (const [key, bytes] of parts) {
       const sum = await sumOf(bytes);
       const said = [sentence(key, { sum }), sentence(named.includes(sum) ? "sum_named" : "sum_not_named")];
-      if (typed === sum) said.unshift(sentence("letter_same"));
+      if (typed === sum) said.push(sentence("letter_same"));
       isFound = isFound || typed === sum;
       nodes.push(element("p", said.join(" "), named.includes(sum) ? "" : "differs"));
     }
@@ -241,7 +241,7 @@ const joined = (texts, and) => (texts.length > 1 ? texts.slice(0, -1).join(", ")
     for (const [file, bytes] of files.others ?? []) {
       const sum = await sumOf(bytes);
       isFound = isFound || typed === sum;
-      nodes.push(element("p", (typed === sum ? `${sentence("letter_same")} ` : "") + sentence("file_sum", { file, sum })));
+      nodes.push(element("p", sentence("file_sum", { file, sum }) + (typed === sum ? ` ${sentence("letter_same")}` : "")));
     }
     return isFound ? nodes : [element("p", sentence(...unlike(typed)), "differs"), ...nodes];
   }

@@ -118,12 +118,25 @@
     const { suggested: names } = find(name);
     if (names.length === 0) return [];
     const node = document.createElement("p");
+    const realNames = new Map(items.map(namesIn));
+    const shown = (one) => (realNames.get(one) === undefined ? one : `${one} (${realNames.get(one)})`);
     const choose = (chosen) => {
       nameInput.value = chosen;
       nameInput.focus();
       show();
     };
-    node.append(...nodesOf(words.on_roll, { names: suggestions(names, choose) }));
+    node.append(...nodesOf(words.do_you_mean, { names: suggestions(names, choose, shown) }));
+    return [node];
+  }
+
+  // That a refused or a late line has the name of an elector, with a link to these lines; only an open vote has them.
+  function uncounted(elector) {
+    const lines = [...document.querySelectorAll('[aria-labelledby="Refused-lines"] li code')];
+    if (!lines.some((node) => node.textContent.trim().split(/[\s:]/)[0].toLowerCase() === elector)) return [];
+    const link = element("a", byId("Refused-lines").textContent);
+    link.href = "#Refused-lines";
+    const node = document.createElement("p");
+    node.append(...nodesOf(words.uncounted, { lines: [link] }));
     return [node];
   }
 
@@ -131,12 +144,12 @@
   function told(electors, files) {
     const found = electors.filter(([elector]) => ballotOf(elector, files) !== undefined);
     if (found.length === 0) {
-      const no = paragraph("no_elector", { name: electors[0][1], alias: electors[0][0] });
-      return [no, ...("on_roll" in words ? suggested(nameInput.value) : [])];
+      const meant = "do_you_mean" in words ? suggested(nameInput.value) : [];
+      return meant.length > 0 ? meant : [paragraph("no_elector", { name: electors[0][1], alias: electors[0][0] })];
     }
     return found.flatMap(([elector, name]) => {
       const line = ballotOf(elector, files);
-      if (line === null) return [paragraph("no_ballot", { name, alias: elector })];
+      if (line === null) return [paragraph("no_ballot", { name, alias: elector }), ...uncounted(elector)];
       return [paragraph("counts", { name }), ballotNode(line)];
     });
   }

@@ -33,9 +33,9 @@ FIND_BY_CODE = {
     "type_name": marked("Type your code as it is on your slip."),
     "type_code": CODE_DIGITS,
 }
-ON_ROLL = marked("On the roll: {names}")
 FIND_IN_OPEN = {
-    "on_roll": ON_ROLL,
+    "do_you_mean": marked("Do you mean {names}?"),
+    "uncounted": marked("A line with this name came, and does not count: {lines}"),
     "no_elector": marked("No elector has the name {name}. Type it as it is on the roll."),
     "no_ballot": marked("{name} is on the roll, and no ballot counts for this name."),
 }

@@ -20,7 +20,10 @@ from tests.support.outgoing import AT, OTHER_RANKS, RANKS, TITLE, OutTest, one_l
 
 LAKE = "At the lake, then In the town hall, then Further discussion, then Sell the house and meet there"
 FORM = f"The page of the vote, which writes the line of your ballot for you, and on which the result will be: {AT}"
-LINE = "Your line, with a rank in the place of each _. 1 is the best; equal ranks and - for no rank are allowed: "
+LINE = (
+    "Your line, with a rank in the place of each _. The first place is for option 1, and so on; 1 is the best, equal ranks are allowed, "
+    "and - is last: "
+)
 MARKS = r"\[([0-9a-f]{16})-([2-9a-hjkmnp-z]{10})\]"
 WHEN = f"{TITLE} Vote until: Friday, 4 December 2026, 18:00 (UTC)"
 OPTIONS = "Option 1: At the lake Option 2: In the town hall Option 3: Sell the house and meet there Option 4: Further discussion (the default option)"
@@ -35,8 +38,9 @@ class Call(OutTest):
         for name, message in found.items():
             text = one_line(message)
             [(mark, own)] = re.findall(MARKS, message["Subject"])
-            begin = f"Dear {name.title()}, {WHEN} {FORM}#{name}/{own} {LINE}{name} _,_,_,_ The ranks are those of these options, "
-            self.assertTrue(text.startswith(f"{begin}in this order: {OPTIONS} Send it as an answer to this letter, or to "), text)
+            begin = f"Dear {name.title()}, {WHEN} {FORM}#{name}/{own} {LINE}{name} _,_,_,_ The options; the last one is the default "
+            begin += "option, which stays where no other one is good enough: "
+            self.assertTrue(text.startswith(f"{begin}{OPTIONS} Send your line as an answer to this letter, or to "), text)
             self.assertIn(f"whose subject ends with [{mark}-{own}]", text)
             self.assertIn(f"until the result: {hashlib.sha256(self.read('call/poll.toml')).hexdigest()} After the vote", text)
             self.assertLess(message.get_content().index(AT), 300)
@@ -46,8 +50,8 @@ class Call(OutTest):
 
     def test_the_letter_to_all_has_gaps_and_the_mark_of_the_poll(self) -> None:
         text = " ".join(self.read("call/call.txt").decode().split())
-        self.assertTrue(text.startswith(f"{WHEN} {FORM} {LINE}NAME _,_,_,_ Write your name on the roll in the place of NAME. The ranks"), text)
-        self.assertRegex(text, r"Send it to vote@club\.example in a letter whose subject ends with \[[0-9a-f]{16}\]\.")
+        self.assertTrue(text.startswith(f"{WHEN} {FORM} {LINE}NAME _,_,_,_ Write your name on the roll in the place of NAME. The options"), text)
+        self.assertRegex(text, r"Send your line to vote@club\.example in a letter whose subject ends with \[[0-9a-f]{16}\]\.")
         self.assertNotIn("answer to this letter", text)
 
     def test_head_and_modes(self) -> None:
@@ -241,21 +245,28 @@ class Paper(OutTest):
 
     def test_who_has_no_address_gets_a_page(self) -> None:
         ended = self.done("letters", "call")
-        name = re.search(r"Without an address: (\S+), eve\. Print (letters/call/\d+/to-print\.html)\.\n", ended.output)
+        name = re.search(r"Without an address: (\S+), eve\. Print (letters/call/\d+/to-print\.html)\.\nNote: (.*)\n", ended.output)
         assert name is not None, ended
+        self.assertIn("do not say where a ballot on paper goes. Say it in letter.txt", name[3])
         self.assertIn("Wrote 1 letter: ", ended.output)
         page = self.read(name[2]).decode()
         self.assertIn("<bdi>Ada &lt;script&gt;alert(1)&lt;/script&gt; &amp; Söhne</bdi>", page)
         self.assertNotIn("<script>alert", page)
         # each is for the person above it
         letters = [part.partition("</section>")[0] for part in page.split('<section class="letter">')[1:]]
-        self.assertEqual([re.findall(r"(\S+) _,_,_,_", part) for part in letters], [[name[1]], ["eve"]])
+        self.assertEqual([re.findall(r"Name: (\S+)</p>", part) for part in letters], [[name[1]], ["eve"]])
         self.assertEqual(["&lt;script&gt;" in part for part in letters], [True, False])
         self.assertIn("<bdi>Eve</bdi>", letters[1])
         self.assertEqual([state for _, state in self.rows("call")], ["written"] * 3)
         # who asks for it once more gets the same
         self.assertIn("Wrote 1 letter, none of them new: ", self.done("letters", "call").output)
         self.assertEqual(self.read(name[2]).decode(), page)
+        # with letter.txt it says where
+        self.assertIn("give it to whoever sent you this letter", " ".join(page.split()))
+        (self.folder / "letter.txt").write_text("Paper goes into the box.\n")
+        self.done("call")
+        self.assertNotIn("Note", self.done("letters", "call").output)
+        self.assertIn("The words at the head of this letter say where it goes.", " ".join(self.read(name[2]).decode().split()))
 
 
 class Names(OutTest):
@@ -288,16 +299,18 @@ class Receipts(OutTest):
         self.assertRegex(texts["ben"], replaced)
         for name, said in (
             ("ada", "has arrived. It counts unless you send a later one."),
-            ("ada", f"It was read as: (ada {RANKS}) In words: {LAKE}. If you have not sent this"),
-            ("ben", f"It was read as: (ben {OTHER_RANKS}) In words: In the town hall, then"),
+            ("ada", f"It was read as (ada {RANKS}), in words: {LAKE}. If you have not sent this"),
+            ("ben", f"It was read as (ben {OTHER_RANKS}), in words: In the town hall, then"),
             ("cleo", "It is not a valid ballot of this vote, so it does not count. It has 2 ranks, and the vote has 4 options."),
             ("dan", "was entered, and the secretary has struck it. It does not count."),
             ("eve", "was entered, and the secretary has taken it back. It does not count unless it is entered again."),
         ):
             self.assertIn(said, texts[name])
         # a receipt that refuses says why, then where the form is and how a right line looks; another has neither
-        begin = f"and the vote has 4 options. You can send a right line now, and need not wait. {WHEN} {FORM}#cleo/"
+        begin = "and the vote has 4 options. If you have not sent this, or it is not what you meant, answer at once. You vote under the name cleo. "
+        begin += f"You can send a right line now, and need not wait. {WHEN.removeprefix(f'{TITLE} ')} {FORM}#cleo/"
         self.assertIn(begin, texts["cleo"])
+        self.assertEqual(texts["cleo"].count(TITLE), 1)
         self.assertIn(f"{LINE}cleo _,_,_,_", texts["cleo"])
         for name in ("ada", "ben", "dan", "eve"):
             self.assertNotIn("_,_", texts[name])
@@ -341,7 +354,7 @@ class Receipts(OutTest):
         self.add_lines(f"ben {RANKS}", "cleo 1,2")
         texts = self.texts("receipts")
         self.assertIn("has arrived, and it counts. It was read as", texts["ada"])
-        self.assertIn("It was entered after the close, so it is late and does not count. It was read as: (ben", texts["ben"])
+        self.assertIn("It was entered after the close, so it is late and does not count. It was read as (ben", texts["ben"])
         self.assertIn("so it is late and does not count.", texts["cleo"])
         for text in texts.values():
             self.assertNotRegex(text, r"_,_|unless you|You can send")
@@ -371,7 +384,7 @@ class Receipts(OutTest):
         for name, text in found.items():
             self.assertNotIn(said[name], first[name])
             counts = "and it counts." if name == "dan" else "It counts unless you send a later one."
-            self.assertRegex(text, rf"{re.escape(counts)} It was read as: \({name} {RANKS}\).* {said[name]}")
+            self.assertRegex(text, rf"{re.escape(counts)} It was read as \({name} {RANKS}\).* {said[name]}")
 
     def test_one_refuses_if_what_came_last_was_refused(self) -> None:
         self.add_lines("ada 1,2", f"ada {RANKS}", f"ben {RANKS}", "ben 1,2")
@@ -444,7 +457,8 @@ class Receipts(OutTest):
             ("cleo", "The reason: the list of members has another address for the name on the ballot."),
             ("dan", ELSEWHERE),
             ("eve", ELSEWHERE),
-            ("gus", f"{none} You can send"),
+            ("gus", f"{none} If you have not sent this"),
+            ("gus", "You vote under the name gus. You can send a right line now"),
             ("hal", "Line 2 of its text is near to a ballot. It has a ballot within other words; the ballot has to be there alone."),
         ):
             self.assertIn(said, texts[name])
@@ -455,7 +469,7 @@ class Receipts(OutTest):
         self.done("held", 3, "--enter", 1)
         texts = self.texts("receipts")
         self.assertEqual(list(texts), ["dan"])
-        self.assertIn(f"It counts unless you send a later one. It was read as: (dan {RANKS})", texts["dan"])
+        self.assertIn(f"It counts unless you send a later one. It was read as (dan {RANKS})", texts["dan"])
 
     def test_a_ballot_that_the_secretary_typed_for_a_letter(self) -> None:
         """It is told as the letter, with its time, and how it was read; one that was entered as it stood is told without that."""
@@ -465,8 +479,8 @@ class Receipts(OutTest):
         self.done("held", 2, "--enter", 2)
         texts = self.texts("receipts")
         said = "10:00 (UTC) has arrived. It counts unless you send a later one."
-        self.assertIn(f"{said} The secretary typed it, by a letter that came. It was read as: (ada {RANKS}) In words: {LAKE}.", texts["ada"])
-        self.assertIn(f"{said} It was read as: (ben {RANKS})", texts["ben"])
+        self.assertIn(f"{said} The secretary typed it, by a letter that came. It was read as (ada {RANKS}), in words: {LAKE}.", texts["ada"])
+        self.assertIn(f"{said} It was read as (ben {RANKS})", texts["ben"])
         self.assertNotIn("No ballot from it", texts["ada"])
 
     def test_a_copy_is_the_letter_that_it_copies(self) -> None:
@@ -590,9 +604,11 @@ class Reminders(OutTest):
         begin = f"Dear Ben, No ballot of yours that counts has come yet. {WHEN} {FORM}#ben/"
         self.assertTrue(texts["ben"].startswith(begin), texts["ben"])
         self.assertIn(f"{LINE}ben _,_,_,_", texts["ben"])
-        # whose letter waits is told so, and not reminded
+        # whose letter waits is told so, and what can be done meanwhile
         self.assertIn("No ballot from it is entered yet: the secretary has to look at it first.", texts["cleo"])
-        self.assertNotRegex(texts["cleo"], r"_,_|https|Vote until")
+        self.assertIn(f" You can send a right line now, and need not wait. {WHEN} {FORM}#cleo/", texts["cleo"])
+        self.assertIn(f"{LINE}cleo _,_,_,_", texts["cleo"])
+        self.assertNotIn("need not wait", texts["ben"])
         # a stranger's letter silences nobody
         self.assertIn(ELSEWHERE, texts["dan"])
         self.assertIn("dan _,_,_,_", texts["dan"])
@@ -604,7 +620,7 @@ class Reminders(OutTest):
         )
         text = self.texts("reminders")["ada"]
         self.assertIn(f"{ELSEWHERE} Your letter of Monday, 23 November 2026, 09:00 (UTC) has arrived.", text)
-        self.assertNotRegex(text, r"_,_|https|Vote until")
+        self.assertIn("You can send a right line now", text)
 
     def test_the_end_after_two_extensions(self) -> None:
         for day, words in ((6, "Sunday, 6 December"), (8, "Tuesday, 8 December")):
@@ -697,7 +713,7 @@ class Result(OutTest):
         begin = f"{TITLE} Winner: Option 1: At the lake. It beats each option that was not dropped: "
         numbers = "Option 2: In the town hall by 2 to 0 and Option 4: Further discussion by 2 to 0."
         facts = "2 of 9 voted, quorum 2 reached, 0 lines of 2 refused. The result is published at: "
-        own = f"Your own ballot, in words: {AT}#ada "
+        own = f"Your own ballot is (ada {RANKS}), in words: {LAKE}. The page shows it at: {AT}#ada "
         self.assertIn(f"Dear Ada, {begin}{numbers} {facts}{AT} {own}What is doubtful", texts["ada"])
         self.assertEqual(
             f"Dear Ada, {' '.join(self.read('letters/result.txt').decode().split())}", texts["ada"].replace(own, "")
@@ -710,6 +726,8 @@ class Result(OutTest):
             for text in texts.values():
                 self.assertIn(f"{checksum} {name}", text)
         self.assertIn("sha256sum SHA256SUMS index.html && sha256sum -c --ignore-missing SHA256SUMS", texts["ada"])
+        telephone = "choose the index.html and the SHA256SUMS that you downloaded under Count again here: the page tells their checksums"
+        self.assertIn(telephone, texts["ada"])
         self.assertIn("open the index.html that you downloaded and compared, and read that file", texts["ada"])
         # each act that the page tells
         self.assertIn("That was before the time until which one could vote.", texts["ada"])
@@ -825,6 +843,6 @@ class Secret(OutTest):
         for text in texts:
             self.assertFalse([code for code in [*codes.values(), *aliases] if code in text])
             self.assertNotRegex(text, r"[a-z]+ \d,\d,\d,\d")
-            self.assertNotIn("In words", text)
+            self.assertNotIn("in words", text)
             for checksum in re.findall(r"(?m)^([0-9a-f]{64})", private):
                 self.assertNotIn(checksum, text)

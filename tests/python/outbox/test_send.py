@@ -216,7 +216,7 @@ class Sending(SendTest):
         self.told("roll", "--yes")
         self.assert_sent("receipts", "Sent 2 of 3 letters.")
         self.assertEqual(self.server.addresses(), [ALL[2], "ada@new.example", "ben@new.example"])
-        self.assertIn(f"It was read as: (ben {RANKS})", one_line(parsed(self.server.taken[2].data)))
+        self.assertIn(f"It was read as (ben {RANKS})", one_line(parsed(self.server.taken[2].data)))
         self.server.rcpt_answers = {}
         self.assert_sent("receipts", "Sent 1 of 1 letter.")
         self.assertEqual(self.server.addresses()[3:], [ALL[0]])
@@ -366,7 +366,7 @@ class Sending(SendTest):
         self.server.rcpt_answers = {}
         self.assert_sent("receipts")
         [taken] = [taken for taken in self.server.taken if taken.to == "dan@club.example"]
-        self.assertIn(f"It was read as: (dan {RANKS})", one_line(parsed(taken.data)))
+        self.assertIn(f"It was read as (dan {RANKS})", one_line(parsed(taken.data)))
 
 
 class Remembered(SendTest):

@@ -78,7 +78,7 @@ def texts(now: Composer) -> list[str]:
         now.reminder(ADA, []),
         now.receipt(ADA, all_that_came()),
         now.text("closed_to_elector.txt", ADA, letter="CLOSED\n"),
-        *(now.text("result_to_elector.txt", ADA, letter="RESULT\n", has_ballot=has_ballot) for has_ballot in (True, False)),
+        *(now.text("result_to_elector.txt", ADA, letter="RESULT\n", ranks=ranks) for ranks in ("1,2,3", None)),
     ]
 
 
@@ -96,7 +96,7 @@ class Texts(unittest.TestCase):
 
     def test_a_secret_vote_repeats_no_ranks(self) -> None:
         self.assertIn("(ada 1,2,3)", vote().receipt(ADA, all_that_came()))
-        self.assertNotRegex(vote(has_aliases=True).receipt(ADA, all_that_came()), r"\d,\d|In words|Lake, then")
+        self.assertNotRegex(vote(has_aliases=True).receipt(ADA, all_that_came()), r"\d,\d|in words|Lake, then")
 
     def test_each_kind_has_its_own_subject(self) -> None:
         for code in LANGUAGES:
@@ -128,15 +128,16 @@ class Texts(unittest.TestCase):
         rest = "THE FILES OF THE RESULT\n\nDownload them.\n"
         place = "The result is published at:\n  https://club.example/vote/\n"
         for letter in ("RESULT\n", f"RESULT\n\n{rest}", f"RESULT\n\n{place}\nDOUBTS\n\n{rest}"):
-            texts = [now.text("result_to_elector.txt", ADA, letter=letter, has_ballot=True) for now in (vote(), vote(has_aliases=True))]
+            texts = [now.text("result_to_elector.txt", ADA, letter=letter, ranks="2,1,3") for now in (vote(), vote(has_aliases=True))]
             end = letter.removeprefix("RESULT\n").removeprefix(f"\n{place}")
             for text in texts:
                 self.assertTrue(text.startswith(f"Dear Ada L.,\n\nRESULT\n\n{place}\nYour "), text)
                 self.assertTrue(text.endswith(end), text)
-            self.assertIn("Your own ballot, in words:\n  https://club.example/vote/#ada\n", texts[0])
-            self.assertNotIn("#", texts[1])
+            own = "Your own ballot is (ada 2,1,3), in words: Hall, then Lake, then None. The page shows it at: https://club.example/vote/#ada"
+            self.assertIn(own, " ".join(texts[0].split()))
+            self.assertNotRegex(texts[1], "#|2,1,3|Hall")
             self.assertIn("find it with your name, ada, and your code", " ".join(texts[1].split()))
-            self.assertIn("The result has no ballot of yours", vote().text("result_to_elector.txt", ADA, letter=letter, has_ballot=False))
+            self.assertIn("The result has no ballot of yours", vote().text("result_to_elector.txt", ADA, letter=letter, ranks=None))
 
 
 class CallLetter(unittest.TestCase):
@@ -154,7 +155,7 @@ class CallLetter(unittest.TestCase):
                 lines = text.splitlines()
                 self.assertIn("https://club.example/vote/#ada/abcdefghjk", text)
                 [line] = [number for number, one in enumerate(lines) if one == "  ada _,_,_"]
-                self.assertRegex(" ".join(lines[line - 2 : line]), r"\b1 .*; .* - ")
+                self.assertRegex(" ".join(lines[line - 3 : line]), r"\b1\b.*; 1 .* - ")
                 default = language_of(code).say("the default option")
                 names = [one for one in lines[line:] if one.startswith("  ") and one.endswith(("Lake", "Hall", f"None ({default})"))]
                 self.assertEqual(len(names), 3)
@@ -177,12 +178,14 @@ class CallLetter(unittest.TestCase):
             for text in first:
                 begin = "Dear friends,\n\npaper ballots go to the box in the hall.\n|Write\n|ada 1,2,3 or so.\n  |ben 3,2,1\n\nYours, Eve\n\n"
                 self.assertTrue(text.startswith(begin), text)
-                whose = "The words above are those of whoever sends this letter. "
+                whose = "The words at the head of this letter are those of whoever sends it. "
                 said = now.call_data.language.say(f"{whose}The program debvote wrote the rest, and has not checked them.")
                 self.assertEqual(" ".join(text.split()).count(said), 1)
+                # behind all that is the program's
+                self.assertTrue(" ".join(text.split()).endswith(said))
             self.assertNotIn("Dear friends", refusing)
-        # a letter that does not remind does not begin so
-        self.assertNotIn("friends", now.reminder(ADA, [WAITS]))
+            # a reminder begins so, too, if a letter waits
+            self.assertTrue(now.reminder(ADA, [WAITS]).startswith(begin))
 
     def test_a_letter_greets_once(self) -> None:
         """By the secretary's own words, or by the name where these do not greet."""
@@ -193,7 +196,7 @@ class CallLetter(unittest.TestCase):
         for first in (*greeting, "Paper goes into the box.", "Das Wichtige steht unten."):
             for text in self.asking(vote(letter_text=f"{first}\n\nMore.\n"))[:3]:
                 begin = first if first in greeting else f"Dear Ada L.,\n\n{first}"
-                self.assertTrue(text.startswith(f"{begin}\n\nMore.\n\nThe words above"), text)
+                self.assertTrue(text.startswith(f"{begin}\n\nMore.\n\n"), text)
 
     def test_a_letter_with_a_code_has_no_command(self) -> None:
         for code in LANGUAGES:
@@ -203,7 +206,10 @@ class CallLetter(unittest.TestCase):
 
     def test_with_marked_it_says_to_answer_or_to_use_the_link(self) -> None:
         for text in self.asking(vote(is_marked=True)):
-            self.assertIn("Open the link in your letter, or answer that letter: then the subject has your own mark", " ".join(text.split()))
+            self.assertIn("Open the link above, or answer this letter: then the subject has your own mark", " ".join(text.split()))
+        # one to an earlier address has no own mark
+        for text in self.asking(vote(is_marked=True), ADA._replace(mark="")):
+            self.assertIn("Open the link in your letter, or answer that letter: then", " ".join(text.split()))
         self.assertNotIn("own mark", "".join(self.asking(vote())))
 
     def test_without_a_page_the_texts_follow(self) -> None:
@@ -213,7 +219,7 @@ class CallLetter(unittest.TestCase):
             text = dataclasses.replace(now, electors=(ADA,)).call_letter(ADA, is_extension=False)
             self.assertIn("\n\nOption 1: Lake\n\nA lake.\n|ada 1,2,3\n\nWHAT DECIDES\n", text)
             self.assertEqual(text.count("checked"), 1)
-            self.assertEqual("The words above, and the texts" in text, bool(letter))
+            self.assertEqual("The words at the head of this letter, and the texts" in " ".join(text.split()), bool(letter))
             self.assertNotIn("A lake", now.call_letter(ADA, is_extension=True))
         self.assertNotIn("A lake", vote(poll=poll).call_letter(ADA, is_extension=False))
 
@@ -227,7 +233,7 @@ class Printed(unittest.TestCase):
         for code in LANGUAGES:
             words = "Paper ballots go into the box in the hall of our house.\n" * 11
             now = vote(code, poll=poll, at=None, has_aliases=True, letter_text=words)
-            text = now.call_letter(ADA._replace(code="c0de" * 8), is_extension=False)
+            text = now.call_letter(GUS._replace(code="c0de" * 8), is_extension=False)
             self.assertGreater(len(text.splitlines()), 70)
             self.check_sides(now, text)
 
@@ -247,12 +253,41 @@ class Printed(unittest.TestCase):
                 self.assertEqual(f"{at}#{GUS.name}/{GUS.mark}" in text, at is not None)
                 self.check_sides(now, text)
 
+    def test_on_paper_the_ballot_is_cut_off_and_has_no_code(self) -> None:
+        """It has all that is given back, and nothing else asks for ranks, or for an e-mail."""
+        for code, letter in itertools.product(LANGUAGES, ("", "Dear friends,\n\npaper goes into the box in the hall.\n")):
+            now = vote(code, has_aliases=True, letter_text=letter)
+            elector = GUS._replace(code="c0de" * 8)
+            asking = [now.call_letter(elector, is_extension=is_extension) for is_extension in (False, True)]
+            for text in (*asking, now.reminder(elector, []), now.receipt(elector, [WAITS])):
+                [read, kept, ballot] = rows_to_print(text)
+                self.assertEqual("c0de" in str(kept), text is asking[0])
+                self.assertNotIn("c0de", str((read, ballot)))
+
+                def say(text: str, **places: object) -> str:
+                    return " ".join(now.call_data.language.say(text, **places).split())
+
+                # a head does not stand alone at the foot of a side
+                heads = [row for row, kind in read if kind == "head"]
+                wanted = [say(head).upper() for head in ("What decides", "What will be public")]
+                self.assertEqual(heads, wanted if text is asking[0] else [])
+                head = f"{POLL.name} {say('Name: {name}', name='gus')}"
+                boxes = (
+                    "Write a number into each box: 1 is the best, equal numbers are allowed, and an empty box is last. Return only this part."
+                )
+                found = [(" ".join(row.split()), kind) for row, kind in ballot]
+                self.assertEqual(found[:2], [(head, "paragraph"), (say(boxes), "paragraph")])
+                self.assertEqual([kind for _, kind in found[2:]], ["option"] * 3)
+                self.assertNotRegex(text, r"_,_|@|\[")
+                where = "Your ballot is the last part of this letter: fill it in, cut it off, and give it to whoever sent you this letter."
+                self.assertEqual(say(where) in " ".join(text.split()), not letter or text.count("friends") == 0)
+
     def check_sides(self, now: Composer, text: str) -> None:
         """Three letters have at most six sides, each with a place for the rank of each option."""
-        letters = [("Ada", rows_to_print(text, now.call_data))] * 3
+        letters = [("Ada", rows_to_print(text))] * 3
         style = resources(PACKAGE, "letter.css")
         page = render_page(PACKAGE, "print.html", now.call_data.language, style=style, title="Spring", letters=letters)
-        self.assertEqual(page.count(b'<span class="rank"></span>  Op'), 3 * len(now.call_data.poll.names))
+        self.assertEqual(page.count(b'<p class="option"><span class="rank"></span>  Op'), 3 * len(now.call_data.poll.names))
         with tempfile.TemporaryDirectory() as folder:
             place = pathlib.Path(folder)
             (place / "page.html").write_bytes(page)

@@ -1,6 +1,7 @@
 """The page of a call for votes in a browser: each line that it makes is one that debvote reads as what was chosen."""
 
 import dataclasses
+import datetime
 import itertools
 import pathlib
 import random
@@ -12,7 +13,7 @@ import urllib.parse
 
 from debvote_tools.poll.call import CallData, call_files
 from debvote_tools.poll.sealed import SealedPoll, with_roll
-from debvote_tools.text.language import ENGLISH
+from debvote_tools.text.language import ENGLISH, LANGUAGES, language_of
 
 from tests.support.at_browser import NEEDS_BROWSER, Window
 from tests.support.calls import CALL, KINDS, POLL, SECRET, WITH_CODES
@@ -216,6 +217,12 @@ class Lines(PageTest):
         }.items():
             self.assertEqual(self.window.ballot("ada", ranks)["words"], words)
 
+    def test_after_the_end_it_says_so_and_still_makes_the_line(self) -> None:
+        for until, is_over in ((None, None), (datetime.datetime(2020, 1, 1, tzinfo=datetime.UTC), True), (datetime.datetime.max, False)):
+            self.open(dataclasses.replace(CALL, until=until and until.replace(tzinfo=datetime.UTC)))
+            self.assertEqual(self.window.ballot("ada", "21-3")["line"], "ada 2,1,-,3")
+            self.assertEqual(self.window.ask("document.getElementById('Over')?.checkVisibility()"), is_over)
+
     def test_a_letter_that_is_to_be_signed_has_the_mark_below_the_ballot(self) -> None:
         self.open(KINDS["signed"])
         self.assertEqual(self.window.ballot("ada", "1234")["body"], f"ada 1,2,3,4\r\n[{POLL.mark}]\r\n")
@@ -341,7 +348,10 @@ class Names(PageTest):
         self.open(data, f"#ada/{OWN}")
         self.check_letter(None, "ada", OWN)
         self.assertEqual(line_letter_and_hint(None), ("ada 2,1,-,3", True, False))
+        below = "[...document.querySelectorAll('.unmarked')].filter((node) => node.checkVisibility()).length"
+        self.assertEqual(self.window.ask(below), 0)
         self.assertEqual(line_letter_and_hint("ben"), ("ben 2,1,-,3", False, True))
+        self.assertEqual(self.window.ask(below), 2)
         of_secret = (self.open(secret) / "index.html").read_text()
         self.assertEqual(line_letter_and_hint(None), ("NAME 2,1,-,3", False, True))
         self.assertNotIn('href="mailto:', page + of_secret)
@@ -381,6 +391,17 @@ class Looks(PageTest):
         self.assertEqual(self.window.ask(f"{buttons}.length"), 1)
         self.window.ask(f"{buttons}[0].click()")
         self.assertEqual((self.window.ask(shown), self.window.ask(f"{buttons}.length")), ([True, True], 0))
+
+    def test_texts_leave_room_for_the_ranks_on_a_telephone(self) -> None:
+        """With texts, too, the ranks of four options lie above the line that is always seen."""
+        free = """document.getElementById("Bottom").getBoundingClientRect().top
+          - [...document.querySelectorAll("div.rank")].at(-1).getBoundingClientRect().bottom"""
+        poll = dataclasses.replace(POLL, explanations=("A long text. " * 40,) * 3)
+        for code in LANGUAGES:
+            self.open(dataclasses.replace(CALL, language=language_of(code), poll=poll))
+            self.window.ballot("ada", "21-3")
+            self.window.ask("scrollTo(0, 0)")
+            self.assertGreaterEqual(self.window.ask(free), 0, code)
 
     def assert_seen(self, parts: tuple[str, ...], unseen: tuple[str, ...]) -> None:
         seen = self.window.ask("document.body.innerText")

@@ -23,6 +23,8 @@ DRAWN |= {"for": ["ink"], "against": ["ink"]}
 
 NAMED = r"--([a-z]+): *([^;]+);"
 SCREENS_IN_DARK = "screen and (prefers-color-scheme: dark)"
+# these name no colour
+LOW_SCREENS = "screen and (max-height: 45rem)"
 COLOURED = r"(?<![-\w])(?:color|background|border(?:-[a-z]+)?|outline|fill|stroke)(?:-color)?: *([^;}]+)"
 NO_COLOUR = r"var\(--[a-z]+\)|currentColor|none|0|(?:\d*\.?\d+(?:px|rem|em))|solid|dashed|dotted|collapse"
 
@@ -41,7 +43,7 @@ def colours():
     light, dark, paper, others = {}, {}, {}, ""
     for file in STYLES:
         for medium, rule in rules_of(file.read_text()):
-            {"": light, SCREENS_IN_DARK: dark, "print": paper}[medium].update(re.findall(NAMED, rule))
+            {"": light, SCREENS_IN_DARK: dark, "print": paper, LOW_SCREENS: {}}[medium].update(re.findall(NAMED, rule))
             others += re.sub(NAMED, "", rule) + "\n"
     return light, {**light, **dark}, {**light, **paper}, others
 

@@ -160,7 +160,9 @@ class InBrowser(languages.LanguageTest):
         found = window.find("Person 02")
         self.assertEqual((found[0], found[-1]), (sentence("counts", name="e02"), sentence("line", line="e02 2,1,4,3")))
         self.assertEqual(len(found), 6)
-        self.assertEqual(window.find("e05"), [sentence("no_ballot", name="e05")])
+        # what came from e05 was entered after the close
+        lines = language_of(language).say("Refused and late lines")
+        self.assertEqual(window.find("e05"), [sentence("no_ballot", name="e05"), sentence("uncounted", lines=lines)])
         self.assertEqual(window.find("nobody"), [sentence("no_elector", name="nobody")])
         self.assertEqual(window.find(""), [sentence("type_name")])
 

@@ -76,8 +76,7 @@ class ScriptsTest(publishing.PublishTest):
         equal = ['equally Option 2: <i>B</i> & "C" and Option 3: N', "Not ranked: Option 1: 72 Euro", "The line: ben -,1,1"]
         self.expect("equal ranks", window.find("ben")[1:], equal)
         self.expect("hyphens alone", window.find("cleo")[1:], ["nothing is preferred", "The line: cleo -,-,-"])
-        no = "No elector has the name a-d-a. Type it as it is on the roll."
-        self.expect("without its hyphens", window.find("a-d-a"), [no, "On the roll: ada"])
+        self.expect("without its hyphens", window.find("a-d-a"), ["Do you mean ada?"])
         window.ask("document.querySelector('#Answer button').click()")
         window.until("document.getElementById('Answer').textContent.startsWith('This ballot counts for ada:')")
         self.expect("no ballot", window.find("dan"), ["dan is on the roll, and no ballot counts for this name."])
@@ -105,6 +104,57 @@ class ScriptsTest(publishing.PublishTest):
         ]:
             self.page_of(window, change)
             self.expect(what, window.find("ada"), others)
+
+    @at_browser.NEEDS_BROWSER
+    def test_a_family_name_alone(self):
+        """Whoever may be meant is named, with the real name where the page has it, and nobody is told that the name is wrong."""
+        poll = re.sub("roll = .*", 'roll = ["anna-meier", "ben-lee", "eve-lee", "dan"]', publishing.PLAIN_POLL)
+        room = plain_room(self.scratch / "family", poll, "anna-meier 1,2,3\ndan 1,2\ndan-x 1,2,3\nEVE-LEE 1;2\n")
+        made = self.published(room, "family-names", real_names={"anna-meier": "Anna Meier", "dan": "Dan"})
+        window = self.window
+        self.page_of(window, room=made)
+        self.expect("one", window.find("Meier"), ["Do you mean anna-meier (Anna Meier)?"])
+        self.expect("several", window.find("lee"), ["Do you mean ben-leeeve-lee?"])
+        self.expect("none", window.find("Meyer"), ["No elector has the name meyer. Type it as it is on the roll."])
+        window.find("Meier")
+        window.ask("document.querySelector('#Answer button').click()")
+        window.until("document.getElementById('Answer').textContent.startsWith('This ballot counts for anna-meier:')")
+        # of whoever has a line that does not count the page says where it is
+        for name, more in {"dan": True, "ben-lee": False, "eve-lee": True}.items():
+            no = [f"{name} is on the roll, and no ballot counts for this name."]
+            no += ["A line with this name came, and does not count: Refused and late lines"] * more
+            self.expect(f"no ballot of {name}", window.find(name), no)
+        window.ask("document.querySelector('#Answer a').click()")
+        window.until("document.getElementById('Refused-lines').closest('details').open")
+
+    @at_browser.NEEDS_BROWSER
+    def test_the_table_of_votes_breaks_no_word(self):
+        """With eight options, on a telephone; the numbers go on beside the names."""
+        names = ["Schwarzwald", "Bodensee", "Nordseebad", "Alpenvorland", "Spreewald", "Rheintal", "Sauerland"]
+        poll = re.sub("options = .*", f"options = {json.dumps([f'Ausflug {name}' for name in names])}", publishing.PLAIN_POLL)
+        poll = poll.replace("ratios = [1, 1]", "ratios = [1, 1, 1, 1, 1, 1, 1]")
+        room = plain_room(self.scratch / "eight", poll, "ada 1,2,3,4,5,6,7,8\n")
+        self.expect("it is published", publish(room, *FILES, "result")[2], 0)
+        window = self.window
+        self.addCleanup(window.resize, 800, 900)
+        window.resize(360, 640)
+        self.page_of(window, room=room)
+        window.ask("document.getElementById('Votes').closest('details').open = true")
+        # a word that is broken lies in two boxes, one below the other
+        broken = window.ask(r"""[...document.querySelectorAll("th[scope=row]")].flatMap((head) => {
+          const walker = document.createTreeWalker(head, NodeFilter.SHOW_TEXT), found = [];
+          for (let node = walker.nextNode(); node; node = walker.nextNode()) {
+            for (const word of node.data.matchAll(/\S+/g)) {
+              const range = document.createRange();
+              range.setStart(node, word.index);
+              range.setEnd(node, word.index + word[0].length);
+              if (range.getClientRects().length > 1) found.push(word[0]);
+            }
+          }
+          return found;
+        })""")
+        self.expect("broken words", broken, [])
+        self.expect("the page is as wide as the window", window.ask("document.documentElement.scrollWidth"), 360)
 
     @at_browser.NEEDS_BROWSER
     def test_electors_with_names_of_things_of_the_page(self):
@@ -167,8 +217,8 @@ class ScriptsTest(publishing.PublishTest):
         self.page_of(window, room=room)
         sealed = hashlib.sha256(f"{seal}\n".encode() + (folder / "ballots.txt").read_bytes()).hexdigest()
         rows = [row for row in window.count_again(sealed) if "as the letter of the close has to have it" in row]
-        said = f"Yours is the same. The checksum of seal.txt and the ballots, as the letter of the close has to have it, is {sealed}."
-        self.expect("sealed", rows, [f"{said} This page names it too."])
+        said = f"The checksum of seal.txt and the ballots, as the letter of the close has to have it, is {sealed}."
+        self.expect("sealed", rows, [f"{said} This page names it too. Yours is the same."])
 
     @at_browser.NEEDS_BROWSER
     def test_what_is_typed(self):
@@ -229,7 +279,7 @@ class ScriptsTest(publishing.PublishTest):
             data = (folder / name).read_bytes()
             said = f"The checksum of {name} is {hashlib.sha256(data).hexdigest()}."
             self.expect(f"{name} alone", window.count_again(files={name: data}), [said])
-            self.expect(f"{name}, typed", window.count_again(hashlib.sha256(data).hexdigest(), {name: data}), [f"Yours is the same. {said}"])
+            self.expect(f"{name}, typed", window.count_again(hashlib.sha256(data).hexdigest(), {name: data}), [f"{said} Yours is the same."])
             other = window.count_again(hashlib.sha256(data).hexdigest(), {name: data + b"x"})
             self.expect(f"{name}, changed", LETTER_OTHER in other[0], True)
         sum_of_poll = sums["poll.toml"]

@@ -90,9 +90,11 @@ class Files(unittest.TestCase):
             "late": f"Vote until: {LATER_WORDS} The call did not say it at first. ",
             "never": "You can vote until the time that the secretary announces. ",
         }
+        # seen after the end alone
+        over = "By the clock of this device the time is over. If you send a line all the same, the secretary decides whether it counts. "
         changes = {"extended": "You have more time to vote.", "late": "You can now vote until the time below."}
         for kind, data in said.items():
-            self.assertIn(f"{wanted[kind]}Your name", page_of(data))
+            self.assertIn(f"{wanted[kind]}{over if data.until else ''}Your name", page_of(data))
             if kind in changes:
                 letter = as_read(extension_letter(data))
                 self.assertTrue(letter.startswith(f"{changes[kind]} Nothing else that the call says has changed. "), letter)
@@ -109,7 +111,7 @@ class Files(unittest.TestCase):
     def test_where_to(self) -> None:
         """Subjects end with the mark."""
         mark = f"[{POLL.mark}]"
-        self.assertIn(f"Send it to {ADDRESS} in a letter whose subject ends with {mark}.", page_of(CALL))
+        self.assertIn(f"Send your line to {ADDRESS} in a letter whose subject ends with {mark}.", page_of(CALL))
         self.assertIn("Send your ballot as the secretary announces. ", page_of(dataclasses.replace(CALL, at=None, to=None)))
         self.assertIn(f"your ballot, and below it the mark of this vote, {mark}, so that", page_of(KINDS["signed"]))
         self.assertIn("In a web form an empty field is a hyphen", page_of(KINDS["signed"]))
@@ -150,7 +152,7 @@ class Files(unittest.TestCase):
         self.assertNotIn("First line", files["call.txt"].decode())
         letter = call_files(dataclasses.replace(data, at=None))["call.txt"].decode()
         said = "The texts about the options are those of whoever sends this letter. The program debvote wrote the rest,"
-        self.assertTrue(" ".join(letter.split()).startswith(f"{said} and has not checked them. Where we meet"), letter)
+        self.assertTrue(" ".join(letter.split()).endswith(f"{said} and has not checked them."), letter)
         self.assertIn("\n\nOption 1: At the lake\n\nFirst line\nsecond <b>line</b>\n\nand more\n\nOption 3: Sell the house\n", letter)
         self.assertIn("\n\nSell \u05d0\u05d1\n\nit\n\nWHAT DECIDES\n\nMajority", letter)
 

@@ -5,6 +5,7 @@ import datetime
 from debvote_tools.result.facts import Act
 from debvote_tools.result.page import share
 from debvote_tools.text.ballots import ranks_in_words
+from debvote_tools.text.language import language_of
 
 from tests.support import expecting
 
@@ -31,6 +32,12 @@ class WordsTest(expecting.Expecting):
             ("-,-,-,-", "no option is ranked, so nothing is preferred"),
         ]:
             self.expect(f"{ranks} in words", ranks_in_words(ranks, names), wanted)
+
+    def test_who_is_for_an_option(self):
+        """The legend of the bars: those are for an option who put it before the default option, and not the reverse."""
+        said = "For: they prefer it to {option}. Against: the reverse. The mark: what it needs."
+        for code, before in {"de": "vor", "fr": "avant", "es": "delante de"}.items():
+            self.expect(f"in {code}", f" {before} Option 4: None. " in language_of(code).say(said, option="Option 4: None"), True)
 
     def test_shares(self):
         """How many have voted, in per cent: none alone is 0, all alone are 100, and it is rounded."""
