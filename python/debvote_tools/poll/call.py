@@ -82,7 +82,8 @@ class CallData:
     has_lapsed_codes: bool = False
 
     @property
-    def is_open(self) -> bool:
+    def is_by_name(self) -> bool:
+        """Whether ballots are public under the names of their electors."""
         return not (self.has_aliases or self.has_codes_on_roll)
 
     @property
@@ -94,7 +95,7 @@ class CallData:
 
     @property
     def roll(self) -> tuple[str, ...]:
-        return self.poll.roll if self.is_open else ()
+        return self.poll.roll if self.is_by_name else ()
 
     @functools.cached_property
     def mark(self) -> str:
