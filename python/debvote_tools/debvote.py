@@ -26,11 +26,12 @@ class Answer(NamedTuple):
 
 
 class Finding(NamedTuple):
-    """What `explain` says of a line: its envelope, the word of `steps`, what is wrong, the names on
-    the roll that may have been meant, and a remark on their ballots in other lines.
+    """What `explain` says of a line: the word of `steps`, what is wrong, the names on the roll that
+    may have been meant, and a remark on their ballots in other lines.
     """
 
-    envelope: int
+    # its number in the file that debvote got, from 1; not that of an envelope in the book
+    line: int
     word: str
     said: str
     near: tuple[str, ...] = ()

@@ -13,7 +13,7 @@ from debvote_tools.inbox.letter import ParsedLetter, parse
 from debvote_tools.inbox.letter_lines import Names, ReadLetter, from_json, to_json, with_lines
 from debvote_tools.inbox.mailbox import NotRead, RawLetter
 from debvote_tools.inbox.reasons import ReasonWithValues
-from debvote_tools.inbox.rules import Circumstances, JudgedLetter, Outcome
+from debvote_tools.inbox.rules import Circumstances, LetterCase, Outcome
 
 from tests.support.program import PROGRAM, ROOT
 
@@ -70,7 +70,7 @@ class DebvoteReader:
         assert findings.lines == len(lines), text
         found: dict[bytes, str | None] = dict.fromkeys(lines)
         for finding in findings.refused:
-            found[lines[finding.envelope - 1]] = f"{finding.word}: {finding._replace(remark='').hint}"
+            found[lines[finding.line - 1]] = f"{finding.word}: {finding._replace(remark='').hint}"
         return found
 
 
@@ -178,7 +178,7 @@ def judged(
     reader: DebvoteReader | None = None,
     ballots: Mapping[str, Sequence[Ballot]] | None = None,
     **other: object,
-) -> list[JudgedLetter]:
+) -> list[LetterCase]:
     """What becomes of letters, in the order of their times."""
     of_names = {name: value for name, value in other.items() if name in ("roll", "language", "real_names")}
     of_others = {name: value for name, value in other.items() if name not in ("language", "real_names")}
@@ -191,7 +191,7 @@ def label(why: ReasonWithValues) -> str:
     return why.reason.name.lower().replace("_", " ")
 
 
-def outcome(one: JudgedLetter) -> str:
+def outcome(one: LetterCase) -> str:
     """What becomes of a letter, in a word and the ballot or the reason."""
     if one.outcome is Outcome.GOES_IN:
         return f"in: {one.ballots[0].ballot}"

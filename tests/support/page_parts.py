@@ -206,7 +206,9 @@ class Parts:
         default, least = poll.default, least_of(count)
         whole = max(count.voters, least, 1)
         hint = next(self.sections["Why"].all("p", "hint")).text()
-        said = (f"For: they prefer it to {self.name(default)}. Against: the reverse." in hint, f"stands for {whole}." in hint)
+        name = self.name(default)
+        meaning = f"For: how many prefer the option to {name}. Against: how many prefer {name} to it."
+        said = (meaning in hint, f"stands for {whole}." in hint)
         demand_equal("the hint of the bars", said, (True, whole != count.voters))
         last = {o: max((n for n, (kept, _) in enumerate(count.rounds, 1) if o in kept), default=0) for o in poll.options}
         order = sorted(poll.options, key=lambda o: (o != count.winner, o in count.dropped, -last[o], o))

@@ -12,7 +12,7 @@ from debvote_tools.cli.faults import Fault, Status, stop_at
 from debvote_tools.inbox import letter_words
 from debvote_tools.inbox.letter_words import name_of
 from debvote_tools.inbox.judging import ballots_in, judged
-from debvote_tools.inbox.rules import BallotLine, JudgedLetter, Outcome
+from debvote_tools.inbox.rules import BallotLine, LetterCase, Outcome
 from debvote_tools.inbox.taking import NewBallots, enter_ballots, envelope_of
 from debvote_tools.inbox.lines import lines_in, name_in
 from debvote_tools.inbox.entering import agreed_act
@@ -86,12 +86,12 @@ def demand_words(arguments: Arguments) -> bool:
     return bool(chosen)
 
 
-def all_letters(vote: Vote) -> list[JudgedLetter]:
+def all_letters(vote: Vote) -> list[LetterCase]:
     kept, history = queries.kept_letters(vote.book), vote.election.history()
     return judged(vote, history, kept)
 
 
-def chosen_letters(found: Sequence[JudgedLetter], numbers: Sequence[int]) -> list[JudgedLetter]:
+def chosen_letters(found: Sequence[LetterCase], numbers: Sequence[int]) -> list[LetterCase]:
     by_number = {letter.number: letter for letter in found}
     if unknown := [str(number) for number in numbers if number not in by_number]:
         words, cure = "there is no such letter", "held lists the letters that wait"
@@ -120,7 +120,7 @@ def decide(vote: Vote, arguments: Arguments) -> None:
 
 # ---- entering
 # a ballot of a letter; its line is 0 if it was typed
-Chosen = tuple[JudgedLetter, BallotLine]
+Chosen = tuple[LetterCase, BallotLine]
 
 
 def enter(vote: Vote, arguments: Arguments) -> None:
@@ -186,7 +186,7 @@ def enter(vote: Vote, arguments: Arguments) -> None:
     agreed_act(vote, plan, show, act)
 
 
-def is_late(history: History, letter: JudgedLetter) -> bool:
+def is_late(history: History, letter: LetterCase) -> bool:
     """Whether what is entered of a letter now is late: the vote is closed, or was as it arrived."""
     arrived, closes = letter.read.arrived, history.closes
     return history.is_late(arrived is not None and bool(closes) and arrived <= closes[0].time)
@@ -205,7 +205,7 @@ def ballot_of(vote: Vote, text: str) -> str:
     return line.decode("ascii")
 
 
-def demand_not_entered(vote: Vote, history: History, letter: JudgedLetter) -> None:
+def demand_not_entered(vote: Vote, history: History, letter: LetterCase) -> None:
     if letter.outcome is not Outcome.ENTERED:
         return
     late = queries.envelopes(vote.book, f"letter = ? AND {queries.LATE}", letter.number)
@@ -219,7 +219,7 @@ def demand_not_entered(vote: Vote, history: History, letter: JudgedLetter) -> No
 
 
 def chosen_lines(
-    letter: JudgedLetter, lines: str | None, typed: str | None, *, is_forced: bool
+    letter: LetterCase, lines: str | None, typed: str | None, *, is_forced: bool
 ) -> list[BallotLine]:
     """The ballots of a letter to enter: what was typed, the lines that were named, or its only one."""
     name = name_of(letter)

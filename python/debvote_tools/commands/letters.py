@@ -9,11 +9,11 @@ import pathlib
 from collections.abc import Mapping, Sequence
 
 from debvote_tools.cli.arguments import Acting, flag, given, option, positional
-from debvote_tools.book import sent
+from debvote_tools.book import outgoing
 from debvote_tools.book.book import Book, Detail
 from debvote_tools.book.election import LETTERS, Election, History
 from debvote_tools.cli.console import act_time, count_of, listed, shown_text, tell
-from debvote_tools.book.sent import TAKEN, SentLetter
+from debvote_tools.book.outgoing import TAKEN, OutgoingLetter
 from debvote_tools.cli import console
 from debvote_tools.cli.faults import Fault, Status
 from debvote_tools.files import locked, uninterrupted
@@ -116,7 +116,7 @@ def tell_files(
     due: LettersDue,
     place: pathlib.Path,
     written: int,
-    lost: Mapping[pathlib.Path, Sequence[SentLetter]],
+    lost: Mapping[pathlib.Path, Sequence[OutgoingLetter]],
 ) -> None:
     for folder, letters in lost.items():
         if number := sum(bool(letter.address) for letter in letters):
@@ -135,7 +135,7 @@ def tell_files(
         tell("No other letter is to be sent." if lost else "There is no letter to send.")
 
 
-def tell_sent(due: LettersDue, tried: Sequence[SentLetter]) -> None:
+def tell_sent(due: LettersDue, tried: Sequence[OutgoingLetter]) -> None:
     refused = [letter for letter in tried if letter.state != TAKEN]
     if tried:
         tell(f"Sent {len(tried) - len(refused)} of {count_of(len(tried), 'letter')}.")
@@ -222,11 +222,13 @@ def write(book: Book, due: LettersDue, place: pathlib.Path) -> int:
         if due.new:
             detail: Detail = {"kind": due.kind, "letters": len(due.new)}
             with book.act("letters out", detail, seen=due.history.last.number) as act:
-                sent.note(act, due.new)
+                outgoing.note(act, due.new)
     return len(made.keys() - {letter_folder.TO_PRINT})
 
 
-def write_lost(due: LettersDue, kind_folder: pathlib.Path) -> dict[pathlib.Path, list[SentLetter]]:
+def write_lost(
+    due: LettersDue, kind_folder: pathlib.Path
+) -> dict[pathlib.Path, list[OutgoingLetter]]:
     """Makes the folders of earlier receipts that are not there, as they hold now; returns their
     letters. A folder from which files were taken out is left alone: they may have been sent.
     """
@@ -240,23 +242,23 @@ def write_lost(due: LettersDue, kind_folder: pathlib.Path) -> dict[pathlib.Path,
     return lost
 
 
-def send_letters(book: Book, due: LettersDue, server: Server) -> list[SentLetter]:
+def send_letters(book: Book, due: LettersDue, server: Server) -> list[OutgoingLetter]:
     """Sends the letters that no server has taken, and returns them with what the server said."""
-    letters, tried = due.to_send, list[SentLetter]()
+    letters, tried = due.to_send, list[OutgoingLetter]()
     if not letters:
         return tried
     detail: Detail = {"kind": due.kind, "server": str(server)}
     if server.user is not None:
         detail["user"] = server.user
 
-    def note(letter: SentLetter) -> None:
+    def note(letter: OutgoingLetter) -> None:
         with uninterrupted(), book.act("letter sent", detail) as act:
-            sent.note(act, [letter])
+            outgoing.note(act, [letter])
 
-    outgoing = ((letter, letter_folder.message(due, letter, is_draft=False)) for letter in letters)
+    messages = ((letter, letter_folder.message(due, letter, is_draft=False)) for letter in letters)
     try:
         show_progress(0, len(letters))
-        for letter in smtp.send_all(outgoing, due.sender, server, note):
+        for letter in smtp.send_all(messages, due.sender, server, note):
             tried.append(letter)
             show_progress(len(tried), len(letters))
     except Fault as fault:

@@ -3,7 +3,7 @@
 from collections.abc import Iterator
 
 from debvote_tools.cli.arguments import Options, positional
-from debvote_tools.book import queries, sent
+from debvote_tools.book import queries, outgoing
 from debvote_tools.cli.console import act_time, shown_line, shown_text, tell
 from debvote_tools.inbox import letter_words
 from debvote_tools.inbox.fates import Became, Fate, fates_of
@@ -29,7 +29,7 @@ def run(election: Election, arguments: Arguments) -> None:
     tell(*(f"  {line}" for one in fates for line in words_of(vote, history, one)))
     current = [vote.ranks_in_words(one.ranks) for one in fates if one.became is Became.COUNTS]
     tell(f"The current ballot: {''.join(current) or 'none'}")
-    out = sent.sent_letters(election.book, elector=elector.number)
+    out = outgoing.outgoing_letters(election.book, elector=elector.number)
     for letter in sorted(out, key=lambda letter: letter.time):
         where = f"to {letter.address}" if letter.address else "to be printed"
         reply = f" ({shown_text(letter.reply)})" if letter.reply else ""

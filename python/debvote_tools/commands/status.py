@@ -65,7 +65,7 @@ def state_of(election: Election, history: History) -> tuple[State, list[Refused]
         ballots, roll = ballot_file(line for _, line in lines), poll.roll
         found = election.debvote.findings(poll.as_bytes(), ballots)
         waiting = waiting_letters(election, history)
-    refused = [(*lines[finding.envelope - 1], finding) for finding in found.refused]
+    refused = [(*lines[finding.line - 1], finding) for finding in found.refused]
     refused_numbers = {number for number, _, _ in refused}
     # who has a line that debvote does not refuse has a ballot
     names = {line.partition(b" ")[0] for number, line in lines if number not in refused_numbers}

@@ -4,7 +4,7 @@ from collections.abc import Iterator
 from typing import NamedTuple
 
 from debvote_tools.cli.arguments import Acting, flag
-from debvote_tools.book import queries, sent
+from debvote_tools.book import queries, outgoing
 from debvote_tools.book.book import DoneAct
 from debvote_tools.book.election import Election, History
 from debvote_tools.cli.console import act_time, count_of, is_terminal, is_yes, tell
@@ -90,7 +90,7 @@ def what_is_taken_back(vote: Vote) -> TakenBack:
         lines_without = queries.lines_of_electors(book, electors, without=number)
     before, after = vote.standing(lines), vote.standing(lines_without)
     about = {("envelope", envelope.number, False) for envelope in envelopes}
-    written = sent.sent_letters(book, "receipts")
+    written = outgoing.outgoing_letters(book, "receipts")
     having = {letter.elector for letter in written if about & set(letter.about)}
     names = [elector.name for elector in queries.electors(book) if elector.number in having]
     return TakenBack(history.act(number), envelopes, before, after, names)

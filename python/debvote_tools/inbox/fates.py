@@ -1,4 +1,4 @@
-"""What came of each elector, and what became of it, by all lines and letters as they are now."""
+"""What came from each elector, and what became of it, by all lines and letters as they are now."""
 
 import datetime
 import enum
@@ -10,7 +10,7 @@ from debvote_tools.book.election import Election, History
 from debvote_tools.book.queries import Elector, Envelope
 from debvote_tools.inbox.judging import judged
 from debvote_tools.inbox.mime import address_key
-from debvote_tools.inbox.rules import JudgedLetter, Outcome
+from debvote_tools.inbox.rules import LetterCase, Outcome
 from debvote_tools.inbox.vote import Vote
 
 # what belongs to no elector has this in place of a name
@@ -39,7 +39,7 @@ class Fate(NamedTuple):
     became: Became | Outcome
     envelope: Envelope | None = None
     answer: str | None = None
-    letter: JudgedLetter | None = None
+    letter: LetterCase | None = None
     is_own: bool = False
 
     @property
@@ -52,7 +52,7 @@ class Fate(NamedTuple):
 def fates_of(
     election: Election, history: History, of: Collection[Elector] | None = None
 ) -> dict[str, list[Fate]]:
-    """What came of electors, of all or of some, by their names on the roll, in the order of its
+    """What came from electors, from all or from some, by their names on the roll, in the order of its
     times; a letter that arrived at no known time has that of its act. debvote is started twice at
     most.
 

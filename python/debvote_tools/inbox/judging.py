@@ -17,7 +17,7 @@ from debvote_tools.inbox.letter import Body
 from debvote_tools.inbox.letter_lines import ReadLetter, answers_in, from_json, read_letters
 from debvote_tools.inbox.mailbox import RawLetter
 from debvote_tools.inbox.reasons import Reason, ReasonWithValues
-from debvote_tools.inbox.rules import Circumstances, JudgedLetter, Outcome
+from debvote_tools.inbox.rules import Circumstances, LetterCase, Outcome
 from debvote_tools.inbox.vote import Vote
 from debvote_tools.poll.call import SUBJECT
 from debvote_tools.text import times
@@ -46,7 +46,7 @@ TIME = operator.attrgetter("time")
 
 def judged(
     vote: Vote, history: History, kept: Sequence[KeptLetter], looked_at: Sequence[ReadLetter] = ()
-) -> list[JudgedLetter]:
+) -> list[LetterCase]:
     """Letters that came, as they are judged now, by their times; and others that are looked at."""
     if not kept and not looked_at:
         return []
@@ -136,9 +136,9 @@ def judge_all(
     letters: Sequence[ReadLetter],
     circumstances: Circumstances,
     ballots_of: Callable[[Collection[str]], Mapping[str, Sequence[Ballot]]],
-) -> list[JudgedLetter]:
+) -> list[LetterCase]:
     """Judges letters, and returns them by their times; those without a time come last."""
-    cases = [JudgedLetter(letter, circumstances) for letter in letters]
+    cases = [LetterCase(letter, circumstances) for letter in letters]
     cases.sort(key=lambda case: (case.time is None, case.time or circumstances.now))
     electors = {elector for case in cases for elector in case.electors}
     box: Box = collections.defaultdict(list)
@@ -151,14 +151,14 @@ def judge_all(
     return cases
 
 
-def set_outcomes(cases: Sequence[JudgedLetter], box: Box) -> None:
+def set_outcomes(cases: Sequence[LetterCase], box: Box) -> None:
     """Sets what becomes of letters, by their times. What goes in is added to the box."""
-    groups: dict[str, list[JudgedLetter]] = collections.defaultdict(list)
+    groups: dict[str, list[LetterCase]] = collections.defaultdict(list)
     for case in cases:
         groups[case.read.identity].append(case)
         if case.decision is not None:
             case.outcome, case.reason = DECIDED[case.decision]
-    firsts: set[JudgedLetter] = set()
+    firsts: set[LetterCase] = set()
     at_once: dict[tuple[str, datetime.datetime | None], set[str]] = collections.defaultdict(set)
     undecided = [group for group in groups.values() if any(case.decision is None for case in group)]
     for group in undecided:
@@ -177,7 +177,7 @@ def set_outcomes(cases: Sequence[JudgedLetter], box: Box) -> None:
         set_copies(group, firsts, box)
 
 
-def why_not_latest(case: JudgedLetter, box: Box, at_once: set[str]) -> ReasonWithValues | None:
+def why_not_latest(case: LetterCase, box: Box, at_once: set[str]) -> ReasonWithValues | None:
     """Its time is later than that of each other ballot of its elector, but for the same one."""
     assert case.time is not None
     elector, time, ballots = case.elector, case.time, box[case.elector]
@@ -189,7 +189,7 @@ def why_not_latest(case: JudgedLetter, box: Box, at_once: set[str]) -> ReasonWit
     return None if is_alone else Reason.SAME_TIME(elector=elector, time=time)
 
 
-def set_copies(group: Sequence[JudgedLetter], firsts: Collection[JudgedLetter], box: Box) -> None:
+def set_copies(group: Sequence[LetterCase], firsts: Collection[LetterCase], box: Box) -> None:
     """Sets what becomes of the other letters of one identity: they are copies of one that went in,
     or may go in. A letter that waits hides no other. But of letters that wait for the same reason
     and have the same body, only the first is shown.
@@ -198,7 +198,7 @@ def set_copies(group: Sequence[JudgedLetter], firsts: Collection[JudgedLetter], 
     is_hidden = any(case.decision is not None or case.outcome is Outcome.GOES_IN for case in hiding)
     hiding.sort(key=lambda case: (case.read.arrived is None, case.read.arrived))
     first = next(iter(hiding), None)
-    waiting: dict[tuple[ReasonWithValues | None, Body], JudgedLetter] = {}
+    waiting: dict[tuple[ReasonWithValues | None, Body], LetterCase] = {}
     for case in sorted(group, key=lambda case: case.decision is None):
         before = waiting.setdefault((case.first_broken_rule, case.read.body), case)
         if case.decision is not None or case in firsts:
@@ -211,7 +211,7 @@ def set_copies(group: Sequence[JudgedLetter], firsts: Collection[JudgedLetter], 
             case.reason = case.first_broken_rule
 
 
-def set_copy(case: JudgedLetter, first: JudgedLetter, box: Box) -> None:
+def set_copy(case: LetterCase, first: LetterCase, box: Box) -> None:
     """Ignores a copy of a letter that arrived before, unless another ballot came between."""
     arrived, before = case.read.arrived, first.read.arrived
     case.outcome, case.reason = Outcome.COPY, None

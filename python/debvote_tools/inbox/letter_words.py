@@ -8,7 +8,7 @@ from collections.abc import Iterator, Sequence
 from debvote_tools.cli.console import act_time, count_of, shown_line, shown_text
 from debvote_tools.inbox.letter import is_quoted
 from debvote_tools.inbox.letter_lines import Near
-from debvote_tools.inbox.rules import JudgedLetter, Outcome, above_end
+from debvote_tools.inbox.rules import LetterCase, Outcome, above_end
 from debvote_tools.inbox.reasons import for_secretary
 from debvote_tools.inbox.vote import IS_CODE, Vote
 
@@ -43,25 +43,25 @@ TELEPHONE = re.compile(
 )
 
 
-def who_and_when(letter: JudgedLetter) -> str:
+def who_and_when(letter: LetterCase) -> str:
     return f"{name_of(letter)}, from {sender_of(letter)}, {arrival_of(letter)}"
 
 
-def name_of(letter: JudgedLetter) -> str:
+def name_of(letter: LetterCase) -> str:
     return f"letter {letter.number}" if letter.number else shown_text(letter.read.where)
 
 
-def sender_of(letter: JudgedLetter) -> str:
+def sender_of(letter: LetterCase) -> str:
     return shown_text(letter.read.shown_sender) or "nobody"
 
 
-def arrival_of(letter: JudgedLetter) -> str:
+def arrival_of(letter: LetterCase) -> str:
     arrived = letter.read.arrived
     return "at an unknown time" if arrived is None else act_time(arrived)
 
 
 # ---- what goes in
-def going_in_words(letters: Sequence[JudgedLetter], vote: Vote) -> Iterator[str]:
+def going_in_words(letters: Sequence[LetterCase], vote: Vote) -> Iterator[str]:
     """One line a letter: whose ballot it is, and how it is read. The last have more to look at."""
     said = [(ballot_words(letter, vote), more_words(letter)) for letter in letters]
     yield from (words for words, more in said if not more)
@@ -70,7 +70,7 @@ def going_in_words(letters: Sequence[JudgedLetter], vote: Vote) -> Iterator[str]
     yield from (f"{words}; {'; '.join(more)}" for words, more in said if more)
 
 
-def ballot_words(letter: JudgedLetter, vote: Vote) -> str:
+def ballot_words(letter: LetterCase, vote: Vote) -> str:
     line = letter.ballots[0]
     written = letter.read.shown_lines[line.number - 1].strip()
     as_written = "" if written == line.ballot else f", written `{shown_line(written.encode())}`"
@@ -78,7 +78,7 @@ def ballot_words(letter: JudgedLetter, vote: Vote) -> str:
     return f"{line.elector} ({name_of(letter)}{as_written}): {ranks}"
 
 
-def more_words(letter: JudgedLetter) -> list[str]:
+def more_words(letter: LetterCase) -> list[str]:
     """What else there is to look at in a letter."""
     found = [f"other words: {words}"] if (words := other_words(letter)) else []
     if letter.shared_with:
@@ -87,7 +87,7 @@ def more_words(letter: JudgedLetter) -> list[str]:
 
 
 # ---- what waits
-def table(letters: Sequence[JudgedLetter]) -> Iterator[str]:
+def table(letters: Sequence[LetterCase]) -> Iterator[str]:
     """Letters that wait: a line for each, and below it why."""
     rows = [(arrival_of(letter), sender_of(letter)) for letter in letters]
     times, senders = (max(map(len, column)) for column in zip(*rows or [("", "")]))
@@ -99,13 +99,13 @@ def table(letters: Sequence[JudgedLetter]) -> Iterator[str]:
         yield from (f"        {line}" for line in why_words(letter))
 
 
-def waiting(letter: JudgedLetter) -> Iterator[str]:
+def waiting(letter: LetterCase) -> Iterator[str]:
     why, *others = why_words(letter)
     yield f"{who_and_when(letter)}: {why}"
     yield from (f"  {line}" for line in others)
 
 
-def why_words(letter: JudgedLetter) -> list[str]:
+def why_words(letter: LetterCase) -> list[str]:
     """Why a letter waits, lines that may be ballots, and what else there is to look at."""
     reason = letter.reason
     why = "it goes in when you add it again" if reason is None else for_secretary(reason)
@@ -113,7 +113,7 @@ def why_words(letter: JudgedLetter) -> list[str]:
     return [f"{why}{since}", *near_words(letter), *more_words(letter)]
 
 
-def near_words(letter: JudgedLetter) -> Iterator[str]:
+def near_words(letter: LetterCase) -> Iterator[str]:
     for line in (*letter.ballots, *letter.offered):
         yield f"line {line.number}: {line.ballot}"
     for near in letter.near:
@@ -122,7 +122,7 @@ def near_words(letter: JudgedLetter) -> Iterator[str]:
         yield f"line {near.number}, `{shown_text(near.ballot)}`{within}: {why}"
 
 
-def counts(letters: Sequence[JudgedLetter], entered: int) -> str:
+def counts(letters: Sequence[LetterCase], entered: int) -> str:
     copies = sum(letter.outcome is Outcome.COPY for letter in letters)
     passed_over = f"; {count_of(copies, 'copy', 'copies')} passed over" if copies else ""
     waits = sum(letter.outcome is Outcome.WAITS for letter in letters)
@@ -134,7 +134,7 @@ def wait_words(number: int) -> str:
 
 
 # ---- a letter line by line
-def whole(letter: JudgedLetter) -> Iterator[str]:
+def whole(letter: LetterCase) -> Iterator[str]:
     """A letter line by line, each with the number by which it can be entered. What it quotes of our
     letters is left out, but for lines that may be ballots.
     """
@@ -191,7 +191,7 @@ def above(lines: Sequence[str], first: int) -> int:
     return index - (index > 0 and bool(lines[index - 1].strip()) and lines[index - 1][:1].isupper())
 
 
-def quoted_of_ours(letter: JudgedLetter) -> set[int]:
+def quoted_of_ours(letter: LetterCase) -> set[int]:
     """The indices of the lines of our letters that a letter quotes, but for those that may be
     ballots: it answers one of ours, or the quotation has the mark of the poll.
     """
@@ -208,13 +208,13 @@ def quoted_of_ours(letter: JudgedLetter) -> set[int]:
     }
 
 
-def indices_of_ballots(letter: JudgedLetter, near: Sequence[Near]) -> set[int]:
+def indices_of_ballots(letter: LetterCase, near: Sequence[Near]) -> set[int]:
     """The indices of the lines that can be entered, and of those near to a ballot."""
     lines = {line.number - 1 for line in (*letter.ballots, *letter.offered)}
     return lines | {one.number - 1 for one in near}
 
 
-def other_words(letter: JudgedLetter) -> str:
+def other_words(letter: LetterCase) -> str:
     """What the sender's own words begin with, without greetings and what a telephone adds."""
     lines, left_out = letter.read.body.lines, quoted_of_ours(letter)
     for quotation in quotations(lines):

@@ -125,13 +125,13 @@ class LinesBySender(NamedTuple):
     why it is no ballot by itself; and what is near to a ballot.
     """
 
-    lines: Sequence[BallotLine]
+    ballots: Sequence[BallotLine]
     others: Sequence[BallotLine]
     offered: Mapping[BallotLine, Reason]
     near: Sequence[Near]
 
 
-def lines_by_sender(
+def sort_lines(
     lines: Sequence[ReadLine], sharing: Sequence[str], marked: str | None
 ) -> LinesBySender:
     """What the lines are if it was sent by one of the electors who have the sender's address, or by
@@ -173,8 +173,10 @@ def is_name_of(elector: str, line: ReadLine) -> bool:
 
 
 # ---- a letter
-class JudgedLetter:
-    """A letter, and what becomes of it. The `reason` says why it waits or was set aside."""
+class LetterCase:
+    """A letter with all that it is judged by. `judging.py` sets `outcome` and `reason`, why it
+    waits or was set aside.
+    """
 
     outcome = Outcome.WAITS
     reason: ReasonWithValues | None = None
@@ -191,20 +193,20 @@ class JudgedLetter:
         self.sharing = circumstances.electors_by_address.get(letter.sender, [])
         owns = {own for mark, own in letter.marks if own and mark == circumstances.mark}
         self.marked_elector = circumstances.electors_by_mark.get(*owns) if len(owns) == 1 else None
-        self.lines_by_sender = lines_by_sender(letter.read_lines, self.sharing, self.marked_elector)
+        self.lines_by_sender = sort_lines(letter.read_lines, self.sharing, self.marked_elector)
         # that of its ballot: if letters have to be signed, that of the signature
         signature = letter.signature if circumstances.is_signed else None
         self.time = letter.arrived if signature is None else signature.time
         self.decision = circumstances.decisions.get(letter.key)
         # the ballot that may go in, and its index among the lines
-        end, lines = above_end(letter.body.lines), self.lines_by_sender.lines
-        self.ballot = next((line for line in lines if line.number <= end), None)
+        end, ballots = above_end(letter.body.lines), self.lines_by_sender.ballots
+        self.ballot = next((line for line in ballots if line.number <= end), None)
         self.index = -1 if self.ballot is None else self.ballot.number - 1
         self.elector = "" if self.ballot is None else self.ballot.elector
         # all lines that read as ballots, first that one; and lines that are no ballots by
         # themselves. Each can be entered by its number
         own = [self.ballot] if self.ballot else []
-        self.ballots = tuple(dict.fromkeys((*own, *lines, *self.lines_by_sender.others)))
+        self.ballots = tuple(dict.fromkeys((*own, *ballots, *self.lines_by_sender.others)))
         self.offered = tuple(self.lines_by_sender.offered)
         # a letter that a program wrote quotes others, so nothing is said of its lines
         self.near = () if self.ballots or letter.is_automatic else tuple(self.lines_by_sender.near)
@@ -261,7 +263,7 @@ class JudgedLetter:
 
 
 # ---- the rules
-def can_be_read(case: JudgedLetter) -> ReasonWithValues | None:
+def can_be_read(case: LetterCase) -> ReasonWithValues | None:
     letter, body = case.read, case.read.body
     if letter.is_parted_off:
         return Reason.PARTED_OFF()
@@ -276,7 +278,7 @@ def can_be_read(case: JudgedLetter) -> ReasonWithValues | None:
     return Reason.HTML(element=body.first_other) if is_odd else None
 
 
-def arrived_in_time(case: JudgedLetter) -> ReasonWithValues | None:
+def arrived_in_time(case: LetterCase) -> ReasonWithValues | None:
     arrived, circumstances = case.read.arrived, case.circumstances
     if arrived is None:
         return Reason.NO_ARRIVAL()
@@ -289,7 +291,7 @@ def arrived_in_time(case: JudgedLetter) -> ReasonWithValues | None:
     return Reason.IN_THE_FUTURE(arrived=arrived) if arrived > circumstances.now + AHEAD else None
 
 
-def is_sent_by_its_elector(case: JudgedLetter) -> ReasonWithValues | None:
+def is_sent_by_its_elector(case: LetterCase) -> ReasonWithValues | None:
     """It comes from an address of its elector, after `call --marked` with the own mark, too."""
     sender, elector, circumstances = case.read.sender, case.elector, case.circumstances
     listed = circumstances.electors[elector].addresses if elector in circumstances.electors else ()
@@ -308,7 +310,7 @@ def is_sent_by_its_elector(case: JudgedLetter) -> ReasonWithValues | None:
     return Reason.OTHER_SENDER(sender=sender, listed=" and ".join(listed), elector=elector)
 
 
-def is_signed_by_its_elector(case: JudgedLetter) -> ReasonWithValues | None:
+def is_signed_by_its_elector(case: LetterCase) -> ReasonWithValues | None:
     """It has a good signature, if it must. This comes first: only what was signed is the text."""
     letter, signature = case.read, case.read.signature
     elector, circumstances = case.elector, case.circumstances
@@ -329,7 +331,7 @@ def is_signed_by_its_elector(case: JudgedLetter) -> ReasonWithValues | None:
     return None if has_mark else Reason.NO_MARK(mark=circumstances.mark)
 
 
-def has_one_ballot(case: JudgedLetter) -> ReasonWithValues | None:
+def has_one_ballot(case: LetterCase) -> ReasonWithValues | None:
     """No other line reads as a ballot that differs. `ballot_is_first` would say less."""
     if len({line.ballot for line in case.ballots}) <= 1:
         return None
@@ -339,7 +341,7 @@ def has_one_ballot(case: JudgedLetter) -> ReasonWithValues | None:
     return Reason.SEVERAL_ELECTORS(electors=", ".join(electors))
 
 
-def ballot_is_first(case: JudgedLetter) -> ReasonWithValues | None:
+def ballot_is_first(case: LetterCase) -> ReasonWithValues | None:
     """The ballot is the first line, but for a greeting. In an answer to a letter that only this
     elector has, a quotation of it may be above the ballot.
     """
@@ -357,7 +359,7 @@ def ballot_is_first(case: JudgedLetter) -> ReasonWithValues | None:
     return next(filter(None, (why_not_first(case, joined) for joined in views)), None)
 
 
-def is_of_this_vote(case: JudgedLetter) -> ReasonWithValues | None:
+def is_of_this_vote(case: LetterCase) -> ReasonWithValues | None:
     """Its subject has the mark of the poll, and no other; nor has a text that must be signed."""
     own = case.circumstances.mark
     signed = case.read.shown_lines if case.circumstances.is_signed else ()
@@ -390,7 +392,7 @@ def above_end(lines: Sequence[str]) -> int:
     return lines.index(END) if END in lines else len(lines)
 
 
-def paragraphs_of(case: JudgedLetter, joined: Collection[int]) -> list[list[int]]:
+def paragraphs_of(case: LetterCase, joined: Collection[int]) -> list[list[int]]:
     """The paragraphs above the end of a letter, each as the indices of its lines. A line that is
     passed over is in no paragraph, and ends none; nor does an empty line that is joined to others.
     """
@@ -405,7 +407,7 @@ def paragraphs_of(case: JudgedLetter, joined: Collection[int]) -> list[list[int]
     return [paragraph for paragraph in paragraphs if paragraph]
 
 
-def is_subject_of_page(case: JudgedLetter) -> bool:
+def is_subject_of_page(case: LetterCase) -> bool:
     """Whether the subject is the one that the page of the call makes, but for marks and blanks."""
 
     def as_compared(subject: str) -> str:
@@ -415,7 +417,7 @@ def is_subject_of_page(case: JudgedLetter) -> bool:
     return as_compared(subject) == as_compared(case.circumstances.subject)
 
 
-def why_not_first(case: JudgedLetter, joined: Collection[int]) -> ReasonWithValues | None:
+def why_not_first(case: LetterCase, joined: Collection[int]) -> ReasonWithValues | None:
     """Why the ballot is not the first line; None if it is."""
     letter, lines, ballot = case.read, case.read.body.lines, case.index
     is_ours = case.has_own_mark

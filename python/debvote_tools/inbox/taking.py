@@ -18,7 +18,7 @@ from debvote_tools.inbox.judging import judged
 from debvote_tools.inbox.letter_lines import ReadLetter, read_letters, to_json
 from debvote_tools.inbox.mailbox import RawLetter, letters_of_file, letters_of_folder
 from debvote_tools.inbox.not_added import NOTHING_ADDED, bad_ballots
-from debvote_tools.inbox.rules import JudgedLetter, Outcome
+from debvote_tools.inbox.rules import LetterCase, Outcome
 from debvote_tools.inbox.vote import Vote
 
 
@@ -111,7 +111,7 @@ class NewBallots(NamedTuple):
     is_late: bool
 
 
-def envelope_of(letter: JudgedLetter, ballot: str) -> NewEnvelope:
+def envelope_of(letter: LetterCase, ballot: str) -> NewEnvelope:
     return NewEnvelope(ballot.encode(), "", letter.source, letter.number, letter.time)
 
 
@@ -135,13 +135,13 @@ def enter_ballots(
     enter_lines(vote, name, detail, envelopes, report_on, seen, is_late=new.is_late)
 
 
-def going_in(found: Iterable[JudgedLetter]) -> list[JudgedLetter]:
+def going_in(found: Iterable[LetterCase]) -> list[LetterCase]:
     return [letter for letter in found if letter.outcome is Outcome.GOES_IN]
 
 
 def enter_letters(vote: Vote, *, is_agreed: bool) -> None:
     """Enters the ballots that go in, once they are agreed to."""
-    election, found = vote.election, list[JudgedLetter]()
+    election, found = vote.election, list[LetterCase]()
     history = election.history()
 
     def plan() -> NewBallots:
@@ -184,7 +184,7 @@ def agreed(ballots: str) -> bool:
     return bool(is_yes(f"Enter {ballots}?"))
 
 
-def tell_letters(vote: Vote, history: History, found: Sequence[JudgedLetter]) -> None:
+def tell_letters(vote: Vote, history: History, found: Sequence[LetterCase]) -> None:
     if new := going_in(found):
         if history.is_closed:
             tell(*late_notes(vote.election, history, "what is added"))

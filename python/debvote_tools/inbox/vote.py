@@ -159,7 +159,7 @@ class Vote:
         refused = self.debvote.findings(self.poll_bytes, ballot_file(lines)).refused
         if self.has_codes:
             refused = [finding._replace(near=(), remark="") for finding in refused]
-        return {lines[finding.envelope - 1]: finding for finding in refused}
+        return {lines[finding.line - 1]: finding for finding in refused}
 
     def other_names(self, finding: Finding) -> tuple[str, ...]:
         """All names that fit as well as those that debvote offers: `ada-2` beside `ada`."""

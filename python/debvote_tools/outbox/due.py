@@ -6,10 +6,10 @@ import datetime
 import secrets
 from collections.abc import Callable, Mapping, Sequence
 
-from debvote_tools.book import queries, sent
+from debvote_tools.book import queries, outgoing
 from debvote_tools.book.election import LETTERS, RESULT_LETTER, Election
 from debvote_tools.book.queries import Elector
-from debvote_tools.book.sent import REFUSED, TAKEN, WRITTEN, About, SentLetter
+from debvote_tools.book.outgoing import REFUSED, TAKEN, WRITTEN, About, OutgoingLetter
 from debvote_tools.cli.faults import Fault, bad_words
 from debvote_tools.text.ballots import ballot_file
 from debvote_tools.inbox.fates import NOBODY, Became, Fate, fates_of
@@ -28,7 +28,7 @@ LASTING = datetime.timedelta(days=1)
 NOTHING_WRITTEN = "nothing was written"
 
 # what a letter to an elector says
-TextOf = Callable[[Elector, SentLetter], str]
+TextOf = Callable[[Elector, OutgoingLetter], str]
 
 
 class LettersDue:
@@ -50,23 +50,23 @@ class LettersDue:
         is_over = bool(self.history.closes) or (until is not None and self.time > until)
         typed = {act.number for act in self.history.named("enter") if not act.detail.get("lines")}
         self.composer = Composer(current_call(election, self.history), is_over, on_list, typed)
-        self.sent = sent.sent_letters(election.book, kind)
+        self.noted_before = outgoing.outgoing_letters(election.book, kind)
         unreached, _ = reached_by_call(election, self.history)
         back = {elector.number for elector, why, _ in unreached if why == CAME_BACK}
         # the last letter to each of these, which is tried again
         self.came_back = {
             letter.elector: letter.message_id
-            for letter in self.sent
+            for letter in self.noted_before
             if letter.elector in back and self.is_present(letter)
         }.values()
         # the act to which the letters belong, and those that are new
-        self.for_act, self.new = self.history.last.number + 1, list[SentLetter]()
+        self.for_act, self.new = self.history.last.number + 1, list[OutgoingLetter]()
         # those that were written before, and go out again with them
-        self.going_again = list[SentLetter]()
+        self.going_again = list[OutgoingLetter]()
         # those who have the call, each at an address, to whom the letter of an extension is due
         self.had_call = set[tuple[int, str]]()
         # the receipts of earlier runs that have files, or had them
-        self.earlier_receipts = list[SentLetter]()
+        self.earlier_receipts = list[OutgoingLetter]()
         # the numbers of the letters that wait and are in no elector's receipt; and how many wait in
         # all, if they were looked at
         self.in_no_receipt, self.letters_waiting = list[int](), 0
@@ -92,10 +92,10 @@ class LettersDue:
         return fates
 
     @property
-    def to_send(self) -> list[SentLetter]:
+    def to_send(self) -> list[OutgoingLetter]:
         return list(filter(self.can_be_sent, (*self.going_again, *self.new)))
 
-    def can_be_sent(self, letter: SentLetter) -> bool:
+    def can_be_sent(self, letter: OutgoingLetter) -> bool:
         """Whether a server is to take a letter now: one to be printed has no address, and an
         elector's earlier address that refused one for good is not tried again.
         """
@@ -103,25 +103,25 @@ class LettersDue:
         is_gone = letter.is_refused_for_good and not self.is_present(letter)
         return bool(letter.address) and not is_done and not is_gone
 
-    def is_present(self, letter: SentLetter) -> bool:
+    def is_present(self, letter: OutgoingLetter) -> bool:
         """Whether its elector has its address now, or it is to be printed."""
         elector = self.electors.get(letter.elector)
         return elector is None or not letter.address or letter.address in elector.addresses
 
-    def text(self, letter: SentLetter) -> str:
+    def text(self, letter: OutgoingLetter) -> str:
         return self.text_of(self.elector(letter), letter)
 
-    def subject(self, letter: SentLetter) -> tuple[str, str]:
+    def subject(self, letter: OutgoingLetter) -> tuple[str, str]:
         """The subject of a letter, and the mark that ends it."""
         is_extension, own = self.is_extension(letter), self.elector(letter).mark
         subject = self.composer.subject(self.kind, is_extension=is_extension)
         return subject, self.composer.call_data.mark_of(own)
 
-    def is_extension(self, letter: SentLetter) -> bool:
+    def is_extension(self, letter: OutgoingLetter) -> bool:
         """Whether a letter says only that the vote ends later."""
         return (letter.elector, letter.address) in self.had_call
 
-    def elector(self, letter: SentLetter) -> Elector:
+    def elector(self, letter: OutgoingLetter) -> Elector:
         """To whom a letter is written. An address that its elector no longer has learns no own
         mark.
         """
@@ -133,7 +133,7 @@ class LettersDue:
         """The call to each elector; after an extension that, to those who have the call."""
         self.demand_not_over()
         *earlier, last = (act.number for act in self.history.since_call("call", "extend"))
-        letters = [letter for letter in self.sent if letter.for_act in earlier]
+        letters = [letter for letter in self.noted_before if letter.for_act in earlier]
         by_server = {letter.for_act for letter in letters if letter.state != WRITTEN}
         # a server has taken it, it is on paper, or all for its act were written as files
         self.had_call = {
@@ -158,11 +158,11 @@ class LettersDue:
             for number, elector in self.electors.items()
             if not any(one.became is Became.COUNTS for one in fates[elector.name])
         }
-        last = max((letter.for_act for letter in self.sent), default=0)
+        last = max((letter.for_act for letter in self.noted_before), default=0)
         # to the address of now
         written = [
             letter
-            for letter in self.sent
+            for letter in self.noted_before
             if letter.for_act == last
             and letter.elector in silent
             and letter.address == address_in(silent[letter.elector].addresses)
@@ -177,7 +177,7 @@ class LettersDue:
         else:
             self.new = list(map(self.letter_to, silent.values()))
 
-        def text_of(elector: Elector, letter: SentLetter) -> str:
+        def text_of(elector: Elector, letter: OutgoingLetter) -> str:
             held = (Outcome.WAITS, Outcome.GOES_IN)
             told = told_of(fates[elector.name]).values()
             return self.composer.reminder(elector, [one for one in told if one.became in held])
@@ -189,7 +189,7 @@ class LettersDue:
         """When others were reminded, if this run would do so again within a day."""
         if self.kind != "reminders" or not self.new:
             return None
-        times = (one.time for one in self.sent if self.time - one.time < LASTING)
+        times = (one.time for one in self.noted_before if self.time - one.time < LASTING)
         return max(times, default=None)
 
     def find_receipts(self) -> TextOf:
@@ -207,7 +207,7 @@ class LettersDue:
         # receipt is about that
         self.earlier_receipts = [
             one
-            for one in self.sent
+            for one in self.noted_before
             if (one.state != TAKEN or one.message_id in self.came_back)
             and one.elector in told
             and about_now(one.about, told[one.elector])
@@ -217,7 +217,7 @@ class LettersDue:
         )
         said = {
             (one.elector, key)
-            for one in self.sent
+            for one in self.noted_before
             if not self.failed_elsewhere(one)
             for key in one.about
         }
@@ -240,14 +240,14 @@ class LettersDue:
         """The addresses of electors before a change after the call, if no receipt was written
         since.
         """
-        last = {letter.elector: letter.for_act for letter in self.sent}
+        last = {letter.elector: letter.for_act for letter in self.noted_before}
         found: dict[int, list[str]] = collections.defaultdict(list)
-        for elector, act, addresses in sent.old_addresses(self.election.book, self.called):
+        for elector, act, addresses in outgoing.old_addresses(self.election.book, self.called):
             if act > last.get(elector, 0) and (address := address_in(addresses)):
                 found[elector].append(address)
         return found
 
-    def failed_elsewhere(self, letter: SentLetter) -> bool:
+    def failed_elsewhere(self, letter: OutgoingLetter) -> bool:
         """Whether no server has taken it, at an address that its elector no longer has. A file may
         have gone out by a mail program, unless the server is to send it now.
         """
@@ -295,7 +295,7 @@ class LettersDue:
     def to_each(self, for_act: int) -> None:
         """One letter to each elector. One to the same address for the same act stays as it is."""
         self.for_act = for_act
-        of_act = [letter for letter in self.sent if letter.for_act == for_act]
+        of_act = [letter for letter in self.noted_before if letter.for_act == for_act]
         before = {(letter.elector, letter.address): letter for letter in of_act}
         for elector in self.electors.values():
             letter = before.get((elector.number, address_in(elector.addresses)))
@@ -306,14 +306,14 @@ class LettersDue:
 
     def letter_to(
         self, elector: Elector, address: str | None = None, about: Sequence[About] = ()
-    ) -> SentLetter:
+    ) -> OutgoingLetter:
         """A new letter. Nobody can guess its Message-ID, so an answer that names it comes from
         whoever got the letter.
         """
         address = address_in(elector.addresses) if address is None else address
         domain = self.sender.partition("@")[2]
         message_id = f"<{secrets.token_hex(16)}@{domain}>" if address else ""
-        return SentLetter(
+        return OutgoingLetter(
             elector.number, self.kind, self.for_act, address, message_id, self.time, tuple(about)
         )
 

@@ -16,7 +16,7 @@ import re
 import shutil
 from collections.abc import Iterator, Mapping, Sequence
 
-from debvote_tools.book.sent import SentLetter
+from debvote_tools.book.outgoing import OutgoingLetter
 from debvote_tools.files import TEMPORARY, sync_folder, temporary_folder
 from debvote_tools.outbox.due import LettersDue
 from debvote_tools.outbox.words import PACKAGE
@@ -34,7 +34,7 @@ LONGEST_ENCODED, GOES_ON = 76, "\n "
 
 
 # ---------------------------------------------------------------- a letter
-def message(due: LettersDue, letter: SentLetter, *, is_draft: bool) -> bytes:
+def message(due: LettersDue, letter: OutgoingLetter, *, is_draft: bool) -> bytes:
     """The bytes of a letter. An answer goes to the address of the call. Mail programs offer to send
     a draft.
     """
@@ -90,7 +90,7 @@ def body_of(text: str) -> tuple[str, bytes]:
 
 
 # ---------------------------------------------------------------- the folder
-def letter_files(due: LettersDue, letters: Sequence[SentLetter]) -> dict[str, bytes]:
+def letter_files(due: LettersDue, letters: Sequence[OutgoingLetter]) -> dict[str, bytes]:
     """The files of letters by name. Letters that are sent, or that a server has taken, have none."""
     files: dict[str, bytes] = {}
     printed = []

@@ -4,10 +4,10 @@ imported here that reads letters or makes pages.
 
 from collections.abc import Sequence
 
-from debvote_tools.book import queries, sent
+from debvote_tools.book import queries, outgoing
 from debvote_tools.book.election import Election, History
 from debvote_tools.book.queries import Elector
-from debvote_tools.book.sent import REFUSED
+from debvote_tools.book.outgoing import REFUSED
 from debvote_tools.inbox.mime import address_key
 from debvote_tools.poll.announced import address_in
 
@@ -26,7 +26,7 @@ def reached_by_call(election: Election, history: History) -> tuple[list[Unreache
     if history.call is None or history.has_codes_on_roll or not runs:
         return [], []
     electors = queries.electors(election.book)
-    states = sent.last_states(election.book, history.call.number)
+    states = outgoing.last_states(election.book, history.call.number)
     back, unreached, printed = came_back(election, electors), list[Unreached](), list[str]()
     for elector in electors:
         address = address_in(elector.addresses)

@@ -12,7 +12,7 @@ import ssl
 from collections.abc import Callable, Iterable, Iterator
 from types import FrameType
 
-from debvote_tools.book.sent import REFUSED, TAKEN, SentLetter
+from debvote_tools.book.outgoing import REFUSED, TAKEN, OutgoingLetter
 from debvote_tools.cli.faults import Fault, Status
 
 # in seconds: for each answer of the server, and for the whole conversation about a letter
@@ -77,11 +77,11 @@ def server_of(text: str) -> Server:
 
 
 def send_all(
-    letters: Iterable[tuple[SentLetter, bytes]],
+    letters: Iterable[tuple[OutgoingLetter, bytes]],
     sender: str,
     server: Server,
-    note: Callable[[SentLetter], None],
-) -> Iterator[SentLetter]:
+    note: Callable[[OutgoingLetter], None],
+) -> Iterator[OutgoingLetter]:
     """Sends letters in their order, and yields each once it is noted with what the server said."""
     mailer = Mailer(server, sender)
     with in_time():
@@ -145,7 +145,7 @@ class Mailer:
             self.smtp.close()
         self.smtp = None
 
-    def send(self, letter: SentLetter, data: bytes) -> SentLetter:
+    def send(self, letter: OutgoingLetter, data: bytes) -> OutgoingLetter:
         """Sends a letter, by a new connection if the last one was closed."""
         try:
             return self.transaction(letter, data)
@@ -153,7 +153,7 @@ class Mailer:
             self.close()
             return self.transaction(letter, data)
 
-    def transaction(self, letter: SentLetter, data: bytes) -> SentLetter:
+    def transaction(self, letter: OutgoingLetter, data: bytes) -> OutgoingLetter:
         """One letter, taken if the server says so after its end, refused after any other answer. If
         the connection is lost meanwhile, nobody knows which: the run stops.
         """

@@ -116,7 +116,7 @@ class Composer:
         return self.text("reminders.txt", elector, fates=held, has_waiting=has_waiting)
 
     def receipt(self, elector: Elector, fates: Sequence[Fate]) -> str:
-        """What became of all that came of an elector. It has the right line if what came last was
+        """What became of all that came from an elector. It has the right line if what came last was
         refused or waits.
         """
         decides = (

@@ -87,7 +87,7 @@ def page_of(facts: Facts, answers: Answers, checksums: Mapping[str, str]) -> byt
         picture, least_width = picture_in_page(answers.picture, language)
         style += f".picture svg {{ min-width: {least_width}px; }}\n"
     file_lines = ballot_lines(facts.ballots)
-    refused = ((one.envelope, f"{one.word}: {one.hint}") for one in answers.refused)
+    refused = ((one.line, f"{one.word}: {one.hint}") for one in answers.refused)
     own_letter = [file_names.LETTER] if facts.is_of_two_files else []
     return render_page(
         __package__,

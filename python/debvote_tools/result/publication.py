@@ -55,9 +55,8 @@ def facts_of(election: Election, words: Words, waiting: Sequence[int]) -> Facts:
     """`waiting` are the letters that arrived in time and wait."""
     with election.book.snapshot():
         history, sealed, book = election.history(), election.sealed(), election.book
-        ballots, late = (
-            ballot_file(lines(book)) for lines in (queries.lines_in_time, queries.late_lines)
-        )
+        ballots = ballot_file(queries.lines_in_time(book))
+        late = ballot_file(queries.late_lines(book))
         is_secret, has_names = sealed.counted.secret, history.announced("names")
         electors = queries.electors(book) if has_names or is_secret else []
         acts = acts_of(book, history, is_secret=is_secret)

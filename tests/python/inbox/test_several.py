@@ -5,7 +5,7 @@ import unittest
 from debvote_tools.book import queries
 from debvote_tools.inbox.judging import Ballot
 from debvote_tools.inbox.letter import ParsedLetter
-from debvote_tools.inbox.rules import JudgedLetter, Outcome
+from debvote_tools.inbox.rules import LetterCase, Outcome
 
 from tests.support.letters import OTHER_RANKS, RANKS, alternatives, at, judged, letter, lines_in, outcome, outcomes, parsed
 
@@ -26,7 +26,7 @@ def other(time: str, **how: object) -> bytes:
     return letter("ada", OTHER, **{"number": 2, "time": time, **how})  # type: ignore[arg-type]
 
 
-def entered(*letters: JudgedLetter) -> dict[str, object]:
+def entered(*letters: LetterCase) -> dict[str, object]:
     """The circumstances when what goes in of these has gone in."""
     going = [one for one in letters if one.outcome is Outcome.GOES_IN]
     ballots: dict[str, list[Ballot]] = {}

@@ -13,7 +13,7 @@ import time
 import unittest
 import unittest.mock
 
-from debvote_tools.book.sent import REFUSED, TAKEN, SentLetter
+from debvote_tools.book.outgoing import REFUSED, TAKEN, OutgoingLetter
 from debvote_tools.cli.faults import Fault
 from debvote_tools.outbox import smtp
 
@@ -604,13 +604,13 @@ class Encrypted(unittest.TestCase):
             self.assertTrue(server.was_encrypted)
 
 
-def sent_to(server: smtp.Server) -> list[SentLetter]:
+def sent_to(server: smtp.Server) -> list[OutgoingLetter]:
     """What becomes of a letter that is sent to a server."""
     return list(smtp.send_all([outgoing()], "vote@club.example", server, lambda letter: None))
 
 
-def outgoing() -> tuple[SentLetter, bytes]:
+def outgoing() -> tuple[OutgoingLetter, bytes]:
     """A letter to Ada."""
     time = datetime.datetime(2026, 11, 23, tzinfo=datetime.UTC)
-    letter = SentLetter(1, "call", 1, "ada@club.example", "<1@club.example>", time, ())
+    letter = OutgoingLetter(1, "call", 1, "ada@club.example", "<1@club.example>", time, ())
     return letter, b"From: vote@club.example\n\n.\nFrom me\n"

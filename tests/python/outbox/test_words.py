@@ -11,7 +11,7 @@ import types
 import unittest
 
 from debvote_tools.book.queries import Elector, Envelope
-from debvote_tools.book.sent import SentLetter
+from debvote_tools.book.outgoing import OutgoingLetter
 from debvote_tools.inbox.letter_lines import Near
 from debvote_tools.inbox.fates import Became, Fate
 from debvote_tools.inbox.reasons import Reason, for_elector
@@ -37,7 +37,7 @@ TOO_LONG = (
     "The secretary gives them on paper to whoever asks."
 )
 TOO_LONG_WITHOUT_PAGE = "The texts about the options are too long for this letter. The secretary gives them to whoever asks."
-LETTER = SentLetter(1, "call", 1, "ada@club.example", "<1@club.example>", TIME, ())
+LETTER = OutgoingLetter(1, "call", 1, "ada@club.example", "<1@club.example>", TIME, ())
 
 
 def vote(code: str = "en", *, is_over: bool = False, **how: object) -> Composer:

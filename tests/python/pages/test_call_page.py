@@ -388,7 +388,8 @@ class Looks(PageTest):
         shown = "[...document.querySelectorAll('.text')].map((node) => node.clientHeight >= node.scrollHeight - 1)"
         self.assertEqual(self.window.ask(shown), [False, True])
         buttons = "[...document.querySelectorAll('.option .more')].filter((node) => node.checkVisibility())"
-        self.assertEqual(self.window.ask(f"{buttons}.length"), 1)
+        # the page looks for what is cut once it has its size
+        self.window.until(f"{buttons}.length === 1")
         self.window.ask(f"{buttons}[0].click()")
         self.assertEqual((self.window.ask(shown), self.window.ask(f"{buttons}.length")), ([True, True], 0))
 

@@ -35,7 +35,7 @@ class WordsTest(expecting.Expecting):
 
     def test_who_is_for_an_option(self):
         """The legend of the bars: those are for an option who put it before the default option, and not the reverse."""
-        said = "For: they prefer it to {option}. Against: the reverse. The mark: what it needs."
+        said = "For: how many prefer the option to {option}. Against: how many prefer {option} to it. The mark: how many it needs."
         for code, before in {"de": "vor", "fr": "avant", "es": "delante de"}.items():
             self.expect(f"in {code}", f" {before} Option 4: None. " in language_of(code).say(said, option="Option 4: None"), True)
 

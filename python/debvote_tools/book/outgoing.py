@@ -18,7 +18,7 @@ WRITTEN, TAKEN, REFUSED = "written", "taken", "refused"
 About = tuple[str, int, bool]
 
 
-class SentLetter(NamedTuple):
+class OutgoingLetter(NamedTuple):
     """A letter to an elector. One to be printed has no address and no Message-ID."""
 
     elector: int
@@ -40,11 +40,11 @@ class SentLetter(NamedTuple):
         return self.state == REFUSED and not self.reply.startswith("4")
 
 
-def sent_letters(
+def outgoing_letters(
     book: Book, kind: str | None = None, elector: int | None = None
-) -> list[SentLetter]:
+) -> list[OutgoingLetter]:
     """The letters of a kind and to an elector, where these are given, in the order of writing."""
-    found: dict[object, SentLetter] = {}
+    found: dict[object, OutgoingLetter] = {}
     words = (
         "SELECT sent, elector, kind, state, detail FROM sent "
         "WHERE kind = coalesce(?, kind) AND elector = coalesce(?, elector) ORDER BY sent"
@@ -56,18 +56,18 @@ def sent_letters(
             where = detail["for_act"], detail["address"], detail["message_id"]
             about = tuple((what, number, is_struck) for what, number, is_struck in detail["about"])
             time = from_text(detail["time"])
-            found[key] = SentLetter(number, its_kind, *where, time, about)
+            found[key] = OutgoingLetter(number, its_kind, *where, time, about)
         else:
             found[key] = found[key]._replace(state=state, reply=detail.get("reply", ""))
     return list(found.values())
 
 
-def note(act: NewAct, letters: Iterable[SentLetter]) -> None:
+def note(act: NewAct, letters: Iterable[OutgoingLetter]) -> None:
     rows = ((letter.elector, letter.kind, letter.state, detail_of(letter)) for letter in letters)
     act.insert_all("sent", ["elector", "kind", "state", "detail"], rows)
 
 
-def detail_of(letter: SentLetter) -> str:
+def detail_of(letter: OutgoingLetter) -> str:
     detail: dict[str, Any] = {"message_id": letter.message_id, "address": letter.address}
     detail["for_act"] = letter.for_act
     if letter.state == WRITTEN:
