@@ -208,7 +208,7 @@ def uninterrupted() -> Iterator[None]:
         signal.pthread_sigmask(signal.SIG_SETMASK, before)
 
 
-# ---------------------------------------------------------------- folders that are made from the book
+# ---- folders that are made from the book
 # the modes of a folder and its files: for everybody, and for the secretary alone
 PUBLIC, OWN = (0o755, 0o644), (0o700, 0o600)
 

@@ -51,7 +51,7 @@ ROWS_AT_ONCE = 100
 SECONDS_BACK = 60
 
 
-# ---------------------------------------------------------------- acts
+# ---- acts
 # `put back` is `held --wait`; `letters` came, `letters out` were written
 ActName = (
     Literal["new", "roll", "codes", "call", "extend", "announce", "take back", "addresses"]
@@ -145,7 +145,7 @@ class Book:
         self.electors_at: tuple[object, list[Any]] = (None, [])
         self.own_acts: list[str] = []
 
-    # ------------------------------------------------------------ reading
+    # ---- reading
     def rows(self, words: str, *values: object) -> list[Any]:
         with sqlite_faults(self.path):
             return self.connection.execute(words, values).fetchall()
@@ -198,7 +198,7 @@ class Book:
                 with contextlib.suppress(sqlite3.Error):
                     self.connection.rollback()
 
-    # ------------------------------------------------------------ acts
+    # ---- acts
     @contextlib.contextmanager
     def act(
         self, name: ActName, detail: Detail | None = None, *, seen: int | None = None
@@ -259,7 +259,7 @@ class Book:
             # by the journal, the next command that can write takes the act back
             return not self.path.with_name(f"{self.path.name}-journal").exists()
 
-    # ------------------------------------------------------------ this machine's note
+    # ---- this machine's note
     @functools.cached_property
     def machine(self) -> str:
         """This machine, as the acts of this book name it."""
@@ -314,7 +314,7 @@ class Book:
         with self.act(MOVED, detail):
             pass
 
-    # ------------------------------------------------------------ the file
+    # ---- the file
     def doubts(self, *, is_accepted: bool = False) -> list[Fault]:
         """Why this may not be the book to work on: a copy lies beside it, or this machine knows
         another one, and this one is not accepted now.
@@ -377,7 +377,7 @@ def is_locked_for_others(path: pathlib.Path) -> bool:
     return os.waitstatus_to_exitcode(os.waitpid(second, 0)[1]) == 0
 
 
-# ---------------------------------------------------------------- making and opening
+# ---- making and opening
 def create(path: pathlib.Path, detail: Detail, final_path: pathlib.Path) -> None:
     """Makes a new book with the act `new`; its folder is moved, so that it lies at `final_path`."""
     os.close(os.open(path, os.O_RDWR | os.O_CREAT | os.O_EXCL, 0o600))
@@ -497,7 +497,7 @@ def has_our_id(head: bytes) -> bool:
     return head.startswith(SQLITE) and head[ID_AT] == APPLICATION_ID.to_bytes(4, "big")
 
 
-# ---------------------------------------------------------------- values
+# ---- values
 def as_text(time: datetime.datetime) -> str:
     return time.astimezone(datetime.UTC).strftime("%Y-%m-%dT%H:%M:%SZ")
 

@@ -32,7 +32,7 @@ ROWS_AT_ONCE, LONG_ROWS = 1_000, ("letter",)
 ACT_OF = operator.itemgetter(0)
 
 
-# ---------------------------------------------------------------- the schema
+# ---- the schema
 # each table, index, view and trigger: its kind, its name, its table, and what makes it
 Entries = frozenset[tuple[str, str, str, str | None]]
 
@@ -84,7 +84,7 @@ def other_schema(connection: sqlite3.Connection) -> str | None:
     return f"the {differing[0][0]} {differing[0][1]}" if differing else None
 
 
-# ---------------------------------------------------------------- the chain
+# ---- the chain
 def prepare(connection: sqlite3.Connection) -> None:
     """Gives the connection the function that the queries here use."""
     connection.create_function(

@@ -11,7 +11,7 @@ from typing import Final, Literal, NamedTuple
 from debvote_tools.book.book import Book, NewAct, as_text, from_text
 
 
-# ---------------------------------------------------------------- electors
+# ---- electors
 class Elector(NamedTuple):
     """An elector as the book has them now. `position` is that in the list of members, if any."""
 
@@ -64,7 +64,7 @@ def put_electors(act: NewAct, electors: Iterable[Elector]) -> None:
     act.insert_all("elector_state", columns, rows)
 
 
-# ---------------------------------------------------------------- what is sealed
+# ---- what is sealed
 def sealed(book: Book, name: str, act: int | None = None) -> bytes | None:
     """What was sealed under a name by the last act that did so."""
     rows = book.rows(
@@ -80,7 +80,7 @@ def last_act_that_sealed(book: Book, name: str) -> int:
     return int(book.rows("SELECT coalesce(max(act), 0) FROM sealed WHERE name = ?", name)[0][0])
 
 
-# ---------------------------------------------------------------- envelopes
+# ---- envelopes
 class Envelope(NamedTuple):
     """A line that was entered, in its envelope. The number is the envelope's, which it keeps."""
 
@@ -197,7 +197,7 @@ def elector_numbers(book: Book, names: Collection[str]) -> dict[str, int]:
     return dict(book.rows(words, json.dumps(list(names))))
 
 
-# ---------------------------------------------------------------- lines by act, and those that came in files
+# ---- lines by act, and those that came in files
 # the lines of more electors are not looked for one by one
 MOST_LOOKED_FOR = 200
 
@@ -281,7 +281,7 @@ def size_in_time(book: Book) -> tuple[int, int]:
     return int(count), int(size)
 
 
-# ---------------------------------------------------------------- sources
+# ---- sources
 def keep_source(act: NewAct, name: str, data: bytes) -> int:
     return act.insert("source", name=name, data=data)
 
@@ -291,7 +291,7 @@ def sources(book: Book) -> list[tuple[int, str, bytes]]:
     return book.rows("SELECT source, name, data FROM source ORDER BY source")
 
 
-# ---------------------------------------------------------------- letters that came
+# ---- letters that came
 NEVER_DECIDED, ENTERED, TAKEN_BACK, STRUCK = "waits", "entered", "taken back", "struck"
 # acts have these names, too
 SET_ASIDE: Final = "set aside"

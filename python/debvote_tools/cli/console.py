@@ -126,7 +126,7 @@ def is_yes(question: str, how: str = "Type y for yes, or n for no.") -> bool | N
     return None
 
 
-# ---------------------------------------------------------------- characters
+# ---- characters
 # how many characters are shown of a line that came, and of a short text
 SHOWN_OF_LINE, SHOWN_OF_TEXT = 100, 60
 
@@ -188,7 +188,7 @@ def cut(text: str, limit: int) -> str:
     return text if len(text) <= limit else text[:limit] + ".."
 
 
-# ---------------------------------------------------------------- words of several commands
+# ---- words of several commands
 # how wide a terminal is taken to be
 WIDTH = 100
 

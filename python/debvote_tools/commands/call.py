@@ -93,7 +93,7 @@ def run(election: Election, arguments: Arguments) -> None:
     report_of_call(election, current_call(election))
 
 
-# ---------------------------------------------------------------- the acts
+# ---- the acts
 def call(election: Election, arguments: Arguments) -> None:
     history, faults = election.history(), list[Fault]()
     said, is_on_roll = announced(arguments, None, faults), history.has_codes_on_roll
@@ -230,7 +230,7 @@ def sealed_by(
     return files if keyring is None else {**files, KEYRING: keyring}
 
 
-# ---------------------------------------------------------------- the words of the command line
+# ---- the words of the command line
 def announced(arguments: Arguments, earlier_zone: str | None, faults: list[Fault]) -> Detail:
     """What the act keeps of these options. An extension is in the zone of the end before, unless it
     names another.
@@ -285,7 +285,7 @@ def keyring_in(election: Election, file: str | None) -> bytes | None:
     return keyring.data
 
 
-# ---------------------------------------------------------------- the folders
+# ---- the folders
 def make_folders(election: Election) -> None:
     book, history = election.book, election.history()
     files = {name: queries.sealed(book, f"{CALL}/{name}") for name in FILES}

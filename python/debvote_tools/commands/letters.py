@@ -111,7 +111,7 @@ def run(election: Election, arguments: Arguments) -> int:
     return Status.DOUBT if is_refused else Status.DONE
 
 
-# ---------------------------------------------------------------- what is told
+# ---- what is told
 def tell_files(
     due: LettersDue,
     place: pathlib.Path,
@@ -160,7 +160,7 @@ def tell_unreached(election: Election) -> None:
         tell(f"Not reached by the call: {listed(found, MOST)}")
 
 
-# ---------------------------------------------------------------- the words of the command line
+# ---- the words of the command line
 def bad_words(option: object, words: object, cure: str) -> Fault:
     return Fault(option, words, cure, Status.BAD_WORDS, "nothing was written or sent")
 
@@ -214,7 +214,7 @@ def server_of(history: History, server: Server | None, arguments: Arguments) -> 
     return dataclasses.replace(server, user=user, password=password)
 
 
-# ---------------------------------------------------------------- the acts
+# ---- the acts
 def write(book: Book, due: LettersDue, place: pathlib.Path) -> int:
     """Writes and notes the letters that are due; returns how many a mail program can send."""
     made = letter_folder.letter_files(due, [*due.going_again, *due.new])

@@ -164,7 +164,7 @@ def alone(election: Election) -> Iterator[None]:
         ) from None
 
 
-# ---------------------------------------------------------------- words of those who publish
+# ---- words of those who publish
 def words_of(arguments: Arguments) -> Words:
     """What the command line says, checked."""
     reason, about = arguments.because if arguments.force else None, None

@@ -69,7 +69,7 @@ def is_kept(book: Book, roll: Roll) -> bool:
     return list(map(facts, roll.electors)) == list(map(facts, queries.electors(book)))
 
 
-# ---------------------------------------------------------------- the acts
+# ---- the acts
 def keep_electors(book: Book, roll: Roll, seen: int) -> None:
     """The act after which the electors are those of the list, if they are not already."""
     if is_kept(book, roll):
@@ -117,7 +117,7 @@ def changes_in_words(member: Member) -> str:
     )
 
 
-# ---------------------------------------------------------------- what is told
+# ---- what is told
 def report_of_roll(roll: Roll, *, has_all: bool) -> None:
     electors = roll.electors
     shown = electors if has_all else electors[:MAX_SHOWN]

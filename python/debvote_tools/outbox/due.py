@@ -128,7 +128,7 @@ class LettersDue:
         elector = self.electors[letter.elector]
         return elector if self.is_present(letter) else elector._replace(mark="")
 
-    # ------------------------------------------------------------ each kind
+    # ---- each kind
     def find_call(self) -> TextOf:
         """The call to each elector; after an extension that, to those who have the call."""
         self.demand_not_over()
@@ -318,7 +318,7 @@ class LettersDue:
         )
 
 
-# ---------------------------------------------------------------- what electors are told
+# ---- what electors are told
 def is_told(fate: Fate) -> bool:
     """Whether an elector is told of something that came. A copy is the letter that it copies. A
     program that answers by itself would answer; and a letter of ours that came back has the name of

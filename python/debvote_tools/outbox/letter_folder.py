@@ -33,7 +33,7 @@ LONGEST_LINE = 900
 LONGEST_ENCODED, GOES_ON = 76, "\n "
 
 
-# ---------------------------------------------------------------- a letter
+# ---- a letter
 def message(due: LettersDue, letter: OutgoingLetter, *, is_draft: bool) -> bytes:
     """The bytes of a letter. An answer goes to the address of the call. Mail programs offer to send
     a draft.
@@ -89,7 +89,7 @@ def body_of(text: str) -> tuple[str, bytes]:
     )
 
 
-# ---------------------------------------------------------------- the folder
+# ---- the folder
 def letter_files(due: LettersDue, letters: Sequence[OutgoingLetter]) -> dict[str, bytes]:
     """The files of letters by name. Letters that are sent, or that a server has taken, have none."""
     files: dict[str, bytes] = {}

@@ -210,7 +210,7 @@ def connected(server: Server) -> smtplib.SMTP:
     return smtp
 
 
-# ---------------------------------------------------------------- what a server says
+# ---- what a server says
 def reply_of(error: Exception) -> str:
     if isinstance(error, smtplib.SMTPResponseException):
         return shown(error.smtp_code, error.smtp_error)

@@ -22,7 +22,7 @@ WEB = re.compile(r"[!$-;=?-_a-z~]{1,500}")
 HOST = re.compile(r"[A-Za-z0-9.-]*[A-Za-z0-9]|\[[0-9A-Fa-f:.]+\]")
 
 
-# ---------------------------------------------------------------- the end of the vote
+# ---- the end of the vote
 def parse_until(
     text: str, zone: str | None, earlier_zone: str | None = None
 ) -> tuple[datetime.datetime, str | None]:
@@ -83,7 +83,7 @@ def bad_until(reason: str, cure: str) -> Fault:
     return bad_words("--until", reason, cure)
 
 
-# ---------------------------------------------------------------- addresses
+# ---- addresses
 def named_address(text: str) -> tuple[str, str]:
     """Name and address of `Name <ADDRESS>`, or of an address alone."""
     found = NAMED.fullmatch(text.strip())

@@ -162,7 +162,7 @@ def paragraphs_of(text: str) -> list[str]:
     return [lines for lines in re.split(r"\n(?:[ \t]*\n)+", text.strip("\n")) if lines.strip()]
 
 
-# ---------------------------------------------------------------- the files
+# ---- the files
 def call_letter(call: CallData) -> str:
     """The letter of the call to all, with a gap in place of a name."""
     return letter_to_all(call, is_extension=False)

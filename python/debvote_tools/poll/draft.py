@@ -59,7 +59,7 @@ class DraftPoll(NamedTuple):
     faults: Sequence[Fault]
 
 
-# ---------------------------------------------------------------- the files
+# ---- the files
 def draft_in(folder: pathlib.Path) -> DraftPoll:
     """Reads the poll of a folder, and the texts beside it."""
     file = folder / POLL_FILE
@@ -145,7 +145,7 @@ def letter_text_in(folder: pathlib.Path) -> str:
     return text_in(file, LETTER_LIMIT).strip("\n") + "\n" if os.path.lexists(file) else ""
 
 
-# ---------------------------------------------------------------- what is wrong with it as a whole
+# ---- what is wrong with it as a whole
 def faults_when_sealed(draft: DraftPoll, language: str) -> list[Fault]:
     """Names that electors could not read, or tell from each other."""
     faults, plain_names = [], plain_options(draft.names, language)
@@ -197,7 +197,7 @@ def sealed_form(
     return plain_form({key: made[key] for key in KEYS if key in made} | others)
 
 
-# ---------------------------------------------------------------- asking debvote
+# ---- asking debvote
 class Checked(NamedTuple):
     """What a call would seal, and the sheet of the poll without ballots."""
 

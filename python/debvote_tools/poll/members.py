@@ -112,7 +112,7 @@ class Roll(NamedTuple):
     gone: tuple[Elector, ...] = ()
 
 
-# ---------------------------------------------------------------- the table
+# ---- the table
 def members_in(file: pathlib.Path) -> Roll:
     unread = "the list of members is a CSV file, as a spreadsheet saves it: put it there"
     return members_of(read_whole(file, TABLE_LIMIT, unread, f", {AGAIN}"), file)
@@ -211,7 +211,7 @@ def wrong_row(row: Row, member: Member, width: int, delimiter: str) -> Iterator[
         yield line, f"`{shown_text(member.key)}` is not the fingerprint of a key", cure
 
 
-# ---------------------------------------------------------------- the roll
+# ---- the roll
 def roll_of(
     members: Roll, known: Sequence[Elector], language: str, *, is_called: bool = False
 ) -> Roll:

@@ -50,7 +50,7 @@ VOICED = "\u3099\u309a"
 REFUSED_IN_NAMES = f"{LINE_ENDS}\ufff9\ufffa\ufffb"
 
 
-# ---------------------------------------------------------------- plain text
+# ---- plain text
 def without_accents(text: str, language: str) -> str:
     """The text without accents, as the language spells it, as the page of the result does. Letters
     of other scripts stay.
@@ -110,7 +110,7 @@ def made_different(
     return names
 
 
-# ---------------------------------------------------------------- the poll
+# ---- the poll
 def plain_title(title: str, language: str) -> str:
     """An empty title stays empty, so that it is refused."""
     return plain_text(title, language, TITLE_LIMIT) or ("Vote" if title else "")
@@ -128,7 +128,7 @@ def plain_options(names: Sequence[str], language: str) -> list[str]:
     return [made.get(number, name) for number, name in enumerate(names, start=1)]
 
 
-# ---------------------------------------------------------------- electors
+# ---- electors
 def elector_name(who: str, language: str) -> str:
     """Proposes a name on the roll, as anna-meier for `Meier, Dr. Anna`, perhaps too long or empty."""
     for text in (TITLE.sub(" ", who), who):
@@ -162,7 +162,7 @@ def similar_names(names: Iterable[str]) -> Iterable[tuple[str, str]]:
     return pairs
 
 
-# ---------------------------------------------------------------- names that people read
+# ---- names that people read
 # a name that people would not read rightly, and why; options are numbered from 1, the title is 0
 BadName = tuple[int, str, str]
 

@@ -137,7 +137,7 @@ def with_roll(poll: SealedPoll, roll: Sequence[str]) -> SealedPoll:
     return dataclasses.replace(poll, roll=tuple(roll))
 
 
-# ---------------------------------------------------------------- marks in subjects
+# ---- marks in subjects
 # an own mark has 10 of these signs, none of which is easily taken for another
 OWN_SIGNS, OWN_LENGTH = "23456789abcdefghjkmnpqrstuvwxyz", 10
 

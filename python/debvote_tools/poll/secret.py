@@ -34,7 +34,7 @@ FORMULA = re.compile(
 )
 
 
-# ---------------------------------------------------------------- codes
+# ---- codes
 def new_code(name: str = "") -> str:
     """Draws 16 random bytes in hex digits, until no spreadsheet takes code or alias for a number."""
     while True:
@@ -71,7 +71,7 @@ def slips(call: CallData, electors: Sequence[Elector]) -> bytes:
     return render_page(PACKAGE, "slips.html", language, style=style, call=call, electors=electors)
 
 
-# ---------------------------------------------------------------- aliases
+# ---- aliases
 def alias_of(code: str, name: str) -> str:
     """The first 32 hex digits of HMAC-SHA-256, with the code's text as key and the name as message."""
     return hmac.new(code.encode(), name.encode(), "sha256").hexdigest()[:32]

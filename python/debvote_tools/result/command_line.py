@@ -86,7 +86,7 @@ def main(program_folder: pathlib.Path, given: Sequence[str] | None = None) -> in
     return made.answers.status
 
 
-# ---------------------------------------------------------------- the facts of two files
+# ---- the facts of two files
 def facts_of(arguments: Arguments, program_folder: pathlib.Path) -> Facts:
     """Each file is read once, so that all commands read the same bytes."""
     poll_bytes = input_in(arguments.poll, POLL_LIMIT, "poll", Status.BAD_POLL)

@@ -150,7 +150,7 @@ def made(
                 shutil.rmtree(folder, ignore_errors=True)
 
 
-# ---------------------------------------------------------------- what is in it
+# ---- what is in it
 def fill(folder: pathlib.Path, given: Facts, program_folder: pathlib.Path | None) -> Made:
     """Writes all files into an empty folder, and has them counted by debvote and by `recount.py`.
     Stops at doubts that are not forced, at a code of an elector, and if the counts differ.
@@ -270,7 +270,7 @@ def further_files(given: Facts, answers: Answers) -> dict[str, bytes]:
     return {name: data for name, data in files.items() if data is not None}
 
 
-# ---------------------------------------------------------------- the second count
+# ---- the second count
 def unlike(what: str | None, words: str) -> Fault:
     """The fault of files that do not belong together."""
     cure = "keep all files, and tell the maintainers"

@@ -153,7 +153,7 @@ def share(voters: int, electors: int, language: Language = ENGLISH) -> str:
     return language.say("{whole}.{tenths} %", whole=tenths // 10, tenths=tenths % 10)
 
 
-# ---------------------------------------------------------------- lines that do not count
+# ---- lines that do not count
 def runs_of(found: Iterable[tuple[int, bytes, str]], language: InHtml) -> list[dict[str, Any]]:
     """Lines with their numbers and causes; those that are alike and follow each other are one
     entry. If the texts are too many, the last have none.
@@ -189,7 +189,7 @@ def line_on_page(line: bytes, language: InHtml) -> str:
     )
 
 
-# ---------------------------------------------------------------- what the page carries
+# ---- what the page carries
 def carried_files(poll: bytes, ballots: bytes, sheet: bytes) -> dict[str, tuple[str, bool]]:
     """The files at the end of the page that the browser gives back byte for byte, or the sheet
     alone if they are too large.
@@ -209,7 +209,7 @@ def carried_files(poll: bytes, ballots: bytes, sheet: bytes) -> dict[str, tuple[
     return carried
 
 
-# ---------------------------------------------------------------- the picture
+# ---- the picture
 def drawing_words(options: int) -> list[str]:
     return ["dot", "-Tsvg", *([] if options <= MOST_IN_PAGE else IN_HASTE)]
 

@@ -27,7 +27,7 @@ from debvote_tools.text.language import Language, language_of
 from debvote_tools.text.rendering import render_letter
 
 
-# ---------------------------------------------------------------- publications
+# ---- publications
 def publications(history: History) -> list[DoneAct]:
     """The publications since the last close."""
     close = history.closes[-1].number if history.closes else 0
@@ -50,7 +50,7 @@ def detail_of(words: Words, checksums: Mapping[str, str], facts: Facts, *, decid
     }
 
 
-# ---------------------------------------------------------------- the facts
+# ---- the facts
 def facts_of(election: Election, words: Words, waiting: Sequence[int]) -> Facts:
     """`waiting` are the letters that arrived in time and wait."""
     with election.book.snapshot():
@@ -207,7 +207,7 @@ def late_letters_in_time(election: Election, history: History) -> list[Doubt]:
     return found
 
 
-# ---------------------------------------------------------------- what was done
+# ---- what was done
 def acts_of(book: Book, history: History, *, is_secret: bool) -> tuple[Act, ...]:
     """What the page tells, with its times in the zone in which the end was announced."""
     zone = zone_of(history)
@@ -281,7 +281,7 @@ def close_of(act: DoneAct, book: Book, history: History) -> dict[str, Any]:
     return places | {"came": came, "struck": struck}
 
 
-# ---------------------------------------------------------------- texts that a secret vote makes public
+# ---- texts that a secret vote makes public
 def texts_of_poll(poll: SealedPoll) -> dict[str, str]:
     """The texts of the options, by their files."""
     return {f"texts/{number}.txt": text for number, text in enumerate(poll.explanations, start=1)}

@@ -148,7 +148,7 @@ def parts_of(pattern: re.Pattern[str], line: str) -> tuple[str, ...]:
     return parts.groups("")
 
 
-# ---------------------------------------------------------------- as data
+# ---- as data
 def result_json(sheet: Sheet, poll: SealedPoll, version: str) -> str:
     """The sheet as JSON, a key a line. A label is what people read as the name."""
 

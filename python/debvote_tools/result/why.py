@@ -38,7 +38,7 @@ class Why:
         names = {"option": self.said[a], "other": self.said[b]}
         return names | {"over": over, "under": under, "round": removed}
 
-    # ------------------------------------------------------------ beside the default option
+    # ---- beside the default option
     def majority(self, option: int) -> int:
         """The least number that is a majority against those who prefer the default option."""
         ratio, under = self.sheet.ratios[option], self.sheet.votes[self.default, option]
@@ -68,7 +68,7 @@ class Why:
         rows = map(self.needs, self.sheet.dropped)
         return sorted(rows, key=lambda row: int(row["needed"] - row["over"]))
 
-    # ------------------------------------------------------------ beside each other
+    # ---- beside each other
     def ended(self, option: int) -> str:
         """As the sheet, but `cast` if the casting vote chose another one."""
         ended = self.sheet.ended(option)

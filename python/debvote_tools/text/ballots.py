@@ -90,7 +90,7 @@ def ballots_in_words(
     return in_words
 
 
-# ---------------------------------------------------------------- no line reads as a ballot
+# ---- no line reads as a ballot
 # what repairs of a line take away or replace: blanks, dashes, and signs around names and ranks
 BLANK, DASH, SIGNS = r"[^\S\n]", "[\u2010-\u2014\u2212-]", r"[^\w\s(|\u2010-\u2014\u2212-]{0,4}"
 RANK = rf"\*{{0,3}}(?:(?<!\d)\d{{1,2}}(?!\d)|{DASH})\*{{0,3}}"

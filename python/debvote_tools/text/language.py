@@ -70,7 +70,7 @@ class Language:
         said = {name: self.catalog.gettext(text) for name, text in sentences.items()}
         return json.dumps(said | more, ensure_ascii=False)
 
-    # ------------------------------------------------------------ texts within a sentence
+    # ---- texts within a sentence
     def given(self, text: str) -> str:
         """A text that may be written from right to left, and turns nothing around it."""
         return self.made(self.GIVEN).format(text)

@@ -45,7 +45,7 @@ def one_line(text: str) -> str:
     return "".join(character if character.isprintable() else " " for character in text)
 
 
-# ---------------------------------------------------------------- templates
+# ---- templates
 # most letters of a run have the same paragraphs
 @functools.lru_cache(maxsize=1_000)
 def line(text: str, first: str = "", then: str = "") -> str:
@@ -106,7 +106,7 @@ def render_letter(package: str, template: str, language: Language, **values: obj
     return re.sub(r"\n\n\n+", "\n\n", text).strip("\n") + "\n"
 
 
-# ---------------------------------------------------------------- pages
+# ---- pages
 def resources(package: str, *names: str) -> str:
     """Styles or scripts, one after another: files of a package, or else of debvote_tools."""
     shared = pathlib.Path(__file__).parent.parent
