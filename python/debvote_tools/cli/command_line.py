@@ -16,13 +16,15 @@ from debvote_tools.cli.faults import Fault, Status, acts_in_words
 PROGRAM = "debvote-election"
 
 # in the order in which an election needs them. Each has a module with its help as docstring,
-# `Arguments` and `run`, but for some that share one: its help is that of the function of its name
+# `Arguments` and `run`, but for those that share one: there a function has its name and its help
 COMMANDS = (
     "new roll check codes call add held undo strike desk letters show status "
     "close reopen count publish log export backup"
 ).split()
 
-SHARING = {"log": "look", "export": "look", "backup": "look"}
+SHARED = {"begin": "new roll check codes", "correct": "undo strike reopen"}
+SHARED["look"] = "status log export backup"
+SHARING = {name: module for module, names in SHARED.items() for name in names.split()}
 
 # the commands that change nothing
 QUIET = ("check", "show", "status", "count", "log")

@@ -18,7 +18,7 @@ from debvote_tools.cli.faults import Fault, stop_at
 from debvote_tools.inbox import entering, given_files
 from debvote_tools.inbox.given_files import HYPHEN, GivenFile
 from debvote_tools.inbox.lines import MARK, Line, lines_in
-from debvote_tools.inbox.not_added import NOTHING_ADDED, bad_words, doubtful
+from debvote_tools.inbox.entering import NOTHING_ADDED, bad_words, doubtful
 from debvote_tools.inbox.tables import OptionNames, are_table, heads_of, lines_of_table
 from debvote_tools.inbox.vote import LATE_REPLY, CheckedLine, Vote, summary
 

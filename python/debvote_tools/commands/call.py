@@ -7,12 +7,10 @@ from debvote_tools.cli.arguments import Acting, flag, given, option
 from debvote_tools.text import times
 from debvote_tools.book import queries
 from debvote_tools.book.book import ActName, Detail
-from debvote_tools.poll.call import CallData, call_files, extension_letter
+from debvote_tools.poll.call import call_files, CallData, current_call, extension_letter, until_of
 from debvote_tools.cli.console import act_time, tell
-from debvote_tools.poll.current import current_call, until_of
 from debvote_tools.result.publication import agreed_texts, texts_of_poll
-from debvote_tools.commands.codes import CODES, SLIPS, write_slips
-from debvote_tools.commands.roll import demand_read
+from debvote_tools.commands.begin import CODES, SLIPS, demand_read, write_slips
 from debvote_tools.book.election import (
     CALL,
     KEYRING,

@@ -8,14 +8,15 @@ from debvote_tools.book.election import Election, History
 from debvote_tools.inbox.waiting import how_to_go_on, stopping, waiting_letters, why_they_stop
 from debvote_tools.cli.faults import Fault
 from debvote_tools.text.ballots import ballot_file
-from debvote_tools.result.casting import (
+from debvote_tools.result.sheet import (
     CASTING,
     NOTHING_COUNTED,
     demand_countable,
     demand_option,
     in_shell,
+    Sheet,
+    sheet_in,
 )
-from debvote_tools.result.sheet import Sheet, sheet_in
 
 
 class Arguments(Acting, writes=False, checks=True):

@@ -19,7 +19,7 @@ from debvote_tools.inbox.waiting import in_time, waiting_letters
 from debvote_tools.cli.faults import Fault, Status
 from debvote_tools.text.language import LANGUAGES
 from debvote_tools.result import folder, publication
-from debvote_tools.result.casting import CASTING, demand_countable, demand_option
+from debvote_tools.result.sheet import CASTING, demand_countable, demand_option
 from debvote_tools.result.facts import Facts, Words
 from debvote_tools.result.file_names import CHECKSUMS
 from debvote_tools.result.folder import NOTHING_DONE

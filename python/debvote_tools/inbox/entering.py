@@ -1,5 +1,5 @@
 """The loop that shows what would be done, asks and does it; the act that enters lines, with the
-replies to them; and whether they come in time.
+replies to them; whether they come in time; and the faults after which nothing was added.
 """
 
 import contextlib
@@ -15,11 +15,11 @@ from debvote_tools.cli.arguments import Acting, option
 from debvote_tools.cli.console import act_time, count_of, tell
 from debvote_tools.cli.faults import Fault, Status
 from debvote_tools.files import BALLOTS_LIMIT, LINES_LIMIT, uninterrupted
-from debvote_tools.inbox.not_added import NOTHING_ADDED
 from debvote_tools.inbox.vote import LATE_REPLY, Vote, envelope_words
 from debvote_tools.text.times import now, time_in_words
 
 CAME_BEFORE_CLOSE = "--came-before-close"
+NOTHING_ADDED = "nothing was added"
 MEANWHILE = "Nothing was done: another command changed the election meanwhile. Now it is so:"
 
 Plan = TypeVar("Plan")
@@ -154,3 +154,16 @@ def came_before_close(history: History, answer: str | None, not_done: str) -> bo
         words = "you did not say whether it came before the close"
         raise Fault(None, words, "run the command again", done=not_done)
     return said
+
+
+# ---- faults after which nothing was added
+def bad_words(where: object, reason: object, cure: str) -> Fault:
+    return Fault(where, reason, cure, Status.BAD_WORDS, NOTHING_ADDED)
+
+
+def bad_ballots(where: object, reason: object, cure: str) -> Fault:
+    return Fault(where, reason, cure, Status.BAD_BALLOTS, NOTHING_ADDED)
+
+
+def doubtful(where: object, reason: str, cure: str) -> Fault:
+    return Fault(where, reason, cure, Status.DOUBT, NOTHING_ADDED)

@@ -15,7 +15,7 @@ from debvote_tools.cli.console import tell
 from debvote_tools.cli.faults import Fault, stop_at
 from debvote_tools.files import BALLOTS_LIMIT
 from debvote_tools.inbox.mailbox import NotRead, are_letters, kind_not_read
-from debvote_tools.inbox.not_added import bad_ballots, bad_words, doubtful
+from debvote_tools.inbox.entering import bad_ballots, bad_words, doubtful
 from debvote_tools.inbox.tables import PACKED, PDF, kind_of
 from debvote_tools.poll.sealed import REQUIRED
 

@@ -17,7 +17,7 @@ from typing import NamedTuple
 from debvote_tools.cli.faults import Fault
 from debvote_tools.cli.console import shown_text
 from debvote_tools.inbox.lines import BLANKS, Line
-from debvote_tools.inbox.not_added import bad_ballots, bad_words
+from debvote_tools.inbox.entering import bad_ballots, bad_words
 from debvote_tools.poll.plain_names import without_accents
 from debvote_tools.poll.sealed import SealedPoll
 from debvote_tools.text.ballots import NUMBERS, UNRANKED

@@ -13,11 +13,16 @@ from debvote_tools.cli.console import count_of, is_terminal, is_yes, shown_text,
 from debvote_tools.cli.faults import Fault
 from debvote_tools.inbox import letter_words
 from debvote_tools.inbox.given_files import GivenFile, GivenFolder, safe
-from debvote_tools.inbox.entering import agreed_act, enter_lines, late_notes
+from debvote_tools.inbox.entering import (
+    NOTHING_ADDED,
+    agreed_act,
+    bad_ballots,
+    enter_lines,
+    late_notes,
+)
 from debvote_tools.inbox.judging import judged
 from debvote_tools.inbox.letter_lines import ReadLetter, read_letters, to_json
 from debvote_tools.inbox.mailbox import RawLetter, letters_of_file, letters_of_folder
-from debvote_tools.inbox.not_added import NOTHING_ADDED, bad_ballots
 from debvote_tools.inbox.rules import LetterCase, Outcome
 from debvote_tools.inbox.vote import Vote
 

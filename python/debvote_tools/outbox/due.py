@@ -17,7 +17,7 @@ from debvote_tools.inbox.rules import Outcome
 from debvote_tools.outbox.reached import CAME_BACK, reached_by_call
 from debvote_tools.outbox.words import Composer
 from debvote_tools.poll.announced import address_in
-from debvote_tools.poll.current import current_call
+from debvote_tools.poll.call import current_call
 from debvote_tools.result.publication import closing_letter, last_publication
 from debvote_tools.text.language import language_of
 from debvote_tools.text.times import now

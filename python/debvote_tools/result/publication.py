@@ -17,7 +17,7 @@ from debvote_tools.debvote import casting_words
 from debvote_tools.files import sha256_of
 from debvote_tools.inbox.vote import Vote
 from debvote_tools.inbox.waiting import left
-from debvote_tools.poll.current import zone_of
+from debvote_tools.poll.call import zone_of
 from debvote_tools.poll.secret import aliased_ballots, sealed_checksum
 from debvote_tools.poll.sealed import SealedPoll
 from debvote_tools.result.facts import Act, Doubt, Facts, SecretVote, Words
