@@ -44,8 +44,8 @@ class Finding(NamedTuple):
 
 
 class Findings(NamedTuple):
-    """What `explain` says of each refused line, also those that are late, and the numbers of its
-    last line.
+    """What `explain` says of each refused line, and the numbers of its last line. To debvote a line
+    is late after the poll's `last_envelope`, which no poll of an election has.
     """
 
     refused: list[Finding]

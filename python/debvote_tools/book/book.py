@@ -71,7 +71,7 @@ ActName = (
 #   letters: letters; add: files, lines, letters, unsigned, passed_over, how many came before, and
 #     again, the envelopes of those that were entered again; desk: lines
 #   add, desk: came_before_close, after reopen
-#   enter, set aside, put back: letter or letters, lines
+#   set aside, put back: letters; enter: letter or letters, and lines, empty if the ballot was typed
 #   undo: act, that it takes back; strike: envelope
 #   close: lines, checksum, seal, early, waiting, after_end, before_call; left, the letters that had
 #     arrived in time and wait
@@ -101,6 +101,11 @@ class DoneAct(NamedTuple):
     def detail(self) -> Detail:
         found: Detail = json.loads(self.detail_as_json)
         return found
+
+    @property
+    def is_typed(self) -> bool:
+        """Whether it entered what the secretary typed for a letter, by `held --as`."""
+        return self.name == "enter" and not self.detail.get("lines")
 
     def went_back(self, before: "DoneAct") -> bool:
         """Whether the clock went back since the act before."""

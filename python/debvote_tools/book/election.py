@@ -100,7 +100,9 @@ class History(NamedTuple):
         return self.is_closed or (self.is_reopened and not came_before_close)
 
     def acts_of_opening(self) -> "History":
-        """The acts on which it depends whether the vote is open, and until when."""
+        """The acts on which it depends whether the vote is open, and until when: a plan that is made
+        again is compared by them. `act` finds nothing in it.
+        """
         return History(self.named("call", "take back", "extend", "close", "reopen"))
 
     @property

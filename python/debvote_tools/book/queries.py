@@ -82,7 +82,9 @@ def last_act_that_sealed(book: Book, name: str) -> int:
 
 # ---- envelopes
 class Envelope(NamedTuple):
-    """A line that was entered, in its envelope. The number is the envelope's, which it keeps."""
+    """A line that was entered, valid or not, in its envelope. The number is the envelope's, which it
+    keeps, and decides: of an elector's valid lines in time the one with the greatest counts.
+    """
 
     number: int
     act: int
@@ -118,7 +120,8 @@ IN_FILES = f"source IS NOT NULL AND letter IS NULL AND {NOT_UNDONE} AND envelope
 COLUMNS = "envelope, act, elector, line, source, letter, place, time, late, struck"
 
 
-# the views of what was entered: all envelopes, and those that came in time and are not struck
+# the views of what was entered: all envelopes, and those that are in time and not struck, also with
+# lines that debvote refuses
 View = Literal["entered", "ballot"]
 
 
@@ -150,7 +153,9 @@ def numbered_lines_in_time(book: Book) -> list[tuple[int, bytes]]:
 
 
 def late_lines(book: Book) -> list[bytes]:
-    """The line of each envelope that was entered while the vote was closed, and is not struck."""
+    """The line of each envelope that is late and not struck: entered after the first close, unless
+    it had come before that, as `History.is_late` says.
+    """
     return lines(book, LATE)
 
 
@@ -267,7 +272,9 @@ def came_in_files(book: Book) -> dict[bytes, list[Envelope]]:
 
 
 def last_numbers(book: Book) -> dict[int, tuple[int, bytes]]:
-    """Number and line of the last envelope of each elector that is in time and not struck."""
+    """Number and line of the last envelope of each elector that is in time and not struck, also if
+    debvote refuses the line.
+    """
     words = (
         "SELECT elector, max(envelope), line FROM ballot WHERE elector IS NOT NULL GROUP BY elector"
     )
@@ -308,12 +315,14 @@ class KeptLetter(NamedTuple):
     source: int
     # what a copy of it has in common with it
     identity: str
-    # what its bytes, the keyring and the sealed poll alone decide
+    # the column `known`: a `ReadLetter` as JSON, which its bytes, the keyring, the sealed poll and the
+    # real names decide
     read_json: str
     state: str
 
     @property
-    def is_undecided(self) -> bool:
+    def may_wait(self) -> bool:
+        """Whether it waits, or may go in by itself if no act ever decided of it."""
         return self.state in (NEVER_DECIDED, PUT_BACK, TAKEN_BACK)
 
 
@@ -345,9 +354,9 @@ def returned_letters(book: Book) -> list[tuple[int, str, list[str]]]:
     return [(act, sender, json.loads(marks)) for act, sender, marks in book.rows(words)]
 
 
-def undecided(kept: list[KeptLetter]) -> list[KeptLetter]:
+def those_that_may_wait(kept: list[KeptLetter]) -> list[KeptLetter]:
     """The letters that may wait, and their copies."""
-    identities = {letter.identity for letter in kept if letter.is_undecided}
+    identities = {letter.identity for letter in kept if letter.may_wait}
     return [letter for letter in kept if letter.identity in identities]
 
 

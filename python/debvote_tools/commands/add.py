@@ -152,8 +152,8 @@ def take_lines(vote: Vote, files: Sequence[GivenFile], arguments: Arguments) -> 
         """It asks nothing of debvote, so it is made again within the act."""
         history = History(book.acts())
         vote.demand_same_call(history, NOTHING_ADDED)
-        sorted_files = sorted_out(book, lines_of_files, history, arguments.again)
-        return NewLines(history.acts_of_opening(), sorted_files)
+        found = without_duplicates(book, lines_of_files, history, arguments.again)
+        return NewLines(history.acts_of_opening(), found)
 
     def show(new: NewLines) -> bool:
         nonlocal answer
@@ -175,7 +175,7 @@ def take_lines(vote: Vote, files: Sequence[GivenFile], arguments: Arguments) -> 
         entering.enter_lines(
             vote,
             "add",
-            detail_of(vote, new, arguments, answer),
+            detail_of_act(vote, new, arguments, answer),
             new.envelopes,
             report_on,
             seen,
@@ -220,10 +220,10 @@ def file_lines(vote: Vote, files: Sequence[GivenFile], arguments: Arguments) -> 
     return found
 
 
-def sorted_out(
+def without_duplicates(
     book: Book, files: Sequence[FileLines], history: History, takes_again: bool
 ) -> list[FileLines]:
-    """The files, with the new lines of each. If n copies of a line came in earlier files, its first
+    """The files, each with its new lines and those that came before. If n copies of a line came in earlier files, its first
     n copies in this file are duplicates, whether those were counted, refused, struck or late. Files
     that an `undo` took back do not count. A file that goes in now is an earlier one for the next.
     """
@@ -283,7 +283,7 @@ def change_since(
     return f"{line.voter} has voted since (envelope {number})"
 
 
-def detail_of(vote: Vote, new: NewLines, arguments: Arguments, answer: bool | None) -> Detail:
+def detail_of_act(vote: Vote, new: NewLines, arguments: Arguments, answer: bool | None) -> Detail:
     detail: Detail = {
         "files": [file.file.kept_name for file in new.files],
         "lines": len(new.lines),

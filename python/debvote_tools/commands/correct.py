@@ -77,8 +77,7 @@ def undo(election: Election, arguments: UndoArguments) -> None:
     tell(f"Took back {undone.what}.", *consequences(vote, undone, none))
     following = f"{election.command('status')}; another {election.command('undo')} takes back the act before"
     # what was typed for a letter has to be typed again
-    is_typed = undone.act.name == "enter" and not undone.act.detail.get("lines")
-    if undone.letters and not is_typed:
+    if undone.letters and not undone.act.is_typed:
         following += f"; {election.command('held', '--enter')} enters these letters again"
     tell(f"Next: {following}")
 

@@ -45,16 +45,18 @@ TIME = operator.attrgetter("time")
 
 
 def judged(
-    vote: Vote, history: History, kept: Sequence[KeptLetter], looked_at: Sequence[ReadLetter] = ()
+    vote: Vote, history: History, kept: Sequence[KeptLetter], previewed: Sequence[ReadLetter] = ()
 ) -> list[LetterCase]:
-    """Letters that came, as they are judged now, by their times; and others that are looked at."""
-    if not kept and not looked_at:
+    """Letters that the book has, as they are judged now, and letters that `add --look` previews, in
+    the order of their times.
+    """
+    if not kept and not previewed:
         return []
     found = read_kept(vote, kept)
     by_key = {letter.key: kept_letter for letter, kept_letter in zip(found, kept)}
     circumstances = circumstances_now(vote, history, by_key)
     letters_now = judge_all(
-        [*found, *looked_at], circumstances, lambda names: ballots_in(vote, names)
+        [*found, *previewed], circumstances, lambda names: ballots_in(vote, names)
     )
     for letter in letters_now:
         if (kept_letter := by_key.get(letter.read.key)) is not None:
@@ -75,20 +77,20 @@ def read_kept(vote: Vote, kept: Sequence[KeptLetter]) -> list[ReadLetter]:
     vote.answered |= answers_in(found, vote.roll)
     sealed = queries.last_act_that_sealed(vote.book, KEYRING)
 
-    def check_again(is_undecided: bool) -> None:
+    def check_again(of_waiting: bool) -> None:
         """Reads letters again, for their signatures."""
         raws = {}
         for index, (one, letter) in enumerate(zip(kept, found)):
             is_old = one.act < sealed and not letter.is_never_signed
-            is_unsigned = is_undecided or letter.signature is None
-            if (is_old or letter.is_slow) and one.is_undecided == is_undecided and is_unsigned:
+            is_unsigned = of_waiting or letter.signature is None
+            if (is_old or letter.is_slow) and one.may_wait == of_waiting and is_unsigned:
                 data = queries.source_of(vote.book, one.source)
                 raws[index] = RawLetter(letter.where, data, letter.is_parted_off)
         for index, read in zip(raws, read_letters(vote, [*raws.values()])):
             found[index] = read
 
     check_again(True)
-    if any(letter.signature is not None and one.is_undecided for letter, one in zip(found, kept)):
+    if any(letter.signature is not None and one.may_wait for letter, one in zip(found, kept)):
         check_again(False)
     return found
 
@@ -152,19 +154,28 @@ def judge_all(
 
 
 def set_outcomes(cases: Sequence[LetterCase], box: Box) -> None:
-    """Sets what becomes of letters, by their times. What goes in is added to the box."""
-    groups: dict[str, list[LetterCase]] = collections.defaultdict(list)
+    """Sets what becomes of letters, by their times. What an act decided holds; a letter that breaks
+    a rule waits. Of the copies of another the first goes in, into the box too, unless its elector
+    has a later ballot.
+    """
+    by_identity: dict[str, list[LetterCase]] = collections.defaultdict(list)
     for case in cases:
-        groups[case.read.identity].append(case)
-        if case.decision is not None:
+        by_identity[case.read.identity].append(case)
+        if case.decision is None:
+            case.reason = case.first_broken_rule
+        else:
             case.outcome, case.reason = DECIDED[case.decision]
     firsts: set[LetterCase] = set()
     at_once: dict[tuple[str, datetime.datetime | None], set[str]] = collections.defaultdict(set)
-    undecided = [group for group in groups.values() if any(case.decision is None for case in group)]
-    for group in undecided:
-        # the first copy that may go in, unless an act decided of one that hides it
-        may_go_in = (one for one in group if one.decision is None and one.first_broken_rule is None)
-        is_hidden = any(case.decision is not None and case.hides for case in group)
+    undecided = [
+        copies for copies in by_identity.values() if any(case.decision is None for case in copies)
+    ]
+    for copies in undecided:
+        # unless an act decided of one that hides it
+        is_hidden = any(case.decision is not None and case.hides for case in copies)
+        may_go_in = (
+            one for one in copies if one.decision is None and one.first_broken_rule is None
+        )
         for case in () if is_hidden else itertools.islice(may_go_in, 1):
             firsts.add(case)
             at_once[case.elector, case.time].add(case.ballots[0].ballot)
@@ -173,8 +184,8 @@ def set_outcomes(cases: Sequence[LetterCase], box: Box) -> None:
         if case.reason is None and case.time is not None:
             case.outcome = Outcome.GOES_IN
             box[case.elector].append(Ballot(case.time, case.ballots[0].ballot))
-    for group in undecided:
-        set_copies(group, firsts, box)
+    for copies in undecided:
+        set_copies(copies, firsts, box)
 
 
 def why_not_latest(case: LetterCase, box: Box, at_once: set[str]) -> ReasonWithValues | None:
@@ -190,9 +201,9 @@ def why_not_latest(case: LetterCase, box: Box, at_once: set[str]) -> ReasonWithV
 
 
 def set_copies(group: Sequence[LetterCase], firsts: Collection[LetterCase], box: Box) -> None:
-    """Sets what becomes of the other letters of one identity: they are copies of one that went in,
-    or may go in. A letter that waits hides no other. But of letters that wait for the same reason
-    and have the same body, only the first is shown.
+    """Sets which letters of one identity are ignored as copies: of one that went in, or may go in. A
+    letter that waits hides no other, but of letters that wait for the same reason and have the same
+    body, only the first is shown.
     """
     hiding = [case for case in group if case.hides]
     is_hidden = any(case.decision is not None or case.outcome is Outcome.GOES_IN for case in hiding)
@@ -207,8 +218,6 @@ def set_copies(group: Sequence[LetterCase], firsts: Collection[LetterCase], box:
             set_copy(case, first, box)
         elif before is not case:
             set_copy(case, before, box)
-        else:
-            case.reason = case.first_broken_rule
 
 
 def set_copy(case: LetterCase, first: LetterCase, box: Box) -> None:

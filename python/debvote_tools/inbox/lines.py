@@ -65,7 +65,8 @@ class Line(NamedTuple):
 
     file_name: str
     place: str
-    # with its byte-order mark and carriage return, or the line feeds in the cells of its row
+    # with its byte-order mark and carriage return; of a row of a table the cells of the named
+    # columns, joined as a ballot line, with their line feeds
     as_it_came: bytes
     # without them
     unframed: bytes

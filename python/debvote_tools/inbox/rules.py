@@ -1,5 +1,6 @@
-"""The rules of a letter: it goes in by itself if all hold; else it waits, with the reason of the
-first that does not.
+"""The rules of a letter. If one does not hold, it waits, with the reason of the first. If all hold,
+it goes in by itself, unless it is a copy, its elector has a later ballot, or an act decided of it
+(`judging.py`).
 
 They say what a letter has to be. No list of what may be wrong with a letter, or of what a quotation
 looks like, can be complete, so there is none.
@@ -44,6 +45,7 @@ OPENING, COLONS, LIKE_COLONS = ("¡", "¿"), (":", "：", "﹕"), "\u02d0\u0903\
 
 
 class Outcome(enum.Enum):
+    # by itself, once the secretary agrees in `add`; until then it waits with the others
     GOES_IN = "goes in"
     WAITS = "waits"
     # it is a duplicate of another letter, and is ignored
@@ -131,7 +133,7 @@ class LinesBySender(NamedTuple):
     near: Sequence[Near]
 
 
-def sort_lines(
+def lines_by_sender(
     lines: Sequence[ReadLine], sharing: Sequence[str], marked: str | None
 ) -> LinesBySender:
     """What the lines are if it was sent by one of the electors who have the sender's address, or by
@@ -193,7 +195,7 @@ class LetterCase:
         self.sharing = circumstances.electors_by_address.get(letter.sender, [])
         owns = {own for mark, own in letter.marks if own and mark == circumstances.mark}
         self.marked_elector = circumstances.electors_by_mark.get(*owns) if len(owns) == 1 else None
-        self.lines_by_sender = sort_lines(letter.read_lines, self.sharing, self.marked_elector)
+        self.lines_by_sender = lines_by_sender(letter.read_lines, self.sharing, self.marked_elector)
         # that of its ballot: if letters have to be signed, that of the signature
         signature = letter.signature if circumstances.is_signed else None
         self.time = letter.arrived if signature is None else signature.time
@@ -231,7 +233,7 @@ class LetterCase:
 
     @property
     def needs_secretary(self) -> bool:
-        """Whether it waits for the secretary, who has to agree or to look at it."""
+        """Whether it waits for the secretary: to look at it, or to agree in `add` that it goes in."""
         return self.outcome in (Outcome.GOES_IN, Outcome.WAITS)
 
     @property
@@ -262,8 +264,8 @@ class LetterCase:
         return tuple(name for name in self.sharing if name not in self.electors)
 
 
-# ---- the rules
-def can_be_read(case: LetterCase) -> ReasonWithValues | None:
+# ---- the rules: each says why it does not hold, and None if it holds
+def why_not_readable(case: LetterCase) -> ReasonWithValues | None:
     letter, body = case.read, case.read.body
     if letter.is_parted_off:
         return Reason.PARTED_OFF()
@@ -278,7 +280,7 @@ def can_be_read(case: LetterCase) -> ReasonWithValues | None:
     return Reason.HTML(element=body.first_other) if is_odd else None
 
 
-def arrived_in_time(case: LetterCase) -> ReasonWithValues | None:
+def why_not_in_time(case: LetterCase) -> ReasonWithValues | None:
     arrived, circumstances = case.read.arrived, case.circumstances
     if arrived is None:
         return Reason.NO_ARRIVAL()
@@ -291,7 +293,7 @@ def arrived_in_time(case: LetterCase) -> ReasonWithValues | None:
     return Reason.IN_THE_FUTURE(arrived=arrived) if arrived > circumstances.now + AHEAD else None
 
 
-def is_sent_by_its_elector(case: LetterCase) -> ReasonWithValues | None:
+def why_not_from_its_elector(case: LetterCase) -> ReasonWithValues | None:
     """It comes from an address of its elector, after `call --marked` with the own mark, too."""
     sender, elector, circumstances = case.read.sender, case.elector, case.circumstances
     listed = circumstances.electors[elector].addresses if elector in circumstances.electors else ()
@@ -302,7 +304,7 @@ def is_sent_by_its_elector(case: LetterCase) -> ReasonWithValues | None:
     if sender in map(address_key, listed):
         if case.has_own_mark or not circumstances.is_marked:
             return None
-        return is_of_this_vote(case) or Reason.NO_OWN_MARK(elector=elector)
+        return why_not_of_this_vote(case) or Reason.NO_OWN_MARK(elector=elector)
     if case.has_own_mark:
         return Reason.OWN_MARK_ELSEWHERE(sender=sender, elector=elector)
     if not listed:
@@ -310,8 +312,8 @@ def is_sent_by_its_elector(case: LetterCase) -> ReasonWithValues | None:
     return Reason.OTHER_SENDER(sender=sender, listed=" and ".join(listed), elector=elector)
 
 
-def is_signed_by_its_elector(case: LetterCase) -> ReasonWithValues | None:
-    """It has a good signature, if it must. This comes first: only what was signed is the text."""
+def why_not_signed_by_its_elector(case: LetterCase) -> ReasonWithValues | None:
+    """It has a good signature, if it must: only what was signed is its text."""
     letter, signature = case.read, case.read.signature
     elector, circumstances = case.elector, case.circumstances
     if not circumstances.is_signed or case.ballot is None:
@@ -331,8 +333,8 @@ def is_signed_by_its_elector(case: LetterCase) -> ReasonWithValues | None:
     return None if has_mark else Reason.NO_MARK(mark=circumstances.mark)
 
 
-def has_one_ballot(case: LetterCase) -> ReasonWithValues | None:
-    """No other line reads as a ballot that differs. `ballot_is_first` would say less."""
+def why_not_one_ballot(case: LetterCase) -> ReasonWithValues | None:
+    """No other line reads as a ballot that differs. The next rule would say less of such a letter."""
     if len({line.ballot for line in case.ballots}) <= 1:
         return None
     electors = sorted({line.elector for line in case.ballots})
@@ -341,7 +343,7 @@ def has_one_ballot(case: LetterCase) -> ReasonWithValues | None:
     return Reason.SEVERAL_ELECTORS(electors=", ".join(electors))
 
 
-def ballot_is_first(case: LetterCase) -> ReasonWithValues | None:
+def why_not_first(case: LetterCase) -> ReasonWithValues | None:
     """The ballot is the first line, but for a greeting. In an answer to a letter that only this
     elector has, a quotation of it may be above the ballot.
     """
@@ -356,10 +358,10 @@ def ballot_is_first(case: LetterCase) -> ReasonWithValues | None:
         return Reason.HIGH_RANK(number=ballot.number, options=len(ballot.ranks))
     # lines that flow are judged as they stand, and joined
     views = dict.fromkeys((frozenset(flowing), frozenset[int]()))
-    return next(filter(None, (why_not_first(case, joined) for joined in views)), None)
+    return next(filter(None, (why_not_first_in(case, joined) for joined in views)), None)
 
 
-def is_of_this_vote(case: LetterCase) -> ReasonWithValues | None:
+def why_not_of_this_vote(case: LetterCase) -> ReasonWithValues | None:
     """Its subject has the mark of the poll, and no other; nor has a text that must be signed."""
     own = case.circumstances.mark
     signed = case.read.shown_lines if case.circumstances.is_signed else ()
@@ -376,13 +378,13 @@ def is_of_this_vote(case: LetterCase) -> ReasonWithValues | None:
 
 
 RULES = (
-    can_be_read,
-    arrived_in_time,
-    is_sent_by_its_elector,
-    is_signed_by_its_elector,
-    has_one_ballot,
-    ballot_is_first,
-    is_of_this_vote,
+    why_not_readable,
+    why_not_in_time,
+    why_not_from_its_elector,
+    why_not_signed_by_its_elector,
+    why_not_one_ballot,
+    why_not_first,
+    why_not_of_this_vote,
 )
 
 
@@ -417,8 +419,8 @@ def is_subject_of_page(case: LetterCase) -> bool:
     return as_compared(subject) == as_compared(case.circumstances.subject)
 
 
-def why_not_first(case: LetterCase, joined: Collection[int]) -> ReasonWithValues | None:
-    """Why the ballot is not the first line; None if it is."""
+def why_not_first_in(case: LetterCase, joined: Collection[int]) -> ReasonWithValues | None:
+    """Why the ballot is not the first line, with these lines joined to others; None if it is."""
     letter, lines, ballot = case.read, case.read.body.lines, case.index
     is_ours = case.has_own_mark
     ours = case.circumstances.our_letters.get(case.elector, ())

@@ -21,10 +21,10 @@ from debvote_tools.text.language import ENGLISH
 
 IS_CODE = " (32 digits, as in a code or an alias: a ballot has only the elector's name, and nobody may see a code)"
 
-# the reply to a line that came after the close
+# the reply to a line that came after the close; debvote is not asked for it
 LATE_REPLY = "late"
 
-# of two ballots the later one has the later time, and within a second the greater number
+# the order in which ballots were sent. Which of two counts, the number of the envelope alone decides
 BY_TIME = operator.attrgetter("time", "number")
 
 # the number that makes a name different from others
@@ -99,8 +99,8 @@ class Vote:
         return list(map(numbers.get, names))
 
     def later_ballots(self, late: Sequence[Envelope]) -> dict[int, Envelope]:
-        """By the number of a late envelope the last ballot in time of its elector, if it is later.
-        A line that debvote refuses is no ballot.
+        """By the number of a late envelope the ballot of its elector that was sent last of those
+        that are not late, if it was sent after it. A line that debvote refuses is no ballot.
         """
         in_time = {
             one.number: queries.envelopes(self.book, "elector = ?", one.elector, view="ballot")

@@ -32,7 +32,7 @@ def waiting_letters(election: Election, history: History) -> dict[int, Arrived]:
     # where letters have to be signed, what was signed says which are copies, which the book may not
     # have known when they came
     if not history.announced("signed"):
-        kept = queries.undecided(kept)
+        kept = queries.those_that_may_wait(kept)
     found = {}
     for letter in judged(Vote(election, history), history, kept):
         if letter.needs_secretary:

@@ -48,7 +48,7 @@ class LettersDue:
         on_list, until = queries.electors(election.book), self.history.until
         self.electors = {elector.number: elector for elector in on_list}
         is_over = bool(self.history.closes) or (until is not None and self.time > until)
-        typed = {act.number for act in self.history.named("enter") if not act.detail.get("lines")}
+        typed = {act.number for act in self.history.acts if act.is_typed}
         self.composer = Composer(current_call(election, self.history), is_over, on_list, typed)
         self.noted_before = outgoing.outgoing_letters(election.book, kind)
         unreached, _ = reached_by_call(election, self.history)
@@ -332,7 +332,9 @@ def is_told(fate: Fate) -> bool:
 
 
 def told_of(items: Sequence[Fate]) -> dict[About, Fate]:
-    """What an elector is told of, in its order; of a letter by the ballots from it."""
+    """What an elector is told of, in its order. Of a letter from which ballots of theirs were entered
+    only these are told, also if they were struck or taken back.
+    """
     entered = {one.envelope.letter for one in items if one.envelope}
     found: dict[About, Fate] = {}
     for one in filter(is_told, items):
