@@ -96,7 +96,7 @@ class Envelope(NamedTuple):
     place: str
     time: datetime.datetime
     is_late: bool
-    # the act that struck it
+    # the act that struck it: a `strike`, or the `undo` that took its act back
     struck: int | None
 
     @property

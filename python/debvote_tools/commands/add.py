@@ -462,7 +462,7 @@ def report_of_files(
         yield from repeated_words(file)
     yield from vote.report_of_lines(new.lines, numbers, replies)
     for file in new.files:
-        yield from duplicate_words(file)
+        yield from several_ballots_words(file)
 
 
 def repeated_words(file: FileLines) -> Iterator[str]:
@@ -478,7 +478,7 @@ def repeated_words(file: FileLines) -> Iterator[str]:
         yield f"  and {len(changed) - MAX_REPEATED} more; --again enters them again"
 
 
-def duplicate_words(file: FileLines) -> Iterator[str]:
+def several_ballots_words(file: FileLines) -> Iterator[str]:
     by_name: dict[bytes, list[str]] = collections.defaultdict(list)
     for line in file.new:
         if line.finding is None:

@@ -187,7 +187,9 @@ def enter(vote: Vote, arguments: Arguments) -> None:
 
 
 def is_late(history: History, letter: LetterCase) -> bool:
-    """Whether what is entered of a letter now is late: the vote is closed, or was as it arrived."""
+    """Whether what is entered of a letter now is late: the vote is closed; or it is open again, and
+    the letter is not known to have arrived before the first close.
+    """
     arrived, closes = letter.read.arrived, history.closes
     return history.is_late(arrived is not None and bool(closes) and arrived <= closes[0].time)
 

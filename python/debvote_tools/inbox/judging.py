@@ -33,13 +33,15 @@ DECIDED = {
 
 
 class Ballot(NamedTuple):
-    """A ballot that is in and not struck: its time, in whole seconds, and its line."""
+    """A ballot that was entered, late or not, and is not struck: its time, in whole seconds, and its
+    line.
+    """
 
     time: datetime.datetime
     line: str
 
 
-# the ballots that are in, of each elector in the order of their times
+# the ballots that were entered, of each elector in the order of their times
 Box = dict[str, list[Ballot]]
 TIME = operator.attrgetter("time")
 
@@ -96,7 +98,7 @@ def read_kept(vote: Vote, kept: Sequence[KeptLetter]) -> list[ReadLetter]:
 
 
 def ballots_in(vote: Vote, names: Collection[str]) -> Box:
-    """The ballots of some electors that are in and not struck."""
+    """The ballots of some electors that were entered and are not struck, also late ones."""
     numbers = queries.elector_numbers(vote.book, names)
     by_number = {number: name for name, number in numbers.items()}
     envelopes = queries.envelopes_of(vote.book, by_number)

@@ -83,7 +83,7 @@ class NotRead(enum.Enum):
 @dataclasses.dataclass(frozen=True)
 class RawLetter:
     """A letter as it came, or why it is passed over. One that `is_parted_off` may be text of the
-    letter above it in its mailbox, and waits.
+    letter above it in its mailbox, or have others in it, and waits.
     """
 
     where: str

@@ -422,10 +422,9 @@ def is_subject_of_page(case: LetterCase) -> bool:
 def why_not_first_in(case: LetterCase, joined: Collection[int]) -> ReasonWithValues | None:
     """Why the ballot is not the first line, with these lines joined to others; None if it is."""
     letter, lines, ballot = case.read, case.read.body.lines, case.index
-    is_ours = case.has_own_mark
     ours = case.circumstances.our_letters.get(case.elector, ())
-    is_answer = is_ours and letter.in_reply_to in ours
-    is_by_page = is_ours and letter.is_new and is_subject_of_page(case)
+    is_answer = case.has_own_mark and letter.in_reply_to in ours
+    is_by_page = case.has_own_mark and letter.is_new and is_subject_of_page(case)
     paragraphs = paragraphs_of(case, joined)
     place = next(place for place, own in enumerate(paragraphs) if ballot in own)
     quoted = [any(is_quoted(lines[index]) for index in one) for one in paragraphs]
@@ -447,7 +446,7 @@ def why_not_first_in(case: LetterCase, joined: Collection[int]) -> ReasonWithVal
         if not is_greeting(line):
             return Reason.NOT_FIRST(number=index + 1)
     above = [lines[index].strip() for index in others if index < ballot]
-    most = 0 if letter.body.is_html and not is_ours else MAX_ABOVE
+    most = 0 if letter.body.is_html and not case.has_own_mark else MAX_ABOVE
     is_much = len(above) > most or len("".join(above)) > MAX_CHARACTERS
     return Reason.MUCH_ABOVE() if is_much else None
 

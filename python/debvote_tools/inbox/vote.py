@@ -24,7 +24,8 @@ IS_CODE = " (32 digits, as in a code or an alias: a ballot has only the elector'
 # the reply to a line that came after the close; debvote is not asked for it
 LATE_REPLY = "late"
 
-# the order in which ballots were sent. Which of two counts, the number of the envelope alone decides
+# the order of the times of ballots: a letter's own, else that of the act. Which of two ballots counts
+# the number of the envelope alone decides
 BY_TIME = operator.attrgetter("time", "number")
 
 # the number that makes a name different from others
@@ -99,8 +100,8 @@ class Vote:
         return list(map(numbers.get, names))
 
     def later_ballots(self, late: Sequence[Envelope]) -> dict[int, Envelope]:
-        """By the number of a late envelope the ballot of its elector that was sent last of those
-        that are not late, if it was sent after it. A line that debvote refuses is no ballot.
+        """By the number of a late envelope the ballot of its elector with the latest time of those
+        that are not late, if it is later. A line that debvote refuses is no ballot.
         """
         in_time = {
             one.number: queries.envelopes(self.book, "elector = ?", one.elector, view="ballot")

@@ -16,6 +16,7 @@ class Arrived(enum.Enum):
     """When a letter arrived, as far as that is known, whatever it waits for."""
 
     BEFORE_THE_CALL = enum.auto()
+    # or at no known time
     IN_TIME = enum.auto()
     # after the end or the first close
     LATE = enum.auto()

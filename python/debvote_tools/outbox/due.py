@@ -333,7 +333,8 @@ def is_told(fate: Fate) -> bool:
 
 def told_of(items: Sequence[Fate]) -> dict[About, Fate]:
     """What an elector is told of, in its order. Of a letter from which ballots of theirs were entered
-    only these are told, also if they were struck or taken back.
+    only these are told, also if they were struck or taken back. Of another letter one receipt tells,
+    and none anew if the secretary decides of it later.
     """
     entered = {one.envelope.letter for one in items if one.envelope}
     found: dict[About, Fate] = {}
