@@ -148,7 +148,9 @@ class Election:
 
     @functools.cached_property
     def book(self) -> Book:
-        """The book for reading. Says on standard error why it may not be the right one."""
+        """The book: for reading, and for acts once `demand_right_book` has passed. Before that it says
+        on standard error why it may not be the right one.
+        """
         tell_aside(*(f"Note: {doubt.file}: {doubt.reason}." for doubt in self.opened.doubts()))
         return self.opened
 
@@ -158,7 +160,7 @@ class Election:
         return self.book
 
     def book_for(self, arguments: Acting) -> Book:
-        """The book for an act, and for what others rely on, once `demand_right_book` has passed."""
+        """The book for an act, and for what others rely on: `demand_right_book`, then `book`."""
         self.demand_right_book(arguments)
         return self.book
 

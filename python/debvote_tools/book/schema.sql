@@ -61,6 +61,7 @@ CREATE TABLE letter_state (
   PRIMARY KEY (letter, act)
 ) STRICT;
 
+-- A line is late as `History.is_late` says: also if it was entered after a reopen, and had not come before the first close.
 CREATE TABLE envelope (
   envelope INTEGER PRIMARY KEY,         -- its number, from 1, which it keeps
   act INTEGER NOT NULL REFERENCES act DEFERRABLE INITIALLY DEFERRED,
@@ -73,6 +74,7 @@ CREATE TABLE envelope (
   late INTEGER NOT NULL                 -- 1 if it was entered while the vote was closed
 ) STRICT;
 
+-- By a `strike`, or by the `undo` of the act that entered it.
 CREATE TABLE struck (
   envelope INTEGER PRIMARY KEY REFERENCES envelope,
   act INTEGER NOT NULL REFERENCES act DEFERRABLE INITIALLY DEFERRED
@@ -97,7 +99,8 @@ CREATE VIEW letter_now AS
     SELECT state FROM letter_state WHERE letter_state.letter = letter.letter ORDER BY act DESC LIMIT 1
   ), 'waits') AS state FROM letter;
 
--- The envelopes, each with the act that struck it; and the ballots, which are counted.
+-- The envelopes, each with the act that struck it; and those in time and not struck, from which debvote counts: also lines that it
+-- refuses.
 CREATE VIEW entered AS
   SELECT envelope.*, struck.act AS struck FROM envelope LEFT JOIN struck USING (envelope);
 

@@ -50,7 +50,7 @@ def flag(help: str, **how: Any) -> Any:
 
 class Acting(Options):
     """The options of a command that writes an act, or that says what others rely on. It stops at a
-    book that this machine does not know (`Election.book_for`).
+    book that this machine does not know (`Election.demand_right_book`).
     """
 
     moved: bool = flag(

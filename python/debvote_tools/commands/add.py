@@ -58,7 +58,7 @@ class Arguments(entering.Arguments):
         group="order",
     )
     look: bool = flag("Say what would be entered, and change nothing")
-    yes: bool = flag("Answer yes to every question")
+    yes: bool = flag("With letters: enter the ballots without asking")
     again: bool = flag(
         "Enter lines again that came before and do not count now: struck, late before a reopen, or replaced by a later ballot"
     )

@@ -36,7 +36,9 @@ class Arguments(Acting):
     )
     set_aside: bool = flag("Set the letters aside: they are dealt with, and wait no longer")
     wait: bool = flag("Have the letters wait again")
-    force: bool = flag("Enter the ballot although its elector has voted since, or did not send it")
+    force: bool = flag(
+        "Enter the ballot although its elector has voted since or, with --as, did not send the letter"
+    )
     yes: bool = flag("Enter the ballots without asking")
 
 

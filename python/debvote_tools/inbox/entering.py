@@ -121,7 +121,9 @@ def demand_room(book: Book, new: Sequence[NewEnvelope]) -> None:
 
 # ---- whether it comes in time
 def late_notes(election: Election, history: History, what: str) -> list[str]:
-    """What is said before lines are entered after the end; `what` says what is done with them."""
+    """What is said of lines that are entered after the end; `what` says what is done with them. Of
+    lines that `add` enters it stands above the replies, after the act.
+    """
     if history.is_closed:
         closed = act_time(history.closes[-1].time)
         return [f"Note: the vote was closed at {closed}; {what} now is late."]

@@ -57,7 +57,7 @@ def fates_of(
     most.
 
     The last valid line of an elector that is in time and not struck counts. A letter is of whoever
-    has a ballot in it, and of whoever sent it. One that was entered comes beside its envelopes.
+    has a ballot in it or a line near to one, and of whoever sent it. One that was entered comes beside its envelopes.
     """
     electors = queries.electors(election.book) if of is None else of
     found: dict[str, list[Fate]] = {elector.name: [] for elector in electors}

@@ -157,8 +157,8 @@ def judge_all(
 
 def set_outcomes(cases: Sequence[LetterCase], box: Box) -> None:
     """Sets what becomes of letters, by their times. What an act decided holds; a letter that breaks
-    a rule waits. Of the copies of another the first goes in, into the box too, unless its elector
-    has a later ballot.
+    a rule waits. Of the letters of one identity, mostly one alone, the first that breaks none goes
+    in, and into the box, unless its elector has a later ballot; the others are its copies.
     """
     by_identity: dict[str, list[LetterCase]] = collections.defaultdict(list)
     for case in cases:
@@ -170,14 +170,12 @@ def set_outcomes(cases: Sequence[LetterCase], box: Box) -> None:
     firsts: set[LetterCase] = set()
     at_once: dict[tuple[str, datetime.datetime | None], set[str]] = collections.defaultdict(set)
     undecided = [
-        copies for copies in by_identity.values() if any(case.decision is None for case in copies)
+        group for group in by_identity.values() if any(case.decision is None for case in group)
     ]
-    for copies in undecided:
+    for group in undecided:
         # unless an act decided of one that hides it
-        is_hidden = any(case.decision is not None and case.hides for case in copies)
-        may_go_in = (
-            one for one in copies if one.decision is None and one.first_broken_rule is None
-        )
+        is_hidden = any(case.decision is not None and case.hides for case in group)
+        may_go_in = (one for one in group if one.decision is None and one.first_broken_rule is None)
         for case in () if is_hidden else itertools.islice(may_go_in, 1):
             firsts.add(case)
             at_once[case.elector, case.time].add(case.ballots[0].ballot)
@@ -186,8 +184,8 @@ def set_outcomes(cases: Sequence[LetterCase], box: Box) -> None:
         if case.reason is None and case.time is not None:
             case.outcome = Outcome.GOES_IN
             box[case.elector].append(Ballot(case.time, case.ballots[0].ballot))
-    for copies in undecided:
-        set_copies(copies, firsts, box)
+    for group in undecided:
+        set_copies(group, firsts, box)
 
 
 def why_not_latest(case: LetterCase, box: Box, at_once: set[str]) -> ReasonWithValues | None:

@@ -1,5 +1,5 @@
 """Letters that `add` is given: it keeps those that are new, has all judged, and enters the ballots
-that go in. Lines are taken by `take_lines` in `commands/add.py`.
+that go in. `held` enters others by `enter_ballots`. Lines are taken in `commands/add.py`.
 """
 
 from collections.abc import Collection, Iterable, Iterator, Mapping, Sequence
@@ -155,6 +155,7 @@ def enter_letters(vote: Vote, *, is_agreed: bool) -> None:
         vote.demand_same_call(history, NOTHING_ADDED)
         found = judged(vote, history, queries.kept_letters(vote.book))
         new = [envelope_of(letter, letter.ballots[0].ballot) for letter in going_in(found)]
+        # after a reopen what arrived after the first close breaks a rule, and does not go in
         return NewBallots(new, [letter.number for letter in going_in(found)], history.is_closed)
 
     def show(new: NewBallots) -> bool:

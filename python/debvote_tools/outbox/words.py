@@ -116,8 +116,8 @@ class Composer:
         return self.text("reminders.txt", elector, fates=held, has_waiting=has_waiting)
 
     def receipt(self, elector: Elector, fates: Sequence[Fate]) -> str:
-        """What became of all that came from an elector. It has the right line if what came last was
-        refused or waits.
+        """What became of what came from an elector. It has the right line if the last of it was refused
+        or waits. What was struck, taken back or late asks nobody to vote again.
         """
         decides = (
             one for one in fates if one.is_own or one.became in (Became.COUNTS, Became.REFUSED)

@@ -154,8 +154,8 @@ class Facts:
     desks: int = 1
     # of two files: the checksum of the file that was given as the poll
     given_checksum: str | None = None
-    # what was done, None of two files; and how many lines came after the end, and count since the
-    # vote was not closed
+    # what was done, None of two files; and how many lines came after the end, and are in time since
+    # the vote was not closed
     acts: tuple[Act, ...] | None = None
     after_the_end: int = 0
     # in a vote that is not secret: the lines that were entered after the close

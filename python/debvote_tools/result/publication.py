@@ -224,8 +224,9 @@ def acts_of(book: Book, history: History, *, is_secret: bool) -> tuple[Act, ...]
 
 
 def after_the_end(book: Book, history: History) -> int:
-    """How many lines, rows and ballots of desks came after the end, and count. What was entered
-    after the first close is left out: whoever entered it said that it came before that close.
+    """How many lines, rows and ballots of desks came after the end, and are in time, valid or not.
+    What was entered after the first close is left out: whoever entered it said that it came before
+    that close.
     """
     if history.until is None:
         return 0

@@ -329,5 +329,5 @@ class Told(CloseTest):
             self.add(f"{name} 1,2,3,4")
         self.done("close")
         self.done("publish")
-        said = "1 ballot came after the end, and counts, since the vote was not closed yet."
+        said = "1 line came after the end, and is in time, since the vote was not closed yet."
         self.assertIn(said, self.read("result/index.html").decode())

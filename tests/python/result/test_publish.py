@@ -519,7 +519,7 @@ class OfOpenVotes(OfElections):
         self.say("held", "2", "--enter", "1", "--force")
         # a late one that arrived after the end is no doubt
         self.say("publish", "--language", "en")
-        told = "2 ballots came after the end, and count, since the vote was not closed yet."
+        told = "2 lines came after the end, and are in time, since the vote was not closed yet."
         done = self.sections()["What-was-done"].text()
         self.expect("what came after the end, and before the first close", told in done, True)
         later = "Monday, 1 March 2027, 13:00 (UTC)"
