@@ -1,4 +1,5 @@
-"""What pytest needs for these tests: `pytest tests/python -k show` runs those with this word in their names, `-n 4` four at once.
+"""What pytest needs for these tests: `pytest tests/python -k show` runs those with this word in their names, `-n 4` four at once, and
+`-m without_program` those that need no debvote.
 
 With -n all tests of a class run in one process, since a class makes its election once. At the end is a line for each reason for which
 tests were skipped, and above pytest's own last line 'N passed, M failed', as the other programs of the tests print it.
@@ -17,13 +18,17 @@ from tests.support import debian, forks, program
 # the classes that take longest begin first, so that none of them runs alone at the end
 LONGEST = ["Sequences", "LargestTest", "Damaged", "In_", "Lines", "MarkedPublications", "RandomTest", "Sending"]
 
+# modules of tests that run no debvote, but for those that take no time: tests/quick runs them while it is built
+WITHOUT_PROGRAM = {"test_call_words", "test_electors", "test_secret", "test_translations", "test_words"}
+
 
 def pytest_configure(config: pytest.Config) -> None:
+    config.addinivalue_line("markers", "without_program: it runs no debvote")
     if packages := debian.missing():
         pytest.exit(f"type this first: sudo apt-get install -y {' '.join(packages)}", 2)
     if locale.getpreferredencoding(False).lower() not in ("utf-8", "utf8"):
         pytest.exit("pages, letters and tables are in UTF-8: type export PYTHONUTF8=1 first", 2)
-    if words := program.missing():
+    if (words := program.missing()) and config.option.markexpr != "without_program":
         pytest.exit(words, 2)
     os.umask(0o022)
     if getattr(config.option, "numprocesses", None):
@@ -36,7 +41,12 @@ def pytest_sessionstart(session: pytest.Session) -> None:
         forks.read_ahead()
 
 
+@pytest.hookimpl(tryfirst=True)
 def pytest_collection_modifyitems(items: list[pytest.Item]) -> None:
+    for item in items:
+        if item.path.stem in WITHOUT_PROGRAM:
+            item.add_marker("without_program")
+
     def place(item: pytest.Item) -> int:
         name = item.parent.name if item.parent else ""
         return next((place for place, start in enumerate(LONGEST) if name.startswith(start)), len(LONGEST))
