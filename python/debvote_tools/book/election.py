@@ -99,7 +99,7 @@ class History(NamedTuple):
         """Whether lines that are entered now are late, by the answer of whoever enters them."""
         return self.is_closed or (self.is_reopened and not came_before_close)
 
-    def acts_of_opening(self) -> "History":
+    def acts_that_open_or_close(self) -> "History":
         """The acts on which it depends whether the vote is open, and until when: a plan that is made
         again is compared by them. `act` finds nothing in it.
         """

@@ -109,9 +109,9 @@ LATE = "late AND struck IS NULL"
 NOT_UNDONE = "act NOT IN (SELECT json_extract(detail, '$.act') FROM act WHERE name = 'undo')"
 
 # the envelopes that were entered anew: late ones as in time, and others by `add --again`
-ANEW = "SELECT value FROM act, json_each(act.detail, '$.{key}') WHERE act.name = '{name}' AND act.{open}"
-ANEW_IN_TIME = ANEW.format(key="in_time", name="reopen", open=NOT_UNDONE)
-ANEW_BY_ADD = ANEW.format(key="again", name="add", open=NOT_UNDONE)
+ANEW = "SELECT value FROM act, json_each(act.detail, '$.{key}') WHERE act.name = '{name}' AND act.{not_undone}"
+ANEW_IN_TIME = ANEW.format(key="in_time", name="reopen", not_undone=NOT_UNDONE)
+ANEW_BY_ADD = ANEW.format(key="again", name="add", not_undone=NOT_UNDONE)
 
 # those that came in files of lines and tables; a line that was entered anew came once, and is known
 # by its new envelope
@@ -123,10 +123,12 @@ COLUMNS = "envelope, act, elector, line, source, letter, place, time, late, stru
 # the views of what was entered: all envelopes, and those that are in time and not struck, also with
 # lines that debvote refuses
 View = Literal["entered", "ballot"]
+ALL: Final = "entered"
+IN_TIME: Final = "ballot"
 
 
 def envelopes(
-    book: Book, condition: str = "1", *values: object, view: View = "entered"
+    book: Book, condition: str = "1", *values: object, view: View = ALL
 ) -> list[Envelope]:
     """The envelopes that meet a condition, in their order."""
     words = f"SELECT {COLUMNS} FROM {view} WHERE {condition} ORDER BY envelope"
@@ -134,7 +136,7 @@ def envelopes(
     return [Envelope._make([*row[:7], from_text(row[7]), bool(row[8]), row[9]]) for row in rows]
 
 
-def lines(book: Book, condition: str = "1", *values: object, view: View = "entered") -> list[bytes]:
+def lines(book: Book, condition: str = "1", *values: object, view: View = ALL) -> list[bytes]:
     """The line of each envelope that meets a condition, in their order."""
     words = f"SELECT line FROM {view} WHERE {condition} ORDER BY envelope"
     return [line for line, in book.rows(words, *values)]
@@ -144,7 +146,7 @@ def lines_in_time(book: Book) -> list[bytes]:
     """What debvote counts from: the line of each envelope that came in time and is not struck, in
     their order; also those that it refuses, or that a later one replaces.
     """
-    return lines(book, view="ballot")
+    return lines(book, view=IN_TIME)
 
 
 def numbered_lines_in_time(book: Book) -> list[tuple[int, bytes]]:
@@ -153,8 +155,8 @@ def numbered_lines_in_time(book: Book) -> list[tuple[int, bytes]]:
 
 
 def late_lines(book: Book) -> list[bytes]:
-    """The line of each envelope that is late and not struck: entered after the first close, unless
-    it had come before that, as `History.is_late` says.
+    """The line of each envelope that is late and not struck: entered while the vote was closed, or
+    after a reopen if it had not come before the first close (`History.is_late`).
     """
     return lines(book, LATE)
 

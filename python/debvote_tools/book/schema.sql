@@ -2,6 +2,7 @@
 --
 -- Rows are only added. What changes gets a new row with the act that changed it, and the last one holds. Each act is one transaction;
 -- its own row comes last, with a digest over all rows that it wrote. Times are UTC, as 2026-12-04T17:00:00Z.
+-- Nothing within a statement changes, no comment either: a book that has another text is damaged.
 
 CREATE TABLE act (
   act INTEGER PRIMARY KEY,              -- its number, from 1
@@ -46,6 +47,7 @@ CREATE TABLE source (
   data BLOB NOT NULL                    -- what came, byte for byte
 ) STRICT;
 
+-- `known` depends on the real names, too.
 CREATE TABLE letter (
   letter INTEGER PRIMARY KEY,           -- its number, from 1
   act INTEGER NOT NULL REFERENCES act DEFERRABLE INITIALLY DEFERRED,

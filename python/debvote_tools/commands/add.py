@@ -124,7 +124,8 @@ class FileLines(NamedTuple):
 class NewLines(NamedTuple):
     """Which lines would be entered, by the book as it is now."""
 
-    opening: History
+    # the acts on which it depends whether lines are late
+    history: History
     files: list[FileLines]
 
     @property
@@ -153,7 +154,7 @@ def take_lines(vote: Vote, files: Sequence[GivenFile], arguments: Arguments) -> 
         history = History(book.acts())
         vote.demand_same_call(history, NOTHING_ADDED)
         found = without_duplicates(book, lines_of_files, history, arguments.again)
-        return NewLines(history.acts_of_opening(), found)
+        return NewLines(history.acts_that_open_or_close(), found)
 
     def show(new: NewLines) -> bool:
         nonlocal answer
@@ -164,7 +165,7 @@ def take_lines(vote: Vote, files: Sequence[GivenFile], arguments: Arguments) -> 
             )
             return False
         said = arguments.came_before_close
-        answer = entering.came_before_close(new.opening, said, NOTHING_ADDED)
+        answer = entering.came_before_close(new.history, said, NOTHING_ADDED)
         return True
 
     def act(new: NewLines, seen: int) -> None:
@@ -179,7 +180,7 @@ def take_lines(vote: Vote, files: Sequence[GivenFile], arguments: Arguments) -> 
             new.envelopes,
             report_on,
             seen,
-            is_late=new.opening.is_late(answer),
+            is_late=new.history.is_late(answer),
             is_same=lambda: plan() == new,
         )
 
@@ -187,7 +188,7 @@ def take_lines(vote: Vote, files: Sequence[GivenFile], arguments: Arguments) -> 
         with book.snapshot():
             new, lines, first = plan(), queries.lines_in_time(book), queries.last_envelope(book)
         look(vote, new, lines, first + 1, arguments)
-    elif entering.agreed_act(vote, plan, show, act).opening.is_closed:
+    elif entering.agreed_act(vote, plan, show, act).history.is_closed:
         tell(f"Next: {command('count')}")
     else:
         more = f"add more ballots with {command('add', 'FILE')}"
@@ -304,9 +305,9 @@ def look(
 ) -> None:
     """Says what would become of the lines, and stops if `add` would."""
     numbers, replies = range(first, first + len(new.lines)), [LATE_REPLY] * len(new.lines)
-    if numbers and not new.opening.is_late(arguments.came_before_close != "no"):
+    if numbers and not new.history.is_late(arguments.came_before_close != "no"):
         replies = vote.replies(lines, [line.as_entered for line in new.lines])
-    if new.opening.is_reopened and arguments.came_before_close is None:
+    if new.history.is_reopened and arguments.came_before_close is None:
         asks = "Note: add will ask whether these lines came before the close"
         tell(f"{asks}; this preview assumes that they did.")
     tell_many(report_of_files(vote, new, numbers, replies))
@@ -456,7 +457,7 @@ def report_of_files(
     vote: Vote, new: NewLines, numbers: Sequence[int], replies: Sequence[str]
 ) -> Iterator[str]:
     if numbers:
-        yield from entering.late_notes(vote.election, new.opening, "what is added")
+        yield from entering.late_notes(vote.election, new.history, "what is added")
     for file in new.files:
         yield from (f"{line.where}: it is empty, and was left out" for line in file.empty)
         yield from repeated_words(file)

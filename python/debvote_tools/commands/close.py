@@ -124,7 +124,7 @@ def what_is_closed(
         faults.append(Fault(None, why_they_stop(stops), cure))
     stop_at(faults)
     detail, counts = fixed(election, sealed), collections.Counter(letters.values())
-    detail["waiting"], detail["after_end"] = len(left), counts[Arrived.LATE]
+    detail["waiting"], detail["after_end"] = len(left), counts[Arrived.AFTER_THE_END]
     detail["before_call"], detail["early"] = counts[Arrived.BEFORE_THE_CALL], is_early
     if left:
         detail["left"] = left

@@ -76,7 +76,9 @@ class Desk:
         def plan() -> Seen:
             history = History(vote.book.acts())
             vote.demand_same_call(history, NOTHING_CAST, "start the desk again")
-            return history.acts_of_opening(), queries.envelopes(vote.book, "elector = ?", elector)
+            return history.acts_that_open_or_close(), queries.envelopes(
+                vote.book, "elector = ?", elector
+            )
 
         def show_all(now: Seen) -> bool:
             self.ask_if_reopened(now[0])

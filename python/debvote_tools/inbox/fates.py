@@ -56,7 +56,8 @@ def fates_of(
     times; a letter that arrived at no known time has that of its act. debvote is started twice at
     most.
 
-    The last valid line of an elector that is in time and not struck counts. A letter is of whoever
+    The last valid line of an elector that is in time and not struck counts: the numbers of the
+    envelopes say it, and debvote only which lines are valid. A letter is of whoever
     has a ballot in it or a line near to one, and of whoever sent it. One that was entered comes beside its envelopes.
     """
     electors = queries.electors(election.book) if of is None else of

@@ -201,9 +201,9 @@ def why_not_latest(case: LetterCase, box: Box, at_once: set[str]) -> ReasonWithV
 
 
 def set_copies(group: Sequence[LetterCase], firsts: Collection[LetterCase], box: Box) -> None:
-    """Sets which letters of one identity are ignored as copies: of one that went in, or may go in. A
-    letter that waits hides no other, but of letters that wait for the same reason and have the same
-    body, only the first is shown.
+    """Sets which letters of one identity are ignored as copies: of one that went in, though it was
+    taken back or struck since, or that breaks no rule. One that breaks a rule, and never went in,
+    hides only those with the same reason and body.
     """
     hiding = [case for case in group if case.hides]
     is_hidden = any(case.decision is not None or case.outcome is Outcome.GOES_IN for case in hiding)

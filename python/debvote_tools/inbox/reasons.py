@@ -38,11 +38,12 @@ class ReasonWithValues:
 
 
 class Reason(enum.Enum):
-    """Why a letter waits: the secretary reads the first text within a sentence, the elector the
+    """Why a letter waits or was set aside: the secretary reads the first text within a sentence, the elector the
     second. A call gives it its values: `Reason.AFTER_THE_END(end=..)`.
     """
 
-    # the secretary decided
+    # the secretary decided. An elector whose ballot was entered from it reads of the ballot instead
+    # (`told_of` in `outbox/due.py`)
     TAKEN_BACK = "its ballot was taken back", LOOKED_AT
     PUT_BACK = "it was put back to wait", LOOKED_AT
     SET_ASIDE = "it was set aside", marked(

@@ -122,8 +122,8 @@ class BallotLine:
 
 
 class LinesBySender(NamedTuple):
-    """What the lines of a letter are, by who sent it: the ballots; those with the real name of
-    somebody else, as in the letter of a family; what is offered to the secretary, with the reason
+    """What the lines of a letter are, by who sent it: the ballots with a name on the roll, whosever
+    they are; those with the real name of somebody else, as in the letter of a family; what is offered to the secretary, with the reason
     why it is no ballot by itself; and what is near to a ballot.
     """
 
@@ -145,7 +145,7 @@ def lines_by_sender(
     """
     sender = sharing[0] if len(sharing) == 1 else None
     likely = sender if marked is None else marked if marked in (sharing or [marked]) else None
-    own, others, refused = list[BallotLine](), list[BallotLine](), dict[str, Near]()
+    ballots, others, refused = list[BallotLine](), list[BallotLine](), dict[str, Near]()
     offered = dict[BallotLine, Reason]()
     for line in lines:
         name = line.elector or (sender if sender is not None and is_name_of(sender, line) else None)
@@ -160,11 +160,11 @@ def lines_by_sender(
         elif line.answer is not None and name is not None:
             refused.setdefault(ballot.ballot, Near(line.number, ballot.ballot, False, line.answer))
         elif line.answer is None and line.ranks and name is not None:
-            own.append(ballot)
+            ballots.append(ballot)
         elif line.answer is None and line.real:
             others.append(ballot)
-    if own or refused:
-        return LinesBySender(own, others, {}, list(refused.values())[:MAX_NEAR])
+    if ballots or refused:
+        return LinesBySender(ballots, others, {}, list(refused.values())[:MAX_NEAR])
     near = [line.near for line in lines if line.near is not None]
     return LinesBySender((), (), offered, near[:MAX_NEAR])
 
@@ -227,7 +227,7 @@ class LetterCase:
 
     @property
     def hides(self) -> bool:
-        """Whether its copies are ignored: it went in, or may go in by itself."""
+        """Whether all its copies are ignored: it went in once, or breaks no rule."""
         went_in = (queries.ENTERED, queries.TAKEN_BACK, queries.STRUCK)
         return self.decision in went_in or self.first_broken_rule is None
 
@@ -241,7 +241,7 @@ class LetterCase:
         return self.read.arrived is not None and self.read.arrived <= self.circumstances.called
 
     @property
-    def arrived_late(self) -> bool:
+    def arrived_after_end(self) -> bool:
         arrived, ends = self.read.arrived, (self.circumstances.end, self.circumstances.first_close)
         return arrived is not None and any(arrived > end for end in filter(None, ends))
 
@@ -333,7 +333,7 @@ def why_not_signed_by_its_elector(case: LetterCase) -> ReasonWithValues | None:
     return None if has_mark else Reason.NO_MARK(mark=circumstances.mark)
 
 
-def why_not_one_ballot(case: LetterCase) -> ReasonWithValues | None:
+def why_several_ballots(case: LetterCase) -> ReasonWithValues | None:
     """No other line reads as a ballot that differs. The next rule would say less of such a letter."""
     if len({line.ballot for line in case.ballots}) <= 1:
         return None
@@ -344,7 +344,7 @@ def why_not_one_ballot(case: LetterCase) -> ReasonWithValues | None:
 
 
 def why_not_first(case: LetterCase) -> ReasonWithValues | None:
-    """The ballot is the first line, but for a greeting. In an answer to a letter that only this
+    """There is a ballot, and it is the first line, but for a greeting. In an answer to a letter that only this
     elector has, a quotation of it may be above the ballot.
     """
     flowing, ballot = case.read.body.flowing, case.ballot
@@ -382,7 +382,7 @@ RULES = (
     why_not_in_time,
     why_not_from_its_elector,
     why_not_signed_by_its_elector,
-    why_not_one_ballot,
+    why_several_ballots,
     why_not_first,
     why_not_of_this_vote,
 )

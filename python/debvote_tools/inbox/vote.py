@@ -104,7 +104,9 @@ class Vote:
         that are not late, if it is later. A line that debvote refuses is no ballot.
         """
         in_time = {
-            one.number: queries.envelopes(self.book, "elector = ?", one.elector, view="ballot")
+            one.number: queries.envelopes(
+                self.book, "elector = ?", one.elector, view=queries.IN_TIME
+            )
             for one in late
         }
         answers = self.answers([line.line for lines in in_time.values() for line in lines])

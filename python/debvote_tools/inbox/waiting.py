@@ -18,12 +18,14 @@ class Arrived(enum.Enum):
     BEFORE_THE_CALL = enum.auto()
     # or at no known time
     IN_TIME = enum.auto()
-    # after the end or the first close
-    LATE = enum.auto()
+    # after the end or the first close, whether or not its ballot is late if it is entered
+    AFTER_THE_END = enum.auto()
 
 
 def waiting_letters(election: Election, history: History) -> dict[int, Arrived]:
-    """The letters that wait for the secretary, by their numbers: when each arrived."""
+    """The letters that wait for the secretary, by their numbers: when each arrived. Those that go in
+    are among them, until somebody agrees in `add`.
+    """
     kept = queries.kept_letters(election.book)
     if not kept:
         return {}
@@ -37,7 +39,7 @@ def waiting_letters(election: Election, history: History) -> dict[int, Arrived]:
     found = {}
     for letter in judged(Vote(election, history), history, kept):
         if letter.needs_secretary:
-            arrived = Arrived.LATE if letter.arrived_late else Arrived.IN_TIME
+            arrived = Arrived.AFTER_THE_END if letter.arrived_after_end else Arrived.IN_TIME
             is_before = letter.arrived_before_call
             found[letter.number] = Arrived.BEFORE_THE_CALL if is_before else arrived
     return found
@@ -66,4 +68,5 @@ def why_they_stop(numbers: Collection[int]) -> str:
 def how_to_go_on(election: Election) -> str:
     """What is done, after the close, with letters that arrived in time."""
     aside = f"set aside what is no ballot: {election.command('held', 'NUMBER', '--set-aside')}"
-    return f"{aside}; if one is a ballot, run {election.command('reopen', '--because', 'TEXT')}, and add the mailbox once more"
+    enter = f"run {election.command('reopen', '--because', 'TEXT')}, then {election.command('held', 'NUMBER', '--enter')}"
+    return f"{aside}; if one is a ballot, {enter}"

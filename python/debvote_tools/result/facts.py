@@ -29,7 +29,7 @@ FOR_SECRETARY = {
     ),
     "letters left": (
         "these letters arrived in time, and wait: {letters}; set aside what is no ballot (debvote-election held NUMBER --set-aside); if "
-        "one is a ballot, run debvote-election reopen --because TEXT, and add the mailbox once more"
+        "one is a ballot, run debvote-election reopen --because TEXT, then debvote-election held NUMBER --enter"
     ),
     "other casting vote": (
         "an earlier publication has a casting vote for {option}; only one can be right, so find out which was given"
@@ -157,7 +157,7 @@ class Facts:
     # what was done, None of two files; and how many lines came after the end, and are in time since
     # the vote was not closed
     acts: tuple[Act, ...] | None = None
-    after_the_end: int = 0
+    lines_after_end: int = 0
     # in a vote that is not secret: the lines that were entered after the close
     late: bytes | None = None
     # the letter of the last close

@@ -60,7 +60,7 @@ def facts_of(election: Election, words: Words, waiting: Sequence[int]) -> Facts:
         is_secret, has_names = sealed.counted.secret, history.announced("names")
         electors = queries.electors(book) if has_names or is_secret else []
         acts = acts_of(book, history, is_secret=is_secret)
-        count_after_end = after_the_end(book, history)
+        count_after_end = lines_after_end(book, history)
         doubts = doubts_of(election, history, sealed.public, words.casting, waiting)
     secret = None
     if is_secret:
@@ -82,7 +82,7 @@ def facts_of(election: Election, words: Words, waiting: Sequence[int]) -> Facts:
         language=election.language if words.language is None else language_of(words.language),
         words=words,
         acts=acts,
-        after_the_end=count_after_end,
+        lines_after_end=count_after_end,
         late=None if is_secret else late,
         closed=closing_letter(history, sealed.public, election.language)
         if history.closes
@@ -162,7 +162,7 @@ def doubts_of(
         places = {"closed": closed, "until": until}
         # `close --early` has agreed to it
         found.append(Doubt("closed early", places, stops=False))
-    found += late_letters_in_time(election, history)
+    found += in_time_and_entered_late(election, history)
     names = dict(zip(poll.plain_names, poll.names))
     earlier = dict.fromkeys(act.detail["casting"] for act in history.named("publish"))
     others = [option for option in earlier if option is not None and casting not in (None, option)]
@@ -176,7 +176,7 @@ def doubts_of(
     return found
 
 
-def late_letters_in_time(election: Election, history: History) -> list[Doubt]:
+def in_time_and_entered_late(election: Election, history: History) -> list[Doubt]:
     """A doubt for each letter that arrived before the end and the first close, and whose ballot is
     late, was not entered again, and would count: its elector has no later ballot.
     """
@@ -223,7 +223,7 @@ def acts_of(book: Book, history: History, *, is_secret: bool) -> tuple[Act, ...]
     return tuple(Act(in_zone(act.time), act.done, act.shown(in_zone), act.because) for act in acts)
 
 
-def after_the_end(book: Book, history: History) -> int:
+def lines_after_end(book: Book, history: History) -> int:
     """How many lines, rows and ballots of desks came after the end, and are in time, valid or not.
     What was entered after the first close is left out: whoever entered it said that it came before
     that close.
@@ -232,7 +232,9 @@ def after_the_end(book: Book, history: History) -> int:
         return 0
     condition = "letter IS NULL AND time > ? AND act < ?"
     first_close = history.closes[0].number if history.closes else history.last.number + 1
-    return len(queries.lines(book, condition, as_text(history.until), first_close, view="ballot"))
+    return len(
+        queries.lines(book, condition, as_text(history.until), first_close, view=queries.IN_TIME)
+    )
 
 
 def acts_of_page(act: DoneAct, book: Book, history: History, *, is_secret: bool) -> Iterator[Act]:
