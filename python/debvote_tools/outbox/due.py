@@ -178,9 +178,9 @@ class LettersDue:
             self.new = list(map(self.letter_to, silent.values()))
 
         def text_of(elector: Elector, letter: OutgoingLetter) -> str:
-            held = (Outcome.WAITS, Outcome.GOES_IN)
             told = told_of(fates[elector.name]).values()
-            return self.composer.reminder(elector, [one for one in told if one.became in held])
+            left = [one for one in told if one.became is not Outcome.SET_ASIDE]
+            return self.composer.reminder(elector, left)
 
         return text_of
 

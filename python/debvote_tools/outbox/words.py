@@ -108,12 +108,12 @@ class Composer:
                 break
         return text
 
-    def reminder(self, elector: Elector, held: Sequence[Fate]) -> str:
-        """A letter to an elector without a ballot. If a letter of theirs waits, it says so, and
-        that they can send a right line now.
+    def reminder(self, elector: Elector, fates: Sequence[Fate]) -> str:
+        """A letter to an elector without a ballot that counts. If a line or a letter of theirs has
+        come, it says what became of it, and that they can send a right line now.
         """
-        has_waiting = any(one.is_own for one in held)
-        return self.text("reminders.txt", elector, fates=held, has_waiting=has_waiting)
+        has_come = any(one.is_own or one.envelope for one in fates)
+        return self.text("reminders.txt", elector, fates=fates, has_come=has_come)
 
     def receipt(self, elector: Elector, fates: Sequence[Fate]) -> str:
         """What became of all that came from an elector. It has the right line if what came last was

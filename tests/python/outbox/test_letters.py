@@ -597,7 +597,7 @@ class FullDisk(OutTest):
 
 class Reminders(OutTest):
     def test_to_whom(self) -> None:
-        self.add_lines(f"ada {RANKS}", "ben 1,2")
+        self.add_lines(f"ada {RANKS}")
         self.add(letter("cleo", "I want the lake\n"), letter("dan", f"dan {RANKS}\n", sender="x@x.example"))
         texts = self.texts("reminders")
         self.assertEqual(sorted(texts), [name for name in elections.NAMES if name != "ada"])
@@ -631,6 +631,21 @@ class Reminders(OutTest):
             receipt = self.texts("receipts")["ben"]
             self.assertNotIn("after the end", receipt)
             self.set_clock("2026-11-23T10:00:00+00:00")
+
+    def test_a_line_that_came_and_does_not_count_is_told(self) -> None:
+        """With the reason, as in the receipt, and how to vote now. A letter that was set aside is not told again."""
+        self.add_lines("ada 1,2", f"ben {RANKS}", f"cleo {RANKS}")
+        self.done("strike", 2, "--because", "not his")
+        self.add(letter("dan", "hello\n"))
+        self.done("held", 1, "--set-aside")
+        texts = self.texts("reminders")
+        refused = "It is not a valid ballot of this vote, so it does not count. It has 2 ranks, and the vote has 4 options."
+        wanted = (("ada", "A line with your name", refused), ("ben", "Your ballot", "and the secretary has struck it. It does not count."))
+        for name, begins, ends in wanted:
+            begin, told, rest = texts[name].partition(f"{ends} ")
+            self.assertTrue(begin.startswith(f"Dear {name.title()}, No ballot of yours that counts has come yet. {begins} "), texts[name])
+            self.assertIn(f"You can send a right line now, and need not wait. {WHEN} {FORM}#{name}/", rest)
+        self.assertTrue(texts["dan"].startswith(f"Dear Dan, No ballot of yours that counts has come yet. {WHEN}"), texts["dan"])
 
 
 class NoBallots(OutTest):

@@ -139,6 +139,12 @@ class Texts(unittest.TestCase):
             self.assertIn("find it with your name, ada, and your code", " ".join(texts[1].split()))
             self.assertIn("The result has no ballot of yours", vote().text("result_to_elector.txt", ADA, letter=letter, ranks=None))
 
+    def test_in_a_secret_vote_no_letter_repeats_what_came(self) -> None:
+        elector, now = ADA._replace(code="c0de" * 8), vote(has_aliases=True)
+        for text in (now.reminder(elector, all_that_came()), now.receipt(elector, all_that_came())):
+            self.assertIn("It has 1 rank, and the vote has 3 options.", " ".join(text.split()))
+            self.assertNotRegex(text, r"ada \d|\d,\d|\||c0de")
+
 
 class CallLetter(unittest.TestCase):
     """The call, an extension, a reminder and a receipt that refuses have the same block."""
