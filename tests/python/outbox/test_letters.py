@@ -528,6 +528,14 @@ class Receipts(OutTest):
         names = "From To Subject Date Message-ID X-Unsent Auto-Submitted MIME-Version Content-Type Content-Transfer-Encoding"
         self.assertEqual([name for name, _ in message.raw_items()], names.split())
 
+    def test_a_name_of_the_sender_that_is_not_encoded(self) -> None:
+        """Its letter waits, and the elector and the secretary read the true reason; the address is read all the same."""
+        self.add(letter("ada", f"ada {RANKS}\n", sender="Ad\u00e1 <ada@club.example>"))
+        why = "the name of its sender is not encoded"
+        self.assertIn(f"\n        {why}, so programs may read it in different ways\n", self.told("held"))
+        said = f"No ballot from it is entered yet: the secretary has to look at it first. The reason: {why}. Send it with a name without accents"
+        self.assertIn(said, self.texts("receipts")["ada"])
+
 
 class ReceiptsElsewhere(OutTest):
     call_words = ("--to", "vote@club.example", "--until", "2026-12-04 18:00", "--zone", "Europe/Berlin")
