@@ -787,6 +787,27 @@ class Result(OutTest):
         self.assertIn("What is doubtful about this result: - More than half of the lines of the ballot file are refused: 2 of 3.", text)
         self.assertIn("Why it was published all the same, in the secretary's words: (they were asked)", text)
 
+    def test_why_no_ballot_of_an_elector_counts(self) -> None:
+        self.add_lines(f"ada {RANKS}", "ben 1,2", f"cleo {RANKS}")
+        self.done("strike", 3, "--because", "not hers")
+        self.add_lines(f"gus {RANKS}")
+        self.done("undo", "--yes")
+        self.add(letter("eve", "hello\n"))
+        self.done("close", "--early", "--force", "--because", "enough")
+        self.add_lines(f"dan {RANKS}")
+        self.done("publish", "--force", "--because", "enough")
+        texts = self.texts("result")
+        self.assertNotIn("that counts", texts["ada"])
+        for name, why in (
+            ("ben", "It is not a valid ballot of this vote, so it does not count. It has 2 ranks, and the vote has 4 options."),
+            ("cleo", "and the secretary has struck it. It does not count."),
+            ("dan", "It was entered after the close, so it is late and does not count."),
+            ("eve", "No ballot from it is entered yet: the secretary has to look at it first. The reason: no line of it is a ballot of this vote."),
+            ("fay", "No ballot has come under your name."),
+            ("gus", "and the secretary has taken it back. It does not count unless it is entered again."),
+        ):
+            self.assertRegex(texts[name], rf"{AT} The result has no ballot of yours that counts\. .*{re.escape(why)} .*What is doubtful")
+
 
 class ResultAt(OutTest):
     call_words = ("--to", "vote@club.example")

@@ -78,7 +78,7 @@ def texts(now: Composer) -> list[str]:
         now.reminder(ADA, []),
         now.receipt(ADA, all_that_came()),
         now.text("closed_to_elector.txt", ADA, letter="CLOSED\n"),
-        *(now.text("result_to_elector.txt", ADA, letter="RESULT\n", ranks=ranks) for ranks in ("1,2,3", None)),
+        *(now.text("result_to_elector.txt", ADA, letter="RESULT\n", ranks=ranks, fates=all_that_came()) for ranks in ("1,2,3", None)),
     ]
 
 
@@ -137,11 +137,12 @@ class Texts(unittest.TestCase):
             self.assertIn(own, " ".join(texts[0].split()))
             self.assertNotRegex(texts[1], "#|2,1,3|Hall")
             self.assertIn("find it with your name, ada, and your code", " ".join(texts[1].split()))
-            self.assertIn("The result has no ballot of yours", vote().text("result_to_elector.txt", ADA, letter=letter, ranks=None))
+            self.assertIn("The result has no ballot of yours", vote().text("result_to_elector.txt", ADA, letter=letter, ranks=None, fates=()))
 
     def test_in_a_secret_vote_no_letter_repeats_what_came(self) -> None:
         elector, now = ADA._replace(code="c0de" * 8), vote(has_aliases=True)
-        for text in (now.reminder(elector, all_that_came()), now.receipt(elector, all_that_came())):
+        result = now.text("result_to_elector.txt", elector, letter="RESULT\n", ranks=None, fates=all_that_came())
+        for text in (now.reminder(elector, all_that_came()), now.receipt(elector, all_that_came()), result):
             self.assertIn("It has 1 rank, and the vote has 3 options.", " ".join(text.split()))
             self.assertNotRegex(text, r"ada \d|\d,\d|\||c0de")
 
