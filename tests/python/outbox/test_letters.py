@@ -268,6 +268,23 @@ class Paper(OutTest):
         self.assertNotIn("Note", self.done("letters", "call").output)
         self.assertIn("The words at the head of this letter say where it goes.", " ".join(self.read(name[2]).decode().split()))
 
+    def test_a_printed_letter_says_who_sends_it_and_where_to_answer(self) -> None:
+        """Where the secretary's own words do not begin it."""
+        self.done("call", "--take-back")
+        self.done("call", "--to", "T\u00fcV & S\u00f6hne <vote@club.example>", *self.call_words[2:])
+        self.add_lines("eve 1,2", f"ben {RANKS}")
+        kinds = ["call", "reminders", "receipts"]
+        for kind in kinds:
+            self.done("letters", kind)
+        self.done("close", "--early")
+        self.done("publish", "--force", "--because", "few")
+        for kind in ("closed", "result"):
+            self.done("letters", kind)
+        begin = '<h2><bdi>Eve</bdi></h2>\n<p>Who sends this letter, and where to answer: T\u00fcV &amp; S\u00f6hne, vote@club.example</p>\n<p>Dear Eve,</p>'
+        for kind in (*kinds, "closed", "result"):
+            [page] = [file for file in self.files(kind) if file.suffix == ".html"]
+            self.assertEqual(begin in page.read_text(), kind not in ("call", "reminders"), kind)
+
 
 class Names(OutTest):
     names = ["ada-2", "ada"]
