@@ -12,6 +12,7 @@ import re
 from collections.abc import Collection, Iterator, Sequence
 
 from debvote_tools.book.queries import Elector
+from debvote_tools.cli.console import shown_line
 from debvote_tools.inbox.rules import Outcome
 from debvote_tools.inbox.fates import Became, Fate
 from debvote_tools.inbox.reasons import for_elector
@@ -127,7 +128,8 @@ class Composer:
         return self.text("receipts.txt", elector, fates=fates, is_refusing=is_refusing)
 
     def text(self, template: str, elector: Elector, **values: object) -> str:
-        return self.rendered(PACKAGE, template, elector, said_of=self.said_of, **values)
+        ways = {"said_of": self.said_of, "shown_line": shown_line}
+        return self.rendered(PACKAGE, template, elector, **ways, **values)
 
     def rendered(self, package: str, template: str, elector: Elector, **values: object) -> str:
         call = self.call_data

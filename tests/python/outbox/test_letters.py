@@ -324,7 +324,7 @@ class Receipts(OutTest):
         ):
             self.assertIn(said, texts[name])
         # a receipt that refuses says why, then where the form is and how a right line looks; another has neither
-        begin = "and the vote has 4 options. If you have not sent this, or it is not what you meant, answer at once. You vote under the name cleo. "
+        begin = "and the vote has 4 options. |cleo 1,2 If you have not sent this, or it is not what you meant, answer at once. You vote under the name cleo. "
         begin += f"You can send a right line now, and need not wait. {WHEN.removeprefix(f'{TITLE} ')} {FORM}#cleo/"
         self.assertIn(begin, texts["cleo"])
         self.assertEqual(texts["cleo"].count(TITLE), 1)
@@ -552,6 +552,19 @@ class Receipts(OutTest):
         self.assertIn(f"\n        {why}, so programs may read it in different ways\n", self.told("held"))
         said = f"No ballot from it is entered yet: the secretary has to look at it first. The reason: {why}. Send it with a name without accents"
         self.assertIn(said, self.texts("receipts")["ada"])
+
+    def test_a_line_that_was_refused_is_quoted_and_votes_for_nobody(self) -> None:
+        """Nor does it where the receipt is answered, with or without a ballot, and the quotation has no marks."""
+        lines = [f"ada {RANKS},1", f"ben\u202e {RANKS} or dan {RANKS}", "cleo " + "1," * 60]
+        self.add_lines(*lines, words=("--force",))
+        found = self.written("receipts")
+        quoted = [f"|{lines[0]}", f"||ben\\u202E {RANKS} or\n|dan {RANKS}", f"|{lines[2][:100]}.."]
+        for (name, message), line in zip(found.items(), quoted, strict=True):
+            self.assertIn(f"\n\n{line}\n\nIf you have not sent this", message.get_content())
+            head = f"In-Reply-To: {message['Message-ID']}\nSubject: Re: {message['Subject']}\n"
+            for number, ballot in enumerate(("", f"{name} {OTHER_RANKS}\n\nThe secretary wrote:\n")):
+                self.add(letter(name, f"{ballot}{message.get_content()}", number=number, head=head, time=EARLIER))
+        self.assertEqual(self.exported()[0].splitlines()[3:], [f"{name} {OTHER_RANKS}" for name in found])
 
 
 class ReceiptsElsewhere(OutTest):
