@@ -26,7 +26,8 @@ LINE = (
 )
 MARKS = r"\[([0-9a-f]{16})-([2-9a-hjkmnp-z]{10})\]"
 WHEN = f"{TITLE} Vote until: Friday, 4 December 2026, 18:00 (UTC)"
-OPTIONS = "Option 1: At the lake Option 2: In the town hall Option 3: Sell the house and meet there Option 4: Further discussion (the default option)"
+OPTIONS = "Option 1: At the lake Option 2: In the town hall Option 3: Sell the house and meet there (majority ratio 3) "
+OPTIONS += "Option 4: Further discussion (the default option)"
 EARLIER = "Mon, 23 Nov 2026 09:59:00 +0000"
 ELSEWHERE = "A letter in your name came from another address, and waits until the secretary has looked at it."
 
@@ -42,7 +43,7 @@ class Call(OutTest):
             begin += "option, which stays where no other one is good enough: "
             self.assertTrue(text.startswith(f"{begin}{OPTIONS} Send your line as an answer to this letter, or to "), text)
             self.assertIn(f"whose subject ends with [{mark}-{own}]", text)
-            self.assertIn(f"until the result: {hashlib.sha256(self.read('call/poll.toml')).hexdigest()} After the vote", text)
+            self.assertIn(f"until the result: {hashlib.sha256(self.read('call/poll.toml')).hexdigest()} Majority ratio 3: ", text)
             self.assertLess(message.get_content().index(AT), 300)
             self.assertEqual([other for other in elections.NAMES if f"{other} _" in text], [name])
             # one page
@@ -280,7 +281,7 @@ class Paper(OutTest):
         self.done("publish", "--force", "--because", "few")
         for kind in ("closed", "result"):
             self.done("letters", kind)
-        begin = '<h2><bdi>Eve</bdi></h2>\n<p>Who sends this letter, and where to answer: T\u00fcV &amp; S\u00f6hne, vote@club.example</p>\n<p>Dear Eve,</p>'
+        begin = "<h2><bdi>Eve</bdi></h2>\n<p>Who sends this letter, and where to answer: T\u00fcV &amp; S\u00f6hne, vote@club.example</p>\n"
         for kind in (*kinds, "closed", "result"):
             [page] = [file for file in self.files(kind) if file.suffix == ".html"]
             self.assertEqual(begin in page.read_text(), kind not in ("call", "reminders"), kind)
@@ -324,8 +325,8 @@ class Receipts(OutTest):
         ):
             self.assertIn(said, texts[name])
         # a receipt that refuses says why, then where the form is and how a right line looks; another has neither
-        begin = "and the vote has 4 options. |cleo 1,2 If you have not sent this, or it is not what you meant, answer at once. You vote under the name cleo. "
-        begin += f"You can send a right line now, and need not wait. {WHEN.removeprefix(f'{TITLE} ')} {FORM}#cleo/"
+        begin = "and the vote has 4 options. |cleo 1,2 If you have not sent this, or it is not what you meant, answer at once. "
+        begin += f"You vote under the name cleo. You can send a right line now, and need not wait. {WHEN.removeprefix(f'{TITLE} ')} {FORM}#cleo/"
         self.assertIn(begin, texts["cleo"])
         self.assertEqual(texts["cleo"].count(TITLE), 1)
         self.assertIn(f"{LINE}cleo _,_,_,_", texts["cleo"])

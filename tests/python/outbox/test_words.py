@@ -19,7 +19,7 @@ from debvote_tools.inbox.rules import Outcome
 from debvote_tools.outbox.letter_folder import message, rows_to_print
 from debvote_tools.outbox.words import PACKAGE, SUBJECTS, Composer
 from debvote_tools.poll.announced import is_mail_address
-from debvote_tools.poll.call import CallData
+from debvote_tools.poll.call import CallData, call_page
 from debvote_tools.poll.sealed import SealedPoll
 from debvote_tools.text.ballots import without_ballots
 from debvote_tools.text.language import LANGUAGES, language_of
@@ -229,6 +229,26 @@ class CallLetter(unittest.TestCase):
             self.assertEqual("The words at the head of this letter, and the texts" in " ".join(text.split()), bool(letter))
             self.assertNotIn("A lake", now.call_letter(ADA, is_extension=True))
         self.assertNotIn("A lake", vote(poll=poll).call_letter(ADA, is_extension=False))
+
+    def test_it_says_what_asks_for_more_than_a_plain_majority_as_the_page_does(self) -> None:
+        for code in LANGUAGES:
+            language = language_of(code)
+            ratio = language.say(
+                "Majority ratio {ratio}: at least {ratio} times as many electors must prefer the option to the default option as prefer "
+                "the default option to it.", ratio=3,
+            )  # fmt: skip
+            electors = language.say_number("The roll has {number} elector.", "The roll has {number} electors.", 2)
+            for ratios, quorum, is_told in (((1, 3), 1, True), ((1, 1), 0, False)):
+                now = vote(code, poll=dataclasses.replace(POLL, ratios=ratios, quorum=quorum))
+                text, page = now.call_letter(ADA, is_extension=False), call_page(now.call_data).decode()
+                said = " ".join(text.split())
+                found = [" ".join(one.split()) in words for one in (ratio, electors) for words in (" ".join(page.split()), said)]
+                self.assertEqual(found, [is_told, is_told, True, is_told], text)
+                short = language.say("majority ratio {ratio}", ratio=ratios[1])
+                self.assertEqual(f"Hall ({short})" in said, is_told)
+                self.assertNotIn(f"Lake ({language.say('majority ratio {ratio}', ratio=1)})", said)
+                # one page
+                self.assertLess(len(text.splitlines()), 60)
 
 
 @unittest.skipUnless(BROWSER, "chromium is not installed")
