@@ -19,7 +19,7 @@ from debvote_tools.poll.announced import address_in
 from debvote_tools.poll.call import CallData
 from debvote_tools.poll.plain_names import without_accents
 from debvote_tools.text.ballots import faults_of, without_ballots
-from debvote_tools.text.language import Language, marked
+from debvote_tools.text.language import marked
 from debvote_tools.text.rendering import one_line, render_letter
 from debvote_tools.text.times import time_in_words
 
