@@ -158,6 +158,7 @@ def without_ballots(text: str, options: int, is_name: Callable[[str], bool]) -> 
         if parts == line:
             return line
         blanks = line[: len(line) - len(line.lstrip())]
-        return "\n".join(f"{blanks}|{part.strip()}" for part in parts.split("\n") if part.strip())
+        bare = (part.strip().removeprefix("|") for part in parts.split("\n"))
+        return "\n".join(f"{blanks}|{part}" for part in bare if part)
 
     return "\n".join(map(barred, text.split("\n")))

@@ -559,7 +559,7 @@ class Receipts(OutTest):
         lines = [f"ada {RANKS},1", f"ben\u202e {RANKS} or dan {RANKS}", "cleo " + "1," * 60]
         self.add_lines(*lines, words=("--force",))
         found = self.written("receipts")
-        quoted = [f"|{lines[0]}", f"||ben\\u202E {RANKS} or\n|dan {RANKS}", f"|{lines[2][:100]}.."]
+        quoted = [f"|{lines[0]}", f"|ben\\u202E {RANKS} or\n|dan {RANKS}", f"|{lines[2][:100]}.."]
         for (name, message), line in zip(found.items(), quoted, strict=True):
             self.assertIn(f"\n\n{line}\n\nIf you have not sent this", message.get_content())
             head = f"In-Reply-To: {message['Message-ID']}\nSubject: Re: {message['Subject']}\n"
