@@ -48,11 +48,12 @@ RECEIVED = re.compile(r"received[ \t]*:", re.IGNORECASE)
 # the line that ends a letter
 END = "-- "
 
-# the sender: an address, perhaps with a name before it or a comment after it, in ASCII
+# the sender: an address in ASCII, perhaps with a name before it or a comment after it, in any bytes
 ATOM = r"[\w!#$%&'*+/=?^`{|}~-]+"
 ADDRESS = rf"{ATOM}(?:\.{ATOM})*@[\w-]+(?:\.[\w-]+)*"
-NAME = r"""(?:"(?:[ !#-\[\]-~]|\\[ -~])*"|[\w!#$%&'*+/=?^`{|}~. -])*"""
-SENDER = re.compile(rf"{NAME}<({ADDRESS})>|({ADDRESS})(?: *\([ !-'*-\[\]-~]*\))?", re.ASCII)
+NAME = r"""(?:"(?:[ !#-\[\]-~\udc80-\udcff]|\\[ -~])*"|[\w!#$%&'*+/=?^`{|}~. \udc80-\udcff-])*"""
+COMMENT = r" *\([ !-'*-\[\]-~\udc80-\udcff]*\)"
+SENDER = re.compile(rf"{NAME}<({ADDRESS})>|({ADDRESS})(?:{COMMENT})?", re.ASCII)
 MESSAGE_ID = re.compile(r"<[!-;=?-~]{1,250}>")
 # a time as mail servers write it, and its place in a field Received
 TIME = r"(?:[A-Z][a-z]{2}, *)?\d{1,2} +[A-Z][a-z]{2} +20\d\d +\d{1,2}:\d\d(?::\d\d)? +(?:[+-]\d{4}|UTC?|GMT|[ECMP][SD]T)"
@@ -163,7 +164,10 @@ def parse(raw: RawLetter) -> ParsedLetter:
     senders, subjects = letter.values("from"), letter.values("subject")
     longest = max(map(len, subjects), default=0)
     letter.note_too_long(longest, "characters in its subject", MAX_FIELD)
-    body, sender = body_of(letter), sender_of(senders)
+    sender = sender_of(senders)
+    if sender and not senders[0].isascii():
+        letter.note_trouble(Reason.RAW_NAME())
+    body = body_of(letter)
     texts = (text for subject in subjects for text in (decoded(subject), subject))
     answered = letter.values("in-reply-to")
     has_id = len(answered) == 1 and MESSAGE_ID.fullmatch(answered[0])

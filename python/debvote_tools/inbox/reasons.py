@@ -62,6 +62,9 @@ class Reason(enum.Enum):
     )
     TOO_MANY_PARTS = "it has too many parts or lines, or its parts are nested too deep", UNCERTAIN
     AMBIGUOUS = "mail programs may read it in different ways, because of {what}", UNCERTAIN
+    RAW_NAME = "the name of its sender is not encoded, so programs may read it in different ways", marked(
+        "The reason: the name of its sender is not encoded. Send it with a name without accents, or by another program."
+    )
     ENCRYPTED = "it is encrypted", marked(
         "The reason: it is encrypted, or packed so that it is not read."
     )

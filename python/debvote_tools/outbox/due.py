@@ -11,7 +11,6 @@ from debvote_tools.book.election import LETTERS, RESULT_LETTER, Election
 from debvote_tools.book.queries import Elector
 from debvote_tools.book.outgoing import REFUSED, TAKEN, WRITTEN, About, OutgoingLetter
 from debvote_tools.cli.faults import Fault, bad_words
-from debvote_tools.text.ballots import ballot_file
 from debvote_tools.inbox.fates import NOBODY, Became, Fate, fates_of
 from debvote_tools.inbox.rules import Outcome
 from debvote_tools.outbox.reached import CAME_BACK, reached_by_call
@@ -178,9 +177,9 @@ class LettersDue:
             self.new = list(map(self.letter_to, silent.values()))
 
         def text_of(elector: Elector, letter: OutgoingLetter) -> str:
-            held = (Outcome.WAITS, Outcome.GOES_IN)
             told = told_of(fates[elector.name]).values()
-            return self.composer.reminder(elector, [one for one in told if one.became in held])
+            left = [one for one in told if one.became is not Outcome.SET_ASIDE]
+            return self.composer.reminder(elector, left)
 
         return text_of
 
@@ -271,16 +270,21 @@ class LettersDue:
             raise bad_words("--at", why, cure, NOTHING_WRITTEN)
         book, code = self.election.book, act.detail["words"]["language"]
         letter = (queries.sealed(book, f"{LETTERS}/{RESULT_LETTER}", act.number) or b"").decode()
-        ballots = ballot_file(queries.lines_as_of(book, act.number))
-        poll = self.election.sealed().counted.as_bytes()
-        standing = self.election.debvote.standing(poll, ballots)
         if code is not None:
             call_data = dataclasses.replace(self.composer.call_data, language=language_of(code))
             self.composer = dataclasses.replace(self.composer, call_data=call_data)
         self.to_each(act.number)
-        return lambda elector, _: self.composer.text(
-            "result_to_elector.txt", elector, ranks=standing.get(elector.name), letter=letter
-        )
+        # since the close no other ballot counts than in the publication
+        fates = fates_of(self.election, self.history)
+
+        def text_of(elector: Elector, _: OutgoingLetter) -> str:
+            told = told_of(fates[elector.name]).values()
+            ranks = next((one.ranks for one in told if one.became is Became.COUNTS), None)
+            return self.composer.text(
+                "result_to_elector.txt", elector, ranks=ranks, fates=told, letter=letter
+            )
+
+        return text_of
 
     def stops(self, words: str, first: str) -> Fault:
         cure = f"run {self.election.command(first)} first"

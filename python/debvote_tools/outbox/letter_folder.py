@@ -98,6 +98,9 @@ def letter_files(due: LettersDue, letters: Sequence[OutgoingLetter]) -> dict[str
         elector = due.electors[letter.elector]
         if not letter.address:
             rows = rows_to_print(due.text(letter))
+            # others begin with the secretary's own words
+            if due.kind in ("receipts", "closed", "result"):
+                rows[0].insert(0, (sender_on_paper(due), "paragraph"))
             printed.append((one_line(elector.who) or elector.name, rows))
         elif not due.is_sending and due.can_be_sent(letter):
             # no name on a roll has the sign _
@@ -111,6 +114,12 @@ def letter_files(due: LettersDue, letters: Sequence[OutgoingLetter]) -> dict[str
             PACKAGE, "print.html", call.language, style=style, title=call.poll.name, letters=printed
         )
     return files
+
+
+def sender_on_paper(due: LettersDue) -> str:
+    call = due.composer.call_data
+    sender = ", ".join(filter(None, (due.sender_name, call.to or due.sender)))
+    return call.language.say("Who sends this letter, and where to answer: {sender}", sender=sender)
 
 
 def rows_to_print(text: str) -> list[list[tuple[str, str]]]:

@@ -8,18 +8,18 @@ have a bar before them. So whoever answers a letter and quotes it does not vote 
 import dataclasses
 import datetime
 import functools
-import re
-from collections.abc import Collection, Iterator, Sequence
+from collections.abc import Collection, Sequence
 
 from debvote_tools.book.queries import Elector
+from debvote_tools.cli.console import shown_line
 from debvote_tools.inbox.rules import Outcome
 from debvote_tools.inbox.fates import Became, Fate
 from debvote_tools.inbox.reasons import for_elector
 from debvote_tools.poll.announced import address_in
 from debvote_tools.poll.call import CallData
 from debvote_tools.poll.plain_names import without_accents
-from debvote_tools.text.ballots import without_ballots
-from debvote_tools.text.language import Language, marked
+from debvote_tools.text.ballots import faults_of, without_ballots
+from debvote_tools.text.language import marked
 from debvote_tools.text.rendering import one_line, render_letter
 from debvote_tools.text.times import time_in_words
 
@@ -27,10 +27,6 @@ PACKAGE = "debvote_tools.outbox"
 
 # how many lines two sides of A4 have, as letter.css prints them
 TWO_SIDES = 112
-
-# what debvote says of a line
-RANK_COUNT = re.compile(r"bad rank count: (\d+) ranks?, the poll has (\d+) options?")
-
 
 # the letters that go out, as the command and the book name them, with their subjects
 SUBJECTS = {
@@ -108,12 +104,12 @@ class Composer:
                 break
         return text
 
-    def reminder(self, elector: Elector, held: Sequence[Fate]) -> str:
-        """A letter to an elector without a ballot. If a letter of theirs waits, it says so, and
-        that they can send a right line now.
+    def reminder(self, elector: Elector, fates: Sequence[Fate]) -> str:
+        """A letter to an elector without a ballot that counts. If a line or a letter of theirs has
+        come, it says what became of it, and that they can send a right line now.
         """
-        has_waiting = any(one.is_own for one in held)
-        return self.text("reminders.txt", elector, fates=held, has_waiting=has_waiting)
+        has_come = any(one.is_own or one.envelope for one in fates)
+        return self.text("reminders.txt", elector, fates=fates, has_come=has_come)
 
     def receipt(self, elector: Elector, fates: Sequence[Fate]) -> str:
         """What became of what came from an elector. It has the right line if the last of it was refused
@@ -127,7 +123,8 @@ class Composer:
         return self.text("receipts.txt", elector, fates=fates, is_refusing=is_refusing)
 
     def text(self, template: str, elector: Elector, **values: object) -> str:
-        return self.rendered(PACKAGE, template, elector, said_of=self.said_of, **values)
+        ways = {"said_of": self.said_of, "shown_line": shown_line}
+        return self.rendered(PACKAGE, template, elector, **ways, **values)
 
     def rendered(self, package: str, template: str, elector: Elector, **values: object) -> str:
         call = self.call_data
@@ -201,25 +198,3 @@ class Composer:
 def is_on_paper(elector: Elector) -> bool:
     """Whether letters to an elector are printed: no address is one that every mail server takes."""
     return not address_in(elector.addresses)
-
-
-def faults_of(
-    answer: str | None, name: str, language: Language, *, is_within: bool = False
-) -> Iterator[str]:
-    """What is wrong with a line, by what debvote says of it."""
-    if is_within:
-        yield language.say("It has a ballot within other words; the ballot has to be there alone.")
-    if answer is None:
-        if not is_within:
-            yield language.say("It is a ballot.")
-    elif count := RANK_COUNT.match(answer):
-        yield language.say_number(
-            "It has {number} rank, and the vote has {options} options.",
-            "It has {number} ranks, and the vote has {options} options.",
-            int(count[1]),
-            options=count[2],
-        )
-    elif answer.startswith("bad not on roll: "):
-        yield language.say("The name in it is not on the roll; yours is {name}.", name=name)
-    elif not is_within:
-        yield language.say("It is not written as a ballot is.")

@@ -181,10 +181,10 @@
 
   // The ballot that the address of the page names, whatever follows a slash; the browser may have gone to its place in the list.
   async function showNamed() {
-    const [elector] = location.hash.slice(1).split("/");
-    const place = byId(elector);
+    const [named] = location.hash.slice(1).split("/");
+    const place = byId(named) ?? byId(named.toLowerCase());
     if (codeInput !== null || place?.closest(".ballots, .roll") == null) return;
-    nameInput.value = elector;
+    nameInput.value = place.id;
     await show();
     place.closest("details").open = false;
     byId("Find-your-ballot").scrollIntoView();

@@ -13,14 +13,14 @@ from typing import Any
 from markupsafe import Markup
 
 from debvote_tools.cli.console import seen, tell_aside
-from debvote_tools.debvote import standing_in
+from debvote_tools.debvote import Finding, standing_in
 from debvote_tools.poll.secret import BY_OPENSSL, BY_PYTHON, sealed_checksum
 from debvote_tools.poll.call import explanations_of, numbered_options, paragraphs_of
 from debvote_tools.result import file_names, scripts
 from debvote_tools.result.facts import Answers, Facts
 from debvote_tools.result.sheet import Sheet
 from debvote_tools.result.why import Why
-from debvote_tools.text.ballots import IN_A_LIST, ballot_lines, ballots_in_words
+from debvote_tools.text.ballots import IN_A_LIST, ballot_lines, ballots_in_words, faults_of
 from debvote_tools.text.language import ENGLISH, Language
 from debvote_tools.text.rendering import InHtml, render_letter, render_page, resources
 from debvote_tools.text.times import date_in_words
@@ -87,7 +87,7 @@ def page_of(facts: Facts, answers: Answers, checksums: Mapping[str, str]) -> byt
         picture, least_width = picture_in_page(answers.picture, language)
         style += f".picture svg {{ min-width: {least_width}px; }}\n"
     file_lines = ballot_lines(facts.ballots)
-    refused = ((one.line, f"{one.word}: {one.hint}") for one in answers.refused)
+    refused = ((one.line, cause_of(one, language)) for one in answers.refused)
     own_letter = [file_names.LETTER] if facts.is_of_two_files else []
     return render_page(
         __package__,
@@ -169,6 +169,14 @@ def runs_of(found: Iterable[tuple[int, bytes, str]], language: InHtml) -> list[d
             runs.append({"first": number, **same, "last": number})
             left -= len(text or "")
     return runs
+
+
+def cause_of(finding: Finding, language: Language) -> str:
+    """Why a line is refused: in English what debvote says, which follows in brackets in others."""
+    said = f"{finding.word}: {finding.hint}"
+    if language == ENGLISH:
+        return said
+    return " ".join([*faults_of(said, "", language), f"({said})"])
 
 
 def line_on_page(line: bytes, language: InHtml) -> str:

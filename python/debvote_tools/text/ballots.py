@@ -1,10 +1,10 @@
 """Ballot files; a ballot in words, from its ranks as `standing` and the ballot file spell them, such as
-`1,2,-,3`; and texts of which no line reads as a ballot.
+`1,2,-,3`; why a line is none; and texts of which no line reads as a ballot.
 """
 
 import functools
 import re
-from collections.abc import Callable, Iterable, Sequence
+from collections.abc import Callable, Iterable, Iterator, Sequence
 from typing import NamedTuple
 
 from debvote_tools.text.language import ENGLISH, Language, marked
@@ -90,6 +90,38 @@ def ballots_in_words(
     return in_words
 
 
+# ---- why a line is no ballot
+# what debvote says of a line
+RANK_COUNT = re.compile(r"bad rank count: (\d+) ranks?, the poll has (\d+) options?")
+
+
+def faults_of(
+    answer: str | None, name: str, language: Language, *, is_within: bool = False
+) -> Iterator[str]:
+    """What is wrong with a line, by what debvote says of it; nothing if it is late. It names the
+    elector if the name is known.
+    """
+    if is_within:
+        yield language.say("It has a ballot within other words; the ballot has to be there alone.")
+    if answer is None:
+        if not is_within:
+            yield language.say("It is a ballot.")
+    elif count := RANK_COUNT.match(answer):
+        yield language.say_number(
+            "It has {number} rank, and the vote has {options} options.",
+            "It has {number} ranks, and the vote has {options} options.",
+            int(count[1]),
+            options=count[2],
+        )
+    elif answer.startswith("bad not on roll: "):
+        if name:
+            yield language.say("The name in it is not on the roll; yours is {name}.", name=name)
+        else:
+            yield language.say("The name in it is not on the roll.")
+    elif not is_within and not answer.startswith("late: "):
+        yield language.say("It is not written as a ballot is.")
+
+
 # ---- no line reads as a ballot
 # what repairs of a line take away or replace: blanks, dashes, and signs around names and ranks
 BLANK, DASH, SIGNS = r"[^\S\n]", "[\u2010-\u2014\u2212-]", r"[^\w\s(|\u2010-\u2014\u2212-]{0,4}"
@@ -126,6 +158,7 @@ def without_ballots(text: str, options: int, is_name: Callable[[str], bool]) -> 
         if parts == line:
             return line
         blanks = line[: len(line) - len(line.lstrip())]
-        return "\n".join(f"{blanks}|{part.strip()}" for part in parts.split("\n") if part.strip())
+        bare = (part.strip().removeprefix("|") for part in parts.split("\n"))
+        return "\n".join(f"{blanks}|{part}" for part in bare if part)
 
     return "\n".join(map(barred, text.split("\n")))

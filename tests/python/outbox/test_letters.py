@@ -26,7 +26,8 @@ LINE = (
 )
 MARKS = r"\[([0-9a-f]{16})-([2-9a-hjkmnp-z]{10})\]"
 WHEN = f"{TITLE} Vote until: Friday, 4 December 2026, 18:00 (UTC)"
-OPTIONS = "Option 1: At the lake Option 2: In the town hall Option 3: Sell the house and meet there Option 4: Further discussion (the default option)"
+OPTIONS = "Option 1: At the lake Option 2: In the town hall Option 3: Sell the house and meet there (majority ratio 3) "
+OPTIONS += "Option 4: Further discussion (the default option)"
 EARLIER = "Mon, 23 Nov 2026 09:59:00 +0000"
 ELSEWHERE = "A letter in your name came from another address, and waits until the secretary has looked at it."
 
@@ -42,7 +43,7 @@ class Call(OutTest):
             begin += "option, which stays where no other one is good enough: "
             self.assertTrue(text.startswith(f"{begin}{OPTIONS} Send your line as an answer to this letter, or to "), text)
             self.assertIn(f"whose subject ends with [{mark}-{own}]", text)
-            self.assertIn(f"until the result: {hashlib.sha256(self.read('call/poll.toml')).hexdigest()} After the vote", text)
+            self.assertIn(f"until the result: {hashlib.sha256(self.read('call/poll.toml')).hexdigest()} Majority ratio 3: ", text)
             self.assertLess(message.get_content().index(AT), 300)
             self.assertEqual([other for other in elections.NAMES if f"{other} _" in text], [name])
             # one page
@@ -268,6 +269,23 @@ class Paper(OutTest):
         self.assertNotIn("Note", self.done("letters", "call").output)
         self.assertIn("The words at the head of this letter say where it goes.", " ".join(self.read(name[2]).decode().split()))
 
+    def test_a_printed_letter_says_who_sends_it_and_where_to_answer(self) -> None:
+        """Where the secretary's own words do not begin it."""
+        self.done("call", "--take-back")
+        self.done("call", "--to", "T\u00fcV & S\u00f6hne <vote@club.example>", *self.call_words[2:])
+        self.add_lines("eve 1,2", f"ben {RANKS}")
+        kinds = ["call", "reminders", "receipts"]
+        for kind in kinds:
+            self.done("letters", kind)
+        self.done("close", "--early")
+        self.done("publish", "--force", "--because", "few")
+        for kind in ("closed", "result"):
+            self.done("letters", kind)
+        begin = "<h2><bdi>Eve</bdi></h2>\n<p>Who sends this letter, and where to answer: T\u00fcV &amp; S\u00f6hne, vote@club.example</p>\n"
+        for kind in (*kinds, "closed", "result"):
+            [page] = [file for file in self.files(kind) if file.suffix == ".html"]
+            self.assertEqual(begin in page.read_text(), kind not in ("call", "reminders"), kind)
+
 
 class Names(OutTest):
     names = ["ada-2", "ada"]
@@ -307,8 +325,8 @@ class Receipts(OutTest):
         ):
             self.assertIn(said, texts[name])
         # a receipt that refuses says why, then where the form is and how a right line looks; another has neither
-        begin = "and the vote has 4 options. If you have not sent this, or it is not what you meant, answer at once. You vote under the name cleo. "
-        begin += f"You can send a right line now, and need not wait. {WHEN.removeprefix(f'{TITLE} ')} {FORM}#cleo/"
+        begin = "and the vote has 4 options. |cleo 1,2 If you have not sent this, or it is not what you meant, answer at once. "
+        begin += f"You vote under the name cleo. You can send a right line now, and need not wait. {WHEN.removeprefix(f'{TITLE} ')} {FORM}#cleo/"
         self.assertIn(begin, texts["cleo"])
         self.assertEqual(texts["cleo"].count(TITLE), 1)
         self.assertIn(f"{LINE}cleo _,_,_,_", texts["cleo"])
@@ -528,6 +546,27 @@ class Receipts(OutTest):
         names = "From To Subject Date Message-ID X-Unsent Auto-Submitted MIME-Version Content-Type Content-Transfer-Encoding"
         self.assertEqual([name for name, _ in message.raw_items()], names.split())
 
+    def test_a_name_of_the_sender_that_is_not_encoded(self) -> None:
+        """Its letter waits, and the elector and the secretary read the true reason; the address is read all the same."""
+        self.add(letter("ada", f"ada {RANKS}\n", sender="Ad\u00e1 <ada@club.example>"))
+        why = "the name of its sender is not encoded"
+        self.assertIn(f"\n        {why}, so programs may read it in different ways\n", self.told("held"))
+        said = f"No ballot from it is entered yet: the secretary has to look at it first. The reason: {why}. Send it with a name without accents"
+        self.assertIn(said, self.texts("receipts")["ada"])
+
+    def test_a_line_that_was_refused_is_quoted_and_votes_for_nobody(self) -> None:
+        """Nor does it where the receipt is answered, with or without a ballot, and the quotation has no marks."""
+        lines = [f"ada {RANKS},1", f"ben\u202e {RANKS} or dan {RANKS}", "cleo " + "1," * 60]
+        self.add_lines(*lines, words=("--force",))
+        found = self.written("receipts")
+        quoted = [f"|{lines[0]}", f"|ben\\u202E {RANKS} or\n|dan {RANKS}", f"|{lines[2][:100]}.."]
+        for (name, message), line in zip(found.items(), quoted, strict=True):
+            self.assertIn(f"\n\n{line}\n\nIf you have not sent this", message.get_content())
+            head = f"In-Reply-To: {message['Message-ID']}\nSubject: Re: {message['Subject']}\n"
+            for number, ballot in enumerate(("", f"{name} {OTHER_RANKS}\n\nThe secretary wrote:\n")):
+                self.add(letter(name, f"{ballot}{message.get_content()}", number=number, head=head, time=EARLIER))
+        self.assertEqual(self.exported()[0].splitlines()[3:], [f"{name} {OTHER_RANKS}" for name in found])
+
 
 class ReceiptsElsewhere(OutTest):
     call_words = ("--to", "vote@club.example", "--until", "2026-12-04 18:00", "--zone", "Europe/Berlin")
@@ -597,7 +636,7 @@ class FullDisk(OutTest):
 
 class Reminders(OutTest):
     def test_to_whom(self) -> None:
-        self.add_lines(f"ada {RANKS}", "ben 1,2")
+        self.add_lines(f"ada {RANKS}")
         self.add(letter("cleo", "I want the lake\n"), letter("dan", f"dan {RANKS}\n", sender="x@x.example"))
         texts = self.texts("reminders")
         self.assertEqual(sorted(texts), [name for name in elections.NAMES if name != "ada"])
@@ -631,6 +670,21 @@ class Reminders(OutTest):
             receipt = self.texts("receipts")["ben"]
             self.assertNotIn("after the end", receipt)
             self.set_clock("2026-11-23T10:00:00+00:00")
+
+    def test_a_line_that_came_and_does_not_count_is_told(self) -> None:
+        """With the reason, as in the receipt, and how to vote now. A letter that was set aside is not told again."""
+        self.add_lines("ada 1,2", f"ben {RANKS}", f"cleo {RANKS}")
+        self.done("strike", 2, "--because", "not his")
+        self.add(letter("dan", "hello\n"))
+        self.done("held", 1, "--set-aside")
+        texts = self.texts("reminders")
+        refused = "It is not a valid ballot of this vote, so it does not count. It has 2 ranks, and the vote has 4 options."
+        wanted = (("ada", "A line with your name", refused), ("ben", "Your ballot", "and the secretary has struck it. It does not count."))
+        for name, begins, ends in wanted:
+            begin, told, rest = texts[name].partition(f"{ends} ")
+            self.assertTrue(begin.startswith(f"Dear {name.title()}, No ballot of yours that counts has come yet. {begins} "), texts[name])
+            self.assertIn(f"You can send a right line now, and need not wait. {WHEN} {FORM}#{name}/", rest)
+        self.assertTrue(texts["dan"].startswith(f"Dear Dan, No ballot of yours that counts has come yet. {WHEN}"), texts["dan"])
 
 
 class NoBallots(OutTest):
@@ -763,6 +817,27 @@ class Result(OutTest):
         text = self.texts("result")["ada"]
         self.assertIn("What is doubtful about this result: - More than half of the lines of the ballot file are refused: 2 of 3.", text)
         self.assertIn("Why it was published all the same, in the secretary's words: (they were asked)", text)
+
+    def test_why_no_ballot_of_an_elector_counts(self) -> None:
+        self.add_lines(f"ada {RANKS}", "ben 1,2", f"cleo {RANKS}")
+        self.done("strike", 3, "--because", "not hers")
+        self.add_lines(f"gus {RANKS}")
+        self.done("undo", "--yes")
+        self.add(letter("eve", "hello\n"))
+        self.done("close", "--early", "--force", "--because", "enough")
+        self.add_lines(f"dan {RANKS}")
+        self.done("publish", "--force", "--because", "enough")
+        texts = self.texts("result")
+        self.assertNotIn("that counts", texts["ada"])
+        for name, why in (
+            ("ben", "It is not a valid ballot of this vote, so it does not count. It has 2 ranks, and the vote has 4 options."),
+            ("cleo", "and the secretary has struck it. It does not count."),
+            ("dan", "It was entered after the close, so it is late and does not count."),
+            ("eve", "No ballot from it is entered yet: the secretary has to look at it first. The reason: no line of it is a ballot of this vote."),
+            ("fay", "No ballot has come under your name."),
+            ("gus", "and the secretary has taken it back. It does not count unless it is entered again."),
+        ):
+            self.assertRegex(texts[name], rf"{AT} The result has no ballot of yours that counts\. .*{re.escape(why)} .*What is doubtful")
 
 
 class ResultAt(OutTest):

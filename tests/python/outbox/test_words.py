@@ -19,7 +19,7 @@ from debvote_tools.inbox.rules import Outcome
 from debvote_tools.outbox.letter_folder import message, rows_to_print
 from debvote_tools.outbox.words import PACKAGE, SUBJECTS, Composer
 from debvote_tools.poll.announced import is_mail_address
-from debvote_tools.poll.call import CallData
+from debvote_tools.poll.call import CallData, call_page
 from debvote_tools.poll.sealed import SealedPoll
 from debvote_tools.text.ballots import without_ballots
 from debvote_tools.text.language import LANGUAGES, language_of
@@ -78,7 +78,7 @@ def texts(now: Composer) -> list[str]:
         now.reminder(ADA, []),
         now.receipt(ADA, all_that_came()),
         now.text("closed_to_elector.txt", ADA, letter="CLOSED\n"),
-        *(now.text("result_to_elector.txt", ADA, letter="RESULT\n", ranks=ranks) for ranks in ("1,2,3", None)),
+        *(now.text("result_to_elector.txt", ADA, letter="RESULT\n", ranks=ranks, fates=all_that_came()) for ranks in ("1,2,3", None)),
     ]
 
 
@@ -137,7 +137,14 @@ class Texts(unittest.TestCase):
             self.assertIn(own, " ".join(texts[0].split()))
             self.assertNotRegex(texts[1], "#|2,1,3|Hall")
             self.assertIn("find it with your name, ada, and your code", " ".join(texts[1].split()))
-            self.assertIn("The result has no ballot of yours", vote().text("result_to_elector.txt", ADA, letter=letter, ranks=None))
+            self.assertIn("The result has no ballot of yours", vote().text("result_to_elector.txt", ADA, letter=letter, ranks=None, fates=()))
+
+    def test_in_a_secret_vote_no_letter_repeats_what_came(self) -> None:
+        elector, now = ADA._replace(code="c0de" * 8), vote(has_aliases=True)
+        result = now.text("result_to_elector.txt", elector, letter="RESULT\n", ranks=None, fates=all_that_came())
+        for text in (now.reminder(elector, all_that_came()), now.receipt(elector, all_that_came()), result):
+            self.assertIn("It has 1 rank, and the vote has 3 options.", " ".join(text.split()))
+            self.assertNotRegex(text, r"ada \d|\d,\d|\||c0de")
 
 
 class CallLetter(unittest.TestCase):
@@ -222,6 +229,26 @@ class CallLetter(unittest.TestCase):
             self.assertEqual("The words at the head of this letter, and the texts" in " ".join(text.split()), bool(letter))
             self.assertNotIn("A lake", now.call_letter(ADA, is_extension=True))
         self.assertNotIn("A lake", vote(poll=poll).call_letter(ADA, is_extension=False))
+
+    def test_it_says_what_asks_for_more_than_a_plain_majority_as_the_page_does(self) -> None:
+        for code in LANGUAGES:
+            language = language_of(code)
+            ratio = language.say(
+                "Majority ratio {ratio}: at least {ratio} times as many electors must prefer the option to the default option as prefer "
+                "the default option to it.", ratio=3,
+            )  # fmt: skip
+            electors = language.say_number("The roll has {number} elector.", "The roll has {number} electors.", 2)
+            for ratios, quorum, is_told in (((1, 3), 1, True), ((1, 1), 0, False)):
+                now = vote(code, poll=dataclasses.replace(POLL, ratios=ratios, quorum=quorum))
+                text, page = now.call_letter(ADA, is_extension=False), call_page(now.call_data).decode()
+                said = " ".join(text.split())
+                found = [" ".join(one.split()) in words for one in (ratio, electors) for words in (" ".join(page.split()), said)]
+                self.assertEqual(found, [is_told, is_told, True, is_told], text)
+                short = language.say("majority ratio {ratio}", ratio=ratios[1])
+                self.assertEqual(f"Hall ({short})" in said, is_told)
+                self.assertNotIn(f"Lake ({language.say('majority ratio {ratio}', ratio=1)})", said)
+                # one page
+                self.assertLess(len(text.splitlines()), 60)
 
 
 @unittest.skipUnless(BROWSER, "chromium is not installed")

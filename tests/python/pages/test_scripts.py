@@ -330,3 +330,18 @@ class ScriptsTest(publishing.PublishTest):
         odd = window.count_again(files=files | {"poll.toml": files["poll.toml"].replace(b'"Plain"', b'"Pl\xffin"')})[0]
         self.expect(f"no UTF-8: {odd}", "poll refused: not in UTF-8" in odd, True)
         self.expect(f"another form of TOML: {toml}", "not in plain form, as the poll.toml of a result is" in toml, True)
+
+    @at_browser.NEEDS_BROWSER
+    def test_a_name_in_capitals_in_the_address(self):
+        """It is the name in small letters, unless it is that of a part of the page."""
+        poll = re.sub("roll = .*", 'roll = ["anna-meier", "ballots"]', publishing.PLAIN_POLL)
+        room = plain_room(self.scratch / "capitals", poll, "anna-meier 1,2,3\nballots 1,2,3\n")
+        self.expect("it is published", publish(room, *FILES, "result"), ("Winner: 1 A\nverified\n", "", 0))
+        window = self.window
+        self.page_of(window, room=room)
+        window.ask("location.hash = '#Anna-Meier/23456789AB'")
+        window.until("document.getElementById('Answer').textContent.startsWith('This ballot counts for anna-meier:')")
+        self.expect("the name", window.ask("document.getElementById('Name').value"), "anna-meier")
+        window.ask("location.hash = '#Ballots'")
+        window.until("document.getElementById('Ballots').closest('details').open")
+        self.expect("a part of the page", window.ask("document.getElementById('Name').value"), "anna-meier")

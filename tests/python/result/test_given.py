@@ -160,6 +160,22 @@ class WordsTest(publishing.PublishTest):
         self.expect("many refused texts: the last ones", last, f"lines {told} to 8015: {cause}")
         self.expect("many refused texts: so many are shown", (int(told) > 5_000, len(page) < publishing.LARGEST_PAGE), (True, True))
 
+    def test_why_a_line_is_refused_in_another_language(self):
+        """The page says it as a receipt does, and in brackets as debvote does. That a line is late is said above them all."""
+        room = plain_room(self.scratch / "refused-in-german", publishing.PLAIN_POLL + "last_envelope = 4\n")
+        (room / "ballots").write_text("ada 1,2\nzoe 1,2,3\nada;1\nada 1,2,3\nada 3,2,1\n")
+        self.expect("refused in German: the status", publish(room, *FILES, "--language", "de", "result")[2], 0)
+        page = (room / "result" / "index.html").read_text()
+        found = [entry.text() for entry in pages.sections_of(page)["Refused-lines"].all("li")]
+        wanted = [
+            "Zeile 1: ada 1,2: Sie hat 2 Ränge, und die Abstimmung hat 3 Optionen. (bad rank count: 2 ranks, the poll has 3 options)",
+            "Zeile 2: zoe 1,2,3: Der Name darin steht nicht im Wählerverzeichnis. (bad not on roll: zoe is not on the roll)",
+            'Zeile 3: ada;1: Sie ist nicht so geschrieben wie ein Stimmzettel. (bad shape: column 4: ";"; '
+            "a ballot has a space there, or more of the name: a to z, 0 to 9, . or -)",
+            "Zeile 5: ada 3,2,1: (late: the last envelope is 4)",
+        ]
+        self.expect("refused in German", found, wanted)
+
 
 class FilesTest(publishing.PublishTest):
     def test_commands(self):
