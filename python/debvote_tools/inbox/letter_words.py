@@ -109,7 +109,7 @@ def why_words(letter: LetterCase) -> list[str]:
     """Why a letter waits, lines that may be ballots, and what else there is to look at."""
     reason = letter.reason
     # without a reason it breaks no rule, and nobody has agreed to it yet
-    why = "it goes in when you add it again" if reason is None else for_secretary(reason)
+    why = "it goes in with the next add of letters" if reason is None else for_secretary(reason)
     since = "; has voted since" if letter.has_voted_since else ""
     return [f"{why}{since}", *near_words(letter), *more_words(letter)]
 

@@ -192,8 +192,8 @@ class LettersDue:
         return max(times, default=None)
 
     def find_receipts(self) -> TextOf:
-        """A letter to each elector about all that came since the last one, also to an earlier
-        address, and those that no server has taken yet.
+        """A letter to each elector about all that came, or was struck or taken back, since the last
+        one, also to an earlier address; and those that no server has taken yet.
         """
         fates = self.fates()
         self.in_no_receipt = [
@@ -201,20 +201,20 @@ class LettersDue:
             for one in fates[NOBODY]
             if one.letter and one.became is Outcome.WAITS and not one.letter.read.is_automatic
         ]
-        told = {one.number: told_of(fates[one.name]) for one in self.electors.values()}
+        to_tell = {one.number: told_of(fates[one.name]) for one in self.electors.values()}
         # not to people who left the list, nor about a letter that has become a ballot: a new
         # receipt is about that
         self.earlier_receipts = [
             one
             for one in self.noted_before
             if (one.state != TAKEN or one.message_id in self.came_back)
-            and one.elector in told
-            and about_now(one.about, told[one.elector])
+            and one.elector in to_tell
+            and about_now(one.about, to_tell[one.elector])
         ]
         self.going_again = (
             list(filter(self.can_be_sent, self.earlier_receipts)) if self.is_sending else []
         )
-        said = {
+        told_before = {
             (one.elector, key)
             for one in self.noted_before
             if not self.failed_elsewhere(one)
@@ -223,7 +223,7 @@ class LettersDue:
         in_earlier = {(one.elector, one.address): set(one.about) for one in self.earlier_receipts}
         old = self.old_addresses()
         for number, elector in self.electors.items():
-            keys = [key for key in told[number] if (number, key) not in said]
+            keys = [key for key in to_tell[number] if (number, key) not in told_before]
             addresses = dict.fromkeys([address_in(elector.addresses), *old.get(number, [])])
             self.new += [
                 self.letter_to(elector, address, keys)
@@ -232,7 +232,7 @@ class LettersDue:
             ]
 
         return lambda elector, letter: self.composer.receipt(
-            elector, beside_what_counts(letter.about, told[elector.number])
+            elector, beside_what_counts(letter.about, to_tell[elector.number])
         )
 
     def old_addresses(self) -> dict[int, list[str]]:

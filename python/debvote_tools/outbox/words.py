@@ -119,8 +119,8 @@ class Composer:
             one for one in fates if one.is_own or one.became in (Became.COUNTS, Became.REFUSED)
         )
         last = next(reversed([one.became for one in decides]), Became.COUNTS)
-        is_refusing = not self.is_over and last is not Became.COUNTS
-        return self.text("receipts.txt", elector, fates=fates, is_refusing=is_refusing)
+        has_right_line = not self.is_over and last is not Became.COUNTS
+        return self.text("receipts.txt", elector, fates=fates, has_right_line=has_right_line)
 
     def text(self, template: str, elector: Elector, **values: object) -> str:
         ways = {"said_of": self.said_of, "shown_line": shown_line}

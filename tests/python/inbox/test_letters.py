@@ -650,7 +650,7 @@ class Signed(LettersTest):
         self.add(b"X-Status: R\n" + self.signed("ben"), self.signed("ben").replace(b"Subject: my", b"Subject: My"))
         self.call_with("ada", "ben", "cleo")
         shown = self.told("held")
-        self.assertEqual((shown.count("it goes in when you add it again"), shown.count("1 letter waits.")), (1, 1), shown)
+        self.assertEqual((shown.count("it goes in with the next add of letters"), shown.count("1 letter waits.")), (1, 1), shown)
         self.assert_fault(self.election("close"), 9, "these letters arrived in time, and wait: 1;")
         self.assertIn("2 counted  ben: ", self.add(self.signed("ben")))
         self.assertEqual(self.exported()[0], f"ada {RANKS}\nben {RANKS}\n")
