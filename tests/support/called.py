@@ -29,8 +29,7 @@ class CalledTest(elections.ElectionTest):
     def setUp(self) -> None:
         super().setUp()
         # programs at a terminal and acts of the test itself write their notes where the other runs do
-        before = os.environ.get("XDG_STATE_HOME", "")
-        self.addCleanup(os.environ.__setitem__, "XDG_STATE_HOME", before)
+        self.addCleanup(os.environ.__setitem__, "XDG_STATE_HOME", os.environ.get("XDG_STATE_HOME", ""))
         os.environ["XDG_STATE_HOME"] = str(self.state)
         self.first_act = self.last_act() + 1
 

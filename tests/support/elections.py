@@ -58,8 +58,7 @@ class Ended:
 
 def environment() -> dict[str, str]:
     """The environment of a user who has the programs in the PATH."""
-    path = os.pathsep.join([str(PROGRAM.parent), os.environ["PATH"]])
-    return {**os.environ, "PATH": path, "PYTHONDONTWRITEBYTECODE": "1"}
+    return {**os.environ, "PATH": os.pathsep.join([str(PROGRAM.parent), os.environ["PATH"]]), "PYTHONDONTWRITEBYTECODE": "1"}
 
 
 def clock_of(file: pathlib.Path) -> dict[str, str]:

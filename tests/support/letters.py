@@ -63,8 +63,7 @@ class DebvoteReader:
         handle = os.memfd_create("poll")
         os.write(handle, POLL.encode())
         words = [PROGRAM, "explain", "--poll", f"/proc/{os.getpid()}/fd/{handle}", "--ballots", "/dev/stdin"]
-        given = b"".join(line + b"\n" for line in lines)
-        text = subprocess.run(words, input=given, capture_output=True, check=False).stdout.decode("ascii")
+        text = subprocess.run(words, input=b"".join(line + b"\n" for line in lines), capture_output=True, check=False).stdout.decode("ascii")
         os.close(handle)
         findings = findings_in(text)
         assert findings.lines == len(lines), text
@@ -162,9 +161,7 @@ def parsed(data: bytes, where: str = "letter", *, is_parted_off: bool = False) -
 
 def read(*letters: bytes | ParsedLetter, reader: DebvoteReader | None = None, **of_names: object) -> list[ReadLetter]:
     """Letters with what their lines may be, as the book gives them back."""
-    given = [
-        one if isinstance(one, ParsedLetter) else parsed(one, f"letter {number}") for number, one in enumerate(letters, start=1)
-    ]
+    given = [one if isinstance(one, ParsedLetter) else parsed(one, f"letter {number}") for number, one in enumerate(letters, start=1)]
     new = [one for one in given if not isinstance(one, ReadLetter)]
     fresh = iter(with_lines(new, names(**of_names), (reader or DebvoteReader()).answers))
     found = [one if isinstance(one, ReadLetter) else next(fresh) for one in given]
@@ -182,8 +179,7 @@ def judged(
     """What becomes of letters, in the order of their times."""
     of_names = {name: value for name, value in other.items() if name in ("roll", "language", "real_names")}
     of_others = {name: value for name, value in other.items() if name not in ("language", "real_names")}
-    given = read(*letters, reader=reader, **of_names)
-    return judge_all(given, circumstances(**of_others), lambda _: ballots or {})
+    return judge_all(read(*letters, reader=reader, **of_names), circumstances(**of_others), lambda _: ballots or {})
 
 
 def label(why: ReasonWithValues) -> str:

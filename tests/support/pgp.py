@@ -56,11 +56,8 @@ class Keys:
         other = pathlib.Path(tempfile.mkdtemp(prefix="pgp-"))
         try:
             for data in (self.ring(name), said.encode()):
-                subprocess.run(
-                    ["gpg", "--homedir", other, "--batch", "--quiet", "--import"], input=data, capture_output=True, check=True
-                )
-            command = ["gpg", "--homedir", other, "--batch", "--export"]
-            return subprocess.run(command, capture_output=True, check=True).stdout
+                subprocess.run(["gpg", "--homedir", other, "--batch", "--quiet", "--import"], input=data, capture_output=True, check=True)
+            return subprocess.run(["gpg", "--homedir", other, "--batch", "--export"], capture_output=True, check=True).stdout
         finally:
             subprocess.run(["gpgconf", "--homedir", other, "--kill", "all"], capture_output=True)
             shutil.rmtree(other, ignore_errors=True)

@@ -28,10 +28,7 @@ ACTING = [
     *(("held", "1", "--set-aside"), ("reopen", "--because", "x"), ("call", "--to", "x@club.example"), ("codes",)),
     *(("count",), ("publish",), ("letters", "receipts")),
 ]
-READING = [
-    *(("status",), ("status", "--json"), ("show", "ada"), ("log",), ("log", "--check"), ("held",), ("check",)),
-    ("add", "--look", "more"),
-]
+READING = [*(("status",), ("status", "--json"), ("show", "ada"), ("log",), ("log", "--check"), ("held",), ("check",)), ("add", "--look", "more")]
 # those on whose words others rely: they read the whole chain
 RELYING = [("log", "--check"), ("count",), ("close",), ("publish",), ("export", "out"), ("backup", "copy.db")]
 
@@ -367,9 +364,7 @@ class Rewritten(BookTest):
         whole, tried = self.read("election.db"), 0
         with contextlib.closing(sqlite3.connect(self.book)) as connection:
             tables = [name for name, in connection.execute("SELECT name FROM sqlite_schema WHERE type = 'table'")]
-            columns = [
-                (table, name, kind) for table in tables for _, name, kind, *_ in connection.execute(f"PRAGMA table_info({table})")
-            ]
+            columns = [(table, name, kind) for table in tables for _, name, kind, *_ in connection.execute(f"PRAGMA table_info({table})")]
             owners = {table: connection.execute(f"SELECT max(rowid), act FROM {table}").fetchone() for table in tables}
         later = "strftime('%Y-%m-%dT%H:%M:%SZ', {}, '+1 second')"
         other = {"INTEGER": "coalesce({} + 1000, 1000)", "TEXT": "{} || ' '", "BLOB": "CAST({} || 'x' AS BLOB)"}
@@ -424,9 +419,7 @@ class Rewritten(BookTest):
 
         # a row of the table: its length, its number, and the row; one of the index: its length, and the row
         table, index = cell("struck"), cell("struck_by_act")
-        self.assertEqual(
-            (whole[table : table + 6], whole[index : index + 5]), (b"\x04\x01\x03\x00\x01\x05", b"\x04\x03\x01\x09\x05")
-        )
+        self.assertEqual((whole[table : table + 6], whole[index : index + 5]), (b"\x04\x01\x03\x00\x01\x05", b"\x04\x03\x01\x09\x05"))
         for name, at in {"the envelope": table + 1, "the act": table + 5, "the act of the index": index + 4}.items():
             with self.subTest(name):
                 self.book.write_bytes(whole[:at] + bytes([whole[at] ^ 2]) + whole[at + 1 :])
@@ -587,8 +580,7 @@ class OnTheDisk(BookTest):
             places = [(at, path) for at, (call, path) in enumerate(calls) if call == "rename"]
             self.assertEqual(len(places), renames, calls)
             for at, path in places:
-                around = [("fsync", path), ("rename", path), ("fsync", str(pathlib.Path(path).parent))]
-                self.assertEqual(calls[at - 1 : at + 2], around)
+                self.assertEqual(calls[at - 1 : at + 2], [("fsync", path), ("rename", path), ("fsync", str(pathlib.Path(path).parent))])
 
     def test_what_can_not_take_its_place_is_gone(self) -> None:
         self.calls("close", inject="rename:error=EIO:when=2")
@@ -621,8 +613,7 @@ class Places(BookTest):
 
     def test_in_a_folder_that_is_made(self) -> None:
         for words in (("status",), ("add", "x"), ("roll",)):
-            ended = self.election(*words, cwd=self.folder / "call")
-            self.assert_fault(ended, 2, "one folder up")
+            self.assert_fault(self.election(*words, cwd=self.folder / "call"), 2, "one folder up")
 
     def test_no_book(self) -> None:
         self.assert_fault(self.election("status", cwd=self.scratch), 2, "no election.db")

@@ -316,9 +316,7 @@ class SequencesTest(elections.ElectionTest):
         late = len((out / "late.txt").read_text().splitlines())
         found = (status["lines"], status["valid"], status["refused"], status["late"], status["voters"])
         self.assertEqual(found, (len(replies), valid, len(replies) - valid, late, len(standing)))
-        self.assertEqual(
-            status["without_ballot"], [name for name in elections.NAMES if name not in {line.split()[0] for line in standing}]
-        )
+        self.assertEqual(status["without_ballot"], [name for name in elections.NAMES if name not in {line.split()[0] for line in standing}])
         self.done("log", "--check")
 
 
@@ -363,8 +361,7 @@ class EightDesks(elections.ElectionTest):
             number = int(reply.split()[0])
             self.assertNotIn(number, told, "told twice")
             told[number] = line
-        said = f"This desk has entered {self.LINES} lines (1 counted, {self.LINES - 1} replaced).\n"
-        self.assertIn(said, desk.communicate()[0])
+        self.assertIn(f"This desk has entered {self.LINES} lines (1 counted, {self.LINES - 1} replaced).\n", desk.communicate()[0])
         self.assertEqual(desk.returncode, 0)
         return self.LINES
 

@@ -42,8 +42,7 @@ class WhenDebvoteRuns(CalledTest):
         self.log = self.scratch / "log"
         program = self.scratch / "beside" / "debvote"
         program.parent.mkdir()
-        book = str(self.folder / "election.db")
-        program.write_text(ASKING.format(book=book, log=str(self.log), program=str(elections.PROGRAM)))
+        program.write_text(ASKING.format(book=str(self.folder / "election.db"), log=str(self.log), program=str(elections.PROGRAM)))
         program.chmod(0o755)
         self.path = {"PATH": f"{program.parent}:{os.environ['PATH']}", "XDG_STATE_HOME": str(self.state)}
 

@@ -113,8 +113,7 @@ class Adding(LettersTest):
         self.assertEqual(self.exported(), ("", ""))
 
     def test_the_order_is_that_of_the_arrivals(self) -> None:
-        later = letter("ada", f"ada {OTHER}", "Mon, 23 Nov 2026 12:00:00 +0000", number=2)
-        self.add(later, letter("ada", f"ada {RANKS}"))
+        self.add(letter("ada", f"ada {OTHER}", "Mon, 23 Nov 2026 12:00:00 +0000", number=2), letter("ada", f"ada {RANKS}"))
         self.assertEqual(self.exported()[0], f"ada {RANKS}\nada {OTHER}\n")
 
     def test_an_older_letter_after_lines(self) -> None:
@@ -133,8 +132,7 @@ class Adding(LettersTest):
         self.told("close")
         self.told("desk", given=f"ada {OTHER}\n")
         self.told("reopen", "--because", "a mailbox was forgotten")
-        said = self.add(letter("ada", f"ada {RANKS}"), letter("ben", f"ben {RANKS}"))
-        self.assertIn("a later ballot of ada, of 2026-11-25 09:00", said)
+        self.assertIn("a later ballot of ada, of 2026-11-25 09:00", self.add(letter("ada", f"ada {RANKS}"), letter("ben", f"ben {RANKS}")))
         self.assertEqual(self.exported(), (f"ben {RANKS}\n", f"ada {OTHER}\n"))
         self.assert_fault(self.election("held", 1, "--enter", 1), 9, "its elector has voted since")
         self.told("held", 1, "--enter", 1, "--force")
@@ -203,8 +201,7 @@ class Adding(LettersTest):
         for words in (table, ("--again",), ("--force",), *answers):
             for more in ("--yes", "--look"):
                 with self.subTest(words, more=more):
-                    ended = self.election("add", *words, more, "inbox.mbox")
-                    self.assert_fault(ended, 2, f"{words[0]}: {said}")
+                    self.assert_fault(self.election("add", *words, more, "inbox.mbox"), 2, f"{words[0]}: {said}")
                     self.assertEqual(self.contents(), before)
 
     def test_an_extension_judges_anew(self) -> None:
@@ -433,8 +430,7 @@ class InTime(LettersTest):
         """Nothing is counted, nothing is published, and each says which letter it is."""
         named = f"these letters arrived in time, and wait: {number};"
         for words in (("count",), ("publish",), ("count", "--casting", "At the lake")):
-            ended = self.assert_refused(words, 9, named, "held NUMBER --set-aside", "reopen --because TEXT")
-            self.assertEqual(ended.output, "")
+            self.assertEqual(self.assert_refused(words, 9, named, "held NUMBER --set-aside", "reopen --because TEXT").output, "")
         self.assertFalse((self.folder / "result").exists())
         self.assertIn(f"These arrived in time, and count and publish stop while they wait: {number}\n", self.told("status"))
         self.assertEqual(self.numbers()["stopping"], [number])
@@ -641,8 +637,7 @@ class Signed(LettersTest):
         self.told("call", "--to", "vote@club.example", "--keyring", self.scratch / "ring")
 
     def signed(self, name: str, number: int = 1) -> bytes:
-        text = self.keys.inline(name, f"{name} {RANKS}\n[{self.mark}]\n", "20261123T095000")
-        return letter(name, text, number=number)
+        return letter(name, self.keys.inline(name, f"{name} {RANKS}\n[{self.mark}]\n", "20261123T095000"), number=number)
 
     def test_one_that_waited_for_a_key(self) -> None:
         self.assertIn("signed with a key that is not in the keyring", self.add(self.signed("ben"), self.signed("ada")))

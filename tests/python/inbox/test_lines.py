@@ -47,8 +47,7 @@ class Changes(unittest.TestCase):
         self.assertEqual(len(repaired_line(b", " * 1_000_000)), 1_000_000)
 
     def test_the_names_of_changes(self) -> None:
-        came = b"\xef\xbb\xbfAda\t1, 2\r"
-        self.assertEqual(differences(came, b"ada 1,2"), ["byte-order mark", "carriage return", "tabs", "capital letters"])
+        self.assertEqual(differences(b"\xef\xbb\xbfAda\t1, 2\r", b"ada 1,2"), ["byte-order mark", "carriage return", "tabs", "capital letters"])
         self.assertEqual(differences(b"ada  1", b"ada 1"), ["spaces"])
 
 

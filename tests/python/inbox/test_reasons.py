@@ -30,8 +30,7 @@ class Sentences(unittest.TestCase):
     def test_each_reason_has_both(self) -> None:
         self.assertEqual(len(Reason.__members__), len({reason.value[0] for reason in Reason}), "no two have one sentence")
         for reason in Reason:
-            said = for_secretary(with_values(reason))
-            self.assertNotRegex(said, r"[{}]|^[A-Z]|\.$", reason)
+            self.assertNotRegex(for_secretary(with_values(reason)), r"[{}]|^[A-Z]|\.$", reason)
             self.assertRegex(for_elector(with_values(reason)), r"^The reason: [^{}]+\.$")
 
     def test_what_electors_read_has_no_value_and_no_ballot(self) -> None:

@@ -95,8 +95,7 @@ class Copies(unittest.TestCase):
         between, again = other(hour(11)), first(time=hour(12))
         self.assertEqual(outcomes(again, between, first()), [f"in: {BALLOT}", f"in: {OTHER}", "waits: came before"])
         found = judged(first(), between)
-        becomes = outcomes(*(one.read for one in found), again, **entered(*found))
-        self.assertEqual(becomes, ["entered", "entered", "waits: came before"])
+        self.assertEqual(outcomes(*(one.read for one in found), again, **entered(*found)), ["entered", "entered", "waits: came before"])
         self.assertEqual(outcomes(first(), again), [f"in: {BALLOT}", "copy"])
         bens = letter("ben", f"ben {RANKS}", time=hour(11))
         self.assertEqual(outcomes(first(), bens, again), [f"in: {BALLOT}", f"in: ben {RANKS}", "copy"])
@@ -154,8 +153,7 @@ class Copies(unittest.TestCase):
     def test_a_second_delivery_after_the_end_that_is_read_first(self) -> None:
         late = first(time=hour(13))
         self.assertEqual(lines_in(late, first(), end=at(12)), [BALLOT])
-        found = judged(late, end=at(12))
-        self.assertEqual(outcomes(found[0].read, first(), end=at(12)), [f"in: {BALLOT}", "copy"])
+        self.assertEqual(outcomes(judged(late, end=at(12))[0].read, first(), end=at(12)), [f"in: {BALLOT}", "copy"])
 
     def test_copies_that_wait_for_one_reason_are_told_once(self) -> None:
         data = letter("ada", "when?", time=hour(10))
@@ -164,8 +162,7 @@ class Copies(unittest.TestCase):
         for decision, becomes in ((queries.SET_ASIDE, "set aside: set aside"), (queries.PUT_BACK, "waits: put back")):
             self.assertEqual(outcomes(data, again, decisions={parsed(data).digest: decision}), [becomes, "copy"])
         # for another reason it is told
-        automatic = b"Auto-Submitted: auto-replied\n" + data
-        self.assertEqual(outcomes(data, automatic), ["waits: no ballot", "waits: automatic"])
+        self.assertEqual(outcomes(data, b"Auto-Submitted: auto-replied\n" + data), ["waits: no ballot", "waits: automatic"])
 
 
 class Decisions(unittest.TestCase):
@@ -176,8 +173,7 @@ class Decisions(unittest.TestCase):
         }  # fmt: skip
         kept: ParsedLetter = parsed(first())
         for decision, becomes in wanted.items():
-            found = outcomes(kept, b"X-Status: R\n" + first(), decisions={kept.digest: decision})
-            self.assertEqual(found, [becomes, "copy"])
+            self.assertEqual(outcomes(kept, b"X-Status: R\n" + first(), decisions={kept.digest: decision}), [becomes, "copy"])
 
     def test_a_ballot_that_goes_in_counts_for_those_after_it(self) -> None:
         found = judged(first(), letter("ada", "hello", number=2, time=hour(9)))

@@ -100,8 +100,7 @@ class Files(unittest.TestCase):
 
     def test_lines_that_part_nothing(self) -> None:
         text = f"ada {RANKS}\n\nFrom Monday on\n\nFrom Monday on see\nhttps://x.example\n\n>From x Mon Nov 23 10:00:00 2026\n\nfrom x Mon Nov 23 10:00:00 2026\n\nFrom 10:00 on\n"
-        found = letters_of_file("box", mailbox(letter("ada", text), BEN))
-        self.assertEqual(len(read_in(found)), 2)
+        self.assertEqual(len(read_in(letters_of_file("box", mailbox(letter("ada", text), BEN)))), 2)
 
     def test_what_may_be_text_of_the_letter_above(self) -> None:
         carrier, below = letter("mallory", "hello\n"), b"\n" + LINE + BEN
@@ -143,8 +142,7 @@ class Files(unittest.TestCase):
 
     def test_parts_that_end_part_nothing_off(self) -> None:
         """Nor does a subject that anybody can write."""
-        parts = letter("x", "--b\n\nhi\n--b--\n", kind="multipart/mixed; boundary=b")
-        for above in (parts, letter("x", "hi\n", head="Subject: boundary=b\n")):
+        for above in (letter("x", "--b\n\nhi\n--b--\n", kind="multipart/mixed; boundary=b"), letter("x", "hi\n", head="Subject: boundary=b\n")):
             self.assert_parted_off(LINE + above + b"\n" + LINE + BEN, False, False)
 
     def test_a_long_letter_is_named_and_the_others_are_read(self) -> None:
@@ -254,8 +252,7 @@ class Folders(unittest.TestCase):
         return [raw.where.removeprefix(place) for raw in read_in(found)], why
 
     def test_a_folder_of_messages(self) -> None:
-        files = {"b.eml": ADA, "a.eml": BEN, "list.txt": b"hello", ".hidden.eml": ADA, "more/c.eml": ADA, "d.zip": b"PK\x03\x04"}
-        for name, data in files.items():
+        for name, data in {"b.eml": ADA, "a.eml": BEN, "list.txt": b"hello", ".hidden.eml": ADA, "more/c.eml": ADA, "d.zip": b"PK\x03\x04"}.items():
             self.write(name, data)
         os.mkfifo(self.folder / "pipe")
         (self.folder / "link").symlink_to("nowhere")

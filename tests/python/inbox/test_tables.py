@@ -131,8 +131,7 @@ class OtherOrders(CsvBallotsTest):
                 self.assert_refused("n\n", Status.BAD_WORDS, f"`{head}` {what}", cure, ranks=f"{head},b,c")
         for head in ("choices", "Wahl", "the first", "Auswahl 1a", "lake 1"):
             self.assertEqual(heads_of("n", f"{head},b,c", POLL)[1], head)
-        poll = dataclasses.replace(POLL, shown_options=("First choice", *SHOWN[1:]))
-        self.assertEqual(heads_of("n", "first choice,b,c", poll)[1], "first choice")
+        self.assertEqual(heads_of("n", "first choice,b,c", dataclasses.replace(POLL, shown_options=("First choice", *SHOWN[1:])))[1], "first choice")
 
     def test_cells_that_are_names_of_options(self) -> None:
         said = "form.csv: most cells are names of options, like `am see`; such a table has the options in each row by preference"

@@ -68,8 +68,7 @@ class Call(OutTest):
             ids.add(message["Message-ID"])
         self.assertEqual(len(ids), 9)
         for path in [*self.files("call"), *self.files("call")[0].parents[:3]]:
-            mode = stat.S_IMODE(path.stat().st_mode)
-            self.assertEqual(mode, 0o700 if path.is_dir() else 0o600, path)
+            self.assertEqual(stat.S_IMODE(path.stat().st_mode), 0o700 if path.is_dir() else 0o600, path)
 
     def test_again_it_makes_the_same_files_and_no_act(self) -> None:
         self.written("call")
@@ -156,8 +155,7 @@ class Refused(OutTest):
 
     def test_a_long_name_of_the_sender(self) -> None:
         """No encoded word is longer than 75 characters, and no line with one longer than 76."""
-        names = ("ä" * 100, "ä b " * 25, "日" * 100, "Bü" * 14)
-        for name in map(str.strip, names):
+        for name in map(str.strip, ("ä" * 100, "ä b " * 25, "日" * 100, "Bü" * 14)):
             with self.subTest(name=name):
                 self.done("call", "--to", f"{name} <vote@club.example>")
                 self.done("letters", "call")
@@ -214,8 +212,7 @@ class OwnWords(OutTest):
         """No line of ours reads as a ballot, also where the secretary's own words have one."""
         for name, message in self.written("call").items():
             head = f"In-Reply-To: {message['Message-ID']}\nSubject: Re: {message['Subject']}\n"
-            text = f"{name} {RANKS}\n\nOn Monday the secretary wrote:\n{message.get_content()}"
-            self.add(letter(name, text, head=head, time=EARLIER))
+            self.add(letter(name, f"{name} {RANKS}\n\nOn Monday the secretary wrote:\n{message.get_content()}", head=head, time=EARLIER))
         self.assertEqual(self.numbers()["voters"], 9)
 
 
@@ -281,8 +278,7 @@ class Names(OutTest):
         self.assertEqual(sorted(message["To"] for message in found), wanted)
         # the old address does not learn the own mark, neither in the subject nor in the text, which has the right line
         said = {message["To"]: (bool(re.search(MARKS, message["Subject"])), f"{AT}#ada/" in one_line(message)) for message in found}
-        wanted_marks = {"ada-2@club.example": (True, False), "ada@club.example": (False, False), "ada@new.example": (True, True)}
-        self.assertEqual(said, wanted_marks)
+        self.assertEqual(said, {"ada-2@club.example": (True, False), "ada@club.example": (False, False), "ada@new.example": (True, True)})
         self.assertTrue(all("ada _,_,_,_" in one_line(message) for message in found if "ada@" in message["To"]))
 
 
@@ -295,8 +291,7 @@ class Receipts(OutTest):
         self.done("undo")
         texts = self.texts("receipts")
         self.assertEqual(sorted(texts), ["ada", "ben", "cleo", "dan", "eve"])
-        replaced = r"has arrived\. A later ballot of yours counts instead\. .* It counts unless you send a later one"
-        self.assertRegex(texts["ben"], replaced)
+        self.assertRegex(texts["ben"], r"has arrived\. A later ballot of yours counts instead\. .* It counts unless you send a later one")
         for name, said in (
             ("ada", "has arrived. It counts unless you send a later one."),
             ("ada", f"It was read as (ada {RANKS}), in words: {LAKE}. If you have not sent this"),
@@ -485,8 +480,7 @@ class Receipts(OutTest):
 
     def test_a_copy_is_the_letter_that_it_copies(self) -> None:
         first = letter("ada", f"ada {RANKS}\n")
-        again = first.replace(b"Received: from a", b"Received: from c")
-        self.add(first, again, letter("ben", "hi\n"), b"X-Y: z\n" + letter("ben", "hi\n"))
+        self.add(first, first.replace(b"Received: from a", b"Received: from c"), letter("ben", "hi\n"), b"X-Y: z\n" + letter("ben", "hi\n"))
         texts = self.texts("receipts")
         self.assertEqual({name: text.count("has arrived") for name, text in texts.items()}, {"ada": 1, "ben": 1})
 
@@ -535,8 +529,7 @@ class ReceiptsElsewhere(OutTest):
     def test_times_are_in_the_zone_of_the_end(self) -> None:
         self.add_lines(f"ada {RANKS}")
         # on a busy machine some seconds later
-        said = r"Your ballot of Monday, 23 November 2026, 11:00(:\d\d)? \(UTC\+01:00\) has arrived\."
-        self.assertRegex(self.texts("receipts")["ada"], said)
+        self.assertRegex(self.texts("receipts")["ada"], r"Your ballot of Monday, 23 November 2026, 11:00(:\d\d)? \(UTC\+01:00\) has arrived\.")
 
 
 class FullDisk(OutTest):
@@ -601,8 +594,7 @@ class Reminders(OutTest):
         self.add(letter("cleo", "I want the lake\n"), letter("dan", f"dan {RANKS}\n", sender="x@x.example"))
         texts = self.texts("reminders")
         self.assertEqual(sorted(texts), [name for name in elections.NAMES if name != "ada"])
-        begin = f"Dear Ben, No ballot of yours that counts has come yet. {WHEN} {FORM}#ben/"
-        self.assertTrue(texts["ben"].startswith(begin), texts["ben"])
+        self.assertTrue(texts["ben"].startswith(f"Dear Ben, No ballot of yours that counts has come yet. {WHEN} {FORM}#ben/"), texts["ben"])
         self.assertIn(f"{LINE}ben _,_,_,_", texts["ben"])
         # whose letter waits is told so, and what can be done meanwhile
         self.assertIn("No ballot from it is entered yet: the secretary has to look at it first.", texts["cleo"])
@@ -628,8 +620,7 @@ class Reminders(OutTest):
             self.assertIn(f"Vote until: {words} 2026, 18:00 (UTC)", self.texts("reminders")["ada"])
             self.set_clock(f"2026-12-{day - 1:02}T10:00:00+00:00")
             self.add(letter("ben", "hi\n", number=day, time=f"Fri, {day - 1:02} Dec 2026 09:00:00 +0000"))
-            receipt = self.texts("receipts")["ben"]
-            self.assertNotIn("after the end", receipt)
+            self.assertNotIn("after the end", self.texts("receipts")["ben"])
             self.set_clock("2026-11-23T10:00:00+00:00")
 
 
@@ -715,9 +706,7 @@ class Result(OutTest):
         facts = "2 of 9 voted, quorum 2 reached, 0 lines of 2 refused. The result is published at: "
         own = f"Your own ballot is (ada {RANKS}), in words: {LAKE}. The page shows it at: {AT}#ada "
         self.assertIn(f"Dear Ada, {begin}{numbers} {facts}{AT} {own}What is doubtful", texts["ada"])
-        self.assertEqual(
-            f"Dear Ada, {' '.join(self.read('letters/result.txt').decode().split())}", texts["ada"].replace(own, "")
-        )
+        self.assertEqual(f"Dear Ada, {' '.join(self.read('letters/result.txt').decode().split())}", texts["ada"].replace(own, ""))
         self.assertIn(f"{AT}#ben", texts["ben"])
         self.assertIn(f"{AT} The result has no ballot of yours that counts.", texts["cleo"])
         self.assertNotIn("#", texts["cleo"])
@@ -811,8 +800,7 @@ class Secret(OutTest):
         found = self.written("call")["ada"]
         self.assertEqual([self.mark], [mark for mark, _ in re.findall(MARKS, found["Subject"])])
         self.assertRegex(one_line(found), rf"the result will be: {AT} {LINE}ada _,_,_,_ ")
-        head = f"In-Reply-To: {found['Message-ID']}\nSubject: Re: {found['Subject']}\n"
-        self.add(letter("ada", f"ada {RANKS}\n", head=head, time=EARLIER))
+        self.add(letter("ada", f"ada {RANKS}\n", head=f"In-Reply-To: {found['Message-ID']}\nSubject: Re: {found['Subject']}\n", time=EARLIER))
         self.assertEqual(self.numbers()["valid"], 1)
 
     def test_a_doubt_tells_no_number_of_lines(self) -> None:
@@ -839,8 +827,7 @@ class Secret(OutTest):
         self.assertNotIn("#", results["ada"])
         self.assertIn("cat seal.txt ballots.txt | sha256sum", results["ada"])
         self.assertIn("learns what you type into it, with or without a network", " ".join(results["ada"].split()))
-        texts = [one_line(message) for message in found] + list(results.values())
-        for text in texts:
+        for text in [one_line(message) for message in found] + list(results.values()):
             self.assertFalse([code for code in [*codes.values(), *aliases] if code in text])
             self.assertNotRegex(text, r"[a-z]+ \d,\d,\d,\d")
             self.assertNotIn("in words", text)

@@ -281,8 +281,7 @@ class Sending(SendTest):
 
     def test_a_refused_sender_stops_and_costs_nobody_their_letter(self) -> None:
         self.server.mail_answer = "553 not yours"
-        ended = self.send("call")
-        self.assert_fault(ended, 7, "it takes no letters now: 553 not yours", "0 of 9 letters taken in this run")
+        self.assert_fault(self.send("call"), 7, "it takes no letters now: 553 not yours", "0 of 9 letters taken in this run")
         self.server.mail_answer = "250 OK"
         self.assert_sent("call")
         self.assertEqual(sorted(self.server.addresses()), ALL)
@@ -302,8 +301,7 @@ class Sending(SendTest):
 
     def test_a_connection_that_is_lost_in_a_letter(self) -> None:
         self.server.at = lambda step, number: (step, number) == ("data", 3)
-        ended = self.send("call")
-        self.assert_fault(ended, 7, "lost during the letter to dan@club.example", "3 of 9 letters taken in this run")
+        self.assert_fault(self.send("call"), 7, "lost during the letter to dan@club.example", "3 of 9 letters taken in this run")
         self.server.at = lambda step, number: False
         self.assert_sent("call", "Sent 6 of 6 letters.\n")
         self.assertEqual(self.server.addresses(), ALL)
@@ -611,6 +609,5 @@ def sent_to(server: smtp.Server) -> list[OutgoingLetter]:
 
 def outgoing() -> tuple[OutgoingLetter, bytes]:
     """A letter to Ada."""
-    time = datetime.datetime(2026, 11, 23, tzinfo=datetime.UTC)
-    letter = OutgoingLetter(1, "call", 1, "ada@club.example", "<1@club.example>", time, ())
+    letter = OutgoingLetter(1, "call", 1, "ada@club.example", "<1@club.example>", datetime.datetime(2026, 11, 23, tzinfo=datetime.UTC), ())
     return letter, b"From: vote@club.example\n\n.\nFrom me\n"

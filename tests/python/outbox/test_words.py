@@ -231,8 +231,7 @@ class Printed(unittest.TestCase):
         names = tuple(f"A rather long name of an option, as societies have them, number {number}" for number in range(1, 12))
         poll = dataclasses.replace(POLL, options=names, ratios=(1,) * 11)
         for code in LANGUAGES:
-            words = "Paper ballots go into the box in the hall of our house.\n" * 11
-            now = vote(code, poll=poll, at=None, has_aliases=True, letter_text=words)
+            now = vote(code, poll=poll, at=None, has_aliases=True, letter_text="Paper ballots go into the box in the hall of our house.\n" * 11)
             text = now.call_letter(GUS._replace(code="c0de" * 8), is_extension=False)
             self.assertGreater(len(text.splitlines()), 70)
             self.check_sides(now, text)
@@ -272,9 +271,7 @@ class Printed(unittest.TestCase):
                 wanted = [say(head).upper() for head in ("What decides", "What will be public")]
                 self.assertEqual(heads, wanted if text is asking[0] else [])
                 head = f"{POLL.name} {say('Name: {name}', name='gus')}"
-                boxes = (
-                    "Write a number into each box: 1 is the best, equal numbers are allowed, and an empty box is last. Return only this part."
-                )
+                boxes = ("Write a number into each box: 1 is the best, equal numbers are allowed, and an empty box is last. Return only this part.")
                 found = [(" ".join(row.split()), kind) for row, kind in ballot]
                 self.assertEqual(found[:2], [(head, "paragraph"), (say(boxes), "paragraph")])
                 self.assertEqual([kind for _, kind in found[2:]], ["option"] * 3)
@@ -285,8 +282,7 @@ class Printed(unittest.TestCase):
     def check_sides(self, now: Composer, text: str) -> None:
         """Three letters have at most six sides, each with a place for the rank of each option."""
         letters = [("Ada", rows_to_print(text))] * 3
-        style = resources(PACKAGE, "letter.css")
-        page = render_page(PACKAGE, "print.html", now.call_data.language, style=style, title="Spring", letters=letters)
+        page = render_page(PACKAGE, "print.html", now.call_data.language, style=resources(PACKAGE, "letter.css"), title="Spring", letters=letters)
         self.assertEqual(page.count(b'<p class="option"><span class="rank"></span>  Op'), 3 * len(now.call_data.poll.names))
         with tempfile.TemporaryDirectory() as folder:
             place = pathlib.Path(folder)
@@ -334,8 +330,7 @@ class Bytes(unittest.TestCase):
             data = self.message(text)
             self.assertEqual(parsed(data).get_content(), text)
             self.assertTrue(data.isascii())
-            body = data.partition(b"\n\n")[2]
-            self.assertNotRegex(body, rb"(?m)^>*From |^\.$")
+            self.assertNotRegex(data.partition(b"\n\n")[2], rb"(?m)^>*From |^\.$")
             self.assertLess(max(map(len, data.split(b"\n"))), 998)
 
     def test_a_subject_has_one_field_and_its_mark(self) -> None:
