@@ -398,15 +398,6 @@ class CodesOnRoll(CalledTest):
         super().setUp()
         self.act("extend", {"codes_on_roll": True})
 
-    def test_a_near_code(self) -> None:
-        """Also if it has a ballot in the same file: debvote says so behind the name that it offers."""
-        known, near = self.names[0], "0a" * 15 + "0b"
-        for before, ranks in (("", RANKS), (f"{known} {RANKS}\n", OTHER_RANKS)):
-            output = self.told("add", "--force", given=f"{before}{near} {ranks}\n").replace(f" counted  {known}: ", "")
-            self.assertIn(f"{near} is not on the roll\nA valid line in this poll: CODE 1,2,3,4 (a code of the roll, ", output)
-            self.assertNotIn("did you mean", output)
-            self.assertEqual([code for code in self.names if code in output], [])
-
     def test_of_an_undo_and_a_strike_numbers_alone(self) -> None:
         first, second, third = self.names
         self.told("add", given=f"{first} {RANKS}\n{second} {RANKS}\n")

@@ -17,6 +17,22 @@ from tests.support.terminal import Terminal
 
 RANKS, OTHER = "1,2,4,3", "2,1,4,3"
 
+# asks for the lock of the book while debvote would run, and notes both
+ASKING = """#!/usr/bin/python3
+import os, sqlite3, sys
+connection = sqlite3.connect({book!r}, timeout=0, isolation_level=None)
+try:
+    connection.execute("BEGIN IMMEDIATE")
+    connection.execute("ROLLBACK")
+    said = "free"
+except sqlite3.OperationalError as error:
+    said = str(error)
+connection.close()
+with open({log!r}, "a") as log:
+    log.write(f"{{sys.argv[1]}} {{said}}\\n")
+os.execv({program!r}, ["debvote", *sys.argv[1:]])
+"""
+
 
 def letter(name: str, text: str, time: str = TEN, sender: str = "", number: int = 1) -> bytes:
     """A letter of somebody with a real name."""
@@ -202,15 +218,33 @@ class Adding(LettersTest):
 class ReadOnce(LettersTest):
     """What a letter says is read when it comes. Else a few letters of a stranger would slow down each command, for good."""
 
-    def with_counter(self, *words: object) -> tuple[str, list[str]]:
-        """What a command tells, and the tasks for which it ran debvote."""
-        place, said = self.scratch / "counting", self.scratch / "runs"
+    def with_counter(self, *words: object, given: str | None = None) -> tuple[str, list[str]]:
+        """What a command tells, and the tasks for which it ran debvote, each time with the book free: never within an act."""
+        place, log = self.scratch / "counting", self.scratch / "runs"
         place.mkdir(exist_ok=True)
-        (place / "debvote").write_text(f'#!/bin/sh\necho "$1" >> {said}\nexec {elections.PROGRAM} "$@"\n')
+        (place / "debvote").write_text(ASKING.format(book=str(self.folder / "election.db"), log=str(log), program=str(elections.PROGRAM)))
         (place / "debvote").chmod(0o755)
-        said.write_text("")
+        log.write_text("")
         path = {"PATH": f"{place}:{elections.environment()['PATH']}", "XDG_STATE_HOME": str(self.state)}
-        return self.told(*words, env=elections.environment() | self.clock | path), said.read_text().split()
+        told = self.told(*words, env=elections.environment() | self.clock | path, given=given)
+        asked = [line.split(" ", 1) for line in log.read_text().splitlines()]
+        self.assertLessEqual({said for _, said in asked}, {"free"}, words)
+        return told, [task for task, _ in asked]
+
+    def test_of_lines_three_times_at_most(self) -> None:
+        lines = f"Ada {RANKS}\nGsu {RANKS}\nben {RANKS}\n"
+        for words, given, asked in (
+            (("add", "--look"), lines, ["explain", "explain", "steps"]),
+            (("add",), lines, ["explain", "explain", "steps"]),
+            (("add",), f"cleo {RANKS}\n", ["explain", "steps"]),
+            (("desk",), f"ada {OTHER}\n", ["explain", "steps"]),
+            (("show", "ada"), None, ["explain"]),
+            (("strike", 1, "--because", "a test"), None, ["standing"]),
+            (("undo",), None, ["standing"]),
+        ):
+            self.assertEqual(self.with_counter(*words, given=given)[1], asked, words)
+        # lines and bytes as debvote counts them, without what is struck or taken back
+        self.assertEqual(queries.size_in_time(self.book), (3, len(f"Gsu {RANKS}\nben {RANKS}\ncleo {RANKS}\n")))
 
     def test_judging_again_asks_debvote_nothing(self) -> None:
         letters = [letter("ada", f"adaa {RANKS}"), letter("ben", f"I vote ben {RANKS} today"), letter("cleo", f"cleo {RANKS}")]
