@@ -16,11 +16,10 @@ from debvote_tools.book.book import Book, open_book
 from debvote_tools.cli import command_line
 
 from tests.support import elections
-from tests.support.letters import mailbox
+from tests.support.letters import OTHER_RANKS as OTHER_RANKS, RANKS as RANKS, mailbox
 
 LAKE = "At the lake, then In the town hall, then Further discussion, then Sell the house and meet there"
 HALL = "In the town hall, then At the lake, then Further discussion, then Sell the house and meet there"
-RANKS, OTHER_RANKS = "1,2,4,3", "2,1,4,3"
 
 
 class CalledTest(elections.ElectionTest):
@@ -54,18 +53,13 @@ class CalledTest(elections.ElectionTest):
             for key, data in (sealed or {}).items():
                 act.insert("sealed", name=key, data=data)
 
-    def entered(self, is_late: bool) -> list[str]:
-        """The lines that came in time or late, and are not struck. The test has words of its own for this."""
+    def lines(self, is_late: bool = False) -> list[str]:
+        """The lines that are counted, or those that came late; none that is struck. The test has words of its own for this."""
         words = "SELECT line FROM envelope WHERE late = ? AND envelope NOT IN (SELECT envelope FROM struck) ORDER BY envelope"
         return [line.decode("utf-8", "replace") for line, in self.book.rows(words, int(is_late))]
 
-    def lines(self) -> list[str]:
-        """The lines that are counted."""
-        return self.entered(False)
-
     def late_lines(self) -> list[str]:
-        """The lines that came late."""
-        return self.entered(True)
+        return self.lines(is_late=True)
 
     def envelopes(self) -> list[queries.Envelope]:
         """All envelopes."""

@@ -1,6 +1,7 @@
 """What the tests of letters that come share: letters, the circumstances in which they are judged, and debvote, which is asked about lines."""
 
 import datetime
+import json
 import os
 import re
 import subprocess
@@ -15,19 +16,14 @@ from debvote_tools.inbox.mailbox import NotRead, RawLetter
 from debvote_tools.inbox.reasons import ReasonWithValues
 from debvote_tools.inbox.rules import Circumstances, LetterCase, Outcome
 
+from tests.support import elections
 from tests.support.program import PROGRAM, ROOT
 
 SAMPLES = ROOT / "tests" / "letters"
-NAMES = ("ada", "ben", "cleo", "dan", "eve", "fay", "gus", "hal", "ida")
-POLL = f"""title = "Where we meet in spring"
-options = ["At the lake", "In the town hall", "Sell the house and meet there"]
-ratios = [1, 1, 3]
-default = "Further discussion"
-quorum = 1
-roll = {str(list(NAMES)).replace("'", '"')}
-"""
+NAMES = tuple(elections.NAMES)
+POLL = f"{elections.POLL}roll = {json.dumps(NAMES)}\n"
 RANKS, OTHER_RANKS = "1,2,4,3", "2,1,4,3"
-MARK = "1ac5041b936c7fc1"
+MARK = elections.ANY_MARK
 # the own mark of each elector, and the subjects of a letter of ours and of the page of the call
 OWN = {name: re.sub("[ilo]", "x", f"{name}23456789")[:10] for name in NAMES}
 TITLE = "Where we meet in spring"
@@ -80,13 +76,9 @@ def names(**other: object) -> Names:
 
 
 def circumstances(
-    *,
-    addresses: Mapping[str, Sequence[str]] | None = None,
-    keys: Mapping[str, str] | None = None,
-    own_marks: Mapping[str, str] = OWN,
-    roll: Collection[str] = NAMES,
-    **other: object,
-) -> Circumstances:
+    *, addresses: Mapping[str, Sequence[str]] | None = None, keys: Mapping[str, str] | None = None,
+    own_marks: Mapping[str, str] = OWN, roll: Collection[str] = NAMES, **other: object,
+) -> Circumstances:  # fmt: skip
     """The circumstances of a vote that was called three days ago and has no end; with `keys` letters have to be signed."""
     listed = {name: [f"{name}@club.example"] for name in NAMES} if addresses is None else addresses
     electors = {
@@ -94,32 +86,16 @@ def circumstances(
         for number, name in enumerate(roll)
     }
     usual: dict[str, object] = {
-        "mark": MARK,
-        "subject": BY_PAGE,
-        "electors": electors,
-        "is_marked": False,
-        "is_signed": keys is not None,
-        "called": CALLED,
-        "end": None,
-        "first_close": None,
-        "now": NOW,
-        "our_letters": OURS,
-        "decisions": {},
-    }
+        "mark": MARK, "subject": BY_PAGE, "electors": electors, "is_marked": False, "is_signed": keys is not None,
+        "called": CALLED, "end": None, "first_close": None, "now": NOW, "our_letters": OURS, "decisions": {},
+    }  # fmt: skip
     return Circumstances(**{**usual, **other})  # type: ignore[arg-type]
 
 
 def letter(
-    name: str,
-    text: str,
-    *,
-    number: int | str = 1,
-    time: str | None = TEN,
-    sender: str | None = None,
-    head: str = "",
-    kind: str = "text/plain; charset=utf-8",
-    subject: str = f"my ballot [{MARK}]",
-) -> bytes:
+    name: str, text: str, *, number: int | str = 1, time: str | None = TEN, sender: str | None = None, head: str = "",
+    kind: str = "text/plain; charset=utf-8", subject: str = f"my ballot [{MARK}]",
+) -> bytes:  # fmt: skip
     """A letter of an elector. Its subject has the mark of the poll, unless its head has another one."""
     if not re.search("(?im)^subject", head):
         head = f"Subject: {subject}\n{head}"
@@ -171,10 +147,7 @@ def read(*letters: bytes | ParsedLetter, reader: DebvoteReader | None = None, **
 
 
 def judged(
-    *letters: bytes | ParsedLetter,
-    reader: DebvoteReader | None = None,
-    ballots: Mapping[str, Sequence[Ballot]] | None = None,
-    **other: object,
+    *letters: bytes | ParsedLetter, reader: DebvoteReader | None = None, ballots: Mapping[str, Sequence[Ballot]] | None = None, **other: object
 ) -> list[LetterCase]:
     """What becomes of letters, in the order of their times."""
     of_names = {name: value for name, value in other.items() if name in ("roll", "language", "real_names")}

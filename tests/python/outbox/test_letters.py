@@ -8,8 +8,6 @@ import pathlib
 import re
 import shutil
 import stat
-import subprocess
-import sys
 
 from debvote_tools.inbox.lines import repaired_line
 from debvote_tools.outbox.letter_folder import in_place
