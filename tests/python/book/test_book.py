@@ -463,14 +463,21 @@ class Rewritten(BookTest):
 
     def test_nothing_is_built_on_a_broken_book(self) -> None:
         """Each act computes the digest of the one before it anew."""
+        whole = self.read("election.db")
         self.sql(CHANGED)
         self.write("more", "hal 1,2,3,4\n")
         strike, call = ("strike", "1", "--because", "x"), ("call", "--at", "https://club.example/")
         for words in (("add", "--yes", "more"), strike, ("undo", "--yes"), call):
             self.assert_fault(self.election(*words), 9, "act 4 does not match its digest", "nothing was changed")
+        # an act that is cut off
+        self.book.write_bytes(whole)
+        for table in ("envelope", "source", "act"):
+            self.sql(f"DELETE FROM {table} WHERE act = 4")
+        self.assert_stops("older copy")
 
     def test_what_no_command_can_read(self) -> None:
         """It is told as what it is, by whatever command meets it."""
+        whole = self.read("election.db")
         whole = self.read("election.db")
         for act, statement in {
             1: "UPDATE act SET detail = '{' WHERE act = 1",
@@ -489,10 +496,7 @@ class Rewritten(BookTest):
                         told += 1
             self.assertGreater(told, 0, statement)
             self.book.write_bytes(whole)
-
-    def test_sealed_poll(self) -> None:
-        """A poll in the book that is not in plain form is the fault of the book, and of no file of the secretary's."""
-        whole = self.read("election.db")
+        # a poll in the book that is not in plain form is the fault of the book, and of no file of the secretary's
         for statement in ("DELETE FROM sealed", "UPDATE sealed SET data = CAST('title = 1' AS BLOB)"):
             self.sql(statement)
             for words in (("status",), ("desk",), ("held",)):
@@ -500,11 +504,6 @@ class Rewritten(BookTest):
                     said = "election.db: the book is damaged, or another program changed it (its sealed poll is not in plain form)"
                     self.assert_fault(self.election(*words, given=""), 9, said)
             self.book.write_bytes(whole)
-
-    def test_act_cut_off(self) -> None:
-        for table in ("envelope", "source", "act"):
-            self.sql(f"DELETE FROM {table} WHERE act = 4")
-        self.assert_stops("older copy")
 
     def test_triggers(self) -> None:
         """What is in the book stays: no row of any table is changed, removed or replaced."""

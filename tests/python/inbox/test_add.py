@@ -200,8 +200,8 @@ class OtherOrder(CalledTest):
                 self.assert_refused(("add", *asked, "wrong"), 9, f"{words}; nothing was added: ", f"take {place} out; if they do not, add it anyway")
         self.told("add", "--force", "wrong")
         self.assertEqual(len(self.lines()), 5)
-
-    def test_lines_that_name_options_in_the_order_of_the_poll(self) -> None:
+        # in the order of the poll
+        self.told("undo")
         for head in (
             "Name,At the lake,In the town hall,Sell the house and meet there,Further discussion\n",
             "name At the lake, Further discussion\n",

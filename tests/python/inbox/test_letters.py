@@ -95,35 +95,22 @@ class Adding(LettersTest):
             said,
         )
 
-    def test_look_keeps_nothing(self) -> None:
-        before = self.contents()
-        self.assertIn("Nothing was changed", self.add(letter("ada", f"ada {RANKS}"), words=("--look",)))
-        (self.folder / "inbox.mbox").unlink()
-        self.assertEqual(self.contents(), before)
-
-    def test_another_act_between_question_and_answer(self) -> None:
+    def test_other_acts_between_question_and_answer(self) -> None:
         desk = Terminal(self, "add", str(self.box(letter("ada", f"ada {RANKS}"), letter("ben", f"ben {RANKS}"))))
         desk.until("Enter 2 ballots?")
         self.told("desk", given=f"ada {OTHER}\n")
         desk.type("y\n")
         self.assertIn("a later ballot of ada, of ", desk.until("Enter 1 ballot?"))
-        desk.type("y\n")
-        desk.end()
-        self.assertEqual(self.exported()[0], f"ada {OTHER}\nben {RANKS}\n")
-
-    def test_a_close_between_question_and_answer(self) -> None:
-        """It was agreed that the ballot counts; late it would not."""
-        desk = Terminal(self, "add", str(self.box(letter("ada", f"ada {RANKS}"))))
-        desk.until("Enter 1 ballot?")
+        # it was agreed that the ballot counts; late it would not
         self.told("close", "--force", "--because", "nobody answers")
         desk.type("y\n")
-        self.assertIn("what is added now is late.\nada (letter 1): At the lake", desk.until("Enter 1 ballot?"))
+        self.assertIn("what is added now is late.\nben (letter 2): At the lake", desk.until("Enter 1 ballot?"))
         desk.type("n\n")
         desk.end()
-        self.assertEqual(self.exported(), ("", ""))
+        self.assertEqual(self.exported(), (f"ada {OTHER}\n", ""))
 
     def test_an_older_letter_after_lines(self) -> None:
-        """A line that was refused is no later ballot, and one that was struck holds back no letter."""
+        """A line that was refused is no later ballot, and one that was struck holds back no letter. A late ballot is a later one."""
         for name, words in (("ada", ("desk",)), ("ben", ("add",))):
             self.told(*words, given=f"{name} {OTHER}\n")
             self.assertIn(f"a later ballot of {name}, of ", self.add(letter(name, f"{name} {RANKS}")))
@@ -132,17 +119,17 @@ class Adding(LettersTest):
         self.told("strike", 4, "--because", "somebody else wrote it")
         self.assertIn("2 ballots of letters went in", self.add(letter("cleo", f"cleo {RANKS}"), letter("dan", f"dan {RANKS}")))
         self.assertEqual((self.stands("cleo"), self.stands("dan")), (RANKS, RANKS))
-
-    def test_a_late_ballot_is_a_later_ballot(self) -> None:
-        """After `reopen` a letter that had arrived in time waits if its elector has a ballot that came after the close: a person decides."""
+        # after reopen a letter that had arrived in time waits if its elector has a ballot that came after the close: a person decides
+        self.told("held", 1, 2, "--set-aside")
         self.told("close")
-        self.told("desk", given=f"ada {OTHER}\n")
+        self.told("desk", given=f"eve {OTHER}\n")
         self.told("reopen", "--because", "a mailbox was forgotten")
-        self.assertIn("a later ballot of ada, of 2026-11-25 09:00", self.add(letter("ada", f"ada {RANKS}"), letter("ben", f"ben {RANKS}")))
-        self.assertEqual(self.exported(), (f"ben {RANKS}\n", f"ada {OTHER}\n"))
-        self.assert_fault(self.election("held", 1, "--enter", 1), 9, "its elector has voted since")
-        self.told("held", 1, "--enter", 1, "--force")
-        self.assertEqual(self.exported(), (f"ben {RANKS}\nada {RANKS}\n", f"ada {OTHER}\n"))
+        said = self.add(letter("eve", f"eve {RANKS}"), letter("fay", f"fay {RANKS}"))
+        self.assertIn("a later ballot of eve, of 2026-11-25 09:00", said)
+        self.assertEqual((self.stands("fay"), self.stands("eve"), self.late_lines()), (RANKS, "", [f"eve {OTHER}"]))
+        self.assert_fault(self.election("held", 5, "--enter", 1), 9, "its elector has voted since")
+        self.told("held", 5, "--enter", 1, "--force")
+        self.assertEqual((self.stands("eve"), self.late_lines()), (RANKS, [f"eve {OTHER}"]))
 
     def add_after_the_close(self) -> None:
         """A letter that had arrived in time; then the vote is opened again."""
@@ -174,8 +161,7 @@ class Adding(LettersTest):
         self.told("desk", "--came-before-close", "yes", given=f"ada {RANKS}\n")
         self.assert_published()
 
-    def test_good_files_before_one_that_can_not_be_read(self) -> None:
-        """Nothing of them is entered or kept, and all is told; nor of letters and lines together."""
+    def test_nothing_of_files_with_a_fault_is_entered_or_kept(self) -> None:
         self.write("lines", f"ben {RANKS}\n")
         self.write("inbox.mbox", mailbox(letter("ada", f"ada {RANKS}")))
         self.write("scan.pdf", "%PDF-1.7")
@@ -191,11 +177,9 @@ class Adding(LettersTest):
             with self.subTest(words):
                 self.assert_fault(self.election("add", "--yes", *words), status, part)
                 self.assertEqual(self.contents(), before)
-
-    def test_options_of_lines_are_refused(self) -> None:
-        """Each letter has an arrival of its own, so none is asked about when letters are added."""
-        self.write("inbox.mbox", mailbox(letter("ada", f"ada {RANKS}")))
-        before = self.contents()
+        self.assertIn("Nothing was changed", self.told("add", "--look", "inbox.mbox"))
+        self.assertEqual(self.contents(), before)
+        # each letter has an arrival of its own, so none is asked about when letters are added
         table = ("--csv", "--name", "who", "--ranks", "a,b,c,d")
         said = "only for lines and tables, and these are letters; nothing was added: leave this out"
         answers = [("--came-before-close", answer) for answer in ("yes", "no")]
@@ -280,7 +264,7 @@ class Held(LettersTest):
         super().setUp()
         self.add(letter("ada", f"Dear Anna,\n\nI thought about it for 3 days:\n\nada {RANKS}\n"), letter("ben", "hello"))
 
-    def test_listed_shown_and_entered(self) -> None:
+    def test_listed_shown_and_entered_once(self) -> None:
         listed = self.told("held")
         self.assertIn("\n     1  2026-11-23 10:00:00 UTC  Ada <ada@club.example>  my ballot\n", without_marks(listed))
         self.assertIn(f"line 5: ada {RANKS}", listed)
@@ -289,11 +273,15 @@ class Held(LettersTest):
         for number in ("3", "\u00b2", "x", "-1", "", "5,", "5" * 5_000):
             named = f"line {number}" if len(number) == 1 else ""
             self.assert_fault(self.election("held", "1", f"--enter={number}"), 9, f"{named} of letter 1 is not a ballot", "5")
+        for lines in ("5,5", "5, 5"):
+            self.assert_fault(self.election("held", "1", "--enter", lines), 9, "2 of these lines are ballots of ada")
         self.assertIn(f"1 counted  ada: {LAKE}", self.told("held", "1", "--enter", "5"))
-        self.assertEqual(self.exported()[0], f"ada {RANKS}\n")
         self.assertEqual(self.numbers()["waiting"], 1)
         for words in (("--enter", "5"), ("--set-aside",)):
             self.assert_fault(self.election("held", "1", *words), 9, "was entered")
+        self.add(b"X-Status: R\n" + letter("ada", f"Dear Anna,\n\nI thought about it for 3 days:\n\nada {RANKS}\n"))
+        self.assert_fault(self.election("held", "3", "--enter", "5"), 9, "letter 3: it is a copy of another letter", "--wait")
+        self.assertEqual(self.exported()[0], f"ada {RANKS}\n")
 
     def test_what_is_shown_of_letters(self) -> None:
         # no line of a letter that a program wrote is near to a ballot
@@ -315,14 +303,6 @@ class Held(LettersTest):
         lines = "   1  I am for the lake.\n   2  \n      .. 7 lines of a letter of ours, which it quotes\n  10  \n  11  And Dan wrote:\n  12  > I am not\n"
         self.assertIn(lines, shown)
         self.assertTrue(without_marks(shown).startswith("letter 7, from Fay <fay@club.example>, 2026-11-23 10:00:00 UTC\n  subject: my ballot\n"), shown)
-
-    def test_a_line_is_entered_once(self) -> None:
-        for lines in ("5,5", "5, 5"):
-            self.assert_fault(self.election("held", "1", "--enter", lines), 9, "2 of these lines are ballots of ada")
-        self.told("held", "1", "--enter", "5")
-        self.add(b"X-Status: R\n" + letter("ada", f"Dear Anna,\n\nI thought about it for 3 days:\n\nada {RANKS}\n"))
-        self.assert_fault(self.election("held", "3", "--enter", "5"), 9, "letter 3: it is a copy of another letter", "--wait")
-        self.assertEqual(self.exported()[0], f"ada {RANKS}\n")
 
     def test_set_aside_voted_since_and_at_the_close(self) -> None:
         self.assertIn("No letter waits.", self.told("held", "1", "2", "--set-aside"))
@@ -598,9 +578,7 @@ class Meanwhile(LettersTest):
         self.assertEqual(self.exported()[0], f"ada {RANKS}\n")
         self.assertNotIn("Set aside", self.told("held"))
         self.assertIn("It was entered.", self.told("held", 1))
-
-    def test_letters_that_another_act_made_untrue_are_not_noted(self) -> None:
-        self.told("desk", given=f"ada {RANKS}\n")
+        # letters to electors that another act made untrue are not noted
         self.overtaken(letter_folder, "letter_files", ("undo", "--yes"), ("letters", "receipts"))
         self.assertNotIn("receipt", self.told("show", "ada"))
 

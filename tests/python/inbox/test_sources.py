@@ -63,7 +63,7 @@ class Files(unittest.TestCase):
             self.assert_becomes(line + field + ADA, IN_ADA)
             self.assert_becomes(line + field + ADA + below, PARTED)
 
-    def test_a_mailbox_of_thunderbird(self) -> None:
+    def test_mailboxes_of_thunderbird_and_lotus_notes_and_lines_that_part_nothing(self) -> None:
         """Today it writes lines without sender and date; older letters in it have lines with a date."""
         status = b"X-Mozilla-Status: 0001\nX-Mozilla-Status2: 00000000\n"
         dated = b"From - Mon Nov 23 10:00:00 2026\n"
@@ -74,6 +74,12 @@ class Files(unittest.TestCase):
         # without an empty line between, and as text of a letter that is not in a mailbox
         self.assert_becomes(b"From \n" + ADA + b"From \n" + BEN, IN_ADA, PARTED)
         self.assert_becomes(ADA + b"\nFrom \n" + BEN, PARTED)
+        # lotus Notes writes boundaries with a blank
+        notes = "=_alternative 004A8E32C1256F5A_="
+        for kind in (f'multipart/alternative; boundary="{notes}"', f'multipart/alternative; boundary="{notes} "'):
+            self.assert_becomes(mailbox(letter("ada", f"--{notes}\n\nada {RANKS}\n--{notes}--\n", kind=kind), BEN), IN_ADA, IN_BEN)
+        text = f"ada {RANKS}\n\nFrom Monday on\n\nFrom Monday on see\nhttps://x.example\n\n>From x Mon Nov 23 10:00:00 2026\n\nfrom x Mon Nov 23 10:00:00 2026\n\nFrom 10:00 on\n"
+        self.assertEqual(len(read_in(letters_of_file("box", mailbox(letter("ada", text), BEN)))), 2)
 
     def test_letters_that_somebody_put_together(self) -> None:
         """As `cat *.eml` does: of the second nobody would see anything."""
@@ -85,16 +91,6 @@ class Files(unittest.TestCase):
                 self.assert_becomes(data + between + CODED, PARTED)
         attached = letter("ada", f"--b\n\nada {RANKS}\n--b\nContent-Type: message/rfc822\n\n", kind="multipart/mixed; boundary=b")
         self.assert_becomes(attached + letter("ben", "hello\n") + b"--b--\n", IN_ADA)
-
-    def test_a_boundary_with_a_blank(self) -> None:
-        """Lotus Notes writes such."""
-        notes = "=_alternative 004A8E32C1256F5A_="
-        for kind in (f'multipart/alternative; boundary="{notes}"', f'multipart/alternative; boundary="{notes} "'):
-            self.assert_becomes(mailbox(letter("ada", f"--{notes}\n\nada {RANKS}\n--{notes}--\n", kind=kind), BEN), IN_ADA, IN_BEN)
-
-    def test_lines_that_part_nothing(self) -> None:
-        text = f"ada {RANKS}\n\nFrom Monday on\n\nFrom Monday on see\nhttps://x.example\n\n>From x Mon Nov 23 10:00:00 2026\n\nfrom x Mon Nov 23 10:00:00 2026\n\nFrom 10:00 on\n"
-        self.assertEqual(len(read_in(letters_of_file("box", mailbox(letter("ada", text), BEN)))), 2)
 
     def test_what_may_be_text_of_the_letter_above(self) -> None:
         carrier, below = letter("mallory", "hello\n"), b"\n" + LINE + BEN

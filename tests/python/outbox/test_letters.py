@@ -71,8 +71,8 @@ class Call(OutTest):
         self.change_roll("ada@club", "ada@new")
         self.assertIn("Wrote 9 letters, 1 of them new: ", self.done("letters", "call").output)
 
-    def test_again_it_makes_the_same_files_and_no_act(self) -> None:
-        self.written("call")
+    def test_again_it_makes_the_same_files_and_no_act_and_an_answer_goes_in(self) -> None:
+        found = self.written("call")
         before = {file: file.read_bytes() for file in self.files("call")}
         last = self.book.last_number()
         for file in before:
@@ -81,10 +81,7 @@ class Call(OutTest):
         self.written("call")
         self.assertEqual({file: file.read_bytes() for file in self.files("call")}, before)
         self.assertEqual(self.book.last_number(), last)
-
-    def test_an_answer_to_it_goes_in(self) -> None:
-        """Who knows the own mark of an elector and the Message-ID of a letter to them may put a quotation above the ballot, and nobody else."""
-        found = self.written("call")
+        # who knows the own mark of an elector and the Message-ID of a letter to them may put a quotation above the ballot, and nobody else
         quoted = "\n".join(f"> {line}" for line in found["ada"].get_content().splitlines()[:12])
         head = f"In-Reply-To: {found['ada']['Message-ID']}\nSubject: Re: {found['ada']['Subject']}\n"
         for name in ("ada", "ben"):
@@ -432,21 +429,14 @@ class Receipts(OutTest):
         self.assertEqual(self.texts("receipts"), {})
         # one that waited and is entered now
         self.done("held", 3, "--enter", 1)
+        # a ballot that the secretary typed is told as the letter, with its time, and how it was read
+        self.done("held", 6, "--as", f"gus {RANKS}")
         texts = self.texts("receipts")
-        self.assertEqual(list(texts), ["dan"])
-        self.assertIn(f"It counts unless you send a later one. It was read as (dan {RANKS})", texts["dan"])
-
-    def test_a_ballot_that_the_secretary_typed_for_a_letter(self) -> None:
-        """It is told as the letter, with its time, and how it was read; one that was entered as it stood is told without that."""
-        self.add(letter("ada", "I want the lake, then the town hall.\n"), letter("ben", f"Hello 1\nben {RANKS}\n"))
-        self.assertIn("No ballot from it is entered yet", self.texts("receipts")["ada"])
-        self.done("held", 1, "--as", f"ada {RANKS}")
-        self.done("held", 2, "--enter", 2)
-        texts = self.texts("receipts")
+        self.assertEqual(list(texts), ["dan", "gus"])
         said = "10:00 (UTC) has arrived. It counts unless you send a later one."
-        self.assertIn(f"{said} The secretary typed it, by a letter that came. It was read as (ada {RANKS}), in words: {LAKE}.", texts["ada"])
-        self.assertIn(f"{said} It was read as (ben {RANKS})", texts["ben"])
-        self.assertNotIn("No ballot from it", texts["ada"])
+        self.assertIn(f"{said} It was read as (dan {RANKS})", texts["dan"])
+        self.assertIn(f"{said} The secretary typed it, by a letter that came. It was read as (gus {RANKS}), in words: {LAKE}.", texts["gus"])
+        self.assertNotIn("No ballot from it", texts["gus"])
 
     def test_one_for_each_elector_and_run(self) -> None:
         """Of three letters, of letters with copies, and of those that were set aside."""

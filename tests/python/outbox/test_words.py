@@ -90,6 +90,12 @@ class Texts(unittest.TestCase):
                     same = english & set(text.splitlines())
                     commands = {line for line in same if "python3" in line or "sha256sum" in line}
                     self.assertEqual(same - commands if code != "en" else set(), set(), code)
+        # each kind has its own subject
+        for code in LANGUAGES:
+            subjects = [vote(code).subject(kind) for kind in SUBJECTS] + [vote(code).subject("call", is_extension=True)]
+            self.assertEqual(len(set(subjects)), 6, subjects)
+            for subject in subjects:
+                self.assertTrue(subject.endswith(": Spring"), subject)
 
     def test_a_secret_vote_repeats_no_ranks_and_a_signed_one_asks_for_a_signature(self) -> None:
         self.assertIn("(ada 1,2,3)", vote().receipt(ADA, all_that_came()))
@@ -98,13 +104,6 @@ class Texts(unittest.TestCase):
         self.assertIn("has to be signed with OpenPGP", text)
         self.assertNotIn("send the line alone", text)
         self.assertNotIn("OpenPGP", vote().reminder(ADA, []))
-
-    def test_each_kind_has_its_own_subject(self) -> None:
-        for code in LANGUAGES:
-            subjects = [vote(code).subject(kind) for kind in SUBJECTS] + [vote(code).subject("call", is_extension=True)]
-            self.assertEqual(len(set(subjects)), 6, subjects)
-            for subject in subjects:
-                self.assertTrue(subject.endswith(": Spring"), subject)
 
     def test_after_the_end_nobody_is_asked_to_send_anything(self) -> None:
         for code in LANGUAGES:
@@ -186,7 +185,7 @@ class CallLetter(unittest.TestCase):
             # a reminder begins so, too, if a letter waits
             self.assertTrue(now.reminder(ADA, [WAITS]).startswith(begin))
 
-    def test_a_letter_greets_once(self) -> None:
+    def test_greeting_mark_and_texts(self) -> None:
         """By the secretary's own words, or by the name where these do not greet."""
         greeting = (
             "Dear all", "Hello members!", "Liebe Mitglieder,", "Sehr geehrte Damen und Herren,", "Chers membres,", "Bonjour \u00e0 tous",
@@ -196,16 +195,14 @@ class CallLetter(unittest.TestCase):
             for text in self.asking(vote(letter_text=f"{first}\n\nMore.\n"))[:3]:
                 begin = first if first in greeting else f"Dear Ada L.,\n\n{first}"
                 self.assertTrue(text.startswith(f"{begin}\n\nMore.\n\n"), text)
-
-    def test_with_marked_it_says_to_answer_or_to_use_the_link(self) -> None:
+        # with --marked it says to answer, or to use the link
         for text in self.asking(vote(is_marked=True)):
             self.assertIn("Open the link above, or answer this letter: then the subject has your own mark", " ".join(text.split()))
         # one to an earlier address has no own mark
         for text in self.asking(vote(is_marked=True), ADA._replace(mark="")):
             self.assertIn("Open the link in your letter, or answer that letter: then", " ".join(text.split()))
         self.assertNotIn("own mark", "".join(self.asking(vote())))
-
-    def test_without_a_page_the_texts_follow(self) -> None:
+        # without a page the texts follow
         poll = dataclasses.replace(POLL, explanations=("A lake.\nada 1,2,3\n", "", ""))
         for letter in ("", self.letter):
             now = vote(poll=poll, at=None, letter_text=letter)
