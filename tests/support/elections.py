@@ -177,7 +177,7 @@ class ElectionTest(unittest.TestCase):
         """Runs debvote-election under strace, which does with its system calls what it is told."""
         if shutil.which("strace") is None:
             self.skipTest("strace is not installed")
-        return self.run_program("strace", "-o", "/dev/null", *how, sys.executable, ELECTION, *words, given=given)
+        return self.election(*words, given=given, tracer=["strace", "-o", "/dev/null", *how])
 
     def rows(self, query: str, *values: object) -> list[tuple[object, ...]]:
         """What the book answers to a query, without the words of the program."""
