@@ -372,6 +372,11 @@ class Remembered(SendTest):
         self.add_lines(f"ben {RANKS}")
         self.assertIn(other.name, self.election("letters", "receipts", "--send").output)
         self.assertEqual(other.addresses(), ["ada@club.example", "ben@club.example"])
+        # one that is gone
+        other.stop()
+        said = "the server of the last letters: if it is gone, name another with --server"
+        self.assert_fault(self.election("letters", "reminders", "--send"), 7, f"{other.name}: no connection", said)
+        self.assert_sent("reminders")
 
     def test_the_user_but_not_the_password(self) -> None:
         self.server = self.mail_server(authenticator=lambda *words: self.server.authenticated(*words), auth_require_tls=False)
@@ -564,11 +569,7 @@ class Encrypted(unittest.TestCase):
 
 
 def sent_to(server: smtp.Server) -> list[OutgoingLetter]:
-    """What becomes of a letter that is sent to a server."""
-    return list(smtp.send_all([outgoing()], "vote@club.example", server, lambda letter: None))
-
-
-def outgoing() -> tuple[OutgoingLetter, bytes]:
-    """A letter to Ada."""
-    letter = OutgoingLetter(1, "call", 1, "ada@club.example", "<1@club.example>", datetime.datetime(2026, 11, 23, tzinfo=datetime.UTC), ())
-    return letter, b"From: vote@club.example\n\n.\nFrom me\n"
+    """What becomes of a letter to Ada that is sent to a server."""
+    time = datetime.datetime(2026, 11, 23, tzinfo=datetime.UTC)
+    letter = OutgoingLetter(1, "call", 1, ALL[0], "<1@club.example>", time, ())
+    return list(smtp.send_all([(letter, b"From: vote@club.example\n\n.\nFrom me\n")], "vote@club.example", server, lambda letter: None))
