@@ -96,16 +96,12 @@ class BookTest(elections.ElectionTest):
 class Copies(BookTest):
     """A copy of the book in the place of the book, or beside it."""
 
-    def go_back(self) -> None:
-        """Enters a ballot of ada and one of ben, and puts the book of before the latter back."""
+    def test_copy_of_yesterday(self) -> None:
         copy = self.scratch / "copy"
         self.add("ada 1,2,3,4")
         shutil.copy(self.book, copy)
         self.add("ben 1,2,3,4")
         copy.replace(self.book)
-
-    def test_copy_of_yesterday(self) -> None:
-        self.go_back()
         self.assert_stops("election.db", "older copy")
         self.assertIn("--moved", self.election("add", "--yes", "more").faults)
         self.assert_fault(self.election("add", "--yes", "--moved", "more"), 2, "--moved", "reason")

@@ -80,13 +80,6 @@ class Good(CalledTest):
         self.assertEqual(self.lines(), lines)
 
 
-class BeforeTheCall(CalledTest):
-    call_words = None
-
-    def test_it_is_refused(self) -> None:
-        self.assert_refused(("add",), 9, "there is no call for votes yet; nothing was changed: ", given="ada 1,2,4,3\n")
-
-
 class AfterTheEnd(CalledTest):
     call_words = ("--until", "2099-12-04 18:00+01:00")
 

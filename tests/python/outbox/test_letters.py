@@ -451,8 +451,7 @@ class Receipts(OutTest):
         )
         texts = self.texts("receipts")
         self.assertEqual({name: text.count("has arrived") for name, text in texts.items()}, {"ada": 3, "ben": 1, "cleo": 1, "dan": 1, "eve": 0})
-        said = r"08:00 \(UTC\) has arrived\. A later.*09:00 \(UTC\) has arrived\. It counts.*09:30 \(UTC\) has arrived\. No"
-        self.assertRegex(texts["ada"], said)
+        self.assertRegex(texts["ada"], r"08:00 \(UTC\) has arrived\. A later.*09:00 \(UTC\) has arrived\. It counts.*09:30 \(UTC\) has arrived\. No")
         self.assertIn("No ballot from it was entered. The reason: the secretary has looked at it, and set it aside.", texts["dan"])
         self.assertIn("A letter in your name came from another address. The secretary has set it aside.", texts["eve"])
 

@@ -53,6 +53,8 @@ class Sending(SendTest):
         self.assertEqual(len(self.server.taken), 9)
 
     def test_refused_for_good_or_for_now(self) -> None:
+        """Who was refused is named by each later run, of whatever letters, and by `status`, until a letter is taken."""
+        self.assertEqual(self.not_reached(), {})
         self.server.rcpt_answers = {"ada@club.example": "550 5.1.1 no such\x1b user", "ben@club.example": "451 4.7.1 greylisted"}
         self.server.data_answers = {"cleo@club.example": "554 spam", "dan@club.example": "452 full"}
         ended = self.assert_sent("call", "Sent 5 of 9 letters.\n", 9)
@@ -73,13 +75,20 @@ class Sending(SendTest):
         self.server.data_answers = {}
         self.assert_sent("call", "Sent 3 of 4 letters.\n", 9)
         self.assertEqual(self.server.addresses(), [*ALL[4:], *ALL[1:4]])
+        named = "Not reached by the call: ada (refused: 550 5.1.1 no such user)\n"
+        self.add_lines(f"ben {RANKS}")
+        for words in (("--send", "--server", self.server.name), ()):
+            self.assertIn(named, self.election("letters", "receipts", *words).output)
+            self.assertEqual(self.not_reached(), {"ada": "refused"})
+        self.assertIn(named, self.send("call").output)
         # what is written as files now is the letter that no server has taken; a new address is another try, with a new own mark
         [message] = self.written("call").values()
         self.assertEqual(message["To"], "ada@club.example")
         self.change_roll("ada@club", "ada@new")
-        self.assert_sent("call")
-        self.assertEqual(self.server.addresses()[8:], ["ada@new.example"])
+        self.assertNotIn("Not reached", self.assert_sent("call").output)
+        self.assertEqual(self.server.addresses()[9:], ["ada@new.example"])
         self.assertNotEqual(parsed(self.server.taken[-1].data)["Subject"], message["Subject"])
+        self.assertEqual(self.not_reached(), {})
         self.assert_none_is_due("call")
 
     def not_reached(self) -> dict[str, str]:
@@ -90,21 +99,6 @@ class Sending(SendTest):
             self.assertIn(f"Not reached by the call: {reason} ({len(names)}):\n  {' '.join(names)}\n", said)
         self.assertEqual("Not reached" in said, bool(found))
         return found
-
-    def test_who_was_refused_is_named_until_a_letter_is_taken(self) -> None:
-        """By each later run, of whatever letters, and by `status`. Else nobody sees that somebody was never asked to vote."""
-        self.assertEqual(self.not_reached(), {})
-        named = "Not reached by the call: ada (refused: 550 5.1.1 no such user)\n"
-        self.server.rcpt_answers = {"ada@club.example": "550 5.1.1 no such user"}
-        self.assertIn("Refused: ada, ada@club.example: 550 5.1.1 no such user\n", self.send("call").output)
-        self.add_lines(f"ben {RANKS}")
-        for words in (("--send", "--server", self.server.name), ()):
-            self.assertIn(named, self.election("letters", "receipts", *words).output)
-            self.assertEqual(self.not_reached(), {"ada": "refused"})
-        self.assertIn(named, self.send("call").output)
-        self.server.rcpt_answers = {}
-        self.assertNotIn("Not reached", self.send("reminders").output)
-        self.assertEqual(self.not_reached(), {})
 
     def test_who_got_no_letter_is_named(self) -> None:
         """One whose address changed since, and those whom a run that was cut off did not come to; not who gets it printed."""
@@ -502,8 +496,6 @@ class AtTerminal(SendTest):
         self.assertIn("[" + "#" * 40 + "] 9 of 9", shown)
         self.assertIn("Sent 9 of 9 letters.", shown)
 
-
-class RemindedSoon(SendTest):
     def test_reminders_within_a_day_ask_at_a_terminal(self) -> None:
         self.assert_sent("reminders")
         words = ("letters", "reminders", "--send", "--server", self.server.name)
@@ -570,6 +562,5 @@ class Encrypted(unittest.TestCase):
 
 def sent_to(server: smtp.Server) -> list[OutgoingLetter]:
     """What becomes of a letter to Ada that is sent to a server."""
-    time = datetime.datetime(2026, 11, 23, tzinfo=datetime.UTC)
-    letter = OutgoingLetter(1, "call", 1, ALL[0], "<1@club.example>", time, ())
+    letter = OutgoingLetter(1, "call", 1, ALL[0], "<1@club.example>", datetime.datetime(2026, 11, 23, tzinfo=datetime.UTC), ())
     return list(smtp.send_all([(letter, b"From: vote@club.example\n\n.\nFrom me\n")], "vote@club.example", server, lambda letter: None))
