@@ -48,7 +48,6 @@ class CalledTest(elections.ElectionTest):
         return [(act.name, act.detail) for act in self.book.acts() if act.number >= self.first_act]
 
     def act(self, name: str, detail: dict[str, Any] | None = None, sealed: dict[str, bytes] | None = None) -> None:
-        """An act of another command."""
         with self.book.act(name, detail or {}) as act:
             for key, data in (sealed or {}).items():
                 act.insert("sealed", name=key, data=data)
@@ -62,19 +61,15 @@ class CalledTest(elections.ElectionTest):
         return self.lines(is_late=True)
 
     def envelopes(self) -> list[queries.Envelope]:
-        """All envelopes."""
         return queries.envelopes(self.book)
 
     def elector(self, name: str) -> int:
-        """The number of an elector."""
         return next(elector.number for elector in queries.electors(self.book) if elector.name == name)
 
     def sources(self) -> list[tuple[str, bytes]]:
-        """Name and bytes of all that came."""
         return [(name, data) for _, name, data in queries.sources(self.book)]
 
     def told(self, *words: object, **how: Any) -> str:
-        """The output of a command that has to succeed."""
         ended = self.election(*words, **how)
         self.assertEqual((ended.status, ended.faults), (0, ""), ended)
         return ended.output

@@ -109,7 +109,6 @@ class ElectionTest(unittest.TestCase):
         self.begin()
 
     def begin(self) -> None:
-        """Makes the election, up to its call."""
         key = (self.poll, tuple(self.names), self.members, tuple(self.new_words), self.call_words)
         if key not in TEMPLATES:
             TEMPLATES[key] = self.made()
@@ -159,7 +158,6 @@ class ElectionTest(unittest.TestCase):
         self.clock = clock_of(file)
 
     def election(self, *words: object, **how: object) -> Ended:
-        """Runs debvote-election in the folder of the election."""
         return self.run_program(sys.executable, ELECTION, *words, **how)
 
     def desk(self, **how: object) -> subprocess.Popen[str]:
@@ -204,11 +202,9 @@ class ElectionTest(unittest.TestCase):
         self.folder.chmod(0o555)
 
     def debvote(self, *words: object, **how: object) -> Ended:
-        """Runs debvote in the folder of the election."""
         return self.run_program(PROGRAM, *words, **how)
 
     def write(self, name: str, content: bytes | str) -> pathlib.Path:
-        """Writes a file into the folder of the election."""
         file = self.folder / name
         file.write_bytes(content.encode() if isinstance(content, str) else content)
         return file
@@ -219,7 +215,6 @@ class ElectionTest(unittest.TestCase):
         return letter.replace(ANY_MARK.encode(), found[1]) if found else letter
 
     def read(self, name: str) -> bytes:
-        """The bytes of a file of the election."""
         return (self.folder / name).read_bytes()
 
     def contents(self) -> dict[str, bytes]:

@@ -70,7 +70,6 @@ class DebvoteReader:
 
 
 def names(**other: object) -> Names:
-    """Those of the electors."""
     usual: dict[str, object] = {"roll": frozenset(NAMES), "language": "en", "real_names": {name: name.capitalize() for name in NAMES}}
     return Names(**{**usual, **other})  # type: ignore[arg-type]
 
@@ -110,7 +109,6 @@ def marked(name: str, text: str, **how: object) -> bytes:
 
 
 def answer(name: str, text: str, **how: object) -> bytes:
-    """A letter of an elector that answers the call."""
     return marked(name, text, **{"head": f"In-Reply-To: <call.{name}@club.example>\n", **how})
 
 
@@ -120,13 +118,11 @@ def with_mark(data: bytes, mark: str) -> bytes:
 
 
 def alternatives(name: str, plain: str, marked: str, **how: object) -> bytes:
-    """A letter in plain text and in HTML."""
     text = f"--b\nContent-Type: text/plain\n\n{plain}\n--b\nContent-Type: text/html\n\n{marked}\n--b--\n"
     return letter(name, text, kind="multipart/alternative; boundary=b", **how)  # type: ignore[arg-type]
 
 
 def mailbox(*letters: bytes) -> bytes:
-    """An mbox."""
     return b"".join(b"From somebody Mon Nov 23 10:00:00 2026\n" + data.rstrip(b"\n") + b"\n\n" for data in letters)
 
 
@@ -156,7 +152,6 @@ def judged(
 
 
 def label(why: ReasonWithValues) -> str:
-    """A reason in a word or two."""
     return why.reason.name.lower().replace("_", " ")
 
 
@@ -173,7 +168,6 @@ def outcomes(*letters: bytes | ParsedLetter, **other: object) -> list[str]:
 
 
 def lines_in(*letters: bytes | ParsedLetter, **other: object) -> list[str]:
-    """The ballots that go in, in their order."""
     return [one.ballots[0].ballot for one in judged(*letters, **other) if one.outcome is Outcome.GOES_IN]
 
 

@@ -61,7 +61,6 @@ class OutTest(LettersTest):
         return {file.stem: parsed(file.read_bytes()) for file in self.files(kind) if file.suffix == ".eml"}
 
     def texts(self, kind: str, *words: object) -> dict[str, str]:
-        """What they say, each in one line."""
         return {name: one_line(message) for name, message in self.written(kind, *words).items()}
 
 
@@ -224,7 +223,6 @@ class SendTest(OutTest):
         self.assert_sent(kind, "There is no letter to send: the server has taken all that are due.\n")
 
     def sending(self, kind: str) -> subprocess.Popen:
-        """A run that sends letters beside this test."""
         env = elections.environment() | self.clock | {"XDG_STATE_HOME": str(self.state)}
         words = [sys.executable, elections.ELECTION, "letters", kind, "--send", "--server", self.server.name]
         return subprocess.Popen(words, cwd=self.folder, env=env, stdout=subprocess.PIPE, stderr=subprocess.DEVNULL, text=True)

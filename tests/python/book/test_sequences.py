@@ -105,11 +105,9 @@ class Model:
 
     @property
     def waiting(self) -> list[int]:
-        """The letters that wait."""
         return [number for number, letter in enumerate(self.letters, start=1) if letter.waits]
 
     def exported(self) -> tuple[str, str]:
-        """The files of the lines in time and of the late ones."""
         kept = [line for line in self.lines if not line.is_struck]
         return tuple("".join(f"{line.text}\n" for line in kept if line.is_late == is_late) for is_late in (False, True))
 
@@ -195,7 +193,6 @@ class SequencesTest(LettersTest):
         return Step(["held", "--enter", "--force"], None, [model])
 
     def typing(self, model: Model, chance: random.Random) -> Step | None:
-        """What the secretary reads in a letter."""
         if not model.waiting:
             return None
         number = chance.choice(model.waiting)

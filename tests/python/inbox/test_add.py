@@ -178,7 +178,6 @@ class OtherOrder(CalledTest):
     ROWS = "ada 1,2,4,3\nben 1,2,4,3\ncleo 2,1,4,3\n"
 
     def test_a_line_that_names_options_in_another_order(self) -> None:
-        """The line is named, in the words of debvote explain."""
         for head in (
             "Name,In the town hall,At the lake,Further discussion,Sell the house and meet there\n",
             "name in the TOWN hall, at the lake\n",
@@ -491,7 +490,6 @@ class Failing(CalledTest):
         self.assertEqual((ended.status, len(self.lines())), (127, 2), ended)
 
     def test_replies_that_debvote_does_not_give(self) -> None:
-        """The lines are entered by then, and that is said."""
         for number, (how, status) in enumerate({"exit 0": 10, "echo 'debvote: no memory' >&2; exit 7": 7}.items(), start=1):
             self.write("debvote", f'#!/bin/sh\nif [ "$1" = steps ]; then {how}; fi\nexec {elections.PROGRAM} "$@"\n').chmod(0o755)
             env = elections.environment() | {"PATH": f"{self.folder}:{os.environ['PATH']}", "XDG_STATE_HOME": str(self.state)}

@@ -75,7 +75,6 @@ class AfterReopen(CalledTest):
 
 class AddingTest(CalledTest):
     def adding(self, *words: str) -> subprocess.Popen:
-        """An `add` that runs beside this test."""
         pipes = {"stdin": subprocess.PIPE, "stdout": subprocess.PIPE, "stderr": subprocess.PIPE, "text": True}
         run = subprocess.Popen([sys.executable, elections.ELECTION, "add", *words], cwd=self.folder, env=elections.environment(), **pipes)
         self.addCleanup(run.wait)
@@ -85,7 +84,6 @@ class AddingTest(CalledTest):
 
 class AtOnce(AddingTest):
     def test_two_copies_of_one_file(self) -> None:
-        """Whoever is second finds that its lines came before."""
         self.write("many", "".join(f"ada {a},{b},1,2\n" for a in range(1, 20) for b in range(1, 20)))
         runs = [self.adding("many") for _ in range(4)]
         outputs = [run.communicate(timeout=elections.SECONDS) for run in runs]

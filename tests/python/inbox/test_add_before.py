@@ -179,6 +179,11 @@ class Since(Before):
         self.assertEqual(self.lines(), [f"ben {RANKS}"])
         self.assertIn("3 counted  ada: ", self.assert_ignored(1, 1, "--again", name="monday"))
         self.assertNotIn("struck", self.assert_ignored(2, 0, name="monday"))
+        # in two files at once it is taken once
+        self.told("strike", 3, "--because", "a test")
+        self.write("copy", MONDAY)
+        self.told("add", "--again", "monday", "copy")
+        self.assertEqual(self.lines(), [f"ben {RANKS}", f"ada {RANKS}"])
 
     def test_a_ballot_that_was_struck_or_late_is_nothing_since(self) -> None:
         # of equal lines the one that was struck came last
@@ -191,12 +196,6 @@ class Since(Before):
         self.act("close", {"lines": 2, "checksum": "", "early": False})
         self.told("desk", given=f"ada {OTHER_RANKS}\n")
         self.assertNotIn("--again", self.assert_ignored(2, 0, name="monday"))
-
-    def test_in_two_files_at_once_it_is_taken_once(self) -> None:
-        self.told("strike", 1, "--because", "a test")
-        self.write("copy", MONDAY)
-        self.told("add", "--again", "monday", "copy")
-        self.assertEqual(self.lines(), [f"ben {RANKS}", f"ada {RANKS}"])
 
     def test_it_was_late_and_the_vote_is_open_again(self) -> None:
         """What was entered late although it came in time goes in as a new envelope."""

@@ -13,7 +13,6 @@ FOLDED = "".join(f" {number}\n" for number in range(60_000))
 
 
 def nested(depth: int, kind: str = "multipart/mixed; boundary=b{}") -> str:
-    """Parts within each other."""
     return "".join(f"--b{number}\nContent-Type: {kind.format(number + 1)}\n\n" for number in range(depth))
 
 
@@ -115,7 +114,6 @@ class Random(unittest.TestCase):
         self.assertGreater(found.count(f"in: {BALLOT}"), 100)
 
     def test_many_at_once(self) -> None:
-        """Letters of nine electors, of one elector, and one letter again and again."""
         several = [letter(name, f"{name} {RANKS}", number=number) for number in range(50) for name in NAMES]
         of_one = [letter("ada", BALLOT, number=f"x{number}") for number in range(1_500)]
         copies = [letter("ada", BALLOT, number="y", head=f"X-Copy: {number}\n") for number in range(10_000)]

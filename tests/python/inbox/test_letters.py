@@ -35,7 +35,6 @@ os.execv({program!r}, ["debvote", *sys.argv[1:]])
 
 
 def letter(name: str, text: str, time: str = TEN, sender: str = "", number: int = 1) -> bytes:
-    """A letter of somebody with a real name."""
     return letters.letter(name, f"{text}\n", time=time, sender=f"{name.title()} <{sender or f'{name}@club.example'}>", number=number)
 
 
@@ -550,7 +549,6 @@ class BetweenCloses(LettersTest):
             self.assertIn(f"{name} {RANKS}\n", self.exported()[1])
 
     def test_letters_of_before_and_after_it_at_once(self) -> None:
-        """What was entered together would be late together."""
         self.set_clock("2026-11-24T09:00:00+00:00")
         self.told("close")
         self.told("reopen", "--because", "a bag was forgotten")
@@ -633,7 +631,6 @@ class Signed(LettersTest):
         self.assertIn("1 counted  ada: ", self.told(*words))
 
     def test_a_copy_that_only_its_signature_shows_stops_no_close(self) -> None:
-        """Its Message-ID is another, which nobody has signed."""
         self.add(self.signed("ada"), self.signed("ben"))
         self.told("held", 2, "--enter", 4)
         self.call_with("ada", "ben", "cleo")
@@ -671,7 +668,6 @@ class TakenBack(LettersTest):
         self.assertIn("its ballot was struck", self.told("held", "1"))
 
     def test_all_come_back_by_one_command(self) -> None:
-        """But for those that somebody has to look at, as before."""
         box = (letter("ada", f"ada {RANKS}"), letter("ben", f"ben {RANKS}"), letter("cleo", f"cleo {RANKS}"), letter("dan", "hello"))
         self.add(*box)
         self.assertIn("debvote-election held --enter enters these letters again\n", self.told("undo", "--yes"))
@@ -690,7 +686,6 @@ class OwnMarks(LettersTest):
     call_words = ("--to", "vote@club.example", "--marked")
 
     def marked(self, name: str, text: str, of: str = "", **how: object) -> bytes:
-        """A letter with an own mark in its subject."""
         [own] = [elector.mark for elector in queries.electors(self.book) if elector.name == (of or name)]
         return letter(name, text, **how).replace(b"]", f"-{own}]".encode(), 1)  # type: ignore[arg-type]
 

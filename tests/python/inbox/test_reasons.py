@@ -21,7 +21,6 @@ VALUES: dict[str, str | int | datetime.datetime] = {
 
 
 def with_values(reason: Reason) -> ReasonWithValues:
-    """A reason with all values that its sentence names."""
     names = re.findall(r"{(\w+)}", reason.value[0])
     return reason(**{name: VALUES[name] for name in names})
 

@@ -120,7 +120,6 @@ class Reopened(LettersTest):
             self.told("close")
 
     def test_another_reopen_while_it_asks(self) -> None:
-        """It is seen that the vote is open already."""
         self.told("close")
         self.add_lines(BALLOT)
         terminal = self.asked()
@@ -147,16 +146,17 @@ class Reopened(LettersTest):
 
 
 class CallTakenBack(LettersTest):
-    def test_letters_for_the_call_that_was_taken_back(self) -> None:
-        self.told("call", "--take-back")
-        self.told("call", "--to", "vote@club.example")
-        self.assertIn("it arrived before the call for votes", self.add(letter("ada", BALLOT)))
 
     def test_a_call_that_was_closed_and_taken_back(self) -> None:
         """A close stays; where an earlier version took the call back, the next one is open until its own close."""
+        # letters for a call that was taken back
+        self.told("call", "--take-back")
+        self.told("call", "--to", "vote@club.example")
+        call = self.last_act()
+        self.assertIn("it arrived before the call for votes", self.add(letter("ada", BALLOT)))
         self.told("close")
         self.assert_fault(self.election("call", "--take-back"), 9, "the vote was closed at ", "electors rely on the close")
-        self.act("take back", {"call": self.first_act - 1})
+        self.act("take back", {"call": call})
         self.told("call", "--to", "vote@club.example")
         self.assertIn("1 counted", self.add_lines(BALLOT))
         self.set_clock("2026-11-25T10:00:00+00:00")

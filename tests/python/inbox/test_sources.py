@@ -27,7 +27,6 @@ def outcome_of(found: list[RawLetter]) -> list[str]:
 
 class Files(unittest.TestCase):
     def assert_becomes(self, data: bytes, *wanted: str) -> None:
-        """What becomes of the letters of a file."""
         self.assertEqual(outcome_of(letters_of_file("box", data)), list(wanted), data)
 
     def assert_parted_off(self, data: bytes, *wanted: bool) -> None:
@@ -256,7 +255,6 @@ class Folders(unittest.TestCase):
         iterdir = pathlib.Path.iterdir
 
         def listed(folder: pathlib.Path) -> list[pathlib.Path]:
-            """What is in a folder; the first letter moves as soon as one of both is listed."""
             found = list(iterdir(folder))
             if folder.name in ("new", "cur") and (self.folder / "new/1.host").exists():
                 (self.folder / "new/1.host").rename(self.folder / "cur/1.host:2,S")

@@ -439,7 +439,6 @@ class Receipts(OutTest):
         self.assertNotIn("No ballot from it", texts["gus"])
 
     def test_one_for_each_elector_and_run(self) -> None:
-        """Of three letters, of letters with copies, and of those that were set aside."""
         twice, aside = letter("ben", f"ben {RANKS}\n"), (letter("dan", "hello\n"), letter("eve", f"eve {RANKS}\n", sender="x@x.example"))
         self.add(*aside)
         self.done("held", 1, 2, "--set-aside")
@@ -493,11 +492,9 @@ class FullDisk(OutTest):
     names = ["ada", "ben", "cleo"]
 
     def full_at(self, call: str, count: int) -> elections.Ended:
-        """Writes receipts on a disk that is full at one of these system calls."""
         return self.traced("-f", "-e", f"inject={call}:error=ENOSPC:when={count}", words=("letters", "receipts"))
 
     def receipts(self) -> dict[pathlib.Path, bytes]:
-        """The files of all receipts that were written."""
         return {file: file.read_bytes() for file in (self.folder / "letters").rglob("*.eml") if ".debvote" not in str(file)}
 
     def test_what_could_not_be_noted_leaves_the_folder_as_it_was(self) -> None:

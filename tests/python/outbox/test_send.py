@@ -121,7 +121,6 @@ class Sending(SendTest):
         self.assertEqual(self.not_reached(), {})
 
     def came_back(self, name: str, what: str, sender: str = "mailer-daemon@mail.example") -> None:
-        """A mail server reports that a letter to an elector did not arrive."""
         sent = {taken.to: taken.data.decode().replace("\r\n", "\n") for taken in self.server.taken}[f"{name}@club.example"]
         message = parsed(sent.encode())
         head, body = sent.partition("\n\n")[0], message.get_content()
@@ -232,7 +231,6 @@ class Sending(SendTest):
         self.assert_none_is_due("receipts")
 
     def test_a_receipt_on_paper_is_printed_once(self) -> None:
-        """Ada has no address any longer."""
         self.change_roll("ada@club.example", "")
         self.add_lines(f"ada {RANKS}", f"ben {RANKS}")
         place = self.folder / "letters" / "receipts"
@@ -253,7 +251,7 @@ class Sending(SendTest):
         self.assertIn("Without an address: ada. Print letters/receipts/", self.send("receipts").output)
         self.assertEqual(len(list(place.rglob("*.html"))), 2)
 
-    def test_after_an_extension_who_has_no_call_gets_it_whole(self) -> None:
+    def test_after_an_extension_and_a_second_close(self) -> None:
         self.server.rcpt_answers = {"ben@club.example": "451 later", "cleo@club.example": "550 no"}
         self.assert_sent("call", status=9)
         self.done("call", "--until", "2026-12-06 12:00", "--zone", "UTC")
@@ -266,8 +264,8 @@ class Sending(SendTest):
         self.assertEqual(whole, ["ben", "cleo"])
         for text in texts.values():
             self.assertIn("Vote until: Sunday, 6 December 2026, 12:00 (UTC)", text)
-
-    def test_after_a_second_close_its_letter_goes_out_too(self) -> None:
+        # after a second close its letter goes out too
+        self.server.taken.clear()
         for count in (1, 2):
             self.done("close", "--early")
             self.assert_sent("closed")

@@ -66,7 +66,6 @@ WAITS = next(one for one in all_that_came() if one.became is Outcome.WAITS and o
 
 
 def texts(now: Composer) -> list[str]:
-    """A letter of each kind."""
     return [
         now.call_letter(ADA, is_extension=False),
         now.call_letter(ADA._replace(code="c0de"), is_extension=False),
