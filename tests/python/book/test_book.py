@@ -513,8 +513,8 @@ class Rewritten(BookTest):
                         connection.execute(statement.format(table))
 
 
-class CutOff(BookTest):
-    """An act that is cut off in its commit, or right after it."""
+class OnTheDisk(BookTest):
+    """What is brought to the disk, and in which order; an act that is cut off in its commit, or right after it."""
 
     def last_act(self) -> int:
         ended = self.done("status", "--json")
@@ -554,10 +554,6 @@ class CutOff(BookTest):
         self.assert_fault(ended, 130, f"interrupted; act {self.last_act()} (close) was done, and nothing else")
         ended = self.traced("-P", journal, "-e", "inject=unlink:signal=INT", words=("publish",))
         self.assertTrue((self.folder / "result" / "index.html").exists(), ended)
-
-
-class OnTheDisk(BookTest):
-    """What is brought to the disk, and in which order."""
 
     def calls(self, *words: str, given: str | None = None, inject: str = "fsync:delay_exit=0") -> list[tuple[str, str]]:
         """The calls of a command that bring a file to the disk or put it into its place, in their order, each with its path."""

@@ -17,7 +17,7 @@ RIGHT = (
 NEXT = "Next: debvote-election status; add more ballots with debvote-election add FILE, and when the vote is over: debvote-election close"
 
 
-class Good(CalledTest):
+class Added(CalledTest):
     def test_envelope_reply_and_words(self) -> None:
         self.write("more.txt", "ada 1,2,4,3\nben 2,1,4,3\nada 2,1,4,3\n")
         replies = f"1 counted  ada: {LAKE}\n2 counted  ben: {HALL}\n3 replaced  ada: {HALL}\n"
@@ -78,6 +78,115 @@ class Good(CalledTest):
         told = [line for line in self.told("add", "many").splitlines() if line[0].isdigit()]
         self.assertEqual([int(line.split()[0]) for line in told], list(range(1, 10_001)))
         self.assertEqual(self.lines(), lines)
+
+    def test_each_change_is_told(self) -> None:
+        came = b"\xef\xbb\xbfada 1,2,4,3\r\n Ben\t 2, 1 ,4,3 \r\n\r\ncleo 1,2,4,3\rdan  1,2,4,3"
+        output = self.told("add", given=came)
+        told = [line.removeprefix("standard input:") for line in output.splitlines() if line.startswith("standard")]
+        wanted = [
+            "3: it is empty, and was left out",
+            " it begins with a mark that Windows writes (byte-order mark); it was removed",
+            " 3 lines end as Windows ends them (carriage return); that was removed",
+            "2: ` Ben\\t 2, 1 ,4,3 ` was changed to `ben 2,1,4,3` (tabs, spaces, capital letters)",
+            "5: `dan  1,2,4,3` was changed to `dan 1,2,4,3` (spaces)",
+        ]
+        self.assertEqual(told, wanted)
+        self.assertEqual(self.lines(), ["ada 1,2,4,3", "ben 2,1,4,3", "cleo 1,2,4,3", "dan 1,2,4,3"])
+        self.assertEqual(self.sources(), [("standard input", came)])
+        # line ends of Windows are told once a file
+        self.write("monday", "ada 4,1,2,3\r\nben 4,1,2,3\r\ncleo 4,1,2,3\r\n")
+        self.write("tuesday", "\ufeffdan 2,1,4,3\r\neve 1,2,4,3\n")
+        output = self.told("add", "monday", "tuesday")
+        ends = "lines end as Windows ends them (carriage return); that was removed", "1 line ends as Windows ends it (carriage return); that was removed"
+        mark = "tuesday: it begins with a mark that Windows writes (byte-order mark); it was removed\n"
+        self.assertTrue(output.startswith(f"monday: 3 {ends[0]}\n{mark}tuesday: {ends[1]}\n5 replaced  ada: "), output)
+        self.assertNotIn("was changed to", output)
+
+    def test_a_refused_line_goes_in_as_it_came(self) -> None:
+        output = self.told("add", "--force", given=b"\xef\xbb\xbf Cleo 1,2,3 \r\nDan  1,2,4,3\r\nGsu 1,2,4,3\n")
+        has_name = "a ballot has the name there: a to z, 0 to 9, . or -\n  it goes in as it came; written as"
+        for told in (
+            f"1 bad shape   Cleo 1,2,3 : column 1: space; {has_name} `cleo 1,2,3` it is refused too: bad rank count: 3 ranks, the poll has 4 options\n",
+            f'3 bad shape  Gsu 1,2,4,3: column 1: "G"; {has_name} `gsu 1,2,4,3` it is refused too: bad not on roll: gsu is not on the roll\n',
+        ):
+            self.assertIn(told, output)
+        self.assertIn(f"{RIGHT}\nAdded 3 lines (2 bad shape, 1 counted).\n", output)
+        self.assertEqual(self.lines(), [" Cleo 1,2,3 ", "dan 1,2,4,3", "Gsu 1,2,4,3"])
+
+    def test_lines_of_a_word_processor_bytes_and_hints(self) -> None:
+        came = "“ada” 1,2,4,3\nben\u00a01,2,4,3\ncleo 1,2,–,3\nA>B>C\ndan 1.\n1,2,3,4\n"
+        output = self.told("add", "--force", given=came)
+        for told in (
+            "1 bad shape  “ada” 1,2,4,3: column 1: left curly quote; a ballot has the name there: a to z, 0 to 9, . or -\n",
+            "standard input:2: `ben\\u00A01,2,4,3` was changed to `ben 1,2,4,3` (no-break spaces)\n2 counted  ben: ",
+            "standard input:3: `cleo 1,2,–,3` was changed to `cleo 1,2,-,3` (dashes)\n3 counted  cleo: ",
+            '5 bad shape  dan 1.: column 6: "."; a ballot has a comma or its end there, or a second digit of the rank\n'
+            "  it goes in as it came; written as `dan 1` it is refused too: bad rank count: 1 ranks, the poll has 4 options\n",
+            '6 bad shape  1,2,3,4: column 2: ","; a ballot has a space there, or more of the name: a to z, 0 to 9, . or -\n',
+        ):
+            self.assertIn(told, output)
+        self.assertEqual(output.count("A valid line in this poll"), 1)
+        self.assertEqual(self.lines(), came.replace("\u00a0", " ").replace("–", "-").splitlines())
+        # bytes that are no text
+        output = self.told("add", "--force", given=b"ad\xff 1,2\x1b[2J\n\x00\n")
+        self.assertIn("7 bad shape  ad\\xff 1,2\\u001B[2J: column 3: byte 0xFF\n", output)
+        self.assertNotIn("\x1b", output)
+        self.assertEqual([envelope.line for envelope in self.envelopes()[6:]], [b"ad\xff 1,2\x1b[2J", b"\x00"])
+        # hints do not run out, and are not hidden by the close
+        self.told("add", "--force", given="nobodynear 1,2,3,4\n" * 150)
+        self.act("close", {"lines": 158, "checksum": "", "early": False})
+        self.assertIn("159 late  gsu 1,2,3,4: bad not on roll: gsu is not on the roll\n", self.told("add", given="gsu 1,2,3,4\n"))
+
+    def test_what_is_no_file_of_ballots(self) -> None:
+        letters = "it has letters, and the other files have none; nothing was added: "
+        files = {
+            "word.docx": (b"PK\x03\x04rest", 4, "word.docx: it is a ZIP, as word processors and spreadsheets save; nothing was "),
+            "old.doc": (b"\xd0\xcf\x11\xe0rest", 4, "it is a document of a word processor or spreadsheet; "),
+            "rich.rtf": (b"{\\rtf1 ada 1,2,4,3}", 4, "it is a document with formats (RTF); "),
+            "print.pdf": (b"%PDF-1.7\n", 4, "it is a PDF; "),
+            "wide.txt": ("ada 1,2,4,3\n".encode("utf-16"), 4, "it is a text in UTF-16; nothing was added: save it as plain text"),
+            "empty.txt": (b"", 9, "empty.txt: it is empty; nothing was added: write one ballot on each line"),
+            "blank.txt": (b"\n \r\n\t\n", 9, "it has only empty lines; nothing was added: "),
+            "other.toml": (elections.POLL.encode(), 9, "other.toml: it looks like a poll, not like ballots; nothing was added: "),
+            "broken.toml": (b'title = "x\noptions = [', 9, "it looks like a poll, not like ballots; "),
+            "letter.eml": (b"From: ada@club.example\nSubject: my vote\n\nada 1,2,4,3\n", 2, f"letter.eml: {letters}"),
+            "inbox": (b"From ada Mon Nov 2 10:00:00 2026\nFrom: a@b\nDate: x\n\nada 1,2,4,3\n", 2, f"inbox: {letters}"),
+        }
+        self.write("good", "ada 1,2,4,3\n")
+        for name, (data, status, words) in files.items():
+            with self.subTest(name=name):
+                self.write(name, data)
+                # all files or none
+                self.assert_refused(("add", "good", name), status, words)
+        self.assert_refused(("add", "election.db"), 4, "election.db: it is the book of this election; nothing was added: ")
+        # all files that are none are named at once
+        ended = self.election("add", "print.pdf", "nowhere", "empty.txt")
+        self.assertEqual([line.split(": ")[1] for line in ended.faults.splitlines()], ["print.pdf", "nowhere", "empty.txt"])
+        self.assertEqual(ended.status, 4)
+        self.assert_refused(("add", "nowhere"), 4, "nowhere: No such file or directory; nothing was added: ")
+        self.assert_refused(("add",), 9, "standard input: it is empty; ", given="")
+        closed = self.run_program("sh", "-c", 'exec "$0" "$1" add <&-', sys.executable, elections.ELECTION)
+        self.assert_fault(closed, 4, "standard input: it is closed; nothing was added: ")
+        with open(self.folder / "long", "wb") as file:
+            file.truncate(33_554_433)
+        self.assert_fault(self.election("add", "long"), 4, "long: it is longer than 33554432 bytes, ", "add it in parts")
+        # words that do not go together
+        self.assert_refused(("add", "--csv"), 2, "--csv: it needs --name COLUMN and --ranks ", given="x")
+        for words in (["--name", "x"], ["--ranks", "x"], ["--blank-is-unranked"], ["--oldest-first"], ["--newest-first"]):
+            self.assert_refused(("add", *words), 2, f"{words[0]}: only for tables; nothing was added: give --csv too, or leave this out", given="x")
+        self.assertEqual((self.acts(), self.sources()), ([], []))
+
+    def test_more_lines_than_debvote_takes(self) -> None:
+        self.told("add", given="".join(f"ada {a},{b},1,2\n" for a in range(1, 100) for b in range(1, 100)) * 10)
+        self.told("add", given=f"ben {RANKS}\n" * (100_000 - len(self.lines())))
+        said = "with the new lines there would be 100001 lines and "
+        limits = "; nothing was added: debvote takes at most 100000 lines and 33554432 bytes: add fewer"
+        self.assert_refused(("add",), 4, said, limits, given=f"cleo {RANKS}\n")
+        # what is struck takes no room, and what is late neither
+        self.told("strike", 1, "--because", "a test")
+        self.assertIn("100001 counted  cleo: ", self.told("add", given=f"cleo {RANKS}\n"))
+        self.act("close", {"lines": 100_000, "checksum": "", "early": False})
+        self.assertIn("100002 late  dan: ", self.told("add", given=f"dan {RANKS}\n"))
 
 
 class AfterTheEnd(CalledTest):
@@ -246,119 +355,6 @@ class OtherNames(CalledTest):
         ended = self.election("add", given="further discussion b\nada 2,1,4,3\ncleo 1,2,4,3\n")
         self.assertIn("standard input: line 1 names options of the poll in another order", ended.faults)
         self.assertRegex(self.told("add", given="anna-maier 1,2,3,4\n"), r"did you mean anna-meier\b.*anna-meier-2")
-
-
-class Changed(CalledTest):
-    def test_each_change_is_told(self) -> None:
-        came = b"\xef\xbb\xbfada 1,2,4,3\r\n Ben\t 2, 1 ,4,3 \r\n\r\ncleo 1,2,4,3\rdan  1,2,4,3"
-        output = self.told("add", given=came)
-        told = [line.removeprefix("standard input:") for line in output.splitlines() if line.startswith("standard")]
-        wanted = [
-            "3: it is empty, and was left out",
-            " it begins with a mark that Windows writes (byte-order mark); it was removed",
-            " 3 lines end as Windows ends them (carriage return); that was removed",
-            "2: ` Ben\\t 2, 1 ,4,3 ` was changed to `ben 2,1,4,3` (tabs, spaces, capital letters)",
-            "5: `dan  1,2,4,3` was changed to `dan 1,2,4,3` (spaces)",
-        ]
-        self.assertEqual(told, wanted)
-        self.assertEqual(self.lines(), ["ada 1,2,4,3", "ben 2,1,4,3", "cleo 1,2,4,3", "dan 1,2,4,3"])
-        self.assertEqual(self.sources(), [("standard input", came)])
-        # line ends of Windows are told once a file
-        self.write("monday", "ada 4,1,2,3\r\nben 4,1,2,3\r\ncleo 4,1,2,3\r\n")
-        self.write("tuesday", "\ufeffdan 2,1,4,3\r\neve 1,2,4,3\n")
-        output = self.told("add", "monday", "tuesday")
-        ends = "lines end as Windows ends them (carriage return); that was removed", "1 line ends as Windows ends it (carriage return); that was removed"
-        mark = "tuesday: it begins with a mark that Windows writes (byte-order mark); it was removed\n"
-        self.assertTrue(output.startswith(f"monday: 3 {ends[0]}\n{mark}tuesday: {ends[1]}\n5 replaced  ada: "), output)
-        self.assertNotIn("was changed to", output)
-
-    def test_a_refused_line_goes_in_as_it_came(self) -> None:
-        output = self.told("add", "--force", given=b"\xef\xbb\xbf Cleo 1,2,3 \r\nDan  1,2,4,3\r\nGsu 1,2,4,3\n")
-        has_name = "a ballot has the name there: a to z, 0 to 9, . or -\n  it goes in as it came; written as"
-        for told in (
-            f"1 bad shape   Cleo 1,2,3 : column 1: space; {has_name} `cleo 1,2,3` it is refused too: bad rank count: 3 ranks, the poll has 4 options\n",
-            f'3 bad shape  Gsu 1,2,4,3: column 1: "G"; {has_name} `gsu 1,2,4,3` it is refused too: bad not on roll: gsu is not on the roll\n',
-        ):
-            self.assertIn(told, output)
-        self.assertIn(f"{RIGHT}\nAdded 3 lines (2 bad shape, 1 counted).\n", output)
-        self.assertEqual(self.lines(), [" Cleo 1,2,3 ", "dan 1,2,4,3", "Gsu 1,2,4,3"])
-
-    def test_lines_of_a_word_processor_bytes_and_hints(self) -> None:
-        came = "“ada” 1,2,4,3\nben\u00a01,2,4,3\ncleo 1,2,–,3\nA>B>C\ndan 1.\n1,2,3,4\n"
-        output = self.told("add", "--force", given=came)
-        for told in (
-            "1 bad shape  “ada” 1,2,4,3: column 1: left curly quote; a ballot has the name there: a to z, 0 to 9, . or -\n",
-            "standard input:2: `ben\\u00A01,2,4,3` was changed to `ben 1,2,4,3` (no-break spaces)\n2 counted  ben: ",
-            "standard input:3: `cleo 1,2,–,3` was changed to `cleo 1,2,-,3` (dashes)\n3 counted  cleo: ",
-            '5 bad shape  dan 1.: column 6: "."; a ballot has a comma or its end there, or a second digit of the rank\n'
-            "  it goes in as it came; written as `dan 1` it is refused too: bad rank count: 1 ranks, the poll has 4 options\n",
-            '6 bad shape  1,2,3,4: column 2: ","; a ballot has a space there, or more of the name: a to z, 0 to 9, . or -\n',
-        ):
-            self.assertIn(told, output)
-        self.assertEqual(output.count("A valid line in this poll"), 1)
-        self.assertEqual(self.lines(), came.replace("\u00a0", " ").replace("–", "-").splitlines())
-        # bytes that are no text
-        output = self.told("add", "--force", given=b"ad\xff 1,2\x1b[2J\n\x00\n")
-        self.assertIn("7 bad shape  ad\\xff 1,2\\u001B[2J: column 3: byte 0xFF\n", output)
-        self.assertNotIn("\x1b", output)
-        self.assertEqual([envelope.line for envelope in self.envelopes()[6:]], [b"ad\xff 1,2\x1b[2J", b"\x00"])
-        # hints do not run out, and are not hidden by the close
-        self.told("add", "--force", given="nobodynear 1,2,3,4\n" * 150)
-        self.act("close", {"lines": 158, "checksum": "", "early": False})
-        self.assertIn("159 late  gsu 1,2,3,4: bad not on roll: gsu is not on the roll\n", self.told("add", given="gsu 1,2,3,4\n"))
-
-
-class RefusedWhole(CalledTest):
-    def test_what_is_no_file_of_ballots(self) -> None:
-        letters = "it has letters, and the other files have none; nothing was added: "
-        files = {
-            "word.docx": (b"PK\x03\x04rest", 4, "word.docx: it is a ZIP, as word processors and spreadsheets save; nothing was "),
-            "old.doc": (b"\xd0\xcf\x11\xe0rest", 4, "it is a document of a word processor or spreadsheet; "),
-            "rich.rtf": (b"{\\rtf1 ada 1,2,4,3}", 4, "it is a document with formats (RTF); "),
-            "print.pdf": (b"%PDF-1.7\n", 4, "it is a PDF; "),
-            "wide.txt": ("ada 1,2,4,3\n".encode("utf-16"), 4, "it is a text in UTF-16; nothing was added: save it as plain text"),
-            "empty.txt": (b"", 9, "empty.txt: it is empty; nothing was added: write one ballot on each line"),
-            "blank.txt": (b"\n \r\n\t\n", 9, "it has only empty lines; nothing was added: "),
-            "other.toml": (elections.POLL.encode(), 9, "other.toml: it looks like a poll, not like ballots; nothing was added: "),
-            "broken.toml": (b'title = "x\noptions = [', 9, "it looks like a poll, not like ballots; "),
-            "letter.eml": (b"From: ada@club.example\nSubject: my vote\n\nada 1,2,4,3\n", 2, f"letter.eml: {letters}"),
-            "inbox": (b"From ada Mon Nov 2 10:00:00 2026\nFrom: a@b\nDate: x\n\nada 1,2,4,3\n", 2, f"inbox: {letters}"),
-        }
-        self.write("good", "ada 1,2,4,3\n")
-        for name, (data, status, words) in files.items():
-            with self.subTest(name=name):
-                self.write(name, data)
-                # all files or none
-                self.assert_refused(("add", "good", name), status, words)
-        self.assert_refused(("add", "election.db"), 4, "election.db: it is the book of this election; nothing was added: ")
-        # all files that are none are named at once
-        ended = self.election("add", "print.pdf", "nowhere", "empty.txt")
-        self.assertEqual([line.split(": ")[1] for line in ended.faults.splitlines()], ["print.pdf", "nowhere", "empty.txt"])
-        self.assertEqual(ended.status, 4)
-        self.assert_refused(("add", "nowhere"), 4, "nowhere: No such file or directory; nothing was added: ")
-        self.assert_refused(("add",), 9, "standard input: it is empty; ", given="")
-        closed = self.run_program("sh", "-c", 'exec "$0" "$1" add <&-', sys.executable, elections.ELECTION)
-        self.assert_fault(closed, 4, "standard input: it is closed; nothing was added: ")
-        with open(self.folder / "long", "wb") as file:
-            file.truncate(33_554_433)
-        self.assert_fault(self.election("add", "long"), 4, "long: it is longer than 33554432 bytes, ", "add it in parts")
-        # words that do not go together
-        self.assert_refused(("add", "--csv"), 2, "--csv: it needs --name COLUMN and --ranks ", given="x")
-        for words in (["--name", "x"], ["--ranks", "x"], ["--blank-is-unranked"], ["--oldest-first"], ["--newest-first"]):
-            self.assert_refused(("add", *words), 2, f"{words[0]}: only for tables; nothing was added: give --csv too, or leave this out", given="x")
-        self.assertEqual((self.acts(), self.sources()), ([], []))
-
-    def test_more_lines_than_debvote_takes(self) -> None:
-        self.told("add", given="".join(f"ada {a},{b},1,2\n" for a in range(1, 100) for b in range(1, 100)) * 10)
-        self.told("add", given=f"ben {RANKS}\n" * (100_000 - len(self.lines())))
-        said = "with the new lines there would be 100001 lines and "
-        limits = "; nothing was added: debvote takes at most 100000 lines and 33554432 bytes: add fewer"
-        self.assert_refused(("add",), 4, said, limits, given=f"cleo {RANKS}\n")
-        # what is struck takes no room, and what is late neither
-        self.told("strike", 1, "--because", "a test")
-        self.assertIn("100001 counted  cleo: ", self.told("add", given=f"cleo {RANKS}\n"))
-        self.act("close", {"lines": 100_000, "checksum": "", "early": False})
-        self.assertIn("100002 late  dan: ", self.told("add", given=f"dan {RANKS}\n"))
 
 
 class Signed(CalledTest):

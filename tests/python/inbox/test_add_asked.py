@@ -73,7 +73,7 @@ class AfterReopen(CalledTest):
         self.assertIn("1 counted  ada: ", self.answer(terminal, "y\n"))
 
 
-class AddingTest(CalledTest):
+class BesideOthers(CalledTest):
     def adding(self, *words: str) -> subprocess.Popen:
         pipes = {"stdin": subprocess.PIPE, "stdout": subprocess.PIPE, "stderr": subprocess.PIPE, "text": True}
         run = subprocess.Popen([sys.executable, elections.ELECTION, "add", *words], cwd=self.folder, env=elections.environment(), **pipes)
@@ -81,8 +81,6 @@ class AddingTest(CalledTest):
         self.addCleanup(run.kill)
         return run
 
-
-class AtOnce(AddingTest):
     def test_two_copies_of_one_file(self) -> None:
         self.write("many", "".join(f"ada {a},{b},1,2\n" for a in range(1, 20) for b in range(1, 20)))
         runs = [self.adding("many") for _ in range(4)]
@@ -104,10 +102,6 @@ class AtOnce(AddingTest):
             first, second = (envelope.number for envelope in self.envelopes() if envelope.line.startswith(name.encode()))
             self.assertIn(f"{first} counted  {name}: {LAKE}\n", output)
             self.assertIn(f"\n{second} replaced  {name}: ", output)
-
-
-class FromAPipe(AddingTest):
-    """What is read of a pipe is gone from it, so it is read once."""
 
     def test_lines_from_a_named_pipe_and_a_process_substitution(self) -> None:
         os.mkfifo(self.folder / "more")

@@ -21,8 +21,6 @@ class Before(CalledTest):
         self.assertIn(f"{name}: {lines} came before; {new} {'is' if new == 1 else 'are'} new\n", output)
         return output
 
-
-class AsItCame(Before):
     def test_the_same_lines_again(self) -> None:
         before = self.last_act()
         output = self.assert_ignored(2, 0, name="monday")
@@ -123,8 +121,6 @@ class AsItCame(Before):
         self.assertEqual(self.lines()[2:], [newer, older, newer])
         self.assertIn("6 replaced  cleo", self.told("add", "--force", given=f"cleo 1,1,4,3\n{newer}\n"))
 
-
-class Since(Before):
     def test_another_ballot_has_come(self) -> None:
         self.told("desk", given=f"ada {OTHER_RANKS}\n")
         output = self.assert_ignored(2, 0, name="monday")

@@ -194,6 +194,88 @@ class Adding(LettersTest):
         self.add(letter("ben", f"ben {RANKS}"))
         self.assertEqual(self.exported()[0], f"ada {RANKS}\nben {RANKS}\n")
 
+    def test_letters_of_after_the_first_close(self) -> None:
+        self.set_clock("2026-11-24T09:00:00+00:00")
+        self.told("desk", given=f"ada {RANKS}\n")
+        self.told("close")
+        self.told("reopen", "--because", "a bag was forgotten")
+        self.set_clock("2026-11-25T09:00:00+00:00")
+        for name, day in (("ben", 24), ("cleo", 25)):
+            after = letter(name, f"{name} {RANKS}", f"Tue, {day} Nov 2026 09:00:01 +0000")
+            for _ in range(2):
+                self.assertIn("it arrived after the vote was closed, 2026-11-24 09:00:00 UTC", self.add(after))
+            self.assertEqual((self.exported()[0], self.numbers()["stopping"]), (f"ada {RANKS}\n", []))
+            # none of them stops a close, and the page says that they came after the end
+            self.set_clock("2026-11-26T09:00:00+00:00")
+            self.assertNotIn("arrived in time", self.told("close"))
+            self.assertIn("'waiting': 0, 'after_end': ", str(self.acts()[-1][1]))
+            self.told("reopen", "--because", "another bag")
+        for number, name in ((1, "ben"), (2, "cleo")):
+            self.told("held", number, "--enter", 1)
+            self.assertEqual(self.exported()[0], f"ada {RANKS}\n")
+            self.assertIn(f"{name} {RANKS}\n", self.exported()[1])
+
+    def test_letters_of_before_and_after_the_first_close_at_once(self) -> None:
+        self.set_clock("2026-11-24T09:00:00+00:00")
+        self.told("close")
+        self.told("reopen", "--because", "a bag was forgotten")
+        self.set_clock("2026-11-25T09:00:00+00:00")
+        for name, day in (("ben", 23), ("cleo", 25)):
+            self.add(letter(name, f"My ballot: 1\n{name} {RANKS}", f"Mon, {day} Nov 2026 08:00:00 +0000"))
+        said = "--enter: some of these letters arrived before the first close, and some after it"
+        self.assert_fault(self.election("held", 1, 2, "--enter"), 9, said)
+        for number in (1, 2):
+            self.told("held", number, "--enter")
+        self.assertEqual(self.exported(), (f"ben {RANKS}\n", f"cleo {RANKS}\n"))
+
+    def test_a_letter_that_another_desk_enters_is_not_set_aside(self) -> None:
+        self.add(letter("ada", f"I thought about it for 3 days:\n\nada {RANKS}"))
+        self.overtaken(held, "chosen_letters", ("held", 1, "--enter", 3), ("held", "1", "--set-aside"))
+        self.assertEqual(self.exported()[0], f"ada {RANKS}\n")
+        self.assertNotIn("Set aside", self.told("held"))
+        self.assertIn("It was entered.", self.told("held", 1))
+        # letters to electors that another act made untrue are not noted
+        self.overtaken(letter_folder, "letter_files", ("undo", "--yes"), ("letters", "receipts"))
+        self.assertNotIn("receipt", self.told("show", "ada"))
+
+    def test_a_copy_of_one_that_was_entered_by_hand_and_taken_back(self) -> None:
+        """The secretary has decided of it, and it waits until it is entered anew, also if nothing is wrong with its copy."""
+        good = letter("ada", f"ada {RANKS}")
+        self.add(good.split(b"\n", 1)[1])
+        self.assertIn("no Received line", self.told("held"))
+        self.told("held", 1, "--enter", 1)
+        self.told("undo", "--yes")
+        self.assertIn("1 copy passed over", self.add(good))
+        self.assertEqual(self.exported()[0], "")
+
+    def test_undo_and_strike_of_ballots_of_letters(self) -> None:
+        box = (letter("ada", f"ada {RANKS}"), letter("ben", f"ben {RANKS}"))
+        self.add(*box)
+        self.told("undo", "--yes")
+        self.assertEqual(self.exported()[0], "")
+        self.assertIn("its ballot was taken back", self.told("held"))
+        # a copy with another head is the same letter
+        self.assertIn("2 letters wait", self.add(*(b"X-Status: R\n" + one for one in box)))
+        self.assert_fault(self.election("close"), 9, "these letters arrived in time, and wait: 1, 2")
+        self.assertIn("0 ballots of letters went in; 2 letters wait", self.add(*box))
+        self.told("held", "1", "--enter", "1")
+        self.told("strike", "3", "--because", "she asked for it")
+        self.assertIn("1 letter waits", self.told("held"))
+        self.assertIn("Set aside: 1", self.told("held"))
+        self.assertIn("its ballot was struck", self.told("held", "1"))
+
+    def test_all_come_back_by_one_command(self) -> None:
+        box = (letter("ada", f"ada {RANKS}"), letter("ben", f"ben {RANKS}"), letter("cleo", f"cleo {RANKS}"), letter("dan", "hello"))
+        self.add(*box)
+        self.assertIn("debvote-election held --enter enters these letters again\n", self.told("undo", "--yes"))
+        self.told("desk", given=f"ben {OTHER}\n")
+        said = self.told("held", "--enter")
+        self.assertIn("Waits on: letter 2: its elector has voted since\n", said)
+        self.assertIn("\n5 counted  ada: At the lake", said)
+        self.assertIn("\n2 letters wait.\n", said)
+        self.assertEqual(self.exported()[0], f"ben {OTHER}\nada {RANKS}\ncleo {RANKS}\n")
+        self.assert_fault(self.election("held", "--enter"), 9, "--enter: no letter was taken back that has one ballot")
+
 
 class ReadOnce(LettersTest):
     """What a letter says is read when it comes. Else a few letters of a stranger would slow down each command, for good."""
@@ -298,7 +380,7 @@ class Held(LettersTest):
         shown = self.told("held", 7)
         lines = "   1  I am for the lake.\n   2  \n      .. 7 lines of a letter of ours, which it quotes\n  10  \n  11  And Dan wrote:\n  12  > I am not\n"
         self.assertIn(lines, shown)
-        self.assertTrue(without_marks(shown).startswith("letter 7, from Fay <fay@club.example>, 2026-11-23 10:00:00 UTC\n  subject: my ballot\n"), shown)
+        self.assertRegex(without_marks(shown), r"\Aletter 7, from Fay <fay@club\.example>, 2026-11-23 10:00:00 UTC\n  subject: my ballot\n")
 
     def test_set_aside_voted_since_and_at_the_close(self) -> None:
         self.assertIn("No letter waits.", self.told("held", "1", "2", "--set-aside"))
@@ -524,58 +606,6 @@ class AtTheEnd(LettersTest):
         self.assertEqual(self.closed(), (1, 1, "hello is no ballot"))
 
 
-class BetweenCloses(LettersTest):
-    """Who has seen the first close, or its numbers, does not vote again: only what arrived before it is in time."""
-
-    def test_letters_of_after_the_first_close(self) -> None:
-        self.set_clock("2026-11-24T09:00:00+00:00")
-        self.told("desk", given=f"ada {RANKS}\n")
-        self.told("close")
-        self.told("reopen", "--because", "a bag was forgotten")
-        self.set_clock("2026-11-25T09:00:00+00:00")
-        for name, day in (("ben", 24), ("cleo", 25)):
-            after = letter(name, f"{name} {RANKS}", f"Tue, {day} Nov 2026 09:00:01 +0000")
-            for _ in range(2):
-                self.assertIn("it arrived after the vote was closed, 2026-11-24 09:00:00 UTC", self.add(after))
-            self.assertEqual((self.exported()[0], self.numbers()["stopping"]), (f"ada {RANKS}\n", []))
-            # none of them stops a close, and the page says that they came after the end
-            self.set_clock("2026-11-26T09:00:00+00:00")
-            self.assertNotIn("arrived in time", self.told("close"))
-            self.assertIn("'waiting': 0, 'after_end': ", str(self.acts()[-1][1]))
-            self.told("reopen", "--because", "another bag")
-        for number, name in ((1, "ben"), (2, "cleo")):
-            self.told("held", number, "--enter", 1)
-            self.assertEqual(self.exported()[0], f"ada {RANKS}\n")
-            self.assertIn(f"{name} {RANKS}\n", self.exported()[1])
-
-    def test_letters_of_before_and_after_it_at_once(self) -> None:
-        self.set_clock("2026-11-24T09:00:00+00:00")
-        self.told("close")
-        self.told("reopen", "--because", "a bag was forgotten")
-        self.set_clock("2026-11-25T09:00:00+00:00")
-        for name, day in (("ben", 23), ("cleo", 25)):
-            self.add(letter(name, f"My ballot: 1\n{name} {RANKS}", f"Mon, {day} Nov 2026 08:00:00 +0000"))
-        said = "--enter: some of these letters arrived before the first close, and some after it"
-        self.assert_fault(self.election("held", 1, 2, "--enter"), 9, said)
-        for number in (1, 2):
-            self.told("held", number, "--enter")
-        self.assertEqual(self.exported(), (f"ben {RANKS}\n", f"cleo {RANKS}\n"))
-
-
-class Meanwhile(LettersTest):
-    """Another desk decides while a command makes up its mind."""
-
-    def test_a_letter_that_another_desk_enters_is_not_set_aside(self) -> None:
-        self.add(letter("ada", f"I thought about it for 3 days:\n\nada {RANKS}"))
-        self.overtaken(held, "chosen_letters", ("held", 1, "--enter", 3), ("held", "1", "--set-aside"))
-        self.assertEqual(self.exported()[0], f"ada {RANKS}\n")
-        self.assertNotIn("Set aside", self.told("held"))
-        self.assertIn("It was entered.", self.told("held", 1))
-        # letters to electors that another act made untrue are not noted
-        self.overtaken(letter_folder, "letter_files", ("undo", "--yes"), ("letters", "receipts"))
-        self.assertNotIn("receipt", self.told("show", "ada"))
-
-
 class Signed(LettersTest):
     """Letters have to be signed, and a member's key came later, or gpgv was slow."""
 
@@ -638,46 +668,6 @@ class Signed(LettersTest):
         self.assertEqual((self.numbers()["waiting"], self.numbers()["stopping"]), (0, []))
         self.assertEqual(self.exported()[0], f"ada {RANKS}\nben {RANKS}\n")
         self.told("close")
-
-
-class TakenBack(LettersTest):
-    def test_a_copy_of_one_that_was_entered_by_hand_and_taken_back(self) -> None:
-        """The secretary has decided of it, and it waits until it is entered anew, also if nothing is wrong with its copy."""
-        good = letter("ada", f"ada {RANKS}")
-        self.add(good.split(b"\n", 1)[1])
-        self.assertIn("no Received line", self.told("held"))
-        self.told("held", 1, "--enter", 1)
-        self.told("undo", "--yes")
-        self.assertIn("1 copy passed over", self.add(good))
-        self.assertEqual(self.exported()[0], "")
-
-    def test_undo_and_strike(self) -> None:
-        box = (letter("ada", f"ada {RANKS}"), letter("ben", f"ben {RANKS}"))
-        self.add(*box)
-        self.told("undo", "--yes")
-        self.assertEqual(self.exported()[0], "")
-        self.assertIn("its ballot was taken back", self.told("held"))
-        # a copy with another head is the same letter
-        self.assertIn("2 letters wait", self.add(*(b"X-Status: R\n" + one for one in box)))
-        self.assert_fault(self.election("close"), 9, "these letters arrived in time, and wait: 1, 2")
-        self.assertIn("0 ballots of letters went in; 2 letters wait", self.add(*box))
-        self.told("held", "1", "--enter", "1")
-        self.told("strike", "3", "--because", "she asked for it")
-        self.assertIn("1 letter waits", self.told("held"))
-        self.assertIn("Set aside: 1", self.told("held"))
-        self.assertIn("its ballot was struck", self.told("held", "1"))
-
-    def test_all_come_back_by_one_command(self) -> None:
-        box = (letter("ada", f"ada {RANKS}"), letter("ben", f"ben {RANKS}"), letter("cleo", f"cleo {RANKS}"), letter("dan", "hello"))
-        self.add(*box)
-        self.assertIn("debvote-election held --enter enters these letters again\n", self.told("undo", "--yes"))
-        self.told("desk", given=f"ben {OTHER}\n")
-        said = self.told("held", "--enter")
-        self.assertIn("Waits on: letter 2: its elector has voted since\n", said)
-        self.assertIn("\n5 counted  ada: At the lake", said)
-        self.assertIn("\n2 letters wait.\n", said)
-        self.assertEqual(self.exported()[0], f"ben {OTHER}\nada {RANKS}\ncleo {RANKS}\n")
-        self.assert_fault(self.election("held", "--enter"), 9, "--enter: no letter was taken back that has one ballot")
 
 
 class OwnMarks(LettersTest):

@@ -6,8 +6,8 @@ from debvote_tools.cli.console import shown_line
 from debvote_tools.inbox.lines import differences, lines_in, name_in, repaired_line
 
 
-class Changes(unittest.TestCase):
-    def test_what_is_changed(self) -> None:
+class Lines(unittest.TestCase):
+    def test_what_of_a_line_is_changed(self) -> None:
         for wanted, lines in {
             b"ada 1,2": (
                 b"  ada 1,2\t ", b"ada   1,2", b"ada\t1,2", b"ada \t 1,2",
@@ -46,8 +46,6 @@ class Changes(unittest.TestCase):
         self.assertEqual(differences(b"\xef\xbb\xbfAda\t1, 2\r", b"ada 1,2"), ["byte-order mark", "carriage return", "tabs", "capital letters"])
         self.assertEqual(differences(b"ada  1", b"ada 1"), ["spaces"])
 
-
-class Ends(unittest.TestCase):
     def texts(self, data: bytes, first: int = 1) -> list[tuple[str, bytes]]:
         return [(line.where, line.repaired) for line in lines_in(data, "f", first)]
 
@@ -69,8 +67,6 @@ class Ends(unittest.TestCase):
         self.assertEqual([(line.had_mark, line.had_return) for line in lines], [(True, True), (False, True), (False, False)])
         self.assertEqual([line.without_frame for line in lines], [b"Ada 1", b"ben 2", b"cleo  3"])
 
-
-class Shown(unittest.TestCase):
     def test_nothing_steers_the_terminal_and_a_long_line_is_cut(self) -> None:
         self.assertEqual(shown_line(b"a\x1b[2Jb\t\r\n\x00\xff"), "a\\u001B[2Jb\\t\\r\\n\\u0000\\xff")
         self.assertEqual(shown_line("“ada” \u00a0\u202e".encode()), "“ada” \\u00A0\\u202E")

@@ -144,9 +144,6 @@ class Reopened(LettersTest):
         self.reopen("--in-time", 1)
         self.assertEqual(self.lines(), [BALLOT])
 
-
-class CallTakenBack(LettersTest):
-
     def test_a_call_that_was_closed_and_taken_back(self) -> None:
         """A close stays; where an earlier version took the call back, the next one is open until its own close."""
         # letters for a call that was taken back

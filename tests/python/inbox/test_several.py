@@ -36,7 +36,7 @@ def entered(*letters: LetterCase) -> dict[str, object]:
     return {"ballots": ballots, "decisions": {one.read.digest: queries.ENTERED for one in going}}
 
 
-class Order(unittest.TestCase):
+class Several(unittest.TestCase):
     def test_as_they_arrived(self) -> None:
         """Those without a time come last."""
         elsewhere = letter("ben", f"ben {RANKS}", time="Mon, 23 Nov 2026 12:30:00 +0100")
@@ -58,9 +58,7 @@ class Order(unittest.TestCase):
         self.assertEqual(lines_in(first(), letter("ada", f"Hello\n{BALLOT}", number=2, time=hour(10))), [BALLOT, BALLOT])
         self.assertEqual(outcomes(first(), other(hour(10), sender="x@y.example")), [f"in: {BALLOT}", "waits: other sender"])
 
-
-class Copies(unittest.TestCase):
-    def test_a_mailbox_that_is_saved_again(self) -> None:
+    def test_copies_in_a_mailbox_that_is_saved_again(self) -> None:
         """With other lines in its heads, and a new letter."""
         letters = [first(), other(hour(12)), letter("ben", f"ben {RANKS}", time=hour(11)), letter("ben", "ben", number=2)]
         found = judged(*letters)
@@ -155,8 +153,6 @@ class Copies(unittest.TestCase):
         self.assertEqual(lines_in(late, first(), end=at(12)), [BALLOT])
         self.assertEqual(outcomes(judged(late, end=at(12))[0].read, first(), end=at(12)), [f"in: {BALLOT}", "copy"])
 
-
-class Decisions(unittest.TestCase):
     def test_what_an_act_decided_holds_for_copies(self) -> None:
         wanted = {
             queries.ENTERED: "entered", queries.TAKEN_BACK: "waits: taken back", queries.PUT_BACK: "waits: put back",

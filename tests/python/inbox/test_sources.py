@@ -159,6 +159,20 @@ class Files(unittest.TestCase):
             letters_of_file("box", LINE + b"From: x\n" + data)
         self.assertLess(time.process_time() - began, 60)
 
+    def test_ids_of_answers_and_heads(self) -> None:
+        """They are plain, or none: what is written into a letter that goes out has no line of its own."""
+        data = answer("ada", f"ada {RANKS}\n")
+        self.assertEqual(parsed(data).in_reply_to, "<call.ada@club.example>")
+        for value in ("=?utf-8?q?=3Cx=0ABcc=3A_y=40z=3E?=", "<x y@z>", "<\xff\xfe@z>", "<a@b> <c@d>", "<a\n b@c>", f"<{'x' * 300}@y>", "x", ""):
+            changed = data.replace(b"<call.ada@club.example>", value.encode("latin-1"))
+            self.assertEqual(parsed(changed).in_reply_to, "", value)
+            self.assertEqual(outcomes(changed), [f"in: ada {RANKS}"], value)
+        # heads as they are shown
+        head = "Subject: =?utf-8?b?R3LDvMOfZQ==?= =?x-none?q?x?=\nSubject: \udcff\n"
+        found = parsed(letter("ada", "x", sender="=?utf-8?q?a=0ABcc:?= <ada@club.example>", head=head))
+        self.assertNotIn("\n", found.shown_sender + found.subject)
+        self.assertTrue(found.subject.startswith("Grüße"), found.subject)
+
 
 class Conservation(unittest.TestCase):
     """No byte of what somebody adds is lost: it is in a letter that is kept, is named as not read, or parts two letters."""
@@ -273,19 +287,3 @@ class Folders(unittest.TestCase):
         self.assertEqual([(raw.is_parted_off, raw.data) for raw in read_in(found)], [(True, inner), (False, ADA)])
         self.assertEqual(sorted(outcome_of(found)), [f"in: ada {RANKS}", "waits: parted off"])
         self.assertEqual(self.found()[1], {"box": NotRead.MAILBOX})
-
-
-class Answers(unittest.TestCase):
-    def test_ids(self) -> None:
-        """They are plain, or none: what is written into a letter that goes out has no line of its own."""
-        data = answer("ada", f"ada {RANKS}\n")
-        self.assertEqual(parsed(data).in_reply_to, "<call.ada@club.example>")
-        for value in ("=?utf-8?q?=3Cx=0ABcc=3A_y=40z=3E?=", "<x y@z>", "<\xff\xfe@z>", "<a@b> <c@d>", "<a\n b@c>", f"<{'x' * 300}@y>", "x", ""):
-            changed = data.replace(b"<call.ada@club.example>", value.encode("latin-1"))
-            self.assertEqual(parsed(changed).in_reply_to, "", value)
-            self.assertEqual(outcomes(changed), [f"in: ada {RANKS}"], value)
-        # heads as they are shown
-        head = "Subject: =?utf-8?b?R3LDvMOfZQ==?= =?x-none?q?x?=\nSubject: \udcff\n"
-        found = parsed(letter("ada", "x", sender="=?utf-8?q?a=0ABcc:?= <ada@club.example>", head=head))
-        self.assertNotIn("\n", found.shown_sender + found.subject)
-        self.assertTrue(found.subject.startswith("Grüße"), found.subject)

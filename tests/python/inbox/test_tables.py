@@ -60,8 +60,6 @@ class Lines(CsvBallotsTest):
             for data in (text.encode(), codecs.BOM_UTF8 + text.encode(), codecs.BOM_UTF16_BE + text.encode("utf-16-be")):
                 self.assertEqual(self.lines(data), [("form.csv: row 2", *("Zoë 1,2,3".encode(),) * 2, "zoë 1,2,3".encode())])
 
-
-class Refused(CsvBallotsTest):
     def test_heads_columns_and_tables(self) -> None:
         for name in ("ada", " Ben ", "1"):
             parts = (f"--name: `{name.strip()}` is an elector", "no header line", "write a header line above the rows")

@@ -267,10 +267,11 @@ class Names(OutTest):
         self.assertTrue(all("ada _,_,_,_" in one_line(message) for message in found if "ada@" in message["To"]))
 
 
-class Receipts(OutTest):
+class ReceiptsAndReminders(OutTest):
     def test_each_has_its_own_reply(self) -> None:
         """A line that counts, one that is replaced, one that is refused, one that is struck, one that is taken back, and a late one."""
-        self.add_lines(f"ada {RANKS}", f"ben {RANKS}", f"ben {OTHER_RANKS}", "cleo 1,2", f"dan {RANKS}", "fay 1,2", f"fay {RANKS}", f"gus {RANKS}", "gus 1,2")
+        self.add_lines(f"ada {RANKS}", f"ben {RANKS}", f"ben {OTHER_RANKS}", "cleo 1,2", f"dan {RANKS}", "fay 1,2", f"fay {RANKS}",
+                       f"gus {RANKS}", "gus 1,2")
         self.done("strike", 5, "--because", "it was a mistake")
         self.add_lines(f"eve {RANKS}")
         self.done("undo")
@@ -476,6 +477,38 @@ class Receipts(OutTest):
         names = "From To Subject Date Message-ID X-Unsent Auto-Submitted MIME-Version Content-Type Content-Transfer-Encoding"
         self.assertEqual([name for name, _ in message.raw_items()], names.split())
 
+    def test_to_whom_reminders_go(self) -> None:
+        self.add_lines(f"ada {RANKS}", "ben 1,2")
+        self.add(letter("cleo", "I want the lake\n"), letter("dan", f"dan {RANKS}\n", sender="x@x.example"))
+        self.add(
+            letter("eve", f"eve {RANKS}\n", sender="x@x.example", time="Mon, 23 Nov 2026 08:00:00 +0000"),
+            letter("eve", "I want the lake\n", number=2, time="Mon, 23 Nov 2026 09:00:00 +0000"),
+        )
+        texts = self.texts("reminders")
+        self.assertEqual(sorted(texts), [name for name in elections.NAMES if name != "ada"])
+        self.assertTrue(texts["ben"].startswith(f"Dear Ben, No ballot of yours that counts has come yet. {WHEN} {FORM}#ben/"), texts["ben"])
+        self.assertIn(f"{LINE}ben _,_,_,_", texts["ben"])
+        # whose letter waits is told so, and what can be done meanwhile
+        self.assertIn("No ballot from it is entered yet: the secretary has to look at it first.", texts["cleo"])
+        self.assertIn(f" You can send a right line now, and need not wait. {WHEN} {FORM}#cleo/", texts["cleo"])
+        self.assertIn(f"{LINE}cleo _,_,_,_", texts["cleo"])
+        self.assertNotIn("need not wait", texts["ben"])
+        # a stranger's letter silences nobody
+        self.assertIn(ELSEWHERE, texts["dan"])
+        self.assertIn("dan _,_,_,_", texts["dan"])
+        # nor hides it an own letter that waits
+        self.assertIn(f"{ELSEWHERE} Your letter of Monday, 23 November 2026, 09:00 (UTC) has arrived.", texts["eve"])
+        self.assertIn("You can send a right line now", texts["eve"])
+
+    def test_the_end_after_two_extensions_in_reminders_and_receipts(self) -> None:
+        for day, words in ((6, "Sunday, 6 December"), (8, "Tuesday, 8 December")):
+            self.done("call", "--until", f"2026-12-{day:02} 18:00", "--zone", "UTC")
+            self.assertIn(f"Vote until: {words} 2026, 18:00 (UTC)", self.texts("reminders")["ada"])
+            self.set_clock(f"2026-12-{day - 1:02}T10:00:00+00:00")
+            self.add(letter("ben", "hi\n", number=day, time=f"Fri, {day - 1:02} Dec 2026 09:00:00 +0000"))
+            self.assertNotIn("after the end", self.texts("receipts")["ben"])
+            self.set_clock("2026-11-23T10:00:00+00:00")
+
 
 class ReceiptsElsewhere(OutTest):
     call_words = ("--to", "vote@club.example", "--until", "2026-12-04 18:00", "--zone", "Europe/Berlin")
@@ -531,40 +564,6 @@ class FullDisk(OutTest):
         self.assertEqual(failures, {"write", "pwrite64", "mkdir", "rename"})
 
 
-class Reminders(OutTest):
-    def test_to_whom(self) -> None:
-        self.add_lines(f"ada {RANKS}", "ben 1,2")
-        self.add(letter("cleo", "I want the lake\n"), letter("dan", f"dan {RANKS}\n", sender="x@x.example"))
-        self.add(
-            letter("eve", f"eve {RANKS}\n", sender="x@x.example", time="Mon, 23 Nov 2026 08:00:00 +0000"),
-            letter("eve", "I want the lake\n", number=2, time="Mon, 23 Nov 2026 09:00:00 +0000"),
-        )
-        texts = self.texts("reminders")
-        self.assertEqual(sorted(texts), [name for name in elections.NAMES if name != "ada"])
-        self.assertTrue(texts["ben"].startswith(f"Dear Ben, No ballot of yours that counts has come yet. {WHEN} {FORM}#ben/"), texts["ben"])
-        self.assertIn(f"{LINE}ben _,_,_,_", texts["ben"])
-        # whose letter waits is told so, and what can be done meanwhile
-        self.assertIn("No ballot from it is entered yet: the secretary has to look at it first.", texts["cleo"])
-        self.assertIn(f" You can send a right line now, and need not wait. {WHEN} {FORM}#cleo/", texts["cleo"])
-        self.assertIn(f"{LINE}cleo _,_,_,_", texts["cleo"])
-        self.assertNotIn("need not wait", texts["ben"])
-        # a stranger's letter silences nobody
-        self.assertIn(ELSEWHERE, texts["dan"])
-        self.assertIn("dan _,_,_,_", texts["dan"])
-        # nor hides it an own letter that waits
-        self.assertIn(f"{ELSEWHERE} Your letter of Monday, 23 November 2026, 09:00 (UTC) has arrived.", texts["eve"])
-        self.assertIn("You can send a right line now", texts["eve"])
-
-    def test_the_end_after_two_extensions(self) -> None:
-        for day, words in ((6, "Sunday, 6 December"), (8, "Tuesday, 8 December")):
-            self.done("call", "--until", f"2026-12-{day:02} 18:00", "--zone", "UTC")
-            self.assertIn(f"Vote until: {words} 2026, 18:00 (UTC)", self.texts("reminders")["ada"])
-            self.set_clock(f"2026-12-{day - 1:02}T10:00:00+00:00")
-            self.add(letter("ben", "hi\n", number=day, time=f"Fri, {day - 1:02} Dec 2026 09:00:00 +0000"))
-            self.assertNotIn("after the end", self.texts("receipts")["ben"])
-            self.set_clock("2026-11-23T10:00:00+00:00")
-
-
 class NoBallots(OutTest):
     """No line of what goes out reads as a ballot, however it is wrapped."""
 
@@ -602,26 +601,7 @@ class NoBallots(OutTest):
         self.assertIn("counted", self.debvote(*steps).output)
 
 
-class Closed(OutTest):
-    def test_it_has_the_checksum_and_after_a_second_close_all_get_its_letter(self) -> None:
-        self.add_lines(f"ada {RANKS}")
-        self.assert_fault(self.election("letters", "closed"), 9, "the vote is not closed")
-        for count, said in (("1 line", ("closed", "the vote is not closed")), ("2 lines", None)):
-            self.done("close", "--early")
-            text, found = self.read("letters/closed.txt").decode(), self.written("closed")
-            self.assertEqual(sorted(found), elections.NAMES)
-            for message in found.values():
-                self.assertIn(text, message.get_content())
-                self.assertIn(f"{count} came in time.", one_line(message))
-                self.assertRegex(message["Subject"], rf"^Vote closed: Where we meet in spring {MARKS}$")
-            if said:
-                self.done("reopen", "--because", "a bag was forgotten")
-                for kind, fault in (said, ("call", "nobody is asked to vote"), ("reminders", "nobody is asked to vote")):
-                    self.assert_fault(self.election("letters", kind), 9, fault)
-                self.add_lines(f"ben {RANKS}", words=("--came-before-close", "yes"))
-
-
-class Result(OutTest):
+class CloseAndResult(OutTest):
 
     def test_an_open_vote(self) -> None:
         self.assert_fault(self.election("letters", "result"), 9, "nothing is published")
@@ -679,6 +659,23 @@ class Result(OutTest):
         text = self.texts("result")["ada"]
         self.assertIn("What is doubtful about this result: - More than half of the lines of the ballot file are refused: 2 of 3.", text)
         self.assertIn("Why it was published all the same, in the secretary's words: (they were asked)", text)
+
+    def test_of_a_close_has_the_checksum_and_of_a_second_one_all_get_it(self) -> None:
+        self.add_lines(f"ada {RANKS}")
+        self.assert_fault(self.election("letters", "closed"), 9, "the vote is not closed")
+        for count, said in (("1 line", ("closed", "the vote is not closed")), ("2 lines", None)):
+            self.done("close", "--early")
+            text, found = self.read("letters/closed.txt").decode(), self.written("closed")
+            self.assertEqual(sorted(found), elections.NAMES)
+            for message in found.values():
+                self.assertIn(text, message.get_content())
+                self.assertIn(f"{count} came in time.", one_line(message))
+                self.assertRegex(message["Subject"], rf"^Vote closed: Where we meet in spring {MARKS}$")
+            if said:
+                self.done("reopen", "--because", "a bag was forgotten")
+                for kind, fault in (said, ("call", "nobody is asked to vote"), ("reminders", "nobody is asked to vote")):
+                    self.assert_fault(self.election("letters", kind), 9, fault)
+                self.add_lines(f"ben {RANKS}", words=("--came-before-close", "yes"))
 
 
 class ResultAt(OutTest):

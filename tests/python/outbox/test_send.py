@@ -441,17 +441,8 @@ class Killed(SendTest):
                 self.assert_none_is_due("call")
 
 
-class AtOnce(SendTest):
-    def test_two_runs_at_once_send_each_letter_once(self) -> None:
-        runs = [self.sending("call") for _ in range(3)]
-        outputs = [run.communicate(timeout=elections.SECONDS)[0] for run in runs]
-        self.assertEqual([run.returncode for run in runs], [0, 0, 0])
-        self.assertEqual(sum("Sent 9 of 9 letters." in output for output in outputs), 1, outputs)
-        self.assertEqual(self.server.addresses(), ALL)
-
-
-class Reminders(SendTest):
-    def test_a_run_that_was_cut_off_goes_on_and_else_each_is_a_new_one(self) -> None:
+class SeveralRuns(SendTest):
+    def test_reminders_that_were_cut_off_go_on_and_else_each_run_is_a_new_one(self) -> None:
         self.server.rcpt_answers = dict.fromkeys(("ben@club.example", "cleo@club.example", "dan@club.example"), "451 later")
         self.assert_sent("reminders", status=9)
         self.assertEqual(len(self.server.taken), 6)
@@ -464,7 +455,7 @@ class Reminders(SendTest):
         self.assert_sent("reminders")
         self.assertEqual(self.server.addresses()[7:], [*ALL[:2], "cleo@new.example", *ALL[4:]])
 
-    def test_a_letter_that_no_server_can_take_holds_up_no_new_run(self) -> None:
+    def test_a_reminder_that_no_server_can_take_holds_up_no_new_run(self) -> None:
         """One to be printed, or to an address that was wrong, or that the server postpones for days."""
         self.change_roll("gus@club.example", "")
         self.assert_sent("reminders")
@@ -479,8 +470,13 @@ class Reminders(SendTest):
         self.told("roll", "--yes")
         self.assert_sent("reminders", "Sent 8 of 8 letters.")
 
+    def test_two_runs_at_once_send_each_letter_once(self) -> None:
+        runs = [self.sending("call") for _ in range(3)]
+        outputs = [run.communicate(timeout=elections.SECONDS)[0] for run in runs]
+        self.assertEqual([run.returncode for run in runs], [0, 0, 0])
+        self.assertEqual(sum("Sent 9 of 9 letters." in output for output in outputs), 1, outputs)
+        self.assertEqual(self.server.addresses(), ALL)
 
-class AtTerminal(SendTest):
     def test_the_password_is_asked_and_a_bar_is_shown(self) -> None:
         self.server = self.mail_server(authenticator=lambda *words: self.server.authenticated(*words), auth_require_tls=False)
         desk = terminal.Terminal(self, "letters", "call", "--send", "--server", self.server.name, "--user", "vote")

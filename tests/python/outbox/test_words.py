@@ -32,8 +32,9 @@ TIME = datetime.datetime(2026, 11, 23, 10, tzinfo=datetime.UTC)
 POLL = SealedPoll("Spring", ("Lake", "Hall"), (1, 1), "None", 1, ("ada", "ben"))
 ADA = Elector(1, "ada", 1, "Ada L.", ("ada@club.example",), mark="abcdefghjk")
 GUS = ADA._replace(name="gus", who="Gus G.", addresses=())
-TOO_LONG = "The texts about the options are too long for this letter: they are on the page of the vote. The secretary gives them on paper to whoever asks."
-TOO_LONG_WITHOUT_PAGE = "The texts about the options are too long for this letter. The secretary gives them to whoever asks."
+TEXTS = "The texts about the options are too long for this letter"
+TOO_LONG = f"{TEXTS}: they are on the page of the vote. The secretary gives them on paper to whoever asks."
+TOO_LONG_WITHOUT_PAGE = f"{TEXTS}. The secretary gives them to whoever asks."
 LETTER = OutgoingLetter(1, "call", 1, "ada@club.example", "<1@club.example>", TIME, ())
 
 
@@ -229,7 +230,8 @@ class Printed(unittest.TestCase):
             pages.append(page.replace('<section class="letter"', f'<section id="at{number}" class="letter"'))
         sections = [re.search(r"(?s)<section id.*</section>", page)[0] for page in pages]
         # the file says on which page is the place of a link
-        sections.append(f'<section class="letter" id="at{len(pages)}">{"".join(f"<a href=#at{number}>x</a> " for number in range(len(pages) + 1))}</section>')
+        links = "".join(f"<a href=#at{number}>x</a> " for number in range(len(pages) + 1))
+        sections.append(f'<section class="letter" id="at{len(pages)}">{links}</section>')
         (folder / "page.html").write_text(pages[0].replace(sections[0], "\n".join(sections)))
         words = [BROWSER, "--headless", "--no-sandbox", "--disable-gpu", f"--user-data-dir={folder}/of-browser"]
         subprocess.run([*words, f"--print-to-pdf={folder}/page.pdf", f"{folder}/page.html"], check=True, capture_output=True)
@@ -295,28 +297,6 @@ class Printed(unittest.TestCase):
                 self.assertEqual(say(where) in " ".join(text.split()), not letter or text.count("friends") == 0)
 
 
-class NoBallot(unittest.TestCase):
-    def guarded(self, line: str, options: int = 3) -> str:
-        text = without_ballots(f"x\n{line}\ny", options, lambda word: word.lower() in ("ada", "ben-2", "maier"))
-        self.assertTrue(text.startswith("x\n") and text.endswith("\ny"), text)
-        return text[2:-2]
-
-    def test_lines_that_read_as_ballots_get_a_bar_and_others_stay(self) -> None:
-        for line in (
-            "ada 1,2,3", "  Ada: 1, 2, 3.", "\u201cada 1,-,3\u201d", "*ada* 1;2;3", "ada *1,2,3*", "ada:1,2,3", "ben-2 1,2,\u2013", "ada\u00a01 , 2 , 3", "ada -,\u2013,1", "ada 1,2,3 ,4",
-        ):  # fmt: skip
-            blanks = line[: len(line) - len(line.lstrip())]
-            self.assertEqual(self.guarded(line), f"{blanks}|{line.strip()}")
-        # those that would if they were broken at a blank
-        self.assertEqual(self.guarded("  paper: ada 1,2,3 or so"), "  |paper:\n  |ada 1,2,3 or so")
-        self.assertEqual(self.guarded("Zo\u00eb Maier 1,2,3"), "|Zo\u00eb\n|Maier 1,2,3")
-        self.assertEqual(self.guarded("ada 1,2,3 ben-2 3,2,1"), "|ada 1,2,3\n|ben-2 3,2,1")
-        # others stay
-        for line in ("ada 1,2", "ada _,_,_", "(ada 1,2,3)", "ada, ben, cleo", "3 of 4, 5 of 6, 7 of 8", "Euro 1,2,3", "ada 100,2,3"):
-            self.assertEqual(self.guarded(line), line)
-        self.assertEqual(self.guarded("The fee is 12,50 Euro", 2), "The fee is 12,50 Euro")
-
-
 class Bytes(unittest.TestCase):
     def message(self, text: str, subject: str = "Vote: Fr\u00fchling", sender_name: str = "") -> bytes:
         due = types.SimpleNamespace(sender="vote@club.example", sender_name=sender_name)
@@ -352,3 +332,23 @@ class Bytes(unittest.TestCase):
         right = ("a@b.example", "a.b+c@d-e.example")
         wrong = ("", "a", "a@b\nBcc: c@d", "a@b, c@d", "<a@b>", "a b@c.example", "\u00e4@b.example", "a@b@c", "-a@b", "a@b.example\n")
         self.assertEqual([text for text in (*right, *wrong) if is_mail_address(text)], list(right))
+
+    def guarded(self, line: str, options: int = 3) -> str:
+        text = without_ballots(f"x\n{line}\ny", options, lambda word: word.lower() in ("ada", "ben-2", "maier"))
+        self.assertTrue(text.startswith("x\n") and text.endswith("\ny"), text)
+        return text[2:-2]
+
+    def test_lines_that_read_as_ballots_get_a_bar_and_others_stay(self) -> None:
+        for line in (
+            "ada 1,2,3", "  Ada: 1, 2, 3.", "\u201cada 1,-,3\u201d", "*ada* 1;2;3", "ada *1,2,3*", "ada:1,2,3", "ben-2 1,2,\u2013", "ada\u00a01 , 2 , 3", "ada -,\u2013,1", "ada 1,2,3 ,4",
+        ):  # fmt: skip
+            blanks = line[: len(line) - len(line.lstrip())]
+            self.assertEqual(self.guarded(line), f"{blanks}|{line.strip()}")
+        # those that would if they were broken at a blank
+        self.assertEqual(self.guarded("  paper: ada 1,2,3 or so"), "  |paper:\n  |ada 1,2,3 or so")
+        self.assertEqual(self.guarded("Zo\u00eb Maier 1,2,3"), "|Zo\u00eb\n|Maier 1,2,3")
+        self.assertEqual(self.guarded("ada 1,2,3 ben-2 3,2,1"), "|ada 1,2,3\n|ben-2 3,2,1")
+        # others stay
+        for line in ("ada 1,2", "ada _,_,_", "(ada 1,2,3)", "ada, ben, cleo", "3 of 4, 5 of 6, 7 of 8", "Euro 1,2,3", "ada 100,2,3"):
+            self.assertEqual(self.guarded(line), line)
+        self.assertEqual(self.guarded("The fee is 12,50 Euro", 2), "The fee is 12,50 Euro")
