@@ -16,11 +16,10 @@ from debvote_tools.book.book import Book, open_book
 from debvote_tools.cli import command_line
 
 from tests.support import elections
-from tests.support.letters import mailbox
+from tests.support.letters import OTHER_RANKS as OTHER_RANKS, RANKS as RANKS, mailbox
 
 LAKE = "At the lake, then In the town hall, then Further discussion, then Sell the house and meet there"
 HALL = "In the town hall, then At the lake, then Further discussion, then Sell the house and meet there"
-RANKS, OTHER_RANKS = "1,2,4,3", "2,1,4,3"
 
 
 class CalledTest(elections.ElectionTest):
@@ -29,8 +28,7 @@ class CalledTest(elections.ElectionTest):
     def setUp(self) -> None:
         super().setUp()
         # programs at a terminal and acts of the test itself write their notes where the other runs do
-        before = os.environ.get("XDG_STATE_HOME", "")
-        self.addCleanup(os.environ.__setitem__, "XDG_STATE_HOME", before)
+        self.addCleanup(os.environ.__setitem__, "XDG_STATE_HOME", os.environ.get("XDG_STATE_HOME", ""))
         os.environ["XDG_STATE_HOME"] = str(self.state)
         self.first_act = self.last_act() + 1
 
@@ -50,38 +48,28 @@ class CalledTest(elections.ElectionTest):
         return [(act.name, act.detail) for act in self.book.acts() if act.number >= self.first_act]
 
     def act(self, name: str, detail: dict[str, Any] | None = None, sealed: dict[str, bytes] | None = None) -> None:
-        """An act of another command."""
         with self.book.act(name, detail or {}) as act:
             for key, data in (sealed or {}).items():
                 act.insert("sealed", name=key, data=data)
 
-    def entered(self, is_late: bool) -> list[str]:
-        """The lines that came in time or late, and are not struck. The test has words of its own for this."""
+    def lines(self, is_late: bool = False) -> list[str]:
+        """The lines that are counted, or those that came late; none that is struck. The test has words of its own for this."""
         words = "SELECT line FROM envelope WHERE late = ? AND envelope NOT IN (SELECT envelope FROM struck) ORDER BY envelope"
         return [line.decode("utf-8", "replace") for line, in self.book.rows(words, int(is_late))]
 
-    def lines(self) -> list[str]:
-        """The lines that are counted."""
-        return self.entered(False)
-
     def late_lines(self) -> list[str]:
-        """The lines that came late."""
-        return self.entered(True)
+        return self.lines(is_late=True)
 
     def envelopes(self) -> list[queries.Envelope]:
-        """All envelopes."""
         return queries.envelopes(self.book)
 
     def elector(self, name: str) -> int:
-        """The number of an elector."""
         return next(elector.number for elector in queries.electors(self.book) if elector.name == name)
 
     def sources(self) -> list[tuple[str, bytes]]:
-        """Name and bytes of all that came."""
         return [(name, data) for _, name, data in queries.sources(self.book)]
 
     def told(self, *words: object, **how: Any) -> str:
-        """The output of a command that has to succeed."""
         ended = self.election(*words, **how)
         self.assertEqual((ended.status, ended.faults), (0, ""), ended)
         return ended.output

@@ -58,8 +58,7 @@ class Ended:
 
 def environment() -> dict[str, str]:
     """The environment of a user who has the programs in the PATH."""
-    path = os.pathsep.join([str(PROGRAM.parent), os.environ["PATH"]])
-    return {**os.environ, "PATH": path, "PYTHONDONTWRITEBYTECODE": "1"}
+    return {**os.environ, "PATH": os.pathsep.join([str(PROGRAM.parent), os.environ["PATH"]]), "PYTHONDONTWRITEBYTECODE": "1"}
 
 
 def clock_of(file: pathlib.Path) -> dict[str, str]:
@@ -69,6 +68,9 @@ def clock_of(file: pathlib.Path) -> dict[str, str]:
 
 # new elections, by what they begin with: each is made once in a process
 TEMPLATES: dict[object, pathlib.Path] = {}
+
+# whether it was tried that nobody may run the programs
+TRIED: set[bool] = set()
 
 
 def note_book(folder: pathlib.Path, state: pathlib.Path) -> None:
@@ -107,7 +109,6 @@ class ElectionTest(unittest.TestCase):
         self.begin()
 
     def begin(self) -> None:
-        """Makes the election, up to its call."""
         key = (self.poll, tuple(self.names), self.members, tuple(self.new_words), self.call_words)
         if key not in TEMPLATES:
             TEMPLATES[key] = self.made()
@@ -157,7 +158,6 @@ class ElectionTest(unittest.TestCase):
         self.clock = clock_of(file)
 
     def election(self, *words: object, **how: object) -> Ended:
-        """Runs debvote-election in the folder of the election."""
         return self.run_program(sys.executable, ELECTION, *words, **how)
 
     def desk(self, **how: object) -> subprocess.Popen[str]:
@@ -175,7 +175,7 @@ class ElectionTest(unittest.TestCase):
         """Runs debvote-election under strace, which does with its system calls what it is told."""
         if shutil.which("strace") is None:
             self.skipTest("strace is not installed")
-        return self.run_program("strace", "-o", "/dev/null", *how, sys.executable, ELECTION, *words, given=given)
+        return self.election(*words, given=given, tracer=["strace", "-o", "/dev/null", *how])
 
     def rows(self, query: str, *values: object) -> list[tuple[object, ...]]:
         """What the book answers to a query, without the words of the program."""
@@ -188,10 +188,12 @@ class ElectionTest(unittest.TestCase):
         if nobody and shutil.which("setpriv") is None:
             self.skipTest("setpriv is not installed, and root may read and write everywhere")
         self.scratch.chmod(0o755)
-        for command in ([PROGRAM, "--version"], [sys.executable, ELECTION, "--help"]):
+        # once in a process it is tried whether nobody may run the programs
+        for command in ([PROGRAM, "--version"], [sys.executable, ELECTION, "--help"]) if not TRIED else []:
             tried = self.run_program(*nobody, *command)
             said = f"{command[0]} can't be run by everybody, and this test runs it as nobody: chmod o+rX what leads there"
             self.assertEqual(tried.status, 0, f"{said}; {tried.faults}")
+        TRIED.add(True)
         return self.run_program(*nobody, sys.executable, ELECTION, *words, **how)
 
     def close_folder(self) -> None:
@@ -200,11 +202,9 @@ class ElectionTest(unittest.TestCase):
         self.folder.chmod(0o555)
 
     def debvote(self, *words: object, **how: object) -> Ended:
-        """Runs debvote in the folder of the election."""
         return self.run_program(PROGRAM, *words, **how)
 
     def write(self, name: str, content: bytes | str) -> pathlib.Path:
-        """Writes a file into the folder of the election."""
         file = self.folder / name
         file.write_bytes(content.encode() if isinstance(content, str) else content)
         return file
@@ -215,7 +215,6 @@ class ElectionTest(unittest.TestCase):
         return letter.replace(ANY_MARK.encode(), found[1]) if found else letter
 
     def read(self, name: str) -> bytes:
-        """The bytes of a file of the election."""
         return (self.folder / name).read_bytes()
 
     def contents(self) -> dict[str, bytes]:

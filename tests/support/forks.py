@@ -6,6 +6,7 @@ flags or settings that a fork cannot have. With DEBVOTE_FORKS=0 every run is a n
 """
 
 import contextlib
+import ctypes
 import importlib
 import itertools
 import os
@@ -17,7 +18,7 @@ import subprocess
 import sys
 import tempfile
 import time
-from collections.abc import Callable, Mapping, Sequence
+from collections.abc import Callable, Iterator, Mapping, Sequence
 
 import debvote_tools
 import jinja2
@@ -37,10 +38,14 @@ LAUNCHERS = {
 SETTINGS = {"capture_output", "cwd", "env", "input", "stdin", "text", "timeout"}
 
 
-def run(words: Sequence[object], **how: object) -> subprocess.CompletedProcess:
-    """What subprocess.run returns for these arguments and settings."""
+# lets any process of this user trace the one that asks for it
+PR_SET_PTRACER, ANY = 0x59616D61, -1
+
+
+def run(words: Sequence[object], tracer: Sequence[object] = (), **how: object) -> subprocess.CompletedProcess:
+    """What subprocess.run returns for these arguments and settings; `tracer` is strace with its options, which traces the run."""
     if not is_plain(words, how):
-        return subprocess.run(words, **how)
+        return subprocess.run([*map(str, tracer), *words], **how)
     module = importlib.import_module(LAUNCHERS[str(words[1])])
     if str(words[1]).endswith("-election"):
         # reads the modules of a command once, and not in each child
@@ -49,12 +54,33 @@ def run(words: Sequence[object], **how: object) -> subprocess.CompletedProcess:
         text = how.get("input")
         given.write(text.encode() if isinstance(text, str) else text or b"")
         given.seek(0)
+        begin, go = os.pipe()
         child = os.fork()
         if child == 0:
+            if tracer:
+                ctypes.CDLL(None).prctl(PR_SET_PTRACER, ctypes.c_ulong(ANY), 0, 0, 0)
+                os.read(begin, 1)
             in_child(module.main, words, how, [given.fileno(), output.fileno(), faults.fileno()])
-        status = awaited(child, how.get("timeout"), words)
+        with attached(child, tracer):
+            os.write(go, b"x")
+            status = awaited(child, how.get("timeout"), words)
+        os.close(begin)
+        os.close(go)
         texts = [read(file, is_text=bool(how.get("text"))) for file in (output, faults)]
     return subprocess.CompletedProcess(words, status, *texts)
+
+
+@contextlib.contextmanager
+def attached(child: int, tracer: Sequence[object]) -> Iterator[None]:
+    """If there is a tracer, it traces this process from now on, and has ended afterwards."""
+    if not tracer:
+        yield
+        return
+    with subprocess.Popen([*map(str, tracer), "-p", str(child)], stderr=subprocess.PIPE) as process:
+        if b"attached" not in (said := process.stderr.readline()):
+            os.kill(child, signal.SIGKILL)
+            raise AssertionError(said)
+        yield
 
 
 def read_ahead() -> None:

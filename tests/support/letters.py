@@ -1,6 +1,7 @@
 """What the tests of letters that come share: letters, the circumstances in which they are judged, and debvote, which is asked about lines."""
 
 import datetime
+import json
 import os
 import re
 import subprocess
@@ -15,19 +16,14 @@ from debvote_tools.inbox.mailbox import NotRead, RawLetter
 from debvote_tools.inbox.reasons import ReasonWithValues
 from debvote_tools.inbox.rules import Circumstances, LetterCase, Outcome
 
+from tests.support import elections
 from tests.support.program import PROGRAM, ROOT
 
 SAMPLES = ROOT / "tests" / "letters"
-NAMES = ("ada", "ben", "cleo", "dan", "eve", "fay", "gus", "hal", "ida")
-POLL = f"""title = "Where we meet in spring"
-options = ["At the lake", "In the town hall", "Sell the house and meet there"]
-ratios = [1, 1, 3]
-default = "Further discussion"
-quorum = 1
-roll = {str(list(NAMES)).replace("'", '"')}
-"""
+NAMES = tuple(elections.NAMES)
+POLL = f"{elections.POLL}roll = {json.dumps(NAMES)}\n"
 RANKS, OTHER_RANKS = "1,2,4,3", "2,1,4,3"
-MARK = "1ac5041b936c7fc1"
+MARK = elections.ANY_MARK
 # the own mark of each elector, and the subjects of a letter of ours and of the page of the call
 OWN = {name: re.sub("[ilo]", "x", f"{name}23456789")[:10] for name in NAMES}
 TITLE = "Where we meet in spring"
@@ -63,8 +59,7 @@ class DebvoteReader:
         handle = os.memfd_create("poll")
         os.write(handle, POLL.encode())
         words = [PROGRAM, "explain", "--poll", f"/proc/{os.getpid()}/fd/{handle}", "--ballots", "/dev/stdin"]
-        given = b"".join(line + b"\n" for line in lines)
-        text = subprocess.run(words, input=given, capture_output=True, check=False).stdout.decode("ascii")
+        text = subprocess.run(words, input=b"".join(line + b"\n" for line in lines), capture_output=True, check=False).stdout.decode("ascii")
         os.close(handle)
         findings = findings_in(text)
         assert findings.lines == len(lines), text
@@ -75,19 +70,14 @@ class DebvoteReader:
 
 
 def names(**other: object) -> Names:
-    """Those of the electors."""
     usual: dict[str, object] = {"roll": frozenset(NAMES), "language": "en", "real_names": {name: name.capitalize() for name in NAMES}}
     return Names(**{**usual, **other})  # type: ignore[arg-type]
 
 
 def circumstances(
-    *,
-    addresses: Mapping[str, Sequence[str]] | None = None,
-    keys: Mapping[str, str] | None = None,
-    own_marks: Mapping[str, str] = OWN,
-    roll: Collection[str] = NAMES,
-    **other: object,
-) -> Circumstances:
+    *, addresses: Mapping[str, Sequence[str]] | None = None, keys: Mapping[str, str] | None = None,
+    own_marks: Mapping[str, str] = OWN, roll: Collection[str] = NAMES, **other: object,
+) -> Circumstances:  # fmt: skip
     """The circumstances of a vote that was called three days ago and has no end; with `keys` letters have to be signed."""
     listed = {name: [f"{name}@club.example"] for name in NAMES} if addresses is None else addresses
     electors = {
@@ -95,32 +85,16 @@ def circumstances(
         for number, name in enumerate(roll)
     }
     usual: dict[str, object] = {
-        "mark": MARK,
-        "subject": BY_PAGE,
-        "electors": electors,
-        "is_marked": False,
-        "is_signed": keys is not None,
-        "called": CALLED,
-        "end": None,
-        "first_close": None,
-        "now": NOW,
-        "our_letters": OURS,
-        "decisions": {},
-    }
+        "mark": MARK, "subject": BY_PAGE, "electors": electors, "is_marked": False, "is_signed": keys is not None,
+        "called": CALLED, "end": None, "first_close": None, "now": NOW, "our_letters": OURS, "decisions": {},
+    }  # fmt: skip
     return Circumstances(**{**usual, **other})  # type: ignore[arg-type]
 
 
 def letter(
-    name: str,
-    text: str,
-    *,
-    number: int | str = 1,
-    time: str | None = TEN,
-    sender: str | None = None,
-    head: str = "",
-    kind: str = "text/plain; charset=utf-8",
-    subject: str = f"my ballot [{MARK}]",
-) -> bytes:
+    name: str, text: str, *, number: int | str = 1, time: str | None = TEN, sender: str | None = None, head: str = "",
+    kind: str = "text/plain; charset=utf-8", subject: str = f"my ballot [{MARK}]",
+) -> bytes:  # fmt: skip
     """A letter of an elector. Its subject has the mark of the poll, unless its head has another one."""
     if not re.search("(?im)^subject", head):
         head = f"Subject: {subject}\n{head}"
@@ -135,7 +109,6 @@ def marked(name: str, text: str, **how: object) -> bytes:
 
 
 def answer(name: str, text: str, **how: object) -> bytes:
-    """A letter of an elector that answers the call."""
     return marked(name, text, **{"head": f"In-Reply-To: <call.{name}@club.example>\n", **how})
 
 
@@ -145,13 +118,11 @@ def with_mark(data: bytes, mark: str) -> bytes:
 
 
 def alternatives(name: str, plain: str, marked: str, **how: object) -> bytes:
-    """A letter in plain text and in HTML."""
     text = f"--b\nContent-Type: text/plain\n\n{plain}\n--b\nContent-Type: text/html\n\n{marked}\n--b--\n"
     return letter(name, text, kind="multipart/alternative; boundary=b", **how)  # type: ignore[arg-type]
 
 
 def mailbox(*letters: bytes) -> bytes:
-    """An mbox."""
     return b"".join(b"From somebody Mon Nov 23 10:00:00 2026\n" + data.rstrip(b"\n") + b"\n\n" for data in letters)
 
 
@@ -162,9 +133,7 @@ def parsed(data: bytes, where: str = "letter", *, is_parted_off: bool = False) -
 
 def read(*letters: bytes | ParsedLetter, reader: DebvoteReader | None = None, **of_names: object) -> list[ReadLetter]:
     """Letters with what their lines may be, as the book gives them back."""
-    given = [
-        one if isinstance(one, ParsedLetter) else parsed(one, f"letter {number}") for number, one in enumerate(letters, start=1)
-    ]
+    given = [one if isinstance(one, ParsedLetter) else parsed(one, f"letter {number}") for number, one in enumerate(letters, start=1)]
     new = [one for one in given if not isinstance(one, ReadLetter)]
     fresh = iter(with_lines(new, names(**of_names), (reader or DebvoteReader()).answers))
     found = [one if isinstance(one, ReadLetter) else next(fresh) for one in given]
@@ -174,20 +143,15 @@ def read(*letters: bytes | ParsedLetter, reader: DebvoteReader | None = None, **
 
 
 def judged(
-    *letters: bytes | ParsedLetter,
-    reader: DebvoteReader | None = None,
-    ballots: Mapping[str, Sequence[Ballot]] | None = None,
-    **other: object,
+    *letters: bytes | ParsedLetter, reader: DebvoteReader | None = None, ballots: Mapping[str, Sequence[Ballot]] | None = None, **other: object
 ) -> list[LetterCase]:
     """What becomes of letters, in the order of their times."""
     of_names = {name: value for name, value in other.items() if name in ("roll", "language", "real_names")}
     of_others = {name: value for name, value in other.items() if name not in ("language", "real_names")}
-    given = read(*letters, reader=reader, **of_names)
-    return judge_all(given, circumstances(**of_others), lambda _: ballots or {})
+    return judge_all(read(*letters, reader=reader, **of_names), circumstances(**of_others), lambda _: ballots or {})
 
 
 def label(why: ReasonWithValues) -> str:
-    """A reason in a word or two."""
     return why.reason.name.lower().replace("_", " ")
 
 
@@ -204,7 +168,6 @@ def outcomes(*letters: bytes | ParsedLetter, **other: object) -> list[str]:
 
 
 def lines_in(*letters: bytes | ParsedLetter, **other: object) -> list[str]:
-    """The ballots that go in, in their order."""
     return [one.ballots[0].ballot for one in judged(*letters, **other) if one.outcome is Outcome.GOES_IN]
 
 

@@ -1,7 +1,6 @@
 """What the tests of letters that go out share: elections with addresses, what was written, and a mail server on this computer."""
 
 import contextlib
-import dataclasses
 import email
 import email.message
 import email.policy
@@ -14,11 +13,13 @@ import sqlite3
 import subprocess
 import sys
 import threading
+import typing
 import unittest
 from collections.abc import Callable, Mapping, Sequence
 
 from tests.support import elections
 from tests.support.called import LettersTest
+from tests.support.letters import OTHER_RANKS as OTHER_RANKS, RANKS as RANKS, TITLE as TITLE
 
 try:
     from aiosmtpd.controller import Controller
@@ -26,8 +27,6 @@ try:
 except ImportError:
     Controller = SMTP = AuthResult = None
 
-TITLE = "Where we meet in spring"
-RANKS, OTHER_RANKS = "1,2,4,3", "2,1,4,3"
 AT = "https://club.example/vote/"
 TEN, END = "2026-11-23T10:00:00+00:00", "2026-12-04 18:00"
 
@@ -62,7 +61,6 @@ class OutTest(LettersTest):
         return {file.stem: parsed(file.read_bytes()) for file in self.files(kind) if file.suffix == ".eml"}
 
     def texts(self, kind: str, *words: object) -> dict[str, str]:
-        """What they say, each in one line."""
         return {name: one_line(message) for name, message in self.written(kind, *words).items()}
 
 
@@ -77,8 +75,7 @@ def one_line(message: email.message.EmailMessage) -> str:
 
 
 # ---------------------------------------------------------------- a mail server
-@dataclasses.dataclass
-class Taken:
+class Taken(typing.NamedTuple):
     """A letter that the server has taken: to whom, and its bytes."""
 
     to: str
@@ -100,15 +97,12 @@ class MailServer:
         self.steps: list[tuple[str, int]] = []
         self.at: Callable[[str, int], bool] = lambda step, number: False
         self.logins: list[tuple[bytes, bytes]] = []
-        self.started = 0
-        self.is_stopped = False
-        self.was_encrypted = False
+        self.started, self.is_stopped, self.was_encrypted = 0, False, False
         with socket.socket() as probe:
             probe.bind(("127.0.0.1", 0))
             self.port = probe.getsockname()[1]
         self.controller = Controller(self, hostname="127.0.0.1", port=self.port, **how)  # type: ignore[arg-type]
         self.controller.start()
-        self.lock = threading.Lock()
 
     @property
     def name(self) -> str:
@@ -229,7 +223,6 @@ class SendTest(OutTest):
         self.assert_sent(kind, "There is no letter to send: the server has taken all that are due.\n")
 
     def sending(self, kind: str) -> subprocess.Popen:
-        """A run that sends letters beside this test."""
         env = elections.environment() | self.clock | {"XDG_STATE_HOME": str(self.state)}
         words = [sys.executable, elections.ELECTION, "letters", kind, "--send", "--server", self.server.name]
         return subprocess.Popen(words, cwd=self.folder, env=env, stdout=subprocess.PIPE, stderr=subprocess.DEVNULL, text=True)

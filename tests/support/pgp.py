@@ -30,7 +30,6 @@ class Keys:
         self.gpg("--faked-system-time", "20240102T000000!", "--quick-add-key", self.fingerprints["ada"], "ed25519", "sign", "never")
 
     def end(self) -> None:
-        """Ends the agent of this folder, and removes the folder."""
         subprocess.run(["gpgconf", "--homedir", self.home, "--kill", "all"], capture_output=True)
         shutil.rmtree(self.home, ignore_errors=True)
 
@@ -47,31 +46,24 @@ class Keys:
         self.fingerprints[name] = re.search(r"(?m)^fpr:+([0-9A-F]{40}):", listed)[1]
 
     def ring(self, *names: str, armor: bool = False) -> bytes:
-        """The keys of these people."""
         return self.gpg(*(["--armor"] if armor else []), "--export", *(self.fingerprints[name] for name in names))
 
     def revoked(self, name: str) -> bytes:
-        """The revoked key of a person."""
         said = (self.home / "openpgp-revocs.d" / f"{self.fingerprints[name]}.rev").read_text().replace(":-----BEGIN", "-----BEGIN")
         other = pathlib.Path(tempfile.mkdtemp(prefix="pgp-"))
         try:
             for data in (self.ring(name), said.encode()):
-                subprocess.run(
-                    ["gpg", "--homedir", other, "--batch", "--quiet", "--import"], input=data, capture_output=True, check=True
-                )
-            command = ["gpg", "--homedir", other, "--batch", "--export"]
-            return subprocess.run(command, capture_output=True, check=True).stdout
+                subprocess.run(["gpg", "--homedir", other, "--batch", "--quiet", "--import"], input=data, capture_output=True, check=True)
+            return subprocess.run(["gpg", "--homedir", other, "--batch", "--export"], capture_output=True, check=True).stdout
         finally:
             subprocess.run(["gpgconf", "--homedir", other, "--kill", "all"], capture_output=True)
             shutil.rmtree(other, ignore_errors=True)
 
     def signature(self, name: str, data: bytes, time: str, *words: str) -> bytes:
-        """A detached signature, in armor."""
         who = ("--faked-system-time", f"{time}!", "--local-user", self.fingerprints[name])
         return self.gpg(*who, "--armor", *words, "--detach-sign", given=data)
 
     def inline(self, name: str, text: str, time: str, *words: str) -> str:
-        """A text that is signed inline."""
         who = ("--faked-system-time", f"{time}!", "--local-user", self.fingerprints[name])
         return self.gpg(*who, *words, "--clearsign", given=text.encode()).decode()
 

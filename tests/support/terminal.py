@@ -28,7 +28,6 @@ class Terminal:
         test.addCleanup(self.kill)
 
     def kill(self) -> None:
-        """Ends the program, if it has not ended."""
         with contextlib.suppress(ChildProcessError):
             if os.waitpid(self.process, os.WNOHANG) == (0, 0):
                 os.kill(self.process, signal.SIGKILL)
@@ -62,7 +61,6 @@ class Terminal:
         return self.until(words)
 
     def end(self) -> tuple[str, int]:
-        """The rest of the text, and the exit status."""
         end = time.monotonic() + SECONDS
         while self.read(end, "does not end"):
             pass

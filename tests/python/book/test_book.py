@@ -2,6 +2,7 @@
 
 import contextlib
 import hashlib
+import io
 import json
 import os
 import pathlib
@@ -10,6 +11,7 @@ import shutil
 import sqlite3
 import subprocess
 import sys
+from collections.abc import Sequence
 from unittest import mock
 
 from debvote_tools.book import chain, machine_note, queries
@@ -28,10 +30,7 @@ ACTING = [
     *(("held", "1", "--set-aside"), ("reopen", "--because", "x"), ("call", "--to", "x@club.example"), ("codes",)),
     *(("count",), ("publish",), ("letters", "receipts")),
 ]
-READING = [
-    *(("status",), ("status", "--json"), ("show", "ada"), ("log",), ("log", "--check"), ("held",), ("check",)),
-    ("add", "--look", "more"),
-]
+READING = [*(("status",), ("status", "--json"), ("show", "ada"), ("log",), ("log", "--check"), ("held",), ("check",)), ("add", "--look", "more")]
 # those on whose words others rely: they read the whole chain
 RELYING = [("log", "--check"), ("count",), ("close",), ("publish",), ("export", "out"), ("backup", "copy.db")]
 
@@ -75,14 +74,14 @@ class BookTest(elections.ElectionTest):
             for statement in (*(f"DROP TRIGGER {name}" for name, _ in triggers), *statements, *(sql for _, sql in triggers)):
                 connection.execute(statement)
 
-    def assert_stops(self, *parts: str) -> None:
+    def assert_stops(self, *parts: str, acting: Sequence[Sequence[str]] = ACTING, reading: Sequence[Sequence[str]] = READING) -> None:
         """Each command that writes an act, or says what others rely on, stops; those that read say it and go on."""
         self.write("more", "hal 1,2,3,4\n")
         before = self.read("election.db")
-        for words in ACTING:
+        for words in acting:
             with self.subTest(words):
                 self.assert_fault(self.election(*words), 9, *parts, "nothing was changed")
-        for words in READING:
+        for words in reading:
             with self.subTest(words):
                 ended = self.election(*words)
                 self.assertEqual(ended.status, 0, ended)
@@ -97,16 +96,12 @@ class BookTest(elections.ElectionTest):
 class Copies(BookTest):
     """A copy of the book in the place of the book, or beside it."""
 
-    def go_back(self) -> None:
-        """Enters a ballot of ada and one of ben, and puts the book of before the latter back."""
+    def test_copy_of_yesterday(self) -> None:
         copy = self.scratch / "copy"
         self.add("ada 1,2,3,4")
         shutil.copy(self.book, copy)
         self.add("ben 1,2,3,4")
         copy.replace(self.book)
-
-    def test_copy_of_yesterday(self) -> None:
-        self.go_back()
         self.assert_stops("election.db", "older copy")
         self.assertIn("--moved", self.election("add", "--yes", "more").faults)
         self.assert_fault(self.election("add", "--yes", "--moved", "more"), 2, "--moved", "reason")
@@ -159,7 +154,7 @@ class Copies(BookTest):
         said, faults = desk.communicate("ben 1,2,3,4\n")
         self.assertEqual((desk.returncode, said), (9, ""), faults)
         self.assertIn("election.db: another file took its place while this command was running; act 4 (desk) was done: ", faults)
-        self.assert_stops("older copy")
+        self.assert_stops("older copy", acting=ACTING[:2], reading=READING[:1])
 
     def test_another_place_or_computer(self) -> None:
         before, self.state = self.state, self.scratch / "other state"
@@ -167,7 +162,7 @@ class Copies(BookTest):
         self.state, moved = before, self.scratch / "moved"
         self.folder.rename(moved)
         self.folder = moved
-        self.assert_stops("never seen this election in this folder")
+        self.assert_stops("never seen this election in this folder", acting=ACTING[:2], reading=READING[:1])
 
     def test_two_computers_with_one_home(self) -> None:
         """Folder and home lie on a share: each computer has a note of its own, and an act names the computer that did it."""
@@ -175,7 +170,7 @@ class Copies(BookTest):
         other_id.write_text("0123456789abcdef0123456789abcdef\n")
         self.add("ada 1,2,3,4")
         with mock.patch.object(machine_note, "MACHINE_ID", other_id):
-            self.assert_stops("never seen this election in this folder")
+            self.assert_stops("never seen this election in this folder", acting=ACTING[:2], reading=READING[:1])
             self.write("more", "hal 1,2,3,4\n")
             self.done("add", "--yes", *MOVED, "more")
         self.assert_stops("its act 6 was done on another computer")
@@ -186,7 +181,7 @@ class Copies(BookTest):
         own, other = (hashlib.sha256(salt + data).hexdigest()[:16] for data in ids)
         self.assertEqual(self.rows("SELECT machine FROM act ORDER BY act"), [(own,)] * 4 + [(other,)] * 2 + [(own,)] * 2)
 
-    def test_restored_home(self) -> None:
+    def test_what_stops_nothing(self) -> None:
         """A home of yesterday is an act of the same book: nothing stops."""
         kept = self.scratch / "kept"
         shutil.copytree(self.state, kept)
@@ -194,14 +189,16 @@ class Copies(BookTest):
         shutil.rmtree(self.state)
         kept.rename(self.state)
         self.add("ben 1,2,3,4")
-
-    def test_note_that_can_not_be_written(self) -> None:
-        self.write("more", "hal 1,2,3,4\n")
-        before = self.contents()
-        (self.state / "debvote" / "lock").unlink()
-        (self.state / "debvote" / "lock").mkdir()
-        self.assert_fault(self.election("add", "--yes", "more"), 7, "this computer must note there")
-        self.assertEqual(self.contents(), before)
+        # a copy beside it
+        self.done("backup", "copy.db")
+        self.add("cleo 1,2,3,4")
+        self.assertEqual(self.election("backup", "copy.db").status, 2)
+        self.assertEqual((self.folder / "copy.db").stat().st_mode & 0o777, 0o600)
+        # a new election in the same place
+        shutil.rmtree(self.folder)
+        self.done("new", str(self.folder), cwd=self.scratch)
+        self.write("members.csv", elections.members_of(elections.NAMES))
+        self.assertEqual(self.done("roll").faults, "")
 
     def note_file(self) -> pathlib.Path:
         """What this computer noted of the election."""
@@ -229,13 +226,13 @@ class Copies(BookTest):
         self.add("ben 1,2,3,4")
         self.assertEqual(json.loads(self.note_file().read_bytes())["act"], 6)
         self.assertFalse(self.note_file().with_suffix(".next").exists())
-
-    def test_a_new_election_in_the_same_place(self) -> None:
-        self.add("ada 1,2,3,4")
-        shutil.rmtree(self.folder)
-        self.done("new", str(self.folder), cwd=self.scratch)
-        self.write("members.csv", elections.members_of(elections.NAMES))
-        self.assertEqual(self.done("roll").faults, "")
+        # where it can't be written
+        self.write("more", "ida 1,2,3,4\n")
+        before = self.contents()
+        (self.state / "debvote" / "lock").unlink()
+        (self.state / "debvote" / "lock").mkdir()
+        self.assert_fault(self.election("add", "--yes", "more"), 7, "this computer must note there")
+        self.assertEqual(self.contents(), before)
 
     def test_left_by_a_sync_tool(self) -> None:
         """What this book lacks counts, and not how many acts there are: one that was cut off, and others."""
@@ -255,19 +252,13 @@ class Copies(BookTest):
         self.folder, self.state = here, before
         for name, data in zip(("cut.db", "fewer acts.db", "as many.db", "election (conflicted copy).db"), books, strict=True):
             (self.folder / name).write_bytes(data)
-            self.assert_stops(name, "acts that election.db lacks")
+            which = {} if name == "fewer acts.db" else {"acting": ACTING[:2], "reading": READING[:1]}
+            self.assert_stops(name, "acts that election.db lacks", **which)
             (self.folder / name).unlink()
         # this book as it was, and what is no book
         shutil.copy(self.book, self.folder / "copy.db")
         (self.folder / "a.db").write_bytes(b"SQLite format 3\0")
         self.add("eve 1,2,3,4")
-
-    def test_backup_beside_it(self) -> None:
-        self.add("ada 1,2,3,4")
-        self.done("backup", "copy.db")
-        self.add("ben 1,2,3,4")
-        self.assertEqual(self.election("backup", "copy.db").status, 2)
-        self.assertEqual((self.folder / "copy.db").stat().st_mode & 0o777, 0o600)
 
 
 def as_json(*row: object, line: int | None = None) -> str:
@@ -286,10 +277,16 @@ class Rewritten(BookTest):
         self.add("ada 1,2,3,4", "ben 2,1,3,4")
 
     def formats(self) -> list[str]:
-        """What the program of FORMATS prints of the book."""
+        """What the program of FORMATS prints of the book, and the fault with which it ends."""
         [program] = re.findall(r"^```python\n(.*?)^```$", FORMATS.read_text(), re.MULTILINE | re.DOTALL)
-        ended = subprocess.run([sys.executable, "-c", program], cwd=self.folder, capture_output=True, text=True)
-        return ended.stdout.splitlines() + ended.stderr.splitlines()[-1:]
+        fault = []
+        with contextlib.chdir(self.folder), contextlib.redirect_stdout(io.StringIO()) as said:
+            try:
+                exec(program, names := {})
+            except Exception as error:
+                fault = [str(error)]
+        names["book"].close()
+        return said.getvalue().splitlines() + fault
 
     def assert_broken(self, act: int, *parts: str) -> None:
         """Each command on whose words others rely says so, with the number of the act; so does the program of FORMATS."""
@@ -300,12 +297,6 @@ class Rewritten(BookTest):
         self.assertIn(said, self.formats())
 
     def test_whole(self) -> None:
-        self.done("strike", "2", "--because", 'Ben\'s "Ö" \\')
-        self.assertIn("The chain is whole: 5 acts", self.done("log", "--check").output)
-        [last] = self.formats()
-        self.assertEqual(last.split()[-1], json.loads(self.done("status", "--json").output)["digest"])
-
-    def test_digests(self) -> None:
         """Each digest is over the one before and all rows of the act."""
         with contextlib.closing(sqlite3.connect(self.book)) as connection:
             before, digests = "", []
@@ -321,22 +312,30 @@ class Rewritten(BookTest):
                 digests.append((digest, before, count))
         self.assertEqual([found for found, _, _ in digests], [computed for _, computed, _ in digests])
         self.assertEqual([count for _, _, count in digests], [0, 9 + 9, 9 + 5, 1 + 2])
-
-    def test_the_view_of_the_ballots(self) -> None:
+        # the chain reads no index
+        with contextlib.closing(sqlite3.connect(self.book)) as connection:
+            chain.prepare(connection)
+            queries_of_all = map(chain.query_of_all, chain.line_of())
+            plans = [connection.execute(f"EXPLAIN QUERY PLAN {words}").fetchall() for words in queries_of_all]
+        self.assertEqual(len(plans), 10)
+        for plan in plans:
+            self.assertEqual([step for *_, step in plan if "INDEX" in step], [])
+        self.done("strike", "2", "--because", 'Ben\'s "Ö" \\')
+        self.assertIn("The chain is whole: 5 acts", self.done("log", "--check").output)
+        [last] = self.formats()
+        self.assertEqual(last.split()[-1], json.loads(self.done("status", "--json").output)["digest"])
+        # the view of the ballots
         self.add("cleo 1,2,3,4")
-        self.done("strike", "1", "--because", "x")
         self.done("close")
         self.done("desk", given="dan 1,2,3,4\n")
-        self.assertEqual(self.rows("SELECT line FROM ballot ORDER BY envelope"), [(b"ben 2,1,3,4",), (b"cleo 1,2,3,4",)])
-
-    def test_lines_of_any_bytes(self) -> None:
-        """They stay as they are in what the digest is over, and none can be taken for the rows of two."""
+        self.assertEqual(self.rows("SELECT line FROM ballot ORDER BY envelope"), [(b"ada 1,2,3,4",), (b"cleo 1,2,3,4",)])
+        # lines of any bytes stay as they are in what the digest is over, and none can be taken for the rows of two
         odd = [b"ada \"1\\", b"\xff\xfe\x00\x7f", b"\xed\xa0\x80 \xe2\x80\xa8\t", b'x\n[3,1,"ada 1,2,3,4"]', b"", b"\xc3\xa9"]
         with mock.patch.dict(os.environ, {"XDG_STATE_HOME": str(self.state)}):
             book = open_book(self.book)
             with contextlib.closing(book.connection), book.act("desk") as act:
                 queries.add_envelopes(act, map(queries.NewEnvelope, odd), [None] * len(odd), is_late=False)
-        self.assertIn("The chain is whole: 5 acts", self.done("log", "--check").output)
+        self.assertIn("The chain is whole: 9 acts", self.done("log", "--check").output)
         self.assertEqual(len(self.formats()), 1)
 
     def test_an_act_with_its_digest_made_anew(self) -> None:
@@ -367,9 +366,7 @@ class Rewritten(BookTest):
         whole, tried = self.read("election.db"), 0
         with contextlib.closing(sqlite3.connect(self.book)) as connection:
             tables = [name for name, in connection.execute("SELECT name FROM sqlite_schema WHERE type = 'table'")]
-            columns = [
-                (table, name, kind) for table in tables for _, name, kind, *_ in connection.execute(f"PRAGMA table_info({table})")
-            ]
+            columns = [(table, name, kind) for table in tables for _, name, kind, *_ in connection.execute(f"PRAGMA table_info({table})")]
             owners = {table: connection.execute(f"SELECT max(rowid), act FROM {table}").fetchone() for table in tables}
         later = "strftime('%Y-%m-%dT%H:%M:%SZ', {}, '+1 second')"
         other = {"INTEGER": "coalesce({} + 1000, 1000)", "TEXT": "{} || ' '", "BLOB": "CAST({} || 'x' AS BLOB)"}
@@ -424,24 +421,13 @@ class Rewritten(BookTest):
 
         # a row of the table: its length, its number, and the row; one of the index: its length, and the row
         table, index = cell("struck"), cell("struck_by_act")
-        self.assertEqual(
-            (whole[table : table + 6], whole[index : index + 5]), (b"\x04\x01\x03\x00\x01\x05", b"\x04\x03\x01\x09\x05")
-        )
+        self.assertEqual((whole[table : table + 6], whole[index : index + 5]), (b"\x04\x01\x03\x00\x01\x05", b"\x04\x03\x01\x09\x05"))
         for name, at in {"the envelope": table + 1, "the act": table + 5, "the act of the index": index + 4}.items():
             with self.subTest(name):
                 self.book.write_bytes(whole[:at] + bytes([whole[at] ^ 2]) + whole[at + 1 :])
                 for words in RELYING[:3]:
                     self.assert_fault(self.election(*words), 9, "election.db: the book is damaged", "struck")
                 self.assertGreater(len(self.formats()), 1)
-
-    def test_the_chain_reads_no_index(self) -> None:
-        with contextlib.closing(sqlite3.connect(self.book)) as connection:
-            chain.prepare(connection)
-            queries_of_all = map(chain.query_of_all, chain.line_of())
-            plans = [connection.execute(f"EXPLAIN QUERY PLAN {words}").fetchall() for words in queries_of_all]
-        self.assertEqual(len(plans), 10)
-        for plan in plans:
-            self.assertEqual([step for *_, step in plan if "INDEX" in step], [])
 
     def test_another_schema(self) -> None:
         """What somebody adds to the schema, takes from it or changes in it is seen by each command that opens the book."""
@@ -473,14 +459,21 @@ class Rewritten(BookTest):
 
     def test_nothing_is_built_on_a_broken_book(self) -> None:
         """Each act computes the digest of the one before it anew."""
+        whole = self.read("election.db")
         self.sql(CHANGED)
         self.write("more", "hal 1,2,3,4\n")
         strike, call = ("strike", "1", "--because", "x"), ("call", "--at", "https://club.example/")
         for words in (("add", "--yes", "more"), strike, ("undo", "--yes"), call):
             self.assert_fault(self.election(*words), 9, "act 4 does not match its digest", "nothing was changed")
+        # an act that is cut off
+        self.book.write_bytes(whole)
+        for table in ("envelope", "source", "act"):
+            self.sql(f"DELETE FROM {table} WHERE act = 4")
+        self.assert_stops("older copy")
 
     def test_what_no_command_can_read(self) -> None:
         """It is told as what it is, by whatever command meets it."""
+        whole = self.read("election.db")
         whole = self.read("election.db")
         for act, statement in {
             1: "UPDATE act SET detail = '{' WHERE act = 1",
@@ -499,10 +492,7 @@ class Rewritten(BookTest):
                         told += 1
             self.assertGreater(told, 0, statement)
             self.book.write_bytes(whole)
-
-    def test_sealed_poll(self) -> None:
-        """A poll in the book that is not in plain form is the fault of the book, and of no file of the secretary's."""
-        whole = self.read("election.db")
+        # a poll in the book that is not in plain form is the fault of the book, and of no file of the secretary's
         for statement in ("DELETE FROM sealed", "UPDATE sealed SET data = CAST('title = 1' AS BLOB)"):
             self.sql(statement)
             for words in (("status",), ("desk",), ("held",)):
@@ -510,11 +500,6 @@ class Rewritten(BookTest):
                     said = "election.db: the book is damaged, or another program changed it (its sealed poll is not in plain form)"
                     self.assert_fault(self.election(*words, given=""), 9, said)
             self.book.write_bytes(whole)
-
-    def test_act_cut_off(self) -> None:
-        for table in ("envelope", "source", "act"):
-            self.sql(f"DELETE FROM {table} WHERE act = 4")
-        self.assert_stops("older copy")
 
     def test_triggers(self) -> None:
         """What is in the book stays: no row of any table is changed, removed or replaced."""
@@ -528,8 +513,8 @@ class Rewritten(BookTest):
                         connection.execute(statement.format(table))
 
 
-class CutOff(BookTest):
-    """An act that is cut off in its commit, or right after it."""
+class OnTheDisk(BookTest):
+    """What is brought to the disk, and in which order; an act that is cut off in its commit, or right after it."""
 
     def last_act(self) -> int:
         ended = self.done("status", "--json")
@@ -570,10 +555,6 @@ class CutOff(BookTest):
         ended = self.traced("-P", journal, "-e", "inject=unlink:signal=INT", words=("publish",))
         self.assertTrue((self.folder / "result" / "index.html").exists(), ended)
 
-
-class OnTheDisk(BookTest):
-    """What is brought to the disk, and in which order."""
-
     def calls(self, *words: str, given: str | None = None, inject: str = "fsync:delay_exit=0") -> list[tuple[str, str]]:
         """The calls of a command that bring a file to the disk or put it into its place, in their order, each with its path."""
         trace = self.scratch / "trace"
@@ -587,15 +568,14 @@ class OnTheDisk(BookTest):
             places = [(at, path) for at, (call, path) in enumerate(calls) if call == "rename"]
             self.assertEqual(len(places), renames, calls)
             for at, path in places:
-                around = [("fsync", path), ("rename", path), ("fsync", str(pathlib.Path(path).parent))]
-                self.assertEqual(calls[at - 1 : at + 2], around)
+                self.assertEqual(calls[at - 1 : at + 2], [("fsync", path), ("rename", path), ("fsync", str(pathlib.Path(path).parent))])
 
     def test_what_can_not_take_its_place_is_gone(self) -> None:
         self.calls("close", inject="rename:error=EIO:when=2")
         self.assertEqual([file.name for file in self.folder.rglob("*") if file.name.startswith(".debvote-")], [])
         self.assertFalse((self.folder / "letters" / "closed.txt").exists())
 
-    def test_a_note_goes_only_forward(self) -> None:
+    def test_a_note_goes_only_forward_and_rows_name_rows_that_are_there(self) -> None:
         note = machine_note.MachineNote("a machine", self.book)
         note.folder = self.scratch / "notes"
         note.file, note.next = note.folder / "note", note.folder / "note.next"
@@ -607,8 +587,6 @@ class OnTheDisk(BookTest):
         size = note.file.stat().st_size
         note.make_ready()
         self.assertEqual(note.next.stat().st_size, size)
-
-    def test_rows_name_rows_that_are_there(self) -> None:
         with mock.patch.dict(os.environ, {"XDG_STATE_HOME": str(self.state)}):
             book = open_book(self.book)
             with contextlib.closing(book.connection), self.assertRaises(Fault), book.act("strike") as act:
@@ -619,16 +597,11 @@ class OnTheDisk(BookTest):
 class Places(BookTest):
     """Folders in which there is no book that can be worked on."""
 
-    def test_in_a_folder_that_is_made(self) -> None:
-        for words in (("status",), ("add", "x"), ("roll",)):
-            ended = self.election(*words, cwd=self.folder / "call")
-            self.assert_fault(ended, 2, "one folder up")
-
     def test_no_book(self) -> None:
+        for words in (("status",), ("add", "x"), ("roll",)):
+            self.assert_fault(self.election(*words, cwd=self.folder / "call"), 2, "one folder up")
         self.assert_fault(self.election("status", cwd=self.scratch), 2, "no election.db")
         self.assert_fault(self.election("status", "--folder", "nowhere"), 2, "nowhere", "no such folder")
-
-    def test_folder_of_version_1(self) -> None:
         old = self.scratch / "old"
         old.mkdir()
         (old / "journal").write_text("")
@@ -643,9 +616,7 @@ class Places(BookTest):
             connection.execute(f"PRAGMA application_id = {0x64627674}")
             connection.execute("PRAGMA user_version = 2")
         self.assert_fault(self.election("status"), 2, "it is a book (version 2), and this program writes version 4")
-
-    def test_book_of_version_2_0_0(self) -> None:
-        """It is refused by name, and not opened: what a command of 2.0.0 left when it was cut off stays, too."""
+        # a book of 2.0.0 is refused by name, and not opened: what a command that was cut off left stays, too
         with contextlib.closing(sqlite3.connect(self.book)) as connection:
             connection.execute("PRAGMA user_version = 3")
         (self.folder / "election.db-journal").write_bytes(b"what a command that was cut off has left")

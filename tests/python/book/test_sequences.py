@@ -9,17 +9,15 @@ import collections
 import concurrent.futures
 import copy
 import dataclasses
-import json
 import os
-import pathlib
 import random
 import re
-import shutil
 import signal
 import subprocess
 import time
 
 from tests.support import elections
+from tests.support.called import LettersTest
 
 # how many sequences are tried, of how many commands each
 SEQUENCES = int(os.environ.get("DEBVOTE_SEQUENCES", "12"))
@@ -107,11 +105,9 @@ class Model:
 
     @property
     def waiting(self) -> list[int]:
-        """The letters that wait."""
         return [number for number, letter in enumerate(self.letters, start=1) if letter.waits]
 
     def exported(self) -> tuple[str, str]:
-        """The files of the lines in time and of the late ones."""
         kept = [line for line in self.lines if not line.is_struck]
         return tuple("".join(f"{line.text}\n" for line in kept if line.is_late == is_late) for is_late in (False, True))
 
@@ -125,16 +121,7 @@ class Step:
     models: list[Model]
 
 
-class SequencesTest(elections.ElectionTest):
-    def setUp(self) -> None:
-        super().setUp()
-        self.set_clock("2026-11-25T09:00:00+00:00")
-
-    def made(self) -> pathlib.Path:
-        """The call is older than the letters."""
-        self.set_clock("2026-11-20T09:00:00+00:00")
-        return super().made()
-
+class SequencesTest(LettersTest):
     # ------------------------------------------------------------ the steps
     def step(self, model: Model, chance: random.Random) -> Step:
         """A command that can be given now, with what it does."""
@@ -206,7 +193,6 @@ class SequencesTest(elections.ElectionTest):
         return Step(["held", "--enter", "--force"], None, [model])
 
     def typing(self, model: Model, chance: random.Random) -> Step | None:
-        """What the secretary reads in a letter."""
         if not model.waiting:
             return None
         number = chance.choice(model.waiting)
@@ -255,9 +241,6 @@ class SequencesTest(elections.ElectionTest):
         return Step(["reopen", "--because", "a letter was forgotten", *words], None, [model])
 
     # ------------------------------------------------------------ how they are run
-    def injected(self, step: Step, inject: str) -> elections.Ended:
-        """Runs a command under strace, which does something to one of its system calls."""
-        return self.traced("-e", f"inject={inject}", words=step.words, given=step.given or "")
 
     def run_step(self, step: Step, chance: random.Random) -> tuple[Model, bool]:
         """Runs a command, perhaps not to its end, and returns the model that holds, and whether it was cut off."""
@@ -270,10 +253,10 @@ class SequencesTest(elections.ElectionTest):
             return step.models[-1], False
         when = chance.randint(1, MAX_CALLS)
         if kind < 0.8:
-            ended = self.injected(step, f"{CHANGES}:signal=KILL:when={when}")
+            ended = self.traced("-e", f"inject={CHANGES}:signal=KILL:when={when}", words=step.words, given=step.given or "")
             is_cut_off = ended.status in (-signal.SIGKILL, 128 + signal.SIGKILL)
         else:
-            ended = self.injected(step, f"{WRITES}:error=ENOSPC:when={chance.randint(1, 20)}+")
+            ended = self.traced("-e", f"inject={WRITES}:error=ENOSPC:when={chance.randint(1, 20)}+", words=step.words, given=step.given or "")
             is_cut_off = ended.status == 7
             self.assertIn(ended.status, (0, 7, 9), ended)
         held = self.held(step, ended)
@@ -294,17 +277,6 @@ class SequencesTest(elections.ElectionTest):
             self.assertLessEqual(max(told), len(held.lines), (step, ended))
         return held
 
-    def numbers(self) -> dict[str, object]:
-        return json.loads(self.done("status", "--json").output)
-
-    def exported(self) -> tuple[str, str]:
-        out = self.scratch / "out"
-        shutil.rmtree(out, ignore_errors=True)
-        ended = self.done("export", out)
-        # a kill leaves what this computer noted behind the book, and never ahead of it
-        self.assertEqual(ended.faults, "", ended)
-        return (out / "ballots.txt").read_text(), (out / "late.txt").read_text()
-
     def check_numbers(self) -> None:
         """The numbers of `status` are those that debvote gives for the exported files, and the chain is whole."""
         status = self.numbers()
@@ -316,9 +288,7 @@ class SequencesTest(elections.ElectionTest):
         late = len((out / "late.txt").read_text().splitlines())
         found = (status["lines"], status["valid"], status["refused"], status["late"], status["voters"])
         self.assertEqual(found, (len(replies), valid, len(replies) - valid, late, len(standing)))
-        self.assertEqual(
-            status["without_ballot"], [name for name in elections.NAMES if name not in {line.split()[0] for line in standing}]
-        )
+        self.assertEqual(status["without_ballot"], [name for name in elections.NAMES if name not in {line.split()[0] for line in standing}])
         self.done("log", "--check")
 
 
@@ -363,8 +333,7 @@ class EightDesks(elections.ElectionTest):
             number = int(reply.split()[0])
             self.assertNotIn(number, told, "told twice")
             told[number] = line
-        said = f"This desk has entered {self.LINES} lines (1 counted, {self.LINES - 1} replaced).\n"
-        self.assertIn(said, desk.communicate()[0])
+        self.assertIn(f"This desk has entered {self.LINES} lines (1 counted, {self.LINES - 1} replaced).\n", desk.communicate()[0])
         self.assertEqual(desk.returncode, 0)
         return self.LINES
 

@@ -32,36 +32,32 @@ class AfterReopen(CalledTest):
         self.assertEqual(ended, status, output)
         return output
 
-    def test_yes_and_no(self) -> None:
+    def test_yes_and_no_and_the_end_of_the_input(self) -> None:
         self.assertIn(f"1 counted  ada: {LAKE}\n", self.answer(self.asked(), "y\n"))
         self.told("undo")
+        before = self.last_act()
+        self.assertIn("you did not say whether it came before the close; nothing was added: ", self.answer(self.asked(), "\x04", status=9))
+        self.assertEqual(self.last_act(), before)
         self.assertIn("3 late  ada: ", self.answer(self.asked(), "perhaps\n", "n\n"))
         self.assertEqual((self.lines(), len(self.late_lines())), ([], 2))
 
-    def test_the_end_of_the_input_is_no_answer(self) -> None:
-        before = self.last_act()
-        said = "you did not say whether it came before the close; nothing was added: "
-        self.assertIn(said, self.answer(self.asked(), "\x04", status=9))
-        self.assertEqual(self.last_act(), before)
-
-    def test_an_act_that_changes_nothing_of_it(self) -> None:
+    def test_acts_meanwhile(self) -> None:
+        # an act that changes nothing of it
         terminal = self.asked()
         self.told("add", "--came-before-close", "yes", given=f"cleo {RANKS}\n")
         output = self.answer(terminal, "y\n")
         self.assertNotIn(ASKED, output)
         self.assertIn("2 counted  ada: ", output)
         self.assertEqual(self.lines(), [f"cleo {RANKS}", f"ada {RANKS}", f"ben {RANKS}"])
-
-    def test_lines_that_somebody_adds_meanwhile(self) -> None:
+        # of lines that somebody adds meanwhile another number is asked about anew
+        self.told("undo")
         terminal = self.asked()
         self.told("add", "--came-before-close", "yes", given=f"ada {RANKS}\n")
-        terminal.type("y\n")
-        # another number of lines is asked about anew
-        terminal.until(ASKED)
+        terminal.after("y\n", ASKED)
         output = self.answer(terminal, "n\n")
         self.assertIn("monday: 1 line is ignored, since it came before; 1 is new\n", output)
-        self.assertIn("2 late  ben: ", output)
-        self.assertEqual((self.lines(), self.late_lines()), ([f"ada {RANKS}"], [f"ben {RANKS}"]))
+        self.assertIn("5 late  ben: ", output)
+        self.assertEqual((self.lines(), self.late_lines()), ([f"cleo {RANKS}", f"ada {RANKS}"], [f"ben {RANKS}"]))
 
     def test_a_close_meanwhile(self) -> None:
         terminal = self.asked()
@@ -77,19 +73,15 @@ class AfterReopen(CalledTest):
         self.assertIn("1 counted  ada: ", self.answer(terminal, "y\n"))
 
 
-class AddingTest(CalledTest):
+class BesideOthers(CalledTest):
     def adding(self, *words: str) -> subprocess.Popen:
-        """An `add` that runs beside this test."""
         pipes = {"stdin": subprocess.PIPE, "stdout": subprocess.PIPE, "stderr": subprocess.PIPE, "text": True}
         run = subprocess.Popen([sys.executable, elections.ELECTION, "add", *words], cwd=self.folder, env=elections.environment(), **pipes)
         self.addCleanup(run.wait)
         self.addCleanup(run.kill)
         return run
 
-
-class AtOnce(AddingTest):
     def test_two_copies_of_one_file(self) -> None:
-        """Whoever is second finds that its lines came before."""
         self.write("many", "".join(f"ada {a},{b},1,2\n" for a in range(1, 20) for b in range(1, 20)))
         runs = [self.adding("many") for _ in range(4)]
         outputs = [run.communicate(timeout=elections.SECONDS) for run in runs]
@@ -111,14 +103,16 @@ class AtOnce(AddingTest):
             self.assertIn(f"{first} counted  {name}: {LAKE}\n", output)
             self.assertIn(f"\n{second} replaced  {name}: ", output)
 
-
-class FromAPipe(AddingTest):
-    """What is read of a pipe is gone from it, so it is read once."""
-
-    def test_lines_from_a_named_pipe(self) -> None:
+    def test_lines_from_a_named_pipe_and_a_process_substitution(self) -> None:
         os.mkfifo(self.folder / "more")
         with subprocess.Popen(["sh", "-c", f"echo ada {RANKS} > {self.folder}/more"]):
             self.assertIn("Added 1 line (1 counted).\n", self.told("add", "more", timeout=elections.SECONDS))
+        read_end, write_end = os.pipe()
+        os.write(write_end, f"ben {RANKS}\n".encode())
+        os.close(write_end)
+        ended = self.run_program(sys.executable, elections.ELECTION, "add", f"/dev/fd/{read_end}", pass_fds=(read_end,))
+        os.close(read_end)
+        self.assertEqual((ended.status, self.lines()), (0, [f"ada {RANKS}", f"ben {RANKS}"]), ended)
 
     def test_another_call_while_it_reads(self) -> None:
         """What it says of the lines is of the poll before."""
@@ -132,14 +126,6 @@ class FromAPipe(AddingTest):
         output, faults = run.communicate(timeout=elections.SECONDS)
         self.assertEqual((output, run.returncode, self.last_act()), ("", 9, before))
         self.assertIn("the call for votes was made anew meanwhile; nothing was added: run the command again", faults)
-
-    def test_lines_from_a_process_substitution(self) -> None:
-        read_end, write_end = os.pipe()
-        os.write(write_end, f"ada {RANKS}\n".encode())
-        os.close(write_end)
-        ended = self.run_program(sys.executable, elections.ELECTION, "add", f"/dev/fd/{read_end}", pass_fds=(read_end,))
-        os.close(read_end)
-        self.assertEqual((ended.status, self.lines()), (0, [f"ada {RANKS}"]), ended)
 
 
 class Look(CalledTest):
@@ -157,19 +143,15 @@ class Look(CalledTest):
             added = next(line for line in ended.output.splitlines() if line.startswith("Added ")).removeprefix("Added ")
             self.assertIn(f"These would be {added} Nothing was changed.\n", look.output)
 
-    def test_new_lines_and_those_that_came_before(self) -> None:
+    def test_it_says_it(self) -> None:
         self.assert_look_says_it(given=MONDAY)
         self.assert_look_says_it(given=f"ada {OTHER_RANKS}\n{MONDAY}cleo {RANKS}\nGsu 1,2\n")
         self.told("strike", 1, "--because", "a test")
         self.assert_look_says_it("--again", given=MONDAY)
-
-    def test_what_stops_and_after_the_close(self) -> None:
-        self.write("wrong", f"Dear all,\nwe meet on Monday\nada {RANKS}\n")
+        self.assertIn("  it goes in as it came; written as `gsu 1,2,3,4` it is refused too: ", self.told("add", "--look", given="Gsu 1,2,3,4\n"))
+        # what stops, and after the close
+        self.write("wrong", f"Dear all,\nwe meet on Monday\nhal {RANKS}\n")
         self.assert_look_says_it("wrong")
         self.assert_look_says_it("--force", "wrong")
         self.act("close", {"lines": 0, "checksum": "", "early": False})
-        self.assert_look_says_it(given=MONDAY)
-
-    def test_a_refused_line_would_go_in_as_it_came(self) -> None:
-        output = self.told("add", "--look", given="Gsu 1,2,3,4\n")
-        self.assertIn("  it goes in as it came; written as `gsu 1,2,3,4` it is refused too: ", output)
+        self.assert_look_says_it(given=f"ida {RANKS}\n")

@@ -21,21 +21,42 @@ class Before(CalledTest):
         self.assertIn(f"{name}: {lines} came before; {new} {'is' if new == 1 else 'are'} new\n", output)
         return output
 
-
-class AsItCame(Before):
-    def test_the_same_file(self) -> None:
+    def test_the_same_lines_again(self) -> None:
         before = self.last_act()
         output = self.assert_ignored(2, 0, name="monday")
         self.assertIn("There is nothing new, and nothing was added.\n", output)
         self.assertNotIn("--again", output)
-        # then it is no act, and the file is not kept a second time
+        # then it is no act, and the file is not kept a second time; nor are copies in any order, with other line ends and repairs
         self.assertEqual((self.last_act(), len(self.sources())), (before, 1))
-
-    def test_copies_in_any_order_with_other_line_ends_and_repairs(self) -> None:
         for copy in ("\ufeff" + MONDAY.replace("\n", "\r\n"), "ben 1,2,4,3\nada 1,2,4,3\n", "ada 1;2;4;3.\nben:1,2,4,3"):
             self.write("more", copy)
             self.assert_ignored(2, 0)
-        self.assertEqual(self.lines(), [f"ada {RANKS}", f"ben {RANKS}"])
+        # of three equal lines one came before: whoever goes back to a first ballot sends it again
+        self.write("more", f"ada {RANKS}\nada {OTHER_RANKS}\nada {RANKS}\n")
+        self.assert_ignored(1, 2)
+        self.assertEqual(self.lines()[2:], [f"ada {OTHER_RANKS}", f"ada {RANKS}"])
+        self.assert_ignored(3, 0)
+        # what came at a desk came in no file
+        self.told("desk", given=f"cleo {RANKS}\n")
+        self.assertIn("6 replaced  cleo: ", self.told("add", given=f"cleo {RANKS}\n"))
+        # nor did the ballot of a letter: the same line in a file is her last word
+        with self.book.act("add") as act:
+            source = queries.keep_source(act, "inbox", b"letter")
+            letter = act.insert("letter", source=source, identity="1", known="{}")
+            queries.add_envelopes(act, [queries.NewEnvelope(f"eve {RANKS}".encode(), "", source, letter)], [self.elector("eve")], is_late=False)
+        self.told("desk", given=f"eve {OTHER_RANKS}\n")
+        self.assertIn("9 replaced  eve: ", self.told("add", given=f"eve {RANKS}\n"))
+        # refused lines are known by their text
+        self.told("add", given="Zoe 1,2,4,3\n")
+        self.write("more", "Zoe 1,2,4,3\nzoe 1,2,4,3\nada 1,2,4,3\nben 1,2,4,3\n")
+        self.assert_ignored(3, 1)
+        self.assertEqual(self.lines()[9:], ["Zoe 1,2,4,3", "zoe 1,2,4,3"])
+        # late ones, too
+        self.act("close", {"lines": 11, "checksum": "", "early": False})
+        self.write("more", f"dan {RANKS}\n")
+        self.told("add", "more")
+        self.assert_ignored(1, 0)
+        self.assertEqual(self.late_lines(), [f"dan {RANKS}"])
 
     def test_it_has_grown(self) -> None:
         self.write("more", "cleo 1,2,4,3\n" + MONDAY + "dan 1,2,4,3\n")
@@ -47,45 +68,18 @@ class AsItCame(Before):
         self.assertEqual(self.sources()[-1], ("more", self.read("more")))
         self.assertEqual([envelope.place for envelope in self.envelopes()[2:]], [":1", ":4"])
         self.assertEqual(self.acts()[-1][1], {"files": ["more"], "lines": 2, "passed_over": 2})
-
-    def test_the_same_line_more_often_than_before(self) -> None:
-        """Of three equal lines one came before: whoever goes back to a first ballot sends it again."""
-        self.write("more", f"ada {RANKS}\nada {OTHER_RANKS}\nada {RANKS}\n")
-        self.assert_ignored(1, 2)
-        self.assertEqual(self.lines()[2:], [f"ada {OTHER_RANKS}", f"ada {RANKS}"])
-        self.assert_ignored(3, 0)
-
-    def test_it_came_in_a_table_and_comes_as_lines(self) -> None:
-        self.write("form", "n,a,b,c,d\nada,1,2,4,3\ncleo,1,2,4,3\n")
-        self.assert_ignored(1, 1, *TABLE, name="form")
-        self.write("more", f"cleo {RANKS}\n")
-        self.assert_ignored(1, 0)
-
-    def test_several_files_count_as_they_go_in(self) -> None:
-        self.write("one", f"cleo {RANKS}\nada {RANKS}\n")
-        self.write("two", f"cleo {RANKS}\ndan {RANKS}\ndan {RANKS}\n")
+        # several files count as they go in
+        self.write("one", f"eve {RANKS}\nada {RANKS}\n")
+        self.write("two", f"eve {RANKS}\nfay {RANKS}\nfay {RANKS}\n")
         output = self.told("add", "one", "two")
         self.assertIn("one: 1 line is ignored, since it came before; 1 is new\n", output)
         self.assertIn("two: 1 line is ignored, since it came before; 2 are new\n", output)
-        self.assertEqual(self.lines()[2:], [f"cleo {RANKS}", f"dan {RANKS}", f"dan {RANKS}"])
-
-    def test_what_came_at_a_desk_came_in_no_file(self) -> None:
-        self.told("desk", given=f"cleo {RANKS}\n")
-        self.write("more", f"cleo {RANKS}\n")
-        self.assertIn("4 replaced  cleo: ", self.told("add", "more"))
-
-    def test_refused_lines_are_known_by_their_text(self) -> None:
-        self.told("add", given="Zoe 1,2,4,3\n")
-        self.write("more", "Zoe 1,2,4,3\nzoe 1,2,4,3\nada 1,2,4,3\nben 1,2,4,3\n")
-        self.assert_ignored(3, 1)
-        self.assertEqual(self.lines()[2:], ["Zoe 1,2,4,3", "zoe 1,2,4,3"])
-
-    def test_late_lines(self) -> None:
-        self.act("close", {"lines": 2, "checksum": "", "early": False})
-        self.write("more", f"cleo {RANKS}\n")
-        self.told("add", "more")
+        self.assertEqual(self.lines()[4:], [f"eve {RANKS}", f"fay {RANKS}", f"fay {RANKS}"])
+        # it came in a table, and comes as lines
+        self.write("form", "n,a,b,c,d\nada,1,2,4,3\ngus,1,2,4,3\n")
+        self.assert_ignored(1, 1, *TABLE, name="form")
+        self.write("more", f"gus {RANKS}\n")
         self.assert_ignored(1, 0)
-        self.assertEqual(self.late_lines(), [f"cleo {RANKS}"])
 
     def test_what_an_undo_took_back_came_not(self) -> None:
         self.told("undo")
@@ -116,7 +110,6 @@ class AsItCame(Before):
         # by now both came before, in whatever order
         self.assert_ignored(3, 0, *TABLE)
 
-
     def test_an_older_line_above_one_that_came_before(self) -> None:
         """The file says that the other one is the newer one. Below it a line is newer, and a third one again."""
         older, newer = f"cleo {RANKS}", f"cleo {OTHER_RANKS}"
@@ -128,23 +121,10 @@ class AsItCame(Before):
         self.assertEqual(self.lines()[2:], [newer, older, newer])
         self.assertIn("6 replaced  cleo", self.told("add", "--force", given=f"cleo 1,1,4,3\n{newer}\n"))
 
-    def test_the_ballot_of_a_letter_came_in_no_file(self) -> None:
-        """Ada's letter and then her paper: the same line in a file is her last word."""
-        with self.book.act("add") as act:
-            source = queries.keep_source(act, "inbox", b"letter")
-            letter = act.insert("letter", source=source, identity="1", known="{}")
-            line = queries.NewEnvelope(f"cleo {RANKS}".encode(), "", source, letter)
-            queries.add_envelopes(act, [line], [self.elector("cleo")], is_late=False)
-        self.told("desk", given=f"cleo {OTHER_RANKS}\n")
-        self.assertIn("5 replaced  cleo: ", self.told("add", given=f"cleo {RANKS}\n"))
-
-
-class Since(Before):
     def test_another_ballot_has_come(self) -> None:
         self.told("desk", given=f"ada {OTHER_RANKS}\n")
         output = self.assert_ignored(2, 0, name="monday")
-        said = f"\n  monday:1: `ada {RANKS}` came before, and ada has voted since (envelope 3); --again enters it again\n"
-        self.assertIn(said, output)
+        self.assertIn(f"\n  monday:1: `ada {RANKS}` came before, and ada has voted since (envelope 3); --again enters it again\n", output)
         self.assertNotIn("monday:2", output)
         self.assertEqual(len(self.lines()), 3)
         output = self.assert_ignored(1, 1, "--again", name="monday")
@@ -180,6 +160,13 @@ class Since(Before):
         # both go in again, in their order
         self.told("add", "--again", "more")
         self.assertEqual(self.lines()[-2:], [f"cleo {RANKS}", f"cleo {OTHER_RANKS}"])
+        # of many the first are told
+        self.write("more", "".join(f"dan {number},1,1,1\n" for number in range(1, 31)))
+        self.told("add", "more")
+        self.told("desk", given="dan -,-,-,1\n")
+        output = self.assert_ignored(30, 0)
+        self.assertEqual(output.count("dan has voted since"), 20)
+        self.assertIn("\n  and 10 more; --again enters them again\n", output)
 
     def test_it_was_struck(self) -> None:
         self.told("strike", 1, "--because", "a test")
@@ -188,21 +175,19 @@ class Since(Before):
         self.assertEqual(self.lines(), [f"ben {RANKS}"])
         self.assertIn("3 counted  ada: ", self.assert_ignored(1, 1, "--again", name="monday"))
         self.assertNotIn("struck", self.assert_ignored(2, 0, name="monday"))
-
-    def test_of_equal_lines_the_struck_one_came_last(self) -> None:
-        self.told("add", given=f"ada {RANKS}\nada {RANKS}\n")
-        self.told("strike", 1, "--because", "a test")
-        self.assertNotIn("--again", self.assert_ignored(2, 0, name="monday"))
-
-    def test_in_two_files_at_once_it_is_taken_once(self) -> None:
-        self.told("strike", 1, "--because", "a test")
+        # in two files at once it is taken once
+        self.told("strike", 3, "--because", "a test")
         self.write("copy", MONDAY)
         self.told("add", "--again", "monday", "copy")
         self.assertEqual(self.lines(), [f"ben {RANKS}", f"ada {RANKS}"])
 
     def test_a_ballot_that_was_struck_or_late_is_nothing_since(self) -> None:
+        # of equal lines the one that was struck came last
+        self.told("add", given=f"ada {RANKS}\nada {RANKS}\n")
+        self.told("strike", 1, "--because", "a test")
+        self.assertNotIn("--again", self.assert_ignored(2, 0, name="monday"))
         self.told("desk", given=f"ada {OTHER_RANKS}\n")
-        self.told("strike", 3, "--because", "a test")
+        self.told("strike", 4, "--because", "a test")
         self.assertNotIn("--again", self.assert_ignored(2, 0, name="monday"))
         self.act("close", {"lines": 2, "checksum": "", "early": False})
         self.told("desk", given=f"ada {OTHER_RANKS}\n")
@@ -220,11 +205,3 @@ class Since(Before):
         self.assertIn("4 counted  cleo: ", self.told("add", "--again", "--came-before-close", "yes", "more"))
         self.assertEqual((self.lines()[2:], self.late_lines()), ([f"cleo {RANKS}"], [f"cleo {RANKS}"]))
         self.assertNotIn("--again", self.assert_ignored(1, 0, "--came-before-close", "yes"))
-
-    def test_of_many_the_first_are_told(self) -> None:
-        self.write("more", "".join(f"cleo {number},1,1,1\n" for number in range(1, 31)))
-        self.told("add", "more")
-        self.told("desk", given="cleo -,-,-,1\n")
-        output = self.assert_ignored(30, 0)
-        self.assertEqual(output.count("cleo has voted since"), 20)
-        self.assertIn("\n  and 10 more; --again enters them again\n", output)

@@ -13,7 +13,6 @@ FOLDED = "".join(f" {number}\n" for number in range(60_000))
 
 
 def nested(depth: int, kind: str = "multipart/mixed; boundary=b{}") -> str:
-    """Parts within each other."""
     return "".join(f"--b{number}\nContent-Type: {kind.format(number + 1)}\n\n" for number in range(depth))
 
 
@@ -75,8 +74,7 @@ class Bombs(unittest.TestCase):
             # no second is promised, but a time that grows with the square of the length would be minutes
             self.assertLess(time.process_time() - began, 20, what)
         self.assertEqual(lines_in(*list(bombs.values())[-3:], letter("ben", f"ben {RANKS}")), [f"ben {RANKS}"])
-
-    def test_many_lines_in_the_head_are_no_trouble(self) -> None:
+        # many lines in the head are no trouble
         self.assertEqual(outcomes(letter("ada", BALLOT, head="X: y\n" * 40_000)), [f"in: {BALLOT}"])
 
 
@@ -100,8 +98,7 @@ class Random(unittest.TestCase):
         for _ in range(3_000):
             found = parsed(self.changed(chance, b'\0\r\n\xff\x80;:="<>-b ', 20))
             "\n".join((*found.shown_lines, found.subject, found.shown_sender, found.sender, found.in_reply_to)).encode()
-
-    def test_halves_of_characters(self) -> None:
+        # halves of characters
         for charset, text in (("unicode_escape", "\\ud800"), ("raw_unicode_escape", "\\ud800"), ("utf-7", "+2AA-")):
             word = f"=?{charset}?q?{text.replace('+', '=2B')}?="
             how = {"kind": f"text/plain; charset={charset}", "head": f"Subject: {word}\n", "sender": f"{word} <ada@x>"}
@@ -117,12 +114,11 @@ class Random(unittest.TestCase):
         self.assertGreater(found.count(f"in: {BALLOT}"), 100)
 
     def test_many_at_once(self) -> None:
-        """Letters of nine electors, of one elector, and one letter again and again."""
-        several = [letter(name, f"{name} {RANKS}", number=number) for number in range(100) for name in NAMES]
-        of_one = [letter("ada", BALLOT, number=f"x{number}") for number in range(3_000)]
-        copies = [letter("ada", BALLOT, number="y", head=f"X-Copy: {number}\n") for number in range(20_000)]
+        several = [letter(name, f"{name} {RANKS}", number=number) for number in range(50) for name in NAMES]
+        of_one = [letter("ada", BALLOT, number=f"x{number}") for number in range(1_500)]
+        copies = [letter("ada", BALLOT, number="y", head=f"X-Copy: {number}\n") for number in range(10_000)]
         began = time.process_time()
         found = collections.Counter(outcomes(*several, *of_one, *copies))
-        self.assertEqual((found.total(), found["copy"], found[f"in: {BALLOT}"]), (23_900, 19_999, 3_101))
+        self.assertEqual((found.total(), found["copy"], found[f"in: {BALLOT}"]), (11_950, 9_999, 1_551))
         # no second is promised, but a time that grows with the square of the number would be minutes
-        self.assertLess(time.process_time() - began, 60)
+        self.assertLess(time.process_time() - began, 20)

@@ -17,9 +17,24 @@ from tests.support.terminal import Terminal
 
 RANKS, OTHER = "1,2,4,3", "2,1,4,3"
 
+# asks for the lock of the book while debvote would run, and notes both
+ASKING = """#!/usr/bin/python3
+import os, sqlite3, sys
+connection = sqlite3.connect({book!r}, timeout=0, isolation_level=None)
+try:
+    connection.execute("BEGIN IMMEDIATE")
+    connection.execute("ROLLBACK")
+    said = "free"
+except sqlite3.OperationalError as error:
+    said = str(error)
+connection.close()
+with open({log!r}, "a") as log:
+    log.write(f"{{sys.argv[1]}} {{said}}\\n")
+os.execv({program!r}, ["debvote", *sys.argv[1:]])
+"""
+
 
 def letter(name: str, text: str, time: str = TEN, sender: str = "", number: int = 1) -> bytes:
-    """A letter of somebody with a real name."""
     return letters.letter(name, f"{text}\n", time=time, sender=f"{name.title()} <{sender or f'{name}@club.example'}>", number=number)
 
 
@@ -30,28 +45,28 @@ def without_marks(text: str) -> str:
 
 class Adding(LettersTest):
     def test_plain_ballots_go_in_and_others_wait(self) -> None:
+        ada = self.of_this_vote(letter("ada", f"ada {RANKS}"))
         ben = letter("ben", "I vote for the lake.").replace(b"my ballot", b"=?utf-8?q?f=C3=BCr_den_See?=")
-        said = self.add(letter("ada", f"ada {RANKS}"), ben, letter("cleo", f"cleo {OTHER}"))
-        self.assertIn(f"1 counted  ada: {LAKE}\n", said)
+        box = self.box(ada)
+        # elsewhere than at a terminal nobody is asked
+        self.assert_fault(self.election("add", box), 9, "--yes", "the letters are kept")
+        self.assertEqual((self.exported()[0], self.numbers()["waiting"]), ("", 1))
+        self.assertIn(f"1 counted  ada: {LAKE}\n", self.told("add", "--yes", box))
+        # what came is kept as it came
+        self.exported()
+        [kept] = (self.scratch / "out" / "came").iterdir()
+        self.assertEqual(kept.read_bytes().rstrip(b"\n"), ada.rstrip(b"\n"))
+        # a mailbox that grew, and a stranger; the order is that of the arrivals
+        later = letter("cleo", f"cleo {OTHER}", "Mon, 23 Nov 2026 12:00:00 +0000", number=2)
+        said = self.add(ada, ben, later, letter("cleo", f"cleo {RANKS}"), letter("dan", f"dan {RANKS}", sender="s@x.example"))
+        self.assertIn("4 new letters; 1 came before.", said)
         head = "letter  arrived                  from                    subject\n"
         row = "     2  2026-11-23 10:00:00 UTC  Ben <ben@club.example>  für den See\n        no ballot found\n"
         self.assertIn(f"{head}{row}        other words: I vote for the lake.\n", without_marks(said))
-        self.assertEqual(self.exported()[0], f"ada {RANKS}\ncleo {OTHER}\n")
-        self.assertEqual(self.numbers()["waiting"], 1)
-        self.assertIn("1 letter waits", self.told("status"))
-
-    def test_what_came_is_kept_as_it_came(self) -> None:
-        data = self.of_this_vote(letter("ada", f"ada {RANKS}"))
-        self.add(data)
-        self.exported()
-        [kept] = (self.scratch / "out" / "came").iterdir()
-        self.assertEqual(kept.read_bytes().rstrip(b"\n"), data.rstrip(b"\n"))
-
-    def test_a_mailbox_that_grew(self) -> None:
-        first, second = letter("ada", f"ada {RANKS}"), letter("ben", f"ben {RANKS}")
-        self.add(first)
-        self.assertIn("1 new letter; 1 came before.", self.add(first, second))
-        self.assertEqual(self.exported()[0], f"ada {RANKS}\nben {RANKS}\n")
+        self.assertIn("it came from s@x.example, but the list of members has dan@club.example for dan", said)
+        self.assertEqual(self.exported()[0], f"ada {RANKS}\ncleo {RANKS}\ncleo {OTHER}\n")
+        self.assertEqual(self.numbers()["waiting"], 2)
+        self.assertIn("2 letters wait", self.told("status"))
 
     def test_a_mailbox_longer_than_any_file_of_lines(self) -> None:
         """Else what is beyond that length would be in no list, and nobody would be told."""
@@ -79,46 +94,20 @@ class Adding(LettersTest):
             said,
         )
 
-    def test_look_keeps_nothing(self) -> None:
-        before = self.contents()
-        self.assertIn("Nothing was changed", self.add(letter("ada", f"ada {RANKS}"), words=("--look",)))
-        (self.folder / "inbox.mbox").unlink()
-        self.assertEqual(self.contents(), before)
-
-    def test_asked_elsewhere_than_at_a_terminal(self) -> None:
-        box = self.box(letter("ada", f"ada {RANKS}"))
-        self.assert_fault(self.election("add", box), 9, "--yes", "the letters are kept")
-        self.assertEqual((self.exported()[0], self.numbers()["waiting"]), ("", 1))
-        self.assertIn("1 counted", self.told("add", "--yes", box))
-
-    def test_another_act_between_question_and_answer(self) -> None:
+    def test_other_acts_between_question_and_answer(self) -> None:
         desk = Terminal(self, "add", str(self.box(letter("ada", f"ada {RANKS}"), letter("ben", f"ben {RANKS}"))))
         desk.until("Enter 2 ballots?")
         self.told("desk", given=f"ada {OTHER}\n")
-        desk.type("y\n")
-        self.assertIn("a later ballot of ada, of ", desk.until("Enter 1 ballot?"))
-        desk.type("y\n")
-        desk.end()
-        self.assertEqual(self.exported()[0], f"ada {OTHER}\nben {RANKS}\n")
-
-    def test_a_close_between_question_and_answer(self) -> None:
-        """It was agreed that the ballot counts; late it would not."""
-        desk = Terminal(self, "add", str(self.box(letter("ada", f"ada {RANKS}"))))
-        desk.until("Enter 1 ballot?")
+        self.assertIn("a later ballot of ada, of ", desk.after("y\n", "Enter 1 ballot?"))
+        # it was agreed that the ballot counts; late it would not
         self.told("close", "--force", "--because", "nobody answers")
-        desk.type("y\n")
-        self.assertIn("what is added now is late.\nada (letter 1): At the lake", desk.until("Enter 1 ballot?"))
+        self.assertIn("what is added now is late.\nben (letter 2): At the lake", desk.after("y\n", "Enter 1 ballot?"))
         desk.type("n\n")
         desk.end()
-        self.assertEqual(self.exported(), ("", ""))
-
-    def test_the_order_is_that_of_the_arrivals(self) -> None:
-        later = letter("ada", f"ada {OTHER}", "Mon, 23 Nov 2026 12:00:00 +0000", number=2)
-        self.add(later, letter("ada", f"ada {RANKS}"))
-        self.assertEqual(self.exported()[0], f"ada {RANKS}\nada {OTHER}\n")
+        self.assertEqual(self.exported(), (f"ada {OTHER}\n", ""))
 
     def test_an_older_letter_after_lines(self) -> None:
-        """A line that was refused is no later ballot, and one that was struck holds back no letter."""
+        """A line that was refused is no later ballot, and one that was struck holds back no letter. A late ballot is a later one."""
         for name, words in (("ada", ("desk",)), ("ben", ("add",))):
             self.told(*words, given=f"{name} {OTHER}\n")
             self.assertIn(f"a later ballot of {name}, of ", self.add(letter(name, f"{name} {RANKS}")))
@@ -127,18 +116,16 @@ class Adding(LettersTest):
         self.told("strike", 4, "--because", "somebody else wrote it")
         self.assertIn("2 ballots of letters went in", self.add(letter("cleo", f"cleo {RANKS}"), letter("dan", f"dan {RANKS}")))
         self.assertEqual((self.stands("cleo"), self.stands("dan")), (RANKS, RANKS))
-
-    def test_a_late_ballot_is_a_later_ballot(self) -> None:
-        """After `reopen` a letter that had arrived in time waits if its elector has a ballot that came after the close: a person decides."""
+        # after reopen a letter that had arrived in time waits if its elector has a ballot that came after the close: a person decides
+        self.told("held", 1, 2, "--set-aside")
         self.told("close")
-        self.told("desk", given=f"ada {OTHER}\n")
+        self.told("desk", given=f"eve {OTHER}\n")
         self.told("reopen", "--because", "a mailbox was forgotten")
-        said = self.add(letter("ada", f"ada {RANKS}"), letter("ben", f"ben {RANKS}"))
-        self.assertIn("a later ballot of ada, of 2026-11-25 09:00", said)
-        self.assertEqual(self.exported(), (f"ben {RANKS}\n", f"ada {OTHER}\n"))
-        self.assert_fault(self.election("held", 1, "--enter", 1), 9, "its elector has voted since")
-        self.told("held", 1, "--enter", 1, "--force")
-        self.assertEqual(self.exported(), (f"ben {RANKS}\nada {RANKS}\n", f"ada {OTHER}\n"))
+        self.assertIn("a later ballot of eve, of 2026-11-25 09:00", self.add(letter("eve", f"eve {RANKS}"), letter("fay", f"fay {RANKS}")))
+        self.assertEqual((self.stands("fay"), self.stands("eve"), self.late_lines()), (RANKS, "", [f"eve {OTHER}"]))
+        self.assert_fault(self.election("held", 5, "--enter", 1), 9, "its elector has voted since")
+        self.told("held", 5, "--enter", 1, "--force")
+        self.assertEqual((self.stands("eve"), self.late_lines()), (RANKS, [f"eve {OTHER}"]))
 
     def add_after_the_close(self) -> None:
         """A letter that had arrived in time; then the vote is opened again."""
@@ -170,13 +157,7 @@ class Adding(LettersTest):
         self.told("desk", "--came-before-close", "yes", given=f"ada {RANKS}\n")
         self.assert_published()
 
-    def test_a_stranger_and_a_member_without_address(self) -> None:
-        said = self.add(letter("ada", f"ada {RANKS}", sender="stranger@elsewhere.example"))
-        self.assertIn("it came from stranger@elsewhere.example, but the list of members has ada@club.example for ada", said)
-        self.assertEqual(self.exported()[0], "")
-
-    def test_good_files_before_one_that_can_not_be_read(self) -> None:
-        """Nothing of them is entered or kept, and all is told; nor of letters and lines together."""
+    def test_nothing_of_files_with_a_fault_is_entered_or_kept(self) -> None:
         self.write("lines", f"ben {RANKS}\n")
         self.write("inbox.mbox", mailbox(letter("ada", f"ada {RANKS}")))
         self.write("scan.pdf", "%PDF-1.7")
@@ -192,19 +173,16 @@ class Adding(LettersTest):
             with self.subTest(words):
                 self.assert_fault(self.election("add", "--yes", *words), status, part)
                 self.assertEqual(self.contents(), before)
-
-    def test_options_of_lines_are_refused(self) -> None:
-        """Each letter has an arrival of its own, so none is asked about when letters are added."""
-        self.write("inbox.mbox", mailbox(letter("ada", f"ada {RANKS}")))
-        before = self.contents()
+        self.assertIn("Nothing was changed", self.told("add", "--look", "inbox.mbox"))
+        self.assertEqual(self.contents(), before)
+        # each letter has an arrival of its own, so none is asked about when letters are added
         table = ("--csv", "--name", "who", "--ranks", "a,b,c,d")
         said = "only for lines and tables, and these are letters; nothing was added: leave this out"
         answers = [("--came-before-close", answer) for answer in ("yes", "no")]
         for words in (table, ("--again",), ("--force",), *answers):
             for more in ("--yes", "--look"):
                 with self.subTest(words, more=more):
-                    ended = self.election("add", *words, more, "inbox.mbox")
-                    self.assert_fault(ended, 2, f"{words[0]}: {said}")
+                    self.assert_fault(self.election("add", *words, more, "inbox.mbox"), 2, f"{words[0]}: {said}")
                     self.assertEqual(self.contents(), before)
 
     def test_an_extension_judges_anew(self) -> None:
@@ -216,19 +194,119 @@ class Adding(LettersTest):
         self.add(letter("ben", f"ben {RANKS}"))
         self.assertEqual(self.exported()[0], f"ada {RANKS}\nben {RANKS}\n")
 
+    def test_letters_of_after_the_first_close(self) -> None:
+        self.set_clock("2026-11-24T09:00:00+00:00")
+        self.told("desk", given=f"ada {RANKS}\n")
+        self.told("close")
+        self.told("reopen", "--because", "a bag was forgotten")
+        self.set_clock("2026-11-25T09:00:00+00:00")
+        for name, day in (("ben", 24), ("cleo", 25)):
+            after = letter(name, f"{name} {RANKS}", f"Tue, {day} Nov 2026 09:00:01 +0000")
+            for _ in range(2):
+                self.assertIn("it arrived after the vote was closed, 2026-11-24 09:00:00 UTC", self.add(after))
+            self.assertEqual((self.exported()[0], self.numbers()["stopping"]), (f"ada {RANKS}\n", []))
+            # none of them stops a close, and the page says that they came after the end
+            self.set_clock("2026-11-26T09:00:00+00:00")
+            self.assertNotIn("arrived in time", self.told("close"))
+            self.assertIn("'waiting': 0, 'after_end': ", str(self.acts()[-1][1]))
+            self.told("reopen", "--because", "another bag")
+        for number, name in ((1, "ben"), (2, "cleo")):
+            self.told("held", number, "--enter", 1)
+            self.assertEqual(self.exported()[0], f"ada {RANKS}\n")
+            self.assertIn(f"{name} {RANKS}\n", self.exported()[1])
+
+    def test_letters_of_before_and_after_the_first_close_at_once(self) -> None:
+        self.set_clock("2026-11-24T09:00:00+00:00")
+        self.told("close")
+        self.told("reopen", "--because", "a bag was forgotten")
+        self.set_clock("2026-11-25T09:00:00+00:00")
+        for name, day in (("ben", 23), ("cleo", 25)):
+            self.add(letter(name, f"My ballot: 1\n{name} {RANKS}", f"Mon, {day} Nov 2026 08:00:00 +0000"))
+        said = "--enter: some of these letters arrived before the first close, and some after it"
+        self.assert_fault(self.election("held", 1, 2, "--enter"), 9, said)
+        for number in (1, 2):
+            self.told("held", number, "--enter")
+        self.assertEqual(self.exported(), (f"ben {RANKS}\n", f"cleo {RANKS}\n"))
+
+    def test_a_letter_that_another_desk_enters_is_not_set_aside(self) -> None:
+        self.add(letter("ada", f"I thought about it for 3 days:\n\nada {RANKS}"))
+        self.overtaken(held, "chosen_letters", ("held", 1, "--enter", 3), ("held", "1", "--set-aside"))
+        self.assertEqual(self.exported()[0], f"ada {RANKS}\n")
+        self.assertNotIn("Set aside", self.told("held"))
+        self.assertIn("It was entered.", self.told("held", 1))
+        # letters to electors that another act made untrue are not noted
+        self.overtaken(letter_folder, "letter_files", ("undo", "--yes"), ("letters", "receipts"))
+        self.assertNotIn("receipt", self.told("show", "ada"))
+
+    def test_a_copy_of_one_that_was_entered_by_hand_and_taken_back(self) -> None:
+        """The secretary has decided of it, and it waits until it is entered anew, also if nothing is wrong with its copy."""
+        good = letter("ada", f"ada {RANKS}")
+        self.add(good.split(b"\n", 1)[1])
+        self.assertIn("no Received line", self.told("held"))
+        self.told("held", 1, "--enter", 1)
+        self.told("undo", "--yes")
+        self.assertIn("1 copy passed over", self.add(good))
+        self.assertEqual(self.exported()[0], "")
+
+    def test_undo_and_strike_of_ballots_of_letters(self) -> None:
+        box = (letter("ada", f"ada {RANKS}"), letter("ben", f"ben {RANKS}"))
+        self.add(*box)
+        self.told("undo", "--yes")
+        self.assertEqual(self.exported()[0], "")
+        self.assertIn("its ballot was taken back", self.told("held"))
+        # a copy with another head is the same letter
+        self.assertIn("2 letters wait", self.add(*(b"X-Status: R\n" + one for one in box)))
+        self.assert_fault(self.election("close"), 9, "these letters arrived in time, and wait: 1, 2")
+        self.assertIn("0 ballots of letters went in; 2 letters wait", self.add(*box))
+        self.told("held", "1", "--enter", "1")
+        self.told("strike", "3", "--because", "she asked for it")
+        self.assertIn("1 letter waits", self.told("held"))
+        self.assertIn("Set aside: 1", self.told("held"))
+        self.assertIn("its ballot was struck", self.told("held", "1"))
+
+    def test_all_come_back_by_one_command(self) -> None:
+        box = (letter("ada", f"ada {RANKS}"), letter("ben", f"ben {RANKS}"), letter("cleo", f"cleo {RANKS}"), letter("dan", "hello"))
+        self.add(*box)
+        self.assertIn("debvote-election held --enter enters these letters again\n", self.told("undo", "--yes"))
+        self.told("desk", given=f"ben {OTHER}\n")
+        said = self.told("held", "--enter")
+        self.assertIn("Waits on: letter 2: its elector has voted since\n", said)
+        self.assertIn("\n5 counted  ada: At the lake", said)
+        self.assertIn("\n2 letters wait.\n", said)
+        self.assertEqual(self.exported()[0], f"ben {OTHER}\nada {RANKS}\ncleo {RANKS}\n")
+        self.assert_fault(self.election("held", "--enter"), 9, "--enter: no letter was taken back that has one ballot")
+
 
 class ReadOnce(LettersTest):
     """What a letter says is read when it comes. Else a few letters of a stranger would slow down each command, for good."""
 
-    def with_counter(self, *words: object) -> tuple[str, list[str]]:
-        """What a command tells, and the tasks for which it ran debvote."""
-        place, said = self.scratch / "counting", self.scratch / "runs"
+    def with_counter(self, *words: object, given: str | None = None) -> tuple[str, list[str]]:
+        """What a command tells, and the tasks for which it ran debvote, each time with the book free: never within an act."""
+        place, log = self.scratch / "counting", self.scratch / "runs"
         place.mkdir(exist_ok=True)
-        (place / "debvote").write_text(f'#!/bin/sh\necho "$1" >> {said}\nexec {elections.PROGRAM} "$@"\n')
+        (place / "debvote").write_text(ASKING.format(book=str(self.folder / "election.db"), log=str(log), program=str(elections.PROGRAM)))
         (place / "debvote").chmod(0o755)
-        said.write_text("")
+        log.write_text("")
         path = {"PATH": f"{place}:{elections.environment()['PATH']}", "XDG_STATE_HOME": str(self.state)}
-        return self.told(*words, env=elections.environment() | self.clock | path), said.read_text().split()
+        told = self.told(*words, env=elections.environment() | self.clock | path, given=given)
+        asked = [line.split(" ", 1) for line in log.read_text().splitlines()]
+        self.assertLessEqual({said for _, said in asked}, {"free"}, words)
+        return told, [task for task, _ in asked]
+
+    def test_of_lines_three_times_at_most(self) -> None:
+        lines = f"Ada {RANKS}\nGsu {RANKS}\nben {RANKS}\n"
+        for words, given, asked in (
+            (("add", "--look"), lines, ["explain", "explain", "steps"]),
+            (("add",), lines, ["explain", "explain", "steps"]),
+            (("add",), f"cleo {RANKS}\n", ["explain", "steps"]),
+            (("desk",), f"ada {OTHER}\n", ["explain", "steps"]),
+            (("show", "ada"), None, ["explain"]),
+            (("strike", 1, "--because", "a test"), None, ["standing"]),
+            (("undo",), None, ["standing"]),
+        ):
+            self.assertEqual(self.with_counter(*words, given=given)[1], asked, words)
+        # lines and bytes as debvote counts them, without what is struck or taken back
+        self.assertEqual(queries.size_in_time(self.book), (3, len(f"Gsu {RANKS}\nben {RANKS}\ncleo {RANKS}\n")))
 
     def test_judging_again_asks_debvote_nothing(self) -> None:
         letters = [letter("ada", f"adaa {RANKS}"), letter("ben", f"I vote ben {RANKS} today"), letter("cleo", f"cleo {RANKS}")]
@@ -240,10 +318,9 @@ class ReadOnce(LettersTest):
         for part in ("did you mean ada?", f"`ben {RANKS}`, within other words", f"line 1: dan {RANKS}"):
             self.assertIn(part, shown)
         self.assertEqual(self.with_counter("held", 1, "--set-aside")[1], [])
-
-    def test_who_has_voted_since_is_asked_of_their_lines_alone(self) -> None:
-        self.told("desk", given=f"ada {OTHER}\nben {OTHER}\n")
-        self.add(letter("ada", "hello"))
+        # who has voted since is asked of their lines alone
+        self.told("desk", given=f"eve {OTHER}\nben {OTHER}\n")
+        self.add(letter("eve", "hello"))
         shown, runs = self.with_counter("held")
         self.assertIn("no ballot found; has voted since", shown)
         self.assertEqual(runs, ["explain"])
@@ -265,7 +342,7 @@ class Held(LettersTest):
         super().setUp()
         self.add(letter("ada", f"Dear Anna,\n\nI thought about it for 3 days:\n\nada {RANKS}\n"), letter("ben", "hello"))
 
-    def test_listed_shown_and_entered(self) -> None:
+    def test_listed_shown_and_entered_once(self) -> None:
         listed = self.told("held")
         self.assertIn("\n     1  2026-11-23 10:00:00 UTC  Ada <ada@club.example>  my ballot\n", without_marks(listed))
         self.assertIn(f"line 5: ada {RANKS}", listed)
@@ -274,66 +351,50 @@ class Held(LettersTest):
         for number in ("3", "\u00b2", "x", "-1", "", "5,", "5" * 5_000):
             named = f"line {number}" if len(number) == 1 else ""
             self.assert_fault(self.election("held", "1", f"--enter={number}"), 9, f"{named} of letter 1 is not a ballot", "5")
+        for lines in ("5,5", "5, 5"):
+            self.assert_fault(self.election("held", "1", "--enter", lines), 9, "2 of these lines are ballots of ada")
         self.assertIn(f"1 counted  ada: {LAKE}", self.told("held", "1", "--enter", "5"))
-        self.assertEqual(self.exported()[0], f"ada {RANKS}\n")
         self.assertEqual(self.numbers()["waiting"], 1)
         for words in (("--enter", "5"), ("--set-aside",)):
             self.assert_fault(self.election("held", "1", *words), 9, "was entered")
-
-    def test_no_line_of_a_letter_that_a_program_wrote_is_near_to_a_ballot(self) -> None:
-        for number, sender in ((3, "mailer-daemon@mail.example"), (4, "eve@club.example")):
-            self.add(letter("eve", "We could not deliver this:\n\neve 1,2\n", sender=sender, number=number))
-            shown = self.told("held", number)
-            self.assertEqual("eve 1,2`" in shown, number == 4, shown)
-
-    def test_a_line_is_entered_once(self) -> None:
-        for lines in ("5,5", "5, 5"):
-            self.assert_fault(self.election("held", "1", "--enter", lines), 9, "2 of these lines are ballots of ada")
-        self.told("held", "1", "--enter", "5")
         self.add(b"X-Status: R\n" + letter("ada", f"Dear Anna,\n\nI thought about it for 3 days:\n\nada {RANKS}\n"))
         self.assert_fault(self.election("held", "3", "--enter", "5"), 9, "letter 3: it is a copy of another letter", "--wait")
         self.assertEqual(self.exported()[0], f"ada {RANKS}\n")
 
-    def test_html_that_repeats_the_text_is_listed_once(self) -> None:
+    def test_what_is_shown_of_letters(self) -> None:
+        # no line of a letter that a program wrote is near to a ballot
+        for number, sender in ((3, "mailer-daemon@mail.example"), (4, "eve@club.example")):
+            self.add(letter("eve", "We could not deliver this:\n\neve 1,2\n", sender=sender, number=number))
+            shown = self.told("held", number)
+            self.assertEqual("eve 1,2`" in shown, number == 4, shown)
+        # hTML that repeats the text is listed once
         for name, text in (("cleo", f"3 of us\ncleo {RANKS}\neve {OTHER}"), ("dan", "dan 1,2")):
             self.add(letters.alternatives(name, text, text.replace("\n", "<br>")))
         listed = self.told("held")
         self.assertIn(f"\n        line 2: cleo {RANKS}\n        line 3: eve {OTHER}\n", listed)
         self.assertEqual((listed.count(f": cleo {RANKS}"), listed.count("`dan 1,2`")), (1, 1), listed)
-        self.told("held", "3", "--enter", "2,3", "--force")
+        self.told("held", "5", "--enter", "2,3", "--force")
+        # what it quotes of ours is not shown, but for a line that may be a ballot; what others wrote is
+        ours = f"> Vote on\n> the mark [{self.mark}]\n>\n> cleo 1,2\n> until Friday"
+        self.add(letter("fay", f"I am for the lake.\n\nVote wrote:\n\n{ours}\n\nAnd Dan wrote:\n> I am not"))
+        shown = self.told("held", 7)
+        lines = "   1  I am for the lake.\n   2  \n      .. 7 lines of a letter of ours, which it quotes\n  10  \n  11  And Dan wrote:\n  12  > I am not\n"
+        self.assertIn(lines, shown)
+        self.assertRegex(without_marks(shown), r"\Aletter 7, from Fay <fay@club\.example>, 2026-11-23 10:00:00 UTC\n  subject: my ballot\n")
 
-    def test_set_aside_and_again(self) -> None:
+    def test_set_aside_voted_since_and_at_the_close(self) -> None:
         self.assertIn("No letter waits.", self.told("held", "1", "2", "--set-aside"))
         self.assertIn("Set aside: 1, 2", self.told("held"))
         self.assertIn("1 letter waits.", self.told("held", "1", "--wait"))
         self.assertIn("it was put back to wait", self.told("held"))
-
-    def test_voted_since(self) -> None:
+        self.told("held", "2", "--wait")
+        self.assert_fault(self.election("close"), 9, "these letters arrived in time, and wait: 1, 2", "--force --because")
         self.told("desk", given=f"ada {OTHER}\n")
         self.assertIn("has voted since", self.told("held"))
         self.assert_fault(self.election("held", "1", "--enter", "5"), 9, "has voted since", "--force")
-        self.told("held", "1", "--enter", "5", "--force")
-        self.assertEqual(self.exported()[0], f"ada {OTHER}\nada {RANKS}\n")
-
-    def test_close_names_them(self) -> None:
-        self.assert_fault(self.election("close"), 9, "these letters arrived in time, and wait: 1, 2", "--force --because")
         self.told("close", "--force", "--because", "neither is a ballot")
-        self.told("held", "1", "--enter", "5")
-        self.assertEqual(self.exported(), ("", f"ada {RANKS}\n"))
-
-    def test_one_that_arrived_before_the_call_does_not_stop_a_close(self) -> None:
-        self.told("held", 1, 2, "--set-aside")
-        self.add(letter("ada", f"ada {RANKS}", "Mon, 9 Nov 2026 10:00:00 +0000", number=2))
-        self.assertIn("1 letter that arrived before the call did not go in.", self.told("close"))
-
-    def test_what_it_quotes_of_ours_is_not_shown(self) -> None:
-        """But for a line that may be a ballot, each line keeps its number. What others wrote is shown."""
-        ours = f"> Vote on\n> the mark [{self.mark}]\n>\n> cleo 1,2\n> until Friday"
-        self.add(letter("cleo", f"I am for the lake.\n\nVote wrote:\n\n{ours}\n\nAnd Dan wrote:\n> I am not"))
-        shown = self.told("held", 3)
-        lines = "   1  I am for the lake.\n   2  \n      .. 7 lines of a letter of ours, which it quotes\n  10  \n  11  And Dan wrote:\n  12  > I am not\n"
-        self.assertIn(lines, shown)
-        self.assertTrue(without_marks(shown).startswith("letter 3, from Cleo <cleo@club.example>, 2026-11-23 10:00:00 UTC\n  subject: my ballot\n"), shown)
+        self.told("held", "1", "--enter", "5", "--force")
+        self.assertEqual(self.exported(), (f"ada {OTHER}\n", f"ada {RANKS}\n"))
 
     def test_several_with_one_ballot_each(self) -> None:
         """They go in in the order of their times, those of one elector too."""
@@ -350,7 +411,7 @@ class Held(LettersTest):
         self.assertEqual(self.exported()[0], f"cleo {RANKS}\ncleo {OTHER}\ndan {OTHER}\nada {RANKS}\n")
         self.assertIn("It was entered.", self.told("held", 4))
 
-    def test_two_of_one_time_that_differ(self) -> None:
+    def test_two_of_one_time_that_differ_and_one_of_before_the_call(self) -> None:
         self.add(letter("cleo", RANKS), letter("cleo", OTHER, number=2))
         self.assert_fault(self.election("held", 3, 4, "--enter"), 9, "letters 3 and 4: they have different ballots of cleo, and the same time")
         self.told("held", 4, "--enter")
@@ -358,6 +419,10 @@ class Held(LettersTest):
         self.assert_fault(self.election("held", 3, "--enter"), 9, same, "--force")
         self.assert_fault(self.election("held", 3, "--as", "cleo 1,1,1,1"), 9, same)
         self.assertEqual(self.exported()[0], f"cleo {OTHER}\n")
+        # one that arrived before the call does not stop a close
+        self.told("held", 1, 2, 3, "--set-aside")
+        self.add(letter("ada", f"ada {RANKS}", "Mon, 9 Nov 2026 10:00:00 +0000", number=2))
+        self.assertIn("1 letter that arrived before the call did not go in.", self.told("close"))
 
     def test_what_the_secretary_types(self) -> None:
         """The ballot has the time of the letter, and is tied to it, so nobody is told that the letter waits."""
@@ -369,8 +434,7 @@ class Held(LettersTest):
         self.assertEqual(self.acts()[-1][1], {"letter": 2, "lines": []})
         self.assertIn("It was entered.", self.told("held", 2))
         self.assertNotIn("held --enter", self.told("undo", "--yes"))
-
-    def test_what_can_not_be_the_ballot_of_a_letter(self) -> None:
+        # what can't be the ballot of a letter
         for line, *parts in (
             ("ben 1,2", "--as: `ben 1,2` is no ballot of this poll: bad rank count: 2 ranks, the poll has 4 options", "A valid line in this poll"),
             ("bne 1,2,4,3", "bad not on roll: bne is not on the roll"),
@@ -386,35 +450,30 @@ class Held(LettersTest):
         # one may vote for another, as by a paper that came with the letter
         self.told("held", 2, "--as", f"ada {RANKS}", "--force")
         self.assertEqual(self.exported()[0], f"eve {RANKS}\nada {RANKS}\n")
+        # for one who has voted since; a line that was refused is no ballot
+        self.add(letter("fay", "I am for the lake", sender="f@elsewhere.example"), letter("gus", "hello"))
+        self.told("desk", given=f"fay {OTHER}\ngus 1,2\n")
+        self.assert_fault(self.election("held", 4, "--as", f"fay {RANKS}"), 9, "letter 4: its elector has voted since", "--force")
+        self.told("held", 4, "--as", f"fay {RANKS}", "--force")
+        self.told("held", 5, "--as", f"gus {RANKS}")
+        self.assertEqual(self.lines()[2:], [f"fay {OTHER}", "gus 1,2", f"fay {RANKS}", f"gus {RANKS}"])
 
-    def test_typed_for_one_who_has_voted_since(self) -> None:
-        self.add(letter("eve", "I am for the lake", sender="e@elsewhere.example"))
-        self.told("desk", given=f"eve {OTHER}\nben 1,2\n")
-        self.assert_fault(self.election("held", 3, "--as", f"eve {RANKS}"), 9, "letter 3: its elector has voted since", "--force")
-        self.told("held", 3, "--as", f"eve {RANKS}", "--force")
-        self.told("held", 2, "--as", f"ben {RANKS}")
-        self.assertEqual(self.exported()[0], f"eve {OTHER}\nben 1,2\neve {RANKS}\nben {RANKS}\n")
-
-    def test_it_asks_once_at_a_terminal(self) -> None:
+    def test_it_asks_once_at_a_terminal_and_wrong_words(self) -> None:
         self.add(letter("cleo", OTHER))
         desk = Terminal(self, "held", "1", "3", "--enter")
         shown = desk.until("Enter 2 ballots? [y/n] ")
         self.assertIn("letter 3, from Cleo", shown)
         # what was agreed to is what goes in
         self.told("desk", given=f"dan {RANKS}\ncleo {RANKS}\n")
-        desk.type("y\n")
-        self.assertIn("letter 3: its elector has voted since; nothing was changed", desk.until("--force"))
+        self.assertIn("letter 3: its elector has voted since; nothing was changed", desk.after("y\n", "--force"))
         desk.end()
         desk = Terminal(self, "held", "1", "3", "--enter", "--force")
         desk.until("Enter 2 ballots? [y/n] ")
-        desk.type("n\n")
-        self.assertIn("held: you did not say yes; nothing was changed", desk.until("when you agree"))
+        self.assertIn("held: you did not say yes; nothing was changed", desk.after("n\n", "when you agree"))
         desk.end()
         self.assertEqual(self.exported()[0], f"dan {RANKS}\ncleo {RANKS}\n")
         shown, status = Terminal(self, "held", "1", "--enter", "--yes").end()
         self.assertEqual((status, "[y/n]" in shown), (0, False), shown)
-
-    def test_wrong_words(self) -> None:
         wrong = [("--set-aside",), ("1", "2", "--enter", "5"), ("1", "--enter", "5", "--wait"), ("9",), ("--enter", "5"), ("1", "2", "--as", "ada 1")]
         for words in (*wrong, ("--as", "ada 1,2,4,3"), ("1", "--enter", "--as", "ada 1")):
             with self.subTest(words):
@@ -433,8 +492,7 @@ class InTime(LettersTest):
         """Nothing is counted, nothing is published, and each says which letter it is."""
         named = f"these letters arrived in time, and wait: {number};"
         for words in (("count",), ("publish",), ("count", "--casting", "At the lake")):
-            ended = self.assert_refused(words, 9, named, "held NUMBER --set-aside", "reopen --because TEXT")
-            self.assertEqual(ended.output, "")
+            self.assertEqual(self.assert_refused(words, 9, named, "held NUMBER --set-aside", "reopen --because TEXT").output, "")
         self.assertFalse((self.folder / "result").exists())
         self.assertIn(f"These arrived in time, and count and publish stop while they wait: {number}\n", self.told("status"))
         self.assertEqual(self.numbers()["stopping"], [number])
@@ -444,26 +502,24 @@ class InTime(LettersTest):
         self.assertEqual((self.election("count").status, self.election("publish", *words).status), (1, 1))
         return self.read("result/index.html").decode()
 
-    def test_one_that_was_added_after_the_close(self) -> None:
-        """With other words, or one to which nobody agreed."""
+    def test_what_was_added_after_the_close_is_set_aside_at_any_time(self) -> None:
+        """With other words, or one to which nobody agreed; no ballot, or one that came after the publication."""
         self.told("close")
         self.add(self.wordy)
         self.assert_stops_count()
         self.told("held", 1, "--set-aside")
         self.election("add", self.box(letter("dan", f"dan {OTHER}")))
         self.assert_stops_count(2)
-
-    def test_what_is_no_ballot_is_set_aside_at_any_time(self) -> None:
-        self.told("close")
-        self.add(letter("ada", "I am on holiday."))
-        self.assert_stops_count()
-        self.told("held", 1, "--set-aside")
+        self.told("held", 2, "--set-aside")
         self.assertEqual(self.numbers()["stopping"], [])
         self.assertNotIn("nobody has decided", self.assert_counted())
-        # after the publication, too
-        self.add(letter("dan", "hello"))
+        self.add(letter("dan", "hello", number=2))
         self.assertEqual(self.election("count").status, 9)
-        self.told("held", 2, "--set-aside")
+        self.told("held", 3, "--set-aside")
+        # what arrived later stops nothing
+        for name, arrived in (("ada", "Wed, 25 Nov 2026 09:00:01 +0000"), ("dan", "Mon, 16 Nov 2026 10:00:00 +0000")):
+            self.add(letter(name, "hello", arrived, number=4))
+        self.assertEqual((self.numbers()["waiting"], self.numbers()["stopping"]), (2, []))
         self.assert_counted()
 
     def test_what_is_a_ballot_needs_reopen(self) -> None:
@@ -498,22 +554,18 @@ class InTime(LettersTest):
         self.assertIn(said, self.assert_counted("--about", "about.txt"))
         self.add(letter("fay", "hello"))
         self.assert_fault(self.election("count"), 9, "these letters arrived in time, and wait: 3;")
-        self.assert_fault(self.election("publish", "--about", "about.txt"), 9, "these letters arrived in time, and wait: 1, 2, 3;")
-
-    def test_a_reason_is_not_one_for_letters_that_come_later(self) -> None:
-        self.told("close")
-        self.add(self.wordy)
-        self.assertEqual(self.election("publish", "--force", "--because", "nobody answers").status, 1)
-        before = self.contents()["result/index.html"]
-        self.add(letter("fay", "hello"))
-        for words in ((), ("--force",)):
-            self.assert_fault(self.election("publish", *words), 9, "these letters arrived in time, and wait: 1, 2;", "--because")
-        self.assertEqual(self.contents()["result/index.html"], before)
+        # the reason is not one for letters that come later
+        before = self.read("result/index.html")
+        for words in (("--about", "about.txt"), (), ("--force",)):
+            self.assert_fault(self.election("publish", *words), 9, "these letters arrived in time, and wait: 1, 2, 3;", "--because")
+        self.assertEqual(self.read("result/index.html"), before)
         self.assertEqual(self.election("publish", "--force", "--because", "nor does Fay").status, 1)
         self.assertEqual(self.election("publish").status, 1)
 
     def test_forced_at_the_close(self) -> None:
         self.add(self.wordy)
+        # before the close a count is no result
+        self.assertEqual(self.election("count").status, 1)
         self.assert_fault(self.election("close", "--force"), 9, "these letters arrived in time, and wait: 1;")
         self.told("close", "--force", "--because", "nobody answers")
         said = "1 letter that had arrived in time was left waiting."
@@ -525,17 +577,6 @@ class InTime(LettersTest):
         self.assertEqual(self.read("result-2/index.html").decode().count(said), 2)
         self.add(letter("fay", "hello"))
         self.assert_fault(self.election("publish", "result-2"), 9, "these letters arrived in time, and wait: 2;")
-
-    def test_what_arrived_later_stops_nothing(self) -> None:
-        self.told("close")
-        for name, arrived in (("ada", "Wed, 25 Nov 2026 09:00:01 +0000"), ("dan", "Mon, 16 Nov 2026 10:00:00 +0000")):
-            self.add(letter(name, "hello", arrived))
-        self.assertEqual((self.numbers()["waiting"], self.numbers()["stopping"]), (2, []))
-        self.assert_counted()
-
-    def test_before_the_close_a_count_is_no_result(self) -> None:
-        self.add(self.wordy)
-        self.assertEqual(self.election("count").status, 1)
 
 
 class AtTheEnd(LettersTest):
@@ -565,61 +606,6 @@ class AtTheEnd(LettersTest):
         self.assertEqual(self.closed(), (1, 1, "hello is no ballot"))
 
 
-class BetweenCloses(LettersTest):
-    """Who has seen the first close, or its numbers, does not vote again: only what arrived before it is in time."""
-
-    def test_letters_of_after_the_first_close(self) -> None:
-        self.set_clock("2026-11-24T09:00:00+00:00")
-        self.told("desk", given=f"ada {RANKS}\n")
-        self.told("close")
-        self.told("reopen", "--because", "a bag was forgotten")
-        self.set_clock("2026-11-25T09:00:00+00:00")
-        for name, day in (("ben", 24), ("cleo", 25)):
-            after = letter(name, f"{name} {RANKS}", f"Tue, {day} Nov 2026 09:00:01 +0000")
-            for _ in range(2):
-                self.assertIn("it arrived after the vote was closed, 2026-11-24 09:00:00 UTC", self.add(after))
-            self.assertEqual((self.exported()[0], self.numbers()["stopping"]), (f"ada {RANKS}\n", []))
-            # none of them stops a close, and the page says that they came after the end
-            self.set_clock("2026-11-26T09:00:00+00:00")
-            self.assertNotIn("arrived in time", self.told("close"))
-            self.assertIn("'waiting': 0, 'after_end': ", str(self.acts()[-1][1]))
-            self.told("reopen", "--because", "another bag")
-        for number, name in ((1, "ben"), (2, "cleo")):
-            self.told("held", number, "--enter", 1)
-            self.assertEqual(self.exported()[0], f"ada {RANKS}\n")
-            self.assertIn(f"{name} {RANKS}\n", self.exported()[1])
-
-    def test_letters_of_before_and_after_it_at_once(self) -> None:
-        """What was entered together would be late together."""
-        self.set_clock("2026-11-24T09:00:00+00:00")
-        self.told("close")
-        self.told("reopen", "--because", "a bag was forgotten")
-        self.set_clock("2026-11-25T09:00:00+00:00")
-        for name, day in (("ben", 23), ("cleo", 25)):
-            self.add(letter(name, f"My ballot: 1\n{name} {RANKS}", f"Mon, {day} Nov 2026 08:00:00 +0000"))
-        said = "--enter: some of these letters arrived before the first close, and some after it"
-        self.assert_fault(self.election("held", 1, 2, "--enter"), 9, said)
-        for number in (1, 2):
-            self.told("held", number, "--enter")
-        self.assertEqual(self.exported(), (f"ben {RANKS}\n", f"cleo {RANKS}\n"))
-
-
-class Meanwhile(LettersTest):
-    """Another desk decides while a command makes up its mind."""
-
-    def test_a_letter_that_another_desk_enters_is_not_set_aside(self) -> None:
-        self.add(letter("ada", f"I thought about it for 3 days:\n\nada {RANKS}"))
-        self.overtaken(held, "chosen_letters", ("held", 1, "--enter", 3), ("held", "1", "--set-aside"))
-        self.assertEqual(self.exported()[0], f"ada {RANKS}\n")
-        self.assertNotIn("Set aside", self.told("held"))
-        self.assertIn("It was entered.", self.told("held", 1))
-
-    def test_letters_that_another_act_made_untrue_are_not_noted(self) -> None:
-        self.told("desk", given=f"ada {RANKS}\n")
-        self.overtaken(letter_folder, "letter_files", ("undo", "--yes"), ("letters", "receipts"))
-        self.assertNotIn("receipt", self.told("show", "ada"))
-
-
 class Signed(LettersTest):
     """Letters have to be signed, and a member's key came later, or gpgv was slow."""
 
@@ -641,8 +627,7 @@ class Signed(LettersTest):
         self.told("call", "--to", "vote@club.example", "--keyring", self.scratch / "ring")
 
     def signed(self, name: str, number: int = 1) -> bytes:
-        text = self.keys.inline(name, f"{name} {RANKS}\n[{self.mark}]\n", "20261123T095000")
-        return letter(name, text, number=number)
+        return letter(name, self.keys.inline(name, f"{name} {RANKS}\n[{self.mark}]\n", "20261123T095000"), number=number)
 
     def test_one_that_waited_for_a_key(self) -> None:
         self.assertIn("signed with a key that is not in the keyring", self.add(self.signed("ben"), self.signed("ada")))
@@ -676,7 +661,6 @@ class Signed(LettersTest):
         self.assertIn("1 counted  ada: ", self.told(*words))
 
     def test_a_copy_that_only_its_signature_shows_stops_no_close(self) -> None:
-        """Its Message-ID is another, which nobody has signed."""
         self.add(self.signed("ada"), self.signed("ben"))
         self.told("held", 2, "--enter", 4)
         self.call_with("ada", "ben", "cleo")
@@ -686,54 +670,12 @@ class Signed(LettersTest):
         self.told("close")
 
 
-class TakenBack(LettersTest):
-    def test_a_copy_of_one_that_was_entered_by_hand_and_taken_back(self) -> None:
-        """The secretary has decided of it, and it waits until it is entered anew, also if nothing is wrong with its copy."""
-        good = letter("ada", f"ada {RANKS}")
-        self.add(good.split(b"\n", 1)[1])
-        self.assertIn("no Received line", self.told("held"))
-        self.told("held", 1, "--enter", 1)
-        self.told("undo", "--yes")
-        self.assertIn("1 copy passed over", self.add(good))
-        self.assertEqual(self.exported()[0], "")
-
-    def test_undo_and_strike(self) -> None:
-        box = (letter("ada", f"ada {RANKS}"), letter("ben", f"ben {RANKS}"))
-        self.add(*box)
-        self.told("undo", "--yes")
-        self.assertEqual(self.exported()[0], "")
-        self.assertIn("its ballot was taken back", self.told("held"))
-        # a copy with another head is the same letter
-        self.assertIn("2 letters wait", self.add(*(b"X-Status: R\n" + one for one in box)))
-        self.assert_fault(self.election("close"), 9, "these letters arrived in time, and wait: 1, 2")
-        self.assertIn("0 ballots of letters went in; 2 letters wait", self.add(*box))
-        self.told("held", "1", "--enter", "1")
-        self.told("strike", "3", "--because", "she asked for it")
-        self.assertIn("1 letter waits", self.told("held"))
-        self.assertIn("Set aside: 1", self.told("held"))
-        self.assertIn("its ballot was struck", self.told("held", "1"))
-
-    def test_all_come_back_by_one_command(self) -> None:
-        """But for those that somebody has to look at, as before."""
-        box = (letter("ada", f"ada {RANKS}"), letter("ben", f"ben {RANKS}"), letter("cleo", f"cleo {RANKS}"), letter("dan", "hello"))
-        self.add(*box)
-        self.assertIn("debvote-election held --enter enters these letters again\n", self.told("undo", "--yes"))
-        self.told("desk", given=f"ben {OTHER}\n")
-        said = self.told("held", "--enter")
-        self.assertIn("Waits on: letter 2: its elector has voted since\n", said)
-        self.assertIn("\n5 counted  ada: At the lake", said)
-        self.assertIn("\n2 letters wait.\n", said)
-        self.assertEqual(self.exported()[0], f"ben {OTHER}\nada {RANKS}\ncleo {RANKS}\n")
-        self.assert_fault(self.election("held", "--enter"), 9, "--enter: no letter was taken back that has one ballot")
-
-
 class OwnMarks(LettersTest):
     """What an election knows of its electors' own marks."""
 
     call_words = ("--to", "vote@club.example", "--marked")
 
     def marked(self, name: str, text: str, of: str = "", **how: object) -> bytes:
-        """A letter with an own mark in its subject."""
         [own] = [elector.mark for elector in queries.electors(self.book) if elector.name == (of or name)]
         return letter(name, text, **how).replace(b"]", f"-{own}]".encode(), 1)  # type: ignore[arg-type]
 
@@ -743,19 +685,17 @@ class OwnMarks(LettersTest):
         self.assertEqual(self.exported()[0], f"ada {RANKS}\n")
         self.assertEqual(said.count("its subject lacks the own mark of"), 2, said)
         self.assertIn("its subject has the own mark of dan", said)
-
-    def test_a_new_letter_with_the_subject_of_the_page(self) -> None:
-        by_page = self.marked("ada", f"I vote:\n\nada {RANKS}").replace(b"my ballot", letters.BY_PAGE.encode())
-        self.add(by_page, self.marked("ben", f"I vote:\n\nben {RANKS}"))
-        self.assertEqual(self.exported()[0], f"ada {RANKS}\n")
-
-    def test_lines_that_are_offered(self) -> None:
-        self.add(self.marked("ada", RANKS, sender="x@y.example"), letter("ben", "ben 1 2 4 3"), self.marked("cleo", "> cleo 2,1,3,-"))
+        # a new letter with the subject of the page
+        by_page = self.marked("eve", f"I vote:\n\neve {RANKS}").replace(b"my ballot", letters.BY_PAGE.encode())
+        self.add(by_page, self.marked("fay", f"I vote:\n\nfay {RANKS}"))
+        self.assertEqual(self.exported()[0], f"ada {RANKS}\neve {RANKS}\n")
+        # lines that are offered
+        self.add(self.marked("gus", RANKS, sender="x@y.example"), letter("hal", "hal 1 2 4 3"), self.marked("ida", "> ida 2,1,3,-"))
         listed = self.told("held")
-        for number, line in enumerate((f"ada {RANKS}", f"ben {RANKS}", "cleo 2,1,3,-"), start=1):
+        for number, line in enumerate((f"gus {RANKS}", f"hal {RANKS}", "ida 2,1,3,-"), start=7):
             self.assertIn(f"line 1: {line}\n", listed)
             self.told("held", number, "--enter", 1)
-        self.assertEqual(self.exported()[0], f"ada {RANKS}\nben {RANKS}\ncleo 2,1,3,-\n")
+        self.assertEqual(self.lines()[2:], [f"gus {RANKS}", f"hal {RANKS}", "ida 2,1,3,-"])
 
 
 class Secret(OwnMarks):

@@ -6,8 +6,8 @@ from debvote_tools.cli.console import shown_line
 from debvote_tools.inbox.lines import differences, lines_in, name_in, repaired_line
 
 
-class Changes(unittest.TestCase):
-    def test_what_is_changed(self) -> None:
+class Lines(unittest.TestCase):
+    def test_what_of_a_line_is_changed(self) -> None:
         for wanted, lines in {
             b"ada 1,2": (
                 b"  ada 1,2\t ", b"ada   1,2", b"ada\t1,2", b"ada \t 1,2",
@@ -33,56 +33,41 @@ class Changes(unittest.TestCase):
         ):  # fmt: skip
             self.assertEqual(repaired_line(came), came)
 
-    def test_a_line_that_is_right_stays(self) -> None:
-        for came in (b"ada 1,2,3", b"a -", b"0.-z 99,-,1"):
-            self.assertEqual((repaired_line(came), differences(came, repaired_line(came))), (came, []))
-
-    def test_the_name_with_which_a_line_begins(self) -> None:
+    def test_names_of_lines_and_of_changes(self) -> None:
         for line, name in {b"ada 1,2": b"ada", b"ada-b.9,1": b"ada-b.9", b"ada": b"ada", b" ada 1": b"", b"Ada 1": b"", b"": b""}.items():
             self.assertEqual(name_in(line), name)
-
-    def test_a_long_line_of_blanks_takes_no_time(self) -> None:
+        # a line that is right stays
+        for came in (b"ada 1,2,3", b"a -", b"0.-z 99,-,1"):
+            self.assertEqual((repaired_line(came), differences(came, repaired_line(came))), (came, []))
+        # a long line of blanks takes no time
         self.assertEqual(repaired_line(b" " * 3_000_000), b"")
         self.assertEqual(repaired_line(b"a" + b" \t" * 1_000_000 + b"1"), b"a 1")
         self.assertEqual(len(repaired_line(b", " * 1_000_000)), 1_000_000)
-
-    def test_the_names_of_changes(self) -> None:
-        came = b"\xef\xbb\xbfAda\t1, 2\r"
-        self.assertEqual(differences(came, b"ada 1,2"), ["byte-order mark", "carriage return", "tabs", "capital letters"])
+        self.assertEqual(differences(b"\xef\xbb\xbfAda\t1, 2\r", b"ada 1,2"), ["byte-order mark", "carriage return", "tabs", "capital letters"])
         self.assertEqual(differences(b"ada  1", b"ada 1"), ["spaces"])
 
-
-class Ends(unittest.TestCase):
     def texts(self, data: bytes, first: int = 1) -> list[tuple[str, bytes]]:
         return [(line.where, line.repaired) for line in lines_in(data, "f", first)]
 
-    def test_each_way_to_end_a_line(self) -> None:
+    def test_ends_and_marks(self) -> None:
         for end in (b"\n", b"\r\n", b"\r"):
             wanted = [("f:1", b"ada 1"), ("f:2", b"ben 2")]
             self.assertEqual(self.texts(b"ada 1" + end + b"ben 2" + end), wanted)
             self.assertEqual(self.texts(b"ada 1" + end + b"ben 2"), wanted)
-
-    def test_empty_lines_are_numbered(self) -> None:
+        # empty lines are numbered
         self.assertEqual(self.texts(b"\n \t\r\nada 1\r\r\n"), [("f:1", b""), ("f:2", b""), ("f:3", b"ada 1"), ("f:4", b"")])
         self.assertEqual(self.texts(b""), [])
-
-    def test_a_mark_at_the_start_alone(self) -> None:
+        # a mark is removed at the start alone
         mark = b"\xef\xbb\xbf"
         self.assertEqual(self.texts(mark + b"ada 1\n" + mark + b"ben 2\n"), [("f:1", b"ada 1"), ("f:2", mark + b"ben 2")])
         self.assertEqual(self.texts(mark + b"ada 1\n", 2), [("f:2", mark + b"ada 1")])
         (line,) = lines_in(mark + b"Ada;1\r\n", "f")
         self.assertEqual((line.as_it_came, line.unframed), (mark + b"Ada;1\r", b"Ada;1"))
-
-    def test_what_is_told_of_the_whole_file(self) -> None:
         lines = lines_in(b"\xef\xbb\xbfAda 1\r\nben 2\r\ncleo  3\n", "f")
         self.assertEqual([(line.had_mark, line.had_return) for line in lines], [(True, True), (False, True), (False, False)])
         self.assertEqual([line.without_frame for line in lines], [b"Ada 1", b"ben 2", b"cleo  3"])
 
-
-class Shown(unittest.TestCase):
-    def test_nothing_steers_the_terminal(self) -> None:
+    def test_nothing_steers_the_terminal_and_a_long_line_is_cut(self) -> None:
         self.assertEqual(shown_line(b"a\x1b[2Jb\t\r\n\x00\xff"), "a\\u001B[2Jb\\t\\r\\n\\u0000\\xff")
         self.assertEqual(shown_line("“ada” \u00a0\u202e".encode()), "“ada” \\u00A0\\u202E")
-
-    def test_a_long_line_is_cut(self) -> None:
         self.assertEqual(shown_line(b"x" * 1000), "x" * 100 + "..")

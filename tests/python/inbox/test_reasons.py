@@ -21,26 +21,21 @@ VALUES: dict[str, str | int | datetime.datetime] = {
 
 
 def with_values(reason: Reason) -> ReasonWithValues:
-    """A reason with all values that its sentence names."""
     names = re.findall(r"{(\w+)}", reason.value[0])
     return reason(**{name: VALUES[name] for name in names})
 
 
 class Sentences(unittest.TestCase):
     def test_each_reason_has_both(self) -> None:
+        """What electors read has no value and no ballot."""
         self.assertEqual(len(Reason.__members__), len({reason.value[0] for reason in Reason}), "no two have one sentence")
         for reason in Reason:
-            said = for_secretary(with_values(reason))
-            self.assertNotRegex(said, r"[{}]|^[A-Z]|\.$", reason)
-            self.assertRegex(for_elector(with_values(reason)), r"^The reason: [^{}]+\.$")
-
-    def test_what_electors_read_has_no_value_and_no_ballot(self) -> None:
-        for reason in Reason:
+            self.assertNotRegex(for_secretary(with_values(reason)), r"[{}]|^[A-Z]|\.$", reason)
             text = for_elector(with_values(reason))
+            self.assertRegex(text, r"^The reason: [^{}@]+\.$", reason)
             for value in VALUES.values():
                 if isinstance(value, str) and len(value) > 4:
                     self.assertNotRegex(text, rf"(?<!\w){re.escape(value)}(?!\w)")
-            self.assertNotIn("@", text)
             self.assertFalse(may_be_ballot(repaired_text(text)) and any(name in text.split() for name in NAMES), text)
 
     def test_how_values_are_shown(self) -> None:

@@ -22,14 +22,18 @@ class Reopened(LettersTest):
         return terminal
 
     def test_late_letters_go_in_by_their_times(self) -> None:
-        """In whatever order they are named. What needed no force is not told as forced."""
+        """In whatever order they are named. What needed no force is not told as forced: a later line that is refused is no ballot."""
+        self.add_lines("ada 1,2,3", "ben 1,2,3,4")
         self.told("close")
         self.add(self.first, self.second)
-        said = self.reopen("--in-time", 2, 1, "--force")
-        first = f"\nEnvelope 3, entered anew from late envelope 1: {BALLOT}\n"
-        self.assertIn(f"{first}Envelope 4, entered anew from late envelope 2: {OTHER}\n", said)
+        said = self.reopen("--in-time", 4, 3, "--force")
+        first = f"\nEnvelope 5, entered anew from late envelope 3: {BALLOT}\n"
+        self.assertIn(f"{first}Envelope 6, entered anew from late envelope 4: {OTHER}\n", said)
         self.assertEqual(self.stands("ada"), OTHER_RANKS)
-        self.assertEqual(self.acts()[-1][1], {"because": "it was in time", "in_time": [1, 2]})
+        self.assertEqual(self.acts()[-1][1], {"because": "it was in time", "in_time": [3, 4]})
+        # they keep their times
+        self.add(letter("ada", "ada 1,1,4,3", number=3, time="Mon, 23 Nov 2026 12:00:00 +0000"))
+        self.assertEqual((self.stands("ada"), self.numbers()["waiting"]), ("1,1,4,3", 0))
 
     def test_an_older_late_letter_after_a_newer_one(self) -> None:
         self.told("close")
@@ -56,13 +60,6 @@ class Reopened(LettersTest):
         first = f"\nEnvelope 4, entered anew from late envelope 3: {BALLOT}\n"
         self.assertIn(f"{first}Envelope 5, entered anew from late envelope 2: ada 1,1,4,3\n", self.reopen("--in-time", 2, 3))
         self.assertEqual(self.lines(), [OTHER, BALLOT, "ada 1,1,4,3"])
-
-    def test_a_later_line_that_is_refused_is_no_ballot(self) -> None:
-        self.add_lines("ada 1,2,3", "ben 1,2,3,4")
-        self.told("close")
-        self.add(self.first)
-        self.assertNotIn("force", self.reopen("--in-time", 3))
-        self.assertEqual((self.lines()[-1], self.acts()[-1][1]), (BALLOT, {"because": "it was in time", "in_time": [3]}))
 
     def test_the_times_of_two_closes(self) -> None:
         """What had to come before a close, had to before the first one; the vote is closed since the last one."""
@@ -91,13 +88,6 @@ class Reopened(LettersTest):
         # what comes by letter would wait until the end that the call says
         said = f"--until: the vote was closed at {first}, and only ballots that came before then count"
         self.assert_fault(self.election("call", "--until", "2026-12-24 12:00"), 9, said)
-
-    def test_a_late_letter_keeps_its_time(self) -> None:
-        self.told("close")
-        self.add(self.first)
-        self.reopen("--in-time", 1)
-        self.add(self.second)
-        self.assertEqual((self.stands("ada"), self.numbers()["waiting"]), (OTHER_RANKS, 0))
 
     def test_a_late_line_is_entered_once(self) -> None:
         """What was entered again came once: the same line in a file is another one."""
@@ -130,7 +120,6 @@ class Reopened(LettersTest):
             self.told("close")
 
     def test_another_reopen_while_it_asks(self) -> None:
-        """It is seen that the vote is open already."""
         self.told("close")
         self.add_lines(BALLOT)
         terminal = self.asked()
@@ -150,24 +139,21 @@ class Reopened(LettersTest):
         self.assertIn("came before; 0 are new", self.add_lines(BALLOT, words=("--came-before-close", "yes")))
         self.told("undo", "--yes")
         self.assertEqual((self.lines(), self.late_lines(), self.numbers()["waiting"]), ([], [BALLOT, f"ben {RANKS}"], 1))
-        said = self.add_lines(BALLOT, words=("--came-before-close", "yes"))
-        self.assertIn("came before, and was late (envelope 1); --again enters it again", said)
+        self.assertIn("came before, and was late (envelope 1); --again enters it again", self.add_lines(BALLOT, words=("--came-before-close", "yes")))
         self.told("close", "--force", "--because", "ben's letter is known")
         self.reopen("--in-time", 1)
         self.assertEqual(self.lines(), [BALLOT])
 
-
-class CallTakenBack(LettersTest):
-    def test_letters_for_the_call_that_was_taken_back(self) -> None:
-        self.told("call", "--take-back")
-        self.told("call", "--to", "vote@club.example")
-        self.assertIn("it arrived before the call for votes", self.add(letter("ada", BALLOT)))
-
     def test_a_call_that_was_closed_and_taken_back(self) -> None:
         """A close stays; where an earlier version took the call back, the next one is open until its own close."""
+        # letters for a call that was taken back
+        self.told("call", "--take-back")
+        self.told("call", "--to", "vote@club.example")
+        call = self.last_act()
+        self.assertIn("it arrived before the call for votes", self.add(letter("ada", BALLOT)))
         self.told("close")
         self.assert_fault(self.election("call", "--take-back"), 9, "the vote was closed at ", "electors rely on the close")
-        self.act("take back", {"call": self.first_act - 1})
+        self.act("take back", {"call": call})
         self.told("call", "--to", "vote@club.example")
         self.assertIn("1 counted", self.add_lines(BALLOT))
         self.set_clock("2026-11-25T10:00:00+00:00")

@@ -36,13 +36,16 @@ def entered(*letters: LetterCase) -> dict[str, object]:
     return {"ballots": ballots, "decisions": {one.read.digest: queries.ENTERED for one in going}}
 
 
-class Order(unittest.TestCase):
+class Several(unittest.TestCase):
     def test_as_they_arrived(self) -> None:
         """Those without a time come last."""
         elsewhere = letter("ben", f"ben {RANKS}", time="Mon, 23 Nov 2026 12:30:00 +0100")
         self.assertEqual(lines_in(other(hour(12)), elsewhere, first()), [BALLOT, f"ben {RANKS}", OTHER])
         found = judged(letter("ada", BALLOT, time=None), letter("ben", f"ben {RANKS}", time=None), first(number=2))
         self.assertEqual([one.read.where for one in found], ["letter 3", "letter 1", "letter 2"])
+        # an older letter that comes after a newer one
+        newer = judged(other(hour(12)))
+        self.assertEqual(outcomes(newer[0].read, first(), **entered(*newer)), ["waits: later ballot", "entered"])
 
     def test_two_of_one_second_that_differ_both_wait(self) -> None:
         others = [letter("ben", f"ben {RANKS}", time=hour(10)), letter("ada", BALLOT, number=3, time=hour(9))]
@@ -55,13 +58,7 @@ class Order(unittest.TestCase):
         self.assertEqual(lines_in(first(), letter("ada", f"Hello\n{BALLOT}", number=2, time=hour(10))), [BALLOT, BALLOT])
         self.assertEqual(outcomes(first(), other(hour(10), sender="x@y.example")), [f"in: {BALLOT}", "waits: other sender"])
 
-    def test_an_older_letter_that_comes_after_a_newer_one(self) -> None:
-        newer = judged(other(hour(12)))
-        self.assertEqual(outcomes(newer[0].read, first(), **entered(*newer)), ["waits: later ballot", "entered"])
-
-
-class Copies(unittest.TestCase):
-    def test_a_mailbox_that_is_saved_again(self) -> None:
+    def test_copies_in_a_mailbox_that_is_saved_again(self) -> None:
         """With other lines in its heads, and a new letter."""
         letters = [first(), other(hour(12)), letter("ben", f"ben {RANKS}", time=hour(11)), letter("ben", "ben", number=2)]
         found = judged(*letters)
@@ -69,13 +66,12 @@ class Copies(unittest.TestCase):
         becomes = outcomes(*(one.read for one in found), *again, letter("cleo", f"cleo {RANKS}", time=hour(13)), **entered(*found))
         self.assertEqual(sorted(becomes), [*["copy"] * 4, *["entered"] * 3, f"in: cleo {RANKS}", "waits: no ballot"])
 
-    def test_other_parts_that_differ_make_no_copy(self) -> None:
-        """Two letters wait for one reason; only one of them may be genuine, and the secretary sees both."""
-        texts = [f"<p>{ballot}</p>" for ballot in (BALLOT, OTHER, OTHER)]
-        parts = [alternatives("ada", BALLOT, text, time=None, head=f"X: {number}\n") for number, text in enumerate(texts)]
-        self.assertEqual(outcomes(*parts), ["waits: no arrival", "waits: no arrival", "copy"])
-
-    def test_what_makes_no_other_letter(self) -> None:
+    def test_what_makes_another_letter_and_what_none(self) -> None:
+        others = [first(number=2), letter("ada", f"Hi\n{BALLOT}\n"), first(sender="x@y.example"), first().replace(b"Message-ID", b"X-ID")]
+        for data in others:
+            self.assertNotEqual(parsed(data).identity, parsed(first()).identity)
+        self.assertEqual(parsed(others[-1]).identity, parsed(others[-1] + b"\n").identity, "no Message-ID is as none")
+        # what makes none
         changes = [
             (b"", b""), (b"\n", b"\r\n"), (f"{BALLOT}\n".encode(), f"{BALLOT}  \n\n\n".encode()), (b"To: ", b"X-Status: R\nTo: "),
             (b"charset=utf-8", b"charset=us-ascii"),
@@ -84,34 +80,27 @@ class Copies(unittest.TestCase):
             self.assertEqual(outcomes(first(), first().replace(before, after)), [f"in: {BALLOT}", "copy"], after)
         quoted = letter("ada", f"{BALLOT}\n\nFrom here on nothing\n")
         self.assertEqual(outcomes(quoted, quoted.replace(b"\nFrom here", b"\n>From here")), [f"in: {BALLOT}", "copy"])
+        # two letters wait for one reason; only one of them may be genuine, and the secretary sees both
+        texts = [f"<p>{ballot}</p>" for ballot in (BALLOT, OTHER, OTHER)]
+        parts = [alternatives("ada", BALLOT, text, time=None, head=f"X: {number}\n") for number, text in enumerate(texts)]
+        self.assertEqual(outcomes(*parts), ["waits: no arrival", "waits: no arrival", "copy"])
 
-    def test_what_makes_another_letter(self) -> None:
-        others = [first(number=2), letter("ada", f"Hi\n{BALLOT}\n"), first(sender="x@y.example"), first().replace(b"Message-ID", b"X-ID")]
-        for data in others:
-            self.assertNotEqual(parsed(data).identity, parsed(first()).identity)
-        self.assertEqual(parsed(others[-1]).identity, parsed(others[-1] + b"\n").identity, "no Message-ID is as none")
-
-    def test_the_later_copy_waits_if_another_ballot_came_between(self) -> None:
+    def test_a_later_copy(self) -> None:
+        # it waits if another ballot came between
         between, again = other(hour(11)), first(time=hour(12))
         self.assertEqual(outcomes(again, between, first()), [f"in: {BALLOT}", f"in: {OTHER}", "waits: came before"])
         found = judged(first(), between)
-        becomes = outcomes(*(one.read for one in found), again, **entered(*found))
-        self.assertEqual(becomes, ["entered", "entered", "waits: came before"])
+        self.assertEqual(outcomes(*(one.read for one in found), again, **entered(*found)), ["entered", "entered", "waits: came before"])
         self.assertEqual(outcomes(first(), again), [f"in: {BALLOT}", "copy"])
         bens = letter("ben", f"ben {RANKS}", time=hour(11))
         self.assertEqual(outcomes(first(), bens, again), [f"in: {BALLOT}", f"in: ben {RANKS}", "copy"])
-
-    def test_a_copy_of_one_that_waits_for_a_ballot_beside_it(self) -> None:
-        """It is one letter, of the earliest arrival: a second delivery makes it no later one."""
-        again = first(time=hour(12))
+        # one of a letter that waits for a ballot beside it is one letter, of the earliest arrival: a second delivery makes it no later one
         later = {"ada": [Ballot(at(11), OTHER)]}
         self.assertEqual(outcomes(first(), again, ballots=later), ["waits: later ballot", "waits: came before"])
         self.assertEqual(outcomes(first(), b"X-Status: R\n" + first(), ballots=later), ["waits: later ballot", "copy"])
         self.assertEqual(sorted(outcomes(first(), other(hour(10)), again)), ["copy", "waits: same time", "waits: same time"])
-
-    def test_a_copy_is_no_other_ballot_of_its_second(self) -> None:
-        """A server delivers again what it has delivered, and a new letter."""
-        again, new = first(time=hour(12)), other(hour(12))
+        # a server delivers again what it has delivered, and a new letter
+        new = other(hour(12))
         self.assertEqual(outcomes(first(), again, new), [f"in: {BALLOT}", "copy", f"in: {OTHER}"])
         found = judged(first())
         self.assertEqual(outcomes(found[0].read, again, new, **entered(*found)), ["entered", "copy", f"in: {OTHER}"])
@@ -151,12 +140,6 @@ class Copies(unittest.TestCase):
                         decisions = {} if decision is None else {waiting.digest: decision}
                         self.assertEqual(lines_in(waiting, first(), decisions=decisions), [BALLOT], decision)
 
-    def test_a_second_delivery_after_the_end_that_is_read_first(self) -> None:
-        late = first(time=hour(13))
-        self.assertEqual(lines_in(late, first(), end=at(12)), [BALLOT])
-        found = judged(late, end=at(12))
-        self.assertEqual(outcomes(found[0].read, first(), end=at(12)), [f"in: {BALLOT}", "copy"])
-
     def test_copies_that_wait_for_one_reason_are_told_once(self) -> None:
         data = letter("ada", "when?", time=hour(10))
         again = b"X-Status: R\n" + data
@@ -164,11 +147,12 @@ class Copies(unittest.TestCase):
         for decision, becomes in ((queries.SET_ASIDE, "set aside: set aside"), (queries.PUT_BACK, "waits: put back")):
             self.assertEqual(outcomes(data, again, decisions={parsed(data).digest: decision}), [becomes, "copy"])
         # for another reason it is told
-        automatic = b"Auto-Submitted: auto-replied\n" + data
-        self.assertEqual(outcomes(data, automatic), ["waits: no ballot", "waits: automatic"])
+        self.assertEqual(outcomes(data, b"Auto-Submitted: auto-replied\n" + data), ["waits: no ballot", "waits: automatic"])
+        # a second delivery after the end that is read first
+        late = first(time=hour(13))
+        self.assertEqual(lines_in(late, first(), end=at(12)), [BALLOT])
+        self.assertEqual(outcomes(judged(late, end=at(12))[0].read, first(), end=at(12)), [f"in: {BALLOT}", "copy"])
 
-
-class Decisions(unittest.TestCase):
     def test_what_an_act_decided_holds_for_copies(self) -> None:
         wanted = {
             queries.ENTERED: "entered", queries.TAKEN_BACK: "waits: taken back", queries.PUT_BACK: "waits: put back",
@@ -176,10 +160,8 @@ class Decisions(unittest.TestCase):
         }  # fmt: skip
         kept: ParsedLetter = parsed(first())
         for decision, becomes in wanted.items():
-            found = outcomes(kept, b"X-Status: R\n" + first(), decisions={kept.digest: decision})
-            self.assertEqual(found, [becomes, "copy"])
-
-    def test_a_ballot_that_goes_in_counts_for_those_after_it(self) -> None:
+            self.assertEqual(outcomes(kept, b"X-Status: R\n" + first(), decisions={kept.digest: decision}), [becomes, "copy"])
+        # a ballot that goes in counts for those after it
         found = judged(first(), letter("ada", "hello", number=2, time=hour(9)))
         told = [(outcome(one), one.has_voted_since) for one in found]
         self.assertEqual(told, [("waits: no ballot", True), (f"in: {BALLOT}", False)])

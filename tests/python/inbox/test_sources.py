@@ -27,19 +27,13 @@ def outcome_of(found: list[RawLetter]) -> list[str]:
 
 class Files(unittest.TestCase):
     def assert_becomes(self, data: bytes, *wanted: str) -> None:
-        """What becomes of the letters of a file."""
         self.assertEqual(outcome_of(letters_of_file("box", data)), list(wanted), data)
 
     def assert_parted_off(self, data: bytes, *wanted: bool) -> None:
         """Which letters of a file may be text of the letter above."""
         self.assertEqual([raw.is_parted_off for raw in read_in(letters_of_file("box", data))], list(wanted), data)
 
-    def test_one_message(self) -> None:
-        for data in (ADA, b"\n\n" + ADA, b"\xef\xbb\xbf" + ADA, b"From ben\n" + ADA):
-            found = letters_of_file("x", data)
-            self.assertEqual([(raw.where, raw.data, raw.is_parted_off) for raw in read_in(found)], [("x", ADA, False)], data[:10])
-
-    def test_a_mailbox(self) -> None:
+    def test_a_mailbox_and_one_message(self) -> None:
         for line in (LINE, b"From - Mon Nov 23 10:00:00 2026\n", b"From 17@xxx Mon Nov 23 10:00:00 +0000 2026\n", b"From x Mon, 2 Nov 2026 9:00\n"):
             box = mailbox(ADA, BEN).replace(LINE, line)
             for data in (box, box.replace(b"\n", b"\r\n")):
@@ -47,9 +41,10 @@ class Files(unittest.TestCase):
                 self.assertEqual([raw.where for raw in read_in(found)], ["box, message 1", "box, message 2"])
                 self.assertEqual([raw.data.replace(b"\r", b"") for raw in read_in(found)], [ADA, BEN], line)
                 self.assertEqual(outcome_of(found), [IN_ADA, IN_BEN])
-
-    def test_what_editors_put_before_a_mailbox_or_take_away(self) -> None:
-        """Without its first line it is one letter, and all but its first ballot are text of it: it waits."""
+        for data in (ADA, b"\n\n" + ADA, b"\xef\xbb\xbf" + ADA, b"From ben\n" + ADA):
+            found = letters_of_file("x", data)
+            self.assertEqual([(raw.where, raw.data, raw.is_parted_off) for raw in read_in(found)], [("x", ADA, False)], data[:10])
+        # without its first line it is one letter, and all but its first ballot are text of it: it waits
         for start in (b"\n", b"\r\n\r\n", b"\xef\xbb\xbf"):
             self.assert_becomes(start + mailbox(ADA, BEN), IN_ADA, IN_BEN)
         self.assert_becomes(mailbox(ADA, CODED).removeprefix(LINE), PARTED)
@@ -59,9 +54,7 @@ class Files(unittest.TestCase):
         for line in (b"From ben\n", b"From - Mo Nov 23 10:00:00 2026\n", b"from ben\n", b">From - Mon Nov 23 10:00:00 2026\n"):
             for above in (ADA, PARTS, LINE + ADA, LINE + PARTS):
                 self.assert_becomes(above + b"\n" + line + CODED, PARTED)
-
-    def test_whatever_field_is_below_a_line_without_a_date(self) -> None:
-        """Thunderbird and others put fields of their own above all that the mail server wrote."""
+        # thunderbird and others put fields of their own above all that the mail server wrote
         line = b"From ben 2026-11-23T10:00:00\n"
         for field in (b"X-Mozilla-Status: 0001\n", b"X-UID: 7\n", b"Delivery-Date: x\n", b"Status: RO\n", b"To: vote\n", b"Subject: x\n"):
             below = b"\n" + line + field + CODED
@@ -69,7 +62,7 @@ class Files(unittest.TestCase):
             self.assert_becomes(line + field + ADA, IN_ADA)
             self.assert_becomes(line + field + ADA + below, PARTED)
 
-    def test_a_mailbox_of_thunderbird(self) -> None:
+    def test_mailboxes_of_thunderbird_and_lotus_notes_and_lines_that_part_nothing(self) -> None:
         """Today it writes lines without sender and date; older letters in it have lines with a date."""
         status = b"X-Mozilla-Status: 0001\nX-Mozilla-Status2: 00000000\n"
         dated = b"From - Mon Nov 23 10:00:00 2026\n"
@@ -80,6 +73,12 @@ class Files(unittest.TestCase):
         # without an empty line between, and as text of a letter that is not in a mailbox
         self.assert_becomes(b"From \n" + ADA + b"From \n" + BEN, IN_ADA, PARTED)
         self.assert_becomes(ADA + b"\nFrom \n" + BEN, PARTED)
+        # lotus Notes writes boundaries with a blank
+        notes = "=_alternative 004A8E32C1256F5A_="
+        for kind in (f'multipart/alternative; boundary="{notes}"', f'multipart/alternative; boundary="{notes} "'):
+            self.assert_becomes(mailbox(letter("ada", f"--{notes}\n\nada {RANKS}\n--{notes}--\n", kind=kind), BEN), IN_ADA, IN_BEN)
+        text = f"ada {RANKS}\n\nFrom Monday on\n\nFrom Monday on see\nhttps://x.example\n\n>From x Mon Nov 23 10:00:00 2026\n\nfrom x Mon Nov 23 10:00:00 2026\n\nFrom 10:00 on\n"
+        self.assertEqual(len(read_in(letters_of_file("box", mailbox(letter("ada", text), BEN)))), 2)
 
     def test_letters_that_somebody_put_together(self) -> None:
         """As `cat *.eml` does: of the second nobody would see anything."""
@@ -91,17 +90,6 @@ class Files(unittest.TestCase):
                 self.assert_becomes(data + between + CODED, PARTED)
         attached = letter("ada", f"--b\n\nada {RANKS}\n--b\nContent-Type: message/rfc822\n\n", kind="multipart/mixed; boundary=b")
         self.assert_becomes(attached + letter("ben", "hello\n") + b"--b--\n", IN_ADA)
-
-    def test_a_boundary_with_a_blank(self) -> None:
-        """Lotus Notes writes such."""
-        notes = "=_alternative 004A8E32C1256F5A_="
-        for kind in (f'multipart/alternative; boundary="{notes}"', f'multipart/alternative; boundary="{notes} "'):
-            self.assert_becomes(mailbox(letter("ada", f"--{notes}\n\nada {RANKS}\n--{notes}--\n", kind=kind), BEN), IN_ADA, IN_BEN)
-
-    def test_lines_that_part_nothing(self) -> None:
-        text = f"ada {RANKS}\n\nFrom Monday on\n\nFrom Monday on see\nhttps://x.example\n\n>From x Mon Nov 23 10:00:00 2026\n\nfrom x Mon Nov 23 10:00:00 2026\n\nFrom 10:00 on\n"
-        found = letters_of_file("box", mailbox(letter("ada", text), BEN))
-        self.assertEqual(len(read_in(found)), 2)
 
     def test_what_may_be_text_of_the_letter_above(self) -> None:
         carrier, below = letter("mallory", "hello\n"), b"\n" + LINE + BEN
@@ -140,19 +128,9 @@ class Files(unittest.TestCase):
         for length, is_parted_off in ((body, False), (exact, True), (exact + 1, True), (exact + 3, False)):
             head = f"Content-Length: {length}\n".encode()
             self.assert_parted_off(LINE + head + carrier + b"\n" + LINE + BEN, False, is_parted_off)
-
-    def test_parts_that_end_part_nothing_off(self) -> None:
-        """Nor does a subject that anybody can write."""
-        parts = letter("x", "--b\n\nhi\n--b--\n", kind="multipart/mixed; boundary=b")
-        for above in (parts, letter("x", "hi\n", head="Subject: boundary=b\n")):
+        # nor do parts that end, or a subject that anybody can write
+        for above in (letter("x", "--b\n\nhi\n--b--\n", kind="multipart/mixed; boundary=b"), letter("x", "hi\n", head="Subject: boundary=b\n")):
             self.assert_parted_off(LINE + above + b"\n" + LINE + BEN, False, False)
-
-    def test_a_long_letter_is_named_and_the_others_are_read(self) -> None:
-        long = letter("ada", "x" * MAX_LETTER)
-        found = letters_of_file("box", mailbox(long, BEN))
-        self.assertEqual(passed_over_in(found), [("box, message 1", NotRead.TOO_LONG)])
-        self.assertEqual([raw.data for raw in read_in(found)], [BEN])
-        self.assertEqual(passed_over_in(letters_of_file("x", long))[0][1], NotRead.TOO_LONG)
 
     def test_what_is_no_letter_is_named(self) -> None:
         names = "__properties_version1.0".encode("utf-16-le")
@@ -164,8 +142,12 @@ class Files(unittest.TestCase):
             found = letters_of_file("x", data)
             self.assertEqual((passed_over_in(found), read_in(found)), ([("x", why)], []))
             self.assertTrue(why.what and why.cure)
-
-    def test_a_file_of_lines_is_none(self) -> None:
+        # a long letter is named, and the others are read
+        long = letter("ada", "x" * MAX_LETTER)
+        found = letters_of_file("box", mailbox(long, BEN))
+        self.assertEqual(passed_over_in(found), [("box, message 1", NotRead.TOO_LONG)])
+        self.assertEqual([raw.data for raw in read_in(found)], [BEN])
+        self.assertEqual(passed_over_in(letters_of_file("x", long))[0][1], NotRead.TOO_LONG)
         texts = (b"ada: 1,2\nben: 1,2\n", b"From: ada 1\n", b"From Monday on\n\nada 1,2\n", b"", b"To be or not: x\n", LINE + b"ada 1,2\n")
         self.assertEqual([data for data in texts if are_letters(data)], [])
 
@@ -176,6 +158,20 @@ class Files(unittest.TestCase):
         for data in (LINE * 100_000, *words, mailbox(*[ADA] * 20_000)):
             letters_of_file("box", LINE + b"From: x\n" + data)
         self.assertLess(time.process_time() - began, 60)
+
+    def test_ids_of_answers_and_heads(self) -> None:
+        """They are plain, or none: what is written into a letter that goes out has no line of its own."""
+        data = answer("ada", f"ada {RANKS}\n")
+        self.assertEqual(parsed(data).in_reply_to, "<call.ada@club.example>")
+        for value in ("=?utf-8?q?=3Cx=0ABcc=3A_y=40z=3E?=", "<x y@z>", "<\xff\xfe@z>", "<a@b> <c@d>", "<a\n b@c>", f"<{'x' * 300}@y>", "x", ""):
+            changed = data.replace(b"<call.ada@club.example>", value.encode("latin-1"))
+            self.assertEqual(parsed(changed).in_reply_to, "", value)
+            self.assertEqual(outcomes(changed), [f"in: ada {RANKS}"], value)
+        # heads as they are shown
+        head = "Subject: =?utf-8?b?R3LDvMOfZQ==?= =?x-none?q?x?=\nSubject: \udcff\n"
+        found = parsed(letter("ada", "x", sender="=?utf-8?q?a=0ABcc:?= <ada@club.example>", head=head))
+        self.assertNotIn("\n", found.shown_sender + found.subject)
+        self.assertTrue(found.subject.startswith("Grüße"), found.subject)
 
 
 class Conservation(unittest.TestCase):
@@ -220,8 +216,6 @@ class Conservation(unittest.TestCase):
             becomes.update(one.partition(": ")[0] for one in outcomes)
         self.assertEqual(set(becomes), {"in", "waits", "copy"})
         self.assertGreater(min(becomes["in"], becomes["waits"]), 300)
-
-    def test_any_bytes(self) -> None:
         chance = random.Random(4)
         for _ in range(2_000):
             data = b"".join(chance.choices(self.lines, k=chance.randint(0, 12)))
@@ -254,8 +248,8 @@ class Folders(unittest.TestCase):
         return [raw.where.removeprefix(place) for raw in read_in(found)], why
 
     def test_a_folder_of_messages(self) -> None:
-        files = {"b.eml": ADA, "a.eml": BEN, "list.txt": b"hello", ".hidden.eml": ADA, "more/c.eml": ADA, "d.zip": b"PK\x03\x04"}
-        for name, data in files.items():
+        self.assertEqual(self.found(), ([], {}))
+        for name, data in {"b.eml": ADA, "a.eml": BEN, "list.txt": b"hello", ".hidden.eml": ADA, "more/c.eml": ADA, "d.zip": b"PK\x03\x04"}.items():
             self.write(name, data)
         os.mkfifo(self.folder / "pipe")
         (self.folder / "link").symlink_to("nowhere")
@@ -275,7 +269,6 @@ class Folders(unittest.TestCase):
         iterdir = pathlib.Path.iterdir
 
         def listed(folder: pathlib.Path) -> list[pathlib.Path]:
-            """What is in a folder; the first letter moves as soon as one of both is listed."""
             found = list(iterdir(folder))
             if folder.name in ("new", "cur") and (self.folder / "new/1.host").exists():
                 (self.folder / "new/1.host").rename(self.folder / "cur/1.host:2,S")
@@ -294,23 +287,3 @@ class Folders(unittest.TestCase):
         self.assertEqual([(raw.is_parted_off, raw.data) for raw in read_in(found)], [(True, inner), (False, ADA)])
         self.assertEqual(sorted(outcome_of(found)), [f"in: ada {RANKS}", "waits: parted off"])
         self.assertEqual(self.found()[1], {"box": NotRead.MAILBOX})
-
-    def test_a_folder_without_letters(self) -> None:
-        self.assertEqual(self.found(), ([], {}))
-
-
-class Answers(unittest.TestCase):
-    def test_ids(self) -> None:
-        """They are plain, or none: what is written into a letter that goes out has no line of its own."""
-        data = answer("ada", f"ada {RANKS}\n")
-        self.assertEqual(parsed(data).in_reply_to, "<call.ada@club.example>")
-        for value in ("=?utf-8?q?=3Cx=0ABcc=3A_y=40z=3E?=", "<x y@z>", "<\xff\xfe@z>", "<a@b> <c@d>", "<a\n b@c>", f"<{'x' * 300}@y>", "x", ""):
-            changed = data.replace(b"<call.ada@club.example>", value.encode("latin-1"))
-            self.assertEqual(parsed(changed).in_reply_to, "", value)
-            self.assertEqual(outcomes(changed), [f"in: ada {RANKS}"], value)
-
-    def test_heads_as_they_are_shown(self) -> None:
-        head = "Subject: =?utf-8?b?R3LDvMOfZQ==?= =?x-none?q?x?=\nSubject: \udcff\n"
-        found = parsed(letter("ada", "x", sender="=?utf-8?q?a=0ABcc:?= <ada@club.example>", head=head))
-        self.assertNotIn("\n", found.shown_sender + found.subject)
-        self.assertTrue(found.subject.startswith("Grüße"), found.subject)

@@ -45,12 +45,10 @@ class Lines(CsvBallotsTest):
         ]
         self.assertEqual(found, wanted)
 
-    def test_each_cell_stays_by_itself(self) -> None:
+    def test_each_cell_stays_by_itself_and_empty_ones(self) -> None:
         rows = 'n,a,b,c\n,ada 1,2,3\nada 1,,2,3\nada,"1,2", 3,\n"ada,1",2,3,-\n'
         repaired = [line[3] for line in self.lines(rows)]
         self.assertEqual(repaired, [b" ada 1,2,3", b"ada 1 ,2,3", b"ada 1,2,3,", b"ada,1 2,3,-"])
-
-    def test_empty_cells(self) -> None:
         rows = "n,a,b,c\nada,1,,\nben, ,\t,2\n,1,,3\nada\n"
         self.assertEqual([line[3] for line in self.lines(rows)], [b"ada 1,,", b"ben ,,2", b" 1,,3", b"ada ,,"])
         repaired = [line[3] for line in self.lines(rows, is_blank_unranked=True)]
@@ -62,14 +60,10 @@ class Lines(CsvBallotsTest):
             for data in (text.encode(), codecs.BOM_UTF8 + text.encode(), codecs.BOM_UTF16_BE + text.encode("utf-16-be")):
                 self.assertEqual(self.lines(data), [("form.csv: row 2", *("Zoë 1,2,3".encode(),) * 2, "zoë 1,2,3".encode())])
 
-
-class Refused(CsvBallotsTest):
-    def test_a_table_without_a_head_line(self) -> None:
+    def test_heads_columns_and_tables(self) -> None:
         for name in ("ada", " Ben ", "1"):
             parts = (f"--name: `{name.strip()}` is an elector", "no header line", "write a header line above the rows")
             self.assert_refused("ada,1,2,3\nben,2,1,3\n", Status.BAD_WORDS, *parts, name=name, ranks="x,y,z")
-
-    def test_columns(self) -> None:
         table = "n,a,b,c,A\nada,1,2,3,4\n"
         heads = "the headers are `n`, `a`, `b`, `c`, `A`"
         for columns, *parts in (
@@ -82,8 +76,6 @@ class Refused(CsvBallotsTest):
         ):
             self.assert_refused(table, Status.BAD_WORDS, *parts, **columns)
         self.assertEqual(heads_of("n", '"a, b",c,d', POLL), ["n", "a, b", "c", "d"])
-
-    def test_tables(self) -> None:
         for data, *parts in (
             ("x,n,a,b,c\nI, too,ada,1,2,3\n", "form.csv: row 2: it has 6 cells, and the header line has 5"),
             ('n,a,b,c\nada,1,2,3\n"ben,1,2,3\n', "form.csv:3: ", "close each quotation mark"),
@@ -111,8 +103,7 @@ class OtherOrders(CsvBallotsTest):
             with self.subTest(ranks=ranks):
                 cure = "name the columns in the order of the options: 1 Am See, 2 Im Rathaus Süd, 3 Keins"
                 self.assert_refused("n\n", Status.BAD_WORDS, "--ranks: ", said, cure, ranks=ranks)
-
-    def test_columns_in_their_places(self) -> None:
+        # columns in their places
         for ranks in (
             "at the LAKE,Im Rathaus Süd,x", "1. Am See,2 In the town hall,3) Neither", "1,2,3", "7 Am See,1 In the town hall,2 Neither",
             # the questions of a form are numbered, with the name as the first
@@ -131,8 +122,7 @@ class OtherOrders(CsvBallotsTest):
                 self.assert_refused("n\n", Status.BAD_WORDS, f"`{head}` {what}", cure, ranks=f"{head},b,c")
         for head in ("choices", "Wahl", "the first", "Auswahl 1a", "lake 1"):
             self.assertEqual(heads_of("n", f"{head},b,c", POLL)[1], head)
-        poll = dataclasses.replace(POLL, shown_options=("First choice", *SHOWN[1:]))
-        self.assertEqual(heads_of("n", "first choice,b,c", poll)[1], "first choice")
+        self.assertEqual(heads_of("n", "first choice,b,c", dataclasses.replace(POLL, shown_options=("First choice", *SHOWN[1:])))[1], "first choice")
 
     def test_cells_that_are_names_of_options(self) -> None:
         said = "form.csv: most cells are names of options, like `am see`; such a table has the options in each row by preference"
@@ -166,8 +156,7 @@ class OtherOrders(CsvBallotsTest):
             table = "When;n;a;b;c\n" + "".join(f"{time};ada;1;2;3\n" for time in column)
             for is_newest_first in (True, False):
                 self.assertEqual(len(self.lines(table, is_newest_first=is_newest_first)), 2, column)
-
-    def test_one_column_of_times_with_the_order_is_enough(self) -> None:
+        # one column of times with the order is enough
         table = "begun,sent,n,a,b,c\n2026-11-23 10:00,2026-11-23 10:09,ada,1,2,3\n2026-11-23 10:01,2026-11-23 10:05,ben,1,2,3\n"
         self.assertEqual(len(self.lines(table, is_newest_first=False)), 2)
         self.assertEqual(len(self.lines(table, is_newest_first=True)), 2)

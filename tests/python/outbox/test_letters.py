@@ -8,8 +8,6 @@ import pathlib
 import re
 import shutil
 import stat
-import subprocess
-import sys
 
 from debvote_tools.inbox.lines import repaired_line
 from debvote_tools.outbox.letter_folder import in_place
@@ -33,7 +31,9 @@ ELSEWHERE = "A letter in your name came from another address, and waits until th
 
 
 class Call(OutTest):
-    def test_it_begins_with_title_end_form_and_the_own_line(self) -> None:
+    def test_it_has_title_end_form_the_own_line_and_the_mark(self) -> None:
+        self.assertIn("Wrote 9 letters: letters/call/", self.done("letters", "call").output)
+        found = self.written("call")
         found = self.written("call")
         self.assertEqual(sorted(found), elections.NAMES)
         for name, message in found.items():
@@ -48,15 +48,12 @@ class Call(OutTest):
             self.assertEqual([other for other in elections.NAMES if f"{other} _" in text], [name])
             # one page
             self.assertLess(len(message.get_content().splitlines()), 50)
-
-    def test_the_letter_to_all_has_gaps_and_the_mark_of_the_poll(self) -> None:
+        # the letter to all has gaps, and the mark of the poll
         text = " ".join(self.read("call/call.txt").decode().split())
         self.assertTrue(text.startswith(f"{WHEN} {FORM} {LINE}NAME _,_,_,_ Write your name on the roll in the place of NAME. The options"), text)
         self.assertRegex(text, r"Send your line to vote@club\.example in a letter whose subject ends with \[[0-9a-f]{16}\]\.")
         self.assertNotIn("answer to this letter", text)
-
-    def test_head_and_modes(self) -> None:
-        found = self.written("call")
+        # heads and modes
         ids, own_marks = set(), dict(self.book.rows("SELECT name, mark FROM elector JOIN elector_state USING (elector) WHERE mark <> ''"))
         self.assertEqual(len(set(own_marks.values())), 9)
         for name, message in found.items():
@@ -69,11 +66,14 @@ class Call(OutTest):
             ids.add(message["Message-ID"])
         self.assertEqual(len(ids), 9)
         for path in [*self.files("call"), *self.files("call")[0].parents[:3]]:
-            mode = stat.S_IMODE(path.stat().st_mode)
-            self.assertEqual(mode, 0o700 if path.is_dir() else 0o600, path)
+            self.assertEqual(stat.S_IMODE(path.stat().st_mode), 0o700 if path.is_dir() else 0o600, path)
+        # how many are new
+        self.assertIn("Wrote 9 letters, none of them new: ", self.done("letters", "call").output)
+        self.change_roll("ada@club", "ada@new")
+        self.assertIn("Wrote 9 letters, 1 of them new: ", self.done("letters", "call").output)
 
-    def test_again_it_makes_the_same_files_and_no_act(self) -> None:
-        self.written("call")
+    def test_again_it_makes_the_same_files_and_no_act_and_an_answer_goes_in(self) -> None:
+        found = self.written("call")
         before = {file: file.read_bytes() for file in self.files("call")}
         last = self.book.last_number()
         for file in before:
@@ -82,22 +82,12 @@ class Call(OutTest):
         self.written("call")
         self.assertEqual({file: file.read_bytes() for file in self.files("call")}, before)
         self.assertEqual(self.book.last_number(), last)
-
-    def test_an_answer_to_it_goes_in(self) -> None:
-        """Who knows the own mark of an elector and the Message-ID of a letter to them may put a quotation above the ballot, and nobody else."""
-        found = self.written("call")
+        # who knows the own mark of an elector and the Message-ID of a letter to them may put a quotation above the ballot, and nobody else
         quoted = "\n".join(f"> {line}" for line in found["ada"].get_content().splitlines()[:12])
         head = f"In-Reply-To: {found['ada']['Message-ID']}\nSubject: Re: {found['ada']['Subject']}\n"
         for name in ("ada", "ben"):
             self.add(letter(name, f"On 23 November 2026 you wrote:\n{quoted}\n\n{name} {RANKS}\n", head=head, time=EARLIER))
         self.assertEqual(self.exported()[0], f"ada {RANKS}\n")
-
-    def test_how_many_are_new(self) -> None:
-        self.assertIn("Wrote 9 letters: letters/call/", self.done("letters", "call").output)
-        self.assertIn("Wrote 9 letters, none of them new: ", self.done("letters", "call").output)
-        self.write("members.csv", elections.members_of(elections.NAMES).replace("ada@club", "ada@new"))
-        self.done("roll", "--yes")
-        self.assertIn("Wrote 9 letters, 1 of them new: ", self.done("letters", "call").output)
 
     def test_after_an_extension_those_who_have_the_call_get_its_letter(self) -> None:
         self.written("call")
@@ -116,6 +106,14 @@ class Call(OutTest):
             self.assertIn(f"{LINE}{name} _,_,_,_", text)
         self.done("call", "--until", "2026-12-08 12:00", "--zone", "UTC")
         self.assertIn("Vote until: Tuesday, 8 December 2026, 12:00 (UTC)", self.texts("call")["ben"])
+        # after the end nobody is invited
+        self.set_clock("2026-12-08T12:00:01+00:00")
+        before = self.rows("call")
+        for words in ("status", "close"):
+            self.told(words)
+            for kind in ("call", "reminders"):
+                self.assert_refused(("letters", kind), 9, "the vote is over")
+        self.assertEqual((self.rows("call"), self.rows("reminders")), (before, []))
 
     def test_who_has_the_call_that_holds(self) -> None:
         """One that was taken back is none; one that went out after an extension is one."""
@@ -127,23 +125,13 @@ class Call(OutTest):
             for text in self.texts("call").values():
                 self.assertEqual(("After the vote all" in text, "You have more time to vote." in text), (is_whole, not is_whole))
 
-    def test_after_the_end_nobody_is_invited(self) -> None:
-        self.set_clock("2026-12-04T18:00:01+00:00")
-        for words in ("status", "close"):
-            self.told(words)
-            for kind in ("call", "reminders"):
-                self.assert_refused(("letters", kind), 9, "the vote is over")
-        self.assertEqual((self.rows("call"), self.rows("reminders")), ([], []))
-
 
 class Refused(OutTest):
     call_words = None
 
-    def test_before_the_call(self) -> None:
+    def test_before_the_call_and_a_call_without_addresses(self) -> None:
         for kind in ("call", "receipts", "reminders", "closed", "result"):
             self.assertEqual(self.election("letters", kind, "--from", "vote@club.example").status, 9, kind)
-
-    def test_a_call_without_addresses(self) -> None:
         self.done("call")
         self.assert_fault(self.election("letters", "call"), 2, "--from: the call names no address")
         found = self.written("call", "--from", "vote@other.example")
@@ -157,8 +145,7 @@ class Refused(OutTest):
 
     def test_a_long_name_of_the_sender(self) -> None:
         """No encoded word is longer than 75 characters, and no line with one longer than 76."""
-        names = ("ä" * 100, "ä b " * 25, "日" * 100, "Bü" * 14)
-        for name in map(str.strip, names):
+        for name in map(str.strip, ("ä" * 100, "ä b " * 25, "日" * 100, "Bü" * 14)):
             with self.subTest(name=name):
                 self.done("call", "--to", f"{name} <vote@club.example>")
                 self.done("letters", "call")
@@ -171,16 +158,14 @@ class Refused(OutTest):
                     self.assertLessEqual(max(map(len, line.split())), 75)
                 self.done("call", "--take-back")
 
-    def test_of_several_addresses_the_first_that_each_server_takes(self) -> None:
+    def test_addresses_of_before_the_call(self) -> None:
+        # of several addresses the first that each server takes
         self.change_roll("ada@club", "ädä@club.example home@ada")
         self.done("call", "--to", "vote@club.example")
         self.assertEqual(self.written("call")["ada"]["To"], "home@ada.example")
-
-    def test_an_address_of_before_the_call_gets_no_receipt(self) -> None:
-        self.change_roll("ada@club", "ada@new")
-        self.done("call", "--to", "vote@club.example")
+        # the one that she had before the call gets no receipt
         self.add_lines(f"ada {RANKS}")
-        self.assertEqual([message["To"] for message in self.written("receipts").values()], ["ada@new.example"])
+        self.assertEqual([message["To"] for message in self.written("receipts").values()], ["home@ada.example"])
 
 
 class OwnWords(OutTest):
@@ -196,7 +181,7 @@ class OwnWords(OutTest):
         self.done("call", "--to", "Wahlleitung T\u00fcV <vote@club.example>", *Call.call_words[2:])
         self.set_clock(self.now)
 
-    def test_each_begins_so(self) -> None:
+    def test_each_begins_so_and_an_answer_that_quotes_all_of_it_goes_in(self) -> None:
         found = {kind: self.written(kind) for kind in ("call", "reminders")}
         self.write("letter.txt", "It ends later.\n")
         self.done("call", "--until", "2026-12-06 18:00", "--zone", "UTC")
@@ -210,13 +195,10 @@ class OwnWords(OutTest):
             self.assertTrue(message.get_content().startswith(begins[kind]), message.get_content())
             self.assertEqual(message["From"], "Wahlleitung T\u00fcV <vote@club.example>")
             self.assertEqual((message["To"], message["Reply-To"]), ("ada@club.example", None))
-
-    def test_an_answer_that_quotes_all_of_it_without_marks_goes_in(self) -> None:
-        """No line of ours reads as a ballot, also where the secretary's own words have one."""
-        for name, message in self.written("call").items():
+        # no line of ours reads as a ballot, also where the secretary's own words have one
+        for name, message in found["call"].items():
             head = f"In-Reply-To: {message['Message-ID']}\nSubject: Re: {message['Subject']}\n"
-            text = f"{name} {RANKS}\n\nOn Monday the secretary wrote:\n{message.get_content()}"
-            self.add(letter(name, text, head=head, time=EARLIER))
+            self.add(letter(name, f"{name} {RANKS}\n\nOn Monday the secretary wrote:\n{message.get_content()}", head=head, time=EARLIER))
         self.assertEqual(self.numbers()["voters"], 9)
 
 
@@ -299,22 +281,21 @@ class Names(OutTest):
         self.assertEqual(sorted(message["To"] for message in found), wanted)
         # the old address does not learn the own mark, neither in the subject nor in the text, which has the right line
         said = {message["To"]: (bool(re.search(MARKS, message["Subject"])), f"{AT}#ada/" in one_line(message)) for message in found}
-        wanted_marks = {"ada-2@club.example": (True, False), "ada@club.example": (False, False), "ada@new.example": (True, True)}
-        self.assertEqual(said, wanted_marks)
+        self.assertEqual(said, {"ada-2@club.example": (True, False), "ada@club.example": (False, False), "ada@new.example": (True, True)})
         self.assertTrue(all("ada _,_,_,_" in one_line(message) for message in found if "ada@" in message["To"]))
 
 
-class Receipts(OutTest):
+class ReceiptsAndReminders(OutTest):
     def test_each_has_its_own_reply(self) -> None:
         """A line that counts, one that is replaced, one that is refused, one that is struck, one that is taken back, and a late one."""
-        self.add_lines(f"ada {RANKS}", f"ben {RANKS}", f"ben {OTHER_RANKS}", "cleo 1,2", f"dan {RANKS}")
+        self.add_lines(f"ada {RANKS}", f"ben {RANKS}", f"ben {OTHER_RANKS}", "cleo 1,2", f"dan {RANKS}", "fay 1,2", f"fay {RANKS}",
+                       f"gus {RANKS}", "gus 1,2")
         self.done("strike", 5, "--because", "it was a mistake")
         self.add_lines(f"eve {RANKS}")
         self.done("undo")
         texts = self.texts("receipts")
-        self.assertEqual(sorted(texts), ["ada", "ben", "cleo", "dan", "eve"])
-        replaced = r"has arrived\. A later ballot of yours counts instead\. .* It counts unless you send a later one"
-        self.assertRegex(texts["ben"], replaced)
+        self.assertEqual(sorted(texts), ["ada", "ben", "cleo", "dan", "eve", "fay", "gus"])
+        self.assertRegex(texts["ben"], r"has arrived\. A later ballot of yours counts instead\. .* It counts unless you send a later one")
         for name, said in (
             ("ada", "has arrived. It counts unless you send a later one."),
             ("ada", f"It was read as (ada {RANKS}), in words: {LAKE}. If you have not sent this"),
@@ -322,6 +303,9 @@ class Receipts(OutTest):
             ("cleo", "It is not a valid ballot of this vote, so it does not count. It has 2 ranks, and the vote has 4 options."),
             ("dan", "was entered, and the secretary has struck it. It does not count."),
             ("eve", "was entered, and the secretary has taken it back. It does not count unless it is entered again."),
+            # a receipt refuses if what came last was refused
+            ("fay", "It has 2 ranks"),
+            ("gus", "You can send a right line now"),
         ):
             self.assertIn(said, texts[name])
         # a receipt that refuses says why, then where the form is and how a right line looks; another has neither
@@ -330,12 +314,16 @@ class Receipts(OutTest):
         self.assertIn(begin, texts["cleo"])
         self.assertEqual(texts["cleo"].count(TITLE), 1)
         self.assertIn(f"{LINE}cleo _,_,_,_", texts["cleo"])
-        for name in ("ada", "ben", "dan", "eve"):
+        for name in ("ada", "ben", "dan", "eve", "fay"):
             self.assertNotIn("_,_", texts[name])
         for name, text in texts.items():
             self.assertNotRegex(text, r"(?i)envelope|number \d")
             self.assertFalse([other for other in elections.NAMES if other != name and re.search(rf"\b{other}\b", text)], text)
         self.assertEqual(self.texts("receipts"), {})
+        # undo names those whose receipts are no longer true
+        self.add_lines(f"hal {OTHER_RANKS}")
+        self.assertNotIn("receipt", self.told("undo", "--yes"))
+        self.assertIn("\nThese electors have receipts that are no longer true: ada, ben, cleo, fay, gus\n", self.told("undo", "--yes"))
 
     def test_a_folder_that_is_removed_is_made_again(self) -> None:
         """With the same bytes, as long as what they say holds; a receipt of a ballot that is struck since says so."""
@@ -366,50 +354,33 @@ class Receipts(OutTest):
         self.assertIn("the secretary has struck it", one_line(parsed(there()[ben])))
         self.assertEqual([there()[ada], there()[cleo]], [before[ada], before[cleo]])
 
-    def test_late_and_after_the_close(self) -> None:
-        self.add_lines(f"ada {RANKS}")
-        self.done("close", "--early")
-        self.add_lines(f"ben {RANKS}", "cleo 1,2")
-        texts = self.texts("receipts")
-        self.assertIn("has arrived, and it counts. It was read as", texts["ada"])
-        self.assertIn("It was entered after the close, so it is late and does not count. It was read as (ben", texts["ben"])
-        self.assertIn("so it is late and does not count.", texts["cleo"])
-        for text in texts.values():
-            self.assertNotRegex(text, r"_,_|unless you|You can send")
-
-    def test_a_ballot_that_is_struck_later_is_told(self) -> None:
-        self.add_lines(f"ada {RANKS}", f"ben {RANKS}")
-        self.assertEqual(sorted(self.texts("receipts")), ["ada", "ben"])
-        self.done("strike", 1, "--because", "not hers")
-        [(name, text)] = self.texts("receipts").items()
-        self.assertEqual((name, "the secretary has struck it" in text), ("ada", True))
-
     def test_a_ballot_that_counts_is_told_again_beside_what_does_not(self) -> None:
         """A letter without a ballot, a line that is refused, a ballot that is taken back, and after the close one that is late."""
-        self.add_lines(*(f"{name} {RANKS}" for name in ("ada", "ben", "cleo", "dan")))
+        self.add_lines(*(f"{name} {RANKS}" for name in ("ada", "ben", "cleo", "dan", "eve")))
         first = self.texts("receipts")
         self.add(letter("ada", "Thank you, all is right.\n"))
         self.add_lines("ben 1,2")
         self.add_lines(f"cleo {OTHER_RANKS}")
         self.done("undo", "--yes")
+        self.done("strike", 5, "--because", "not hers")
         found = self.texts("receipts")
         self.done("held", 1, "--set-aside")
+        self.add_lines(f"hal {RANKS}")
         self.done("close", "--early")
-        self.add_lines(f"dan {OTHER_RANKS}")
-        found |= self.texts("receipts")
-        self.assertEqual(sorted(found), ["ada", "ben", "cleo", "dan"])
-        said = {"ada": "No ballot from it is entered yet", "ben": "has 2 ranks", "cleo": "taken it back", "dan": "it is late"}
-        for name, text in found.items():
-            self.assertNotIn(said[name], first[name])
+        self.add_lines(f"dan {OTHER_RANKS}", f"fay {RANKS}", "gus 1,2")
+        late = self.texts("receipts")
+        self.assertEqual(sorted((*found, *late)), ["ada", "ben", "cleo", "dan", "eve", "fay", "gus", "hal"])
+        for name, said in {"ada": "No ballot from it is entered yet", "ben": "has 2 ranks", "cleo": "taken it back", "dan": "it is late"}.items():
+            self.assertNotIn(said, first[name])
             counts = "and it counts." if name == "dan" else "It counts unless you send a later one."
-            self.assertRegex(text, rf"{re.escape(counts)} It was read as \({name} {RANKS}\).* {said[name]}")
-
-    def test_one_refuses_if_what_came_last_was_refused(self) -> None:
-        self.add_lines("ada 1,2", f"ada {RANKS}", f"ben {RANKS}", "ben 1,2")
-        texts = self.texts("receipts")
-        self.assertIn("It has 2 ranks", texts["ada"])
-        self.assertNotIn("_,_", texts["ada"])
-        self.assertIn("You can send a right line now", texts["ben"])
+            self.assertRegex((found | late)[name], rf"{re.escape(counts)} It was read as \({name} {RANKS}\).* {said}")
+        # what is struck later is told, and what is late
+        self.assertIn("the secretary has struck it", found["eve"])
+        self.assertIn("has arrived, and it counts. It was read as", late["hal"])
+        self.assertIn("It was entered after the close, so it is late and does not count. It was read as (fay", late["fay"])
+        self.assertIn("so it is late and does not count.", late["gus"])
+        for text in late.values():
+            self.assertNotRegex(text, r"_,_|unless you|You can send")
 
     def test_a_letter_of_which_one_ballot_is_entered(self) -> None:
         """Its elector is told once of that, and the other elector that the letter waits: Ben, who has the same address, or Dan."""
@@ -444,14 +415,6 @@ class Receipts(OutTest):
         self.told("held", 1, 2, "--set-aside")
         self.assertEqual(self.told("letters", "receipts"), f"3{waits}")
 
-    def test_undo_names_those_whose_receipts_no_longer_hold(self) -> None:
-        self.add_lines(f"ada {RANKS}")
-        self.add_lines(f"ben {RANKS}", f"cleo {RANKS}")
-        self.assertEqual(sorted(self.texts("receipts")), ["ada", "ben", "cleo"])
-        self.add_lines(f"ben {OTHER_RANKS}", f"dan {RANKS}")
-        self.assertNotIn("receipt", self.told("undo", "--yes"))
-        self.assertIn("\nThese electors have receipts that are no longer true: ben, cleo\n", self.told("undo", "--yes"))
-
     def test_letters(self) -> None:
         self.add(
             letter("ada", f"Ada: {RANKS}.\n"),
@@ -485,44 +448,30 @@ class Receipts(OutTest):
         self.assertEqual(self.texts("receipts"), {})
         # one that waited and is entered now
         self.done("held", 3, "--enter", 1)
+        # a ballot that the secretary typed is told as the letter, with its time, and how it was read
+        self.done("held", 6, "--as", f"gus {RANKS}")
         texts = self.texts("receipts")
-        self.assertEqual(list(texts), ["dan"])
-        self.assertIn(f"It counts unless you send a later one. It was read as (dan {RANKS})", texts["dan"])
-
-    def test_a_ballot_that_the_secretary_typed_for_a_letter(self) -> None:
-        """It is told as the letter, with its time, and how it was read; one that was entered as it stood is told without that."""
-        self.add(letter("ada", "I want the lake, then the town hall.\n"), letter("ben", f"Hello 1\nben {RANKS}\n"))
-        self.assertIn("No ballot from it is entered yet", self.texts("receipts")["ada"])
-        self.done("held", 1, "--as", f"ada {RANKS}")
-        self.done("held", 2, "--enter", 2)
-        texts = self.texts("receipts")
+        self.assertEqual(list(texts), ["dan", "gus"])
         said = "10:00 (UTC) has arrived. It counts unless you send a later one."
-        self.assertIn(f"{said} The secretary typed it, by a letter that came. It was read as (ada {RANKS}), in words: {LAKE}.", texts["ada"])
-        self.assertIn(f"{said} It was read as (ben {RANKS})", texts["ben"])
-        self.assertNotIn("No ballot from it", texts["ada"])
-
-    def test_a_copy_is_the_letter_that_it_copies(self) -> None:
-        first = letter("ada", f"ada {RANKS}\n")
-        again = first.replace(b"Received: from a", b"Received: from c")
-        self.add(first, again, letter("ben", "hi\n"), b"X-Y: z\n" + letter("ben", "hi\n"))
-        texts = self.texts("receipts")
-        self.assertEqual({name: text.count("has arrived") for name, text in texts.items()}, {"ada": 1, "ben": 1})
-
-    def test_one_that_was_set_aside_before_the_receipt(self) -> None:
-        self.add(letter("ada", "hello\n"), letter("ben", f"ben {RANKS}\n", sender="x@x.example"))
-        self.done("held", 1, 2, "--set-aside")
-        texts = self.texts("receipts")
-        self.assertIn("No ballot from it was entered. The reason: the secretary has looked at it, and set it aside.", texts["ada"])
-        self.assertIn("A letter in your name came from another address. The secretary has set it aside.", texts["ben"])
+        self.assertIn(f"{said} It was read as (dan {RANKS})", texts["dan"])
+        self.assertIn(f"{said} The secretary typed it, by a letter that came. It was read as (gus {RANKS}), in words: {LAKE}.", texts["gus"])
+        self.assertNotIn("No ballot from it", texts["gus"])
 
     def test_one_for_each_elector_and_run(self) -> None:
+        twice, aside = letter("ben", f"ben {RANKS}\n"), (letter("dan", "hello\n"), letter("eve", f"eve {RANKS}\n", sender="x@x.example"))
+        self.add(*aside)
+        self.done("held", 1, 2, "--set-aside")
         self.add(
             letter("ada", f"ada {RANKS}\n", number=1, time="Mon, 23 Nov 2026 08:00:00 +0000"),
             letter("ada", f"ada {OTHER_RANKS}\n", number=2, time="Mon, 23 Nov 2026 09:00:00 +0000"),
             letter("ada", "thanks\n", number=3, time="Mon, 23 Nov 2026 09:30:00 +0000"),
+            *(twice, twice.replace(b"Received: from a", b"Received: from c"), letter("cleo", "hi\n"), b"X-Y: z\n" + letter("cleo", "hi\n")),
         )
-        [text] = self.texts("receipts").values()
-        self.assertRegex(text, r"08:00 \(UTC\) has arrived\. A later.*09:00 \(UTC\) has arrived\. It counts.*09:30 \(UTC\) has arrived\. No")
+        texts = self.texts("receipts")
+        self.assertEqual({name: text.count("has arrived") for name, text in texts.items()}, {"ada": 3, "ben": 1, "cleo": 1, "dan": 1, "eve": 0})
+        self.assertRegex(texts["ada"], r"08:00 \(UTC\) has arrived\. A later.*09:00 \(UTC\) has arrived\. It counts.*09:30 \(UTC\) has arrived\. No")
+        self.assertIn("No ballot from it was entered. The reason: the secretary has looked at it, and set it aside.", texts["dan"])
+        self.assertIn("A letter in your name came from another address. The secretary has set it aside.", texts["eve"])
 
     def test_the_next_one_goes_to_the_old_address_too(self) -> None:
         self.change_roll("ada@club", "ada@new")
@@ -567,6 +516,53 @@ class Receipts(OutTest):
                 self.add(letter(name, f"{ballot}{message.get_content()}", number=number, head=head, time=EARLIER))
         self.assertEqual(self.exported()[0].splitlines()[3:], [f"{name} {OTHER_RANKS}" for name in found])
 
+    def test_to_whom_reminders_go(self) -> None:
+        self.add_lines(f"ada {RANKS}")
+        self.add(letter("cleo", "I want the lake\n"), letter("dan", f"dan {RANKS}\n", sender="x@x.example"))
+        self.add(
+            letter("eve", f"eve {RANKS}\n", sender="x@x.example", time="Mon, 23 Nov 2026 08:00:00 +0000"),
+            letter("eve", "I want the lake\n", number=2, time="Mon, 23 Nov 2026 09:00:00 +0000"),
+        )
+        texts = self.texts("reminders")
+        self.assertEqual(sorted(texts), [name for name in elections.NAMES if name != "ada"])
+        self.assertTrue(texts["ben"].startswith(f"Dear Ben, No ballot of yours that counts has come yet. {WHEN} {FORM}#ben/"), texts["ben"])
+        self.assertIn(f"{LINE}ben _,_,_,_", texts["ben"])
+        # whose letter waits is told so, and what can be done meanwhile
+        self.assertIn("No ballot from it is entered yet: the secretary has to look at it first.", texts["cleo"])
+        self.assertIn(f" You can send a right line now, and need not wait. {WHEN} {FORM}#cleo/", texts["cleo"])
+        self.assertIn(f"{LINE}cleo _,_,_,_", texts["cleo"])
+        self.assertNotIn("need not wait", texts["ben"])
+        # a stranger's letter silences nobody
+        self.assertIn(ELSEWHERE, texts["dan"])
+        self.assertIn("dan _,_,_,_", texts["dan"])
+        # nor hides it an own letter that waits
+        self.assertIn(f"{ELSEWHERE} Your letter of Monday, 23 November 2026, 09:00 (UTC) has arrived.", texts["eve"])
+        self.assertIn("You can send a right line now", texts["eve"])
+
+    def test_the_end_after_two_extensions_in_reminders_and_receipts(self) -> None:
+        for day, words in ((6, "Sunday, 6 December"), (8, "Tuesday, 8 December")):
+            self.done("call", "--until", f"2026-12-{day:02} 18:00", "--zone", "UTC")
+            self.assertIn(f"Vote until: {words} 2026, 18:00 (UTC)", self.texts("reminders")["ada"])
+            self.set_clock(f"2026-12-{day - 1:02}T10:00:00+00:00")
+            self.add(letter("ben", "hi\n", number=day, time=f"Fri, {day - 1:02} Dec 2026 09:00:00 +0000"))
+            self.assertNotIn("after the end", self.texts("receipts")["ben"])
+            self.set_clock("2026-11-23T10:00:00+00:00")
+
+    def test_a_line_that_came_and_does_not_count_is_told(self) -> None:
+        """With the reason, as in the receipt, and how to vote now. A letter that was set aside is not told again."""
+        self.add_lines("ada 1,2", f"ben {RANKS}", f"cleo {RANKS}")
+        self.done("strike", 2, "--because", "not his")
+        self.add(letter("dan", "hello\n"))
+        self.done("held", 1, "--set-aside")
+        texts = self.texts("reminders")
+        refused = "It is not a valid ballot of this vote, so it does not count. It has 2 ranks, and the vote has 4 options."
+        wanted = (("ada", "A line with your name", refused), ("ben", "Your ballot", "and the secretary has struck it. It does not count."))
+        for name, begins, ends in wanted:
+            begin, told, rest = texts[name].partition(f"{ends} ")
+            self.assertTrue(begin.startswith(f"Dear {name.title()}, No ballot of yours that counts has come yet. {begins} "), texts[name])
+            self.assertIn(f"You can send a right line now, and need not wait. {WHEN} {FORM}#{name}/", rest)
+        self.assertTrue(texts["dan"].startswith(f"Dear Dan, No ballot of yours that counts has come yet. {WHEN}"), texts["dan"])
+
 
 class ReceiptsElsewhere(OutTest):
     call_words = ("--to", "vote@club.example", "--until", "2026-12-04 18:00", "--zone", "Europe/Berlin")
@@ -574,8 +570,7 @@ class ReceiptsElsewhere(OutTest):
     def test_times_are_in_the_zone_of_the_end(self) -> None:
         self.add_lines(f"ada {RANKS}")
         # on a busy machine some seconds later
-        said = r"Your ballot of Monday, 23 November 2026, 11:00(:\d\d)? \(UTC\+01:00\) has arrived\."
-        self.assertRegex(self.texts("receipts")["ada"], said)
+        self.assertRegex(self.texts("receipts")["ada"], r"Your ballot of Monday, 23 November 2026, 11:00(:\d\d)? \(UTC\+01:00\) has arrived\.")
 
 
 class FullDisk(OutTest):
@@ -583,21 +578,10 @@ class FullDisk(OutTest):
 
     names = ["ada", "ben", "cleo"]
 
-    def setUp(self) -> None:
-        super().setUp()
-        if shutil.which("strace") is None:
-            self.skipTest("strace is not installed")
-
     def full_at(self, call: str, count: int) -> elections.Ended:
-        """Writes receipts on a disk that is full at one of these system calls."""
-        words = ["strace", "-f", "-o", "/dev/null", "-e", f"inject={call}:error=ENOSPC:when={count}"]
-        env = elections.environment() | self.clock | {"XDG_STATE_HOME": str(self.state)}
-        words += [sys.executable, str(elections.ELECTION), "letters", "receipts"]
-        ended = subprocess.run(words, cwd=self.folder, env=env, capture_output=True, timeout=elections.SECONDS)
-        return elections.Ended(ended.stdout.decode(), ended.stderr.decode(), ended.returncode)
+        return self.traced("-f", "-e", f"inject={call}:error=ENOSPC:when={count}", words=("letters", "receipts"))
 
     def receipts(self) -> dict[pathlib.Path, bytes]:
-        """The files of all receipts that were written."""
         return {file: file.read_bytes() for file in (self.folder / "letters").rglob("*.eml") if ".debvote" not in str(file)}
 
     def test_what_could_not_be_noted_leaves_the_folder_as_it_was(self) -> None:
@@ -632,59 +616,6 @@ class FullDisk(OutTest):
                     left = [file.name for file in (self.folder / "letters" / "receipts").iterdir() if not file.name.isdigit()]
                     self.assertLessEqual(len(left), 2)
         self.assertEqual(failures, {"write", "pwrite64", "mkdir", "rename"})
-
-
-class Reminders(OutTest):
-    def test_to_whom(self) -> None:
-        self.add_lines(f"ada {RANKS}")
-        self.add(letter("cleo", "I want the lake\n"), letter("dan", f"dan {RANKS}\n", sender="x@x.example"))
-        texts = self.texts("reminders")
-        self.assertEqual(sorted(texts), [name for name in elections.NAMES if name != "ada"])
-        begin = f"Dear Ben, No ballot of yours that counts has come yet. {WHEN} {FORM}#ben/"
-        self.assertTrue(texts["ben"].startswith(begin), texts["ben"])
-        self.assertIn(f"{LINE}ben _,_,_,_", texts["ben"])
-        # whose letter waits is told so, and what can be done meanwhile
-        self.assertIn("No ballot from it is entered yet: the secretary has to look at it first.", texts["cleo"])
-        self.assertIn(f" You can send a right line now, and need not wait. {WHEN} {FORM}#cleo/", texts["cleo"])
-        self.assertIn(f"{LINE}cleo _,_,_,_", texts["cleo"])
-        self.assertNotIn("need not wait", texts["ben"])
-        # a stranger's letter silences nobody
-        self.assertIn(ELSEWHERE, texts["dan"])
-        self.assertIn("dan _,_,_,_", texts["dan"])
-
-    def test_an_own_letter_that_waits_behind_one_of_a_stranger(self) -> None:
-        self.add(
-            letter("ada", f"ada {RANKS}\n", sender="x@x.example", time="Mon, 23 Nov 2026 08:00:00 +0000"),
-            letter("ada", "I want the lake\n", number=2, time="Mon, 23 Nov 2026 09:00:00 +0000"),
-        )
-        text = self.texts("reminders")["ada"]
-        self.assertIn(f"{ELSEWHERE} Your letter of Monday, 23 November 2026, 09:00 (UTC) has arrived.", text)
-        self.assertIn("You can send a right line now", text)
-
-    def test_the_end_after_two_extensions(self) -> None:
-        for day, words in ((6, "Sunday, 6 December"), (8, "Tuesday, 8 December")):
-            self.done("call", "--until", f"2026-12-{day:02} 18:00", "--zone", "UTC")
-            self.assertIn(f"Vote until: {words} 2026, 18:00 (UTC)", self.texts("reminders")["ada"])
-            self.set_clock(f"2026-12-{day - 1:02}T10:00:00+00:00")
-            self.add(letter("ben", "hi\n", number=day, time=f"Fri, {day - 1:02} Dec 2026 09:00:00 +0000"))
-            receipt = self.texts("receipts")["ben"]
-            self.assertNotIn("after the end", receipt)
-            self.set_clock("2026-11-23T10:00:00+00:00")
-
-    def test_a_line_that_came_and_does_not_count_is_told(self) -> None:
-        """With the reason, as in the receipt, and how to vote now. A letter that was set aside is not told again."""
-        self.add_lines("ada 1,2", f"ben {RANKS}", f"cleo {RANKS}")
-        self.done("strike", 2, "--because", "not his")
-        self.add(letter("dan", "hello\n"))
-        self.done("held", 1, "--set-aside")
-        texts = self.texts("reminders")
-        refused = "It is not a valid ballot of this vote, so it does not count. It has 2 ranks, and the vote has 4 options."
-        wanted = (("ada", "A line with your name", refused), ("ben", "Your ballot", "and the secretary has struck it. It does not count."))
-        for name, begins, ends in wanted:
-            begin, told, rest = texts[name].partition(f"{ends} ")
-            self.assertTrue(begin.startswith(f"Dear {name.title()}, No ballot of yours that counts has come yet. {begins} "), texts[name])
-            self.assertIn(f"You can send a right line now, and need not wait. {WHEN} {FORM}#{name}/", rest)
-        self.assertTrue(texts["dan"].startswith(f"Dear Dan, No ballot of yours that counts has come yet. {WHEN}"), texts["dan"])
 
 
 class NoBallots(OutTest):
@@ -724,44 +655,13 @@ class NoBallots(OutTest):
         self.assertIn("counted", self.debvote(*steps).output)
 
 
-class Closed(OutTest):
-    def test_it_has_the_checksum(self) -> None:
-        self.add_lines(f"ada {RANKS}")
-        self.assert_fault(self.election("letters", "closed"), 9, "the vote is not closed")
-        self.done("close", "--early")
-        text = self.read("letters/closed.txt").decode()
-        found = self.written("closed")
-        self.assertEqual(sorted(found), elections.NAMES)
-        for message in found.values():
-            self.assertIn(text, message.get_content())
-            self.assertRegex(message["Subject"], rf"^Vote closed: Where we meet in spring {MARKS}$")
-
-    def test_after_a_second_close_all_get_its_letter(self) -> None:
-        self.add_lines(f"ada {RANKS}")
-        self.done("close", "--early")
-        first = self.texts("closed")
-        self.done("reopen", "--because", "a bag was forgotten")
-        for kind, said in (("closed", "the vote is not closed"), ("call", "nobody is asked to vote"), ("reminders", "nobody is asked to vote")):
-            self.assert_fault(self.election("letters", kind), 9, said)
-        self.add_lines(f"ben {RANKS}", words=("--came-before-close", "yes"))
-        self.done("close", "--early")
-        second = self.texts("closed")
-        self.assertEqual((sorted(first), sorted(second)), (elections.NAMES, elections.NAMES))
-        for name in elections.NAMES:
-            self.assertIn("1 line came in time.", first[name])
-            self.assertIn("2 lines came in time.", second[name])
-            self.assertIn(" ".join(self.read("letters/closed.txt").decode().split()), second[name])
-
-
-class Result(OutTest):
-    def published(self, *words: object) -> None:
-        self.add_lines(f"ada {RANKS}", f"ben {RANKS}")
-        self.done("close", "--early")
-        self.done("publish", *words)
+class CloseAndResult(OutTest):
 
     def test_an_open_vote(self) -> None:
         self.assert_fault(self.election("letters", "result"), 9, "nothing is published")
-        self.published()
+        self.add_lines(f"ada {RANKS}", f"ben {RANKS}")
+        self.done("close", "--early")
+        self.done("publish")
         texts = self.texts("result")
         self.assertEqual(sorted(texts), elections.NAMES)
         begin = f"{TITLE} Winner: Option 1: At the lake. It beats each option that was not dropped: "
@@ -769,9 +669,7 @@ class Result(OutTest):
         facts = "2 of 9 voted, quorum 2 reached, 0 lines of 2 refused. The result is published at: "
         own = f"Your own ballot is (ada {RANKS}), in words: {LAKE}. The page shows it at: {AT}#ada "
         self.assertIn(f"Dear Ada, {begin}{numbers} {facts}{AT} {own}What is doubtful", texts["ada"])
-        self.assertEqual(
-            f"Dear Ada, {' '.join(self.read('letters/result.txt').decode().split())}", texts["ada"].replace(own, "")
-        )
+        self.assertEqual(f"Dear Ada, {' '.join(self.read('letters/result.txt').decode().split())}", texts["ada"].replace(own, ""))
         self.assertIn(f"{AT}#ben", texts["ben"])
         self.assertIn(f"{AT} The result has no ballot of yours that counts.", texts["cleo"])
         self.assertNotIn("#", texts["cleo"])
@@ -785,6 +683,9 @@ class Result(OutTest):
         self.assertIn("open the index.html that you downloaded and compared, and read that file", texts["ada"])
         # each act that the page tells
         self.assertIn("That was before the time until which one could vote.", texts["ada"])
+        # none of a vote that is open again
+        self.done("reopen", "--because", "a bag was forgotten")
+        self.assert_fault(self.election("letters", "result"), 9, "nothing is published")
 
     def test_of_the_last_publication(self) -> None:
         self.add_lines(f"ada {RANKS}", f"ben {OTHER_RANKS}")
@@ -804,11 +705,6 @@ class Result(OutTest):
             "The secretary struck envelope 2: its line does not count. The reason, in the secretary's words: (a mistake of 'ours' & <yours>)",
         ):
             self.assertIn(said, text)
-
-    def test_none_of_a_vote_that_is_open_again(self) -> None:
-        self.published()
-        self.done("reopen", "--because", "a bag was forgotten")
-        self.assert_fault(self.election("letters", "result"), 9, "nothing is published")
 
     def test_doubts(self) -> None:
         self.add_lines(f"ada {RANKS}", "ben 1", "cleo 1", words=("--force",))
@@ -839,6 +735,23 @@ class Result(OutTest):
         ):
             self.assertRegex(texts[name], rf"{AT} The result has no ballot of yours that counts\. .*{re.escape(why)} .*What is doubtful")
 
+    def test_of_a_close_has_the_checksum_and_of_a_second_one_all_get_it(self) -> None:
+        self.add_lines(f"ada {RANKS}")
+        self.assert_fault(self.election("letters", "closed"), 9, "the vote is not closed")
+        for count, said in (("1 line", ("closed", "the vote is not closed")), ("2 lines", None)):
+            self.done("close", "--early")
+            text, found = self.read("letters/closed.txt").decode(), self.written("closed")
+            self.assertEqual(sorted(found), elections.NAMES)
+            for message in found.values():
+                self.assertIn(text, message.get_content())
+                self.assertIn(f"{count} came in time.", one_line(message))
+                self.assertRegex(message["Subject"], rf"^Vote closed: Where we meet in spring {MARKS}$")
+            if said:
+                self.done("reopen", "--because", "a bag was forgotten")
+                for kind, fault in (said, ("call", "nobody is asked to vote"), ("reminders", "nobody is asked to vote")):
+                    self.assert_fault(self.election("letters", kind), 9, fault)
+                self.add_lines(f"ben {RANKS}", words=("--came-before-close", "yes"))
+
 
 class ResultAt(OutTest):
     call_words = ("--to", "vote@club.example")
@@ -864,11 +777,13 @@ class Secret(OutTest):
     def codes(self) -> dict[str, str]:
         return dict(self.book.rows("SELECT name, code FROM elector JOIN elector_state USING (elector) WHERE code <> ''"))
 
-    def test_each_letter_of_the_call_has_the_code_of_its_own_elector(self) -> None:
+    def test_the_call_has_the_code_of_its_own_elector_and_an_answer_to_it_goes_in(self) -> None:
         codes = self.codes()
-        for name, message in self.written("call").items():
+        letters = self.written("call")
+        for name, message in letters.items():
             text = message.get_content()
             self.assertEqual([other for other, code in codes.items() if code in text], [name])
+        found = letters["ada"]
         # folders that others may read are closed again
         folders = self.files("call")[0].parents[:3]
         for folder in folders:
@@ -880,14 +795,10 @@ class Secret(OutTest):
         self.done("call", "--until", "2026-12-06 12:00", "--zone", "UTC")
         for message in self.written("call").values():
             self.assertFalse([code for code in codes.values() if code in message.get_content()])
-
-    def test_an_answer_to_the_call_goes_in(self) -> None:
-        """The mark in its subject is that of the poll that everybody sees, with the own one. The link has no name."""
-        found = self.written("call")["ada"]
+        # the mark in its subject is that of the poll that everybody sees, with the own one; the link has no name
         self.assertEqual([self.mark], [mark for mark, _ in re.findall(MARKS, found["Subject"])])
         self.assertRegex(one_line(found), rf"the result will be: {AT} {LINE}ada _,_,_,_ ")
-        head = f"In-Reply-To: {found['Message-ID']}\nSubject: Re: {found['Subject']}\n"
-        self.add(letter("ada", f"ada {RANKS}\n", head=head, time=EARLIER))
+        self.add(letter("ada", f"ada {RANKS}\n", head=f"In-Reply-To: {found['Message-ID']}\nSubject: Re: {found['Subject']}\n", time=EARLIER))
         self.assertEqual(self.numbers()["valid"], 1)
 
     def test_a_doubt_tells_no_number_of_lines(self) -> None:
@@ -914,8 +825,7 @@ class Secret(OutTest):
         self.assertNotIn("#", results["ada"])
         self.assertIn("cat seal.txt ballots.txt | sha256sum", results["ada"])
         self.assertIn("learns what you type into it, with or without a network", " ".join(results["ada"].split()))
-        texts = [one_line(message) for message in found] + list(results.values())
-        for text in texts:
+        for text in [one_line(message) for message in found] + list(results.values()):
             self.assertFalse([code for code in [*codes.values(), *aliases] if code in text])
             self.assertNotRegex(text, r"[a-z]+ \d,\d,\d,\d")
             self.assertNotIn("in words", text)

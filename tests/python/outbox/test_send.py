@@ -3,6 +3,7 @@
 import base64
 import contextlib
 import datetime
+import itertools
 import os
 import shutil
 import socket
@@ -27,6 +28,13 @@ REPORT = 'multipart/report; report-type=delivery-status; boundary="b"'
 
 class Sending(SendTest):
     def test_each_gets_one_letter_and_a_second_run_sends_none(self) -> None:
+        noted: list[tuple[str, int, list[tuple[str, str]]]] = []
+
+        def note(step: str, number: int) -> bool:
+            noted.append((step, number, self.rows("call")[9:]))
+            return False
+
+        self.server.at = note
         self.assertEqual(self.assert_sent("call", "Sent 9 of 9 letters.\n").faults, "")
         self.assertEqual(self.server.addresses(), ALL)
         for taken in self.server.taken:
@@ -36,24 +44,17 @@ class Sending(SendTest):
             self.assertIn(f" {taken.to.partition('@')[0]} _,_,_,_ ", one_line(message))
             # each line ends as in letters
             self.assertEqual(taken.data.count(b"\n"), taken.data.count(b"\r\n"))
-        self.assert_none_is_due("call")
-        self.assertEqual(len(self.server.taken), 9)
-
-    def test_each_is_noted_before_the_next_begins(self) -> None:
-        noted: list[tuple[str, int, list[tuple[str, str]]]] = []
-
-        def note(step: str, number: int) -> bool:
-            noted.append((step, number, self.rows("call")[9:]))
-            return False
-
-        self.server.at = note
-        self.send("call")
+        # each is noted before the next begins
         for step, number, rows in noted:
             self.assertEqual(rows, [(name, "taken") for name in elections.NAMES[:number]], (step, number))
         self.assertEqual(len(noted), 27)
         self.assertEqual(self.rows("call")[-1], ("ida", "taken"))
+        self.assert_none_is_due("call")
+        self.assertEqual(len(self.server.taken), 9)
 
     def test_refused_for_good_or_for_now(self) -> None:
+        """Who was refused is named by each later run, of whatever letters, and by `status`, until a letter is taken."""
+        self.assertEqual(self.not_reached(), {})
         self.server.rcpt_answers = {"ada@club.example": "550 5.1.1 no such\x1b user", "ben@club.example": "451 4.7.1 greylisted"}
         self.server.data_answers = {"cleo@club.example": "554 spam", "dan@club.example": "452 full"}
         ended = self.assert_sent("call", "Sent 5 of 9 letters.\n", 9)
@@ -74,13 +75,20 @@ class Sending(SendTest):
         self.server.data_answers = {}
         self.assert_sent("call", "Sent 3 of 4 letters.\n", 9)
         self.assertEqual(self.server.addresses(), [*ALL[4:], *ALL[1:4]])
+        named = "Not reached by the call: ada (refused: 550 5.1.1 no such user)\n"
+        self.add_lines(f"ben {RANKS}")
+        for words in (("--send", "--server", self.server.name), ()):
+            self.assertIn(named, self.election("letters", "receipts", *words).output)
+            self.assertEqual(self.not_reached(), {"ada": "refused"})
+        self.assertIn(named, self.send("call").output)
         # what is written as files now is the letter that no server has taken; a new address is another try, with a new own mark
         [message] = self.written("call").values()
         self.assertEqual(message["To"], "ada@club.example")
         self.change_roll("ada@club", "ada@new")
-        self.assert_sent("call")
-        self.assertEqual(self.server.addresses()[8:], ["ada@new.example"])
+        self.assertNotIn("Not reached", self.assert_sent("call").output)
+        self.assertEqual(self.server.addresses()[9:], ["ada@new.example"])
         self.assertNotEqual(parsed(self.server.taken[-1].data)["Subject"], message["Subject"])
+        self.assertEqual(self.not_reached(), {})
         self.assert_none_is_due("call")
 
     def not_reached(self) -> dict[str, str]:
@@ -91,21 +99,6 @@ class Sending(SendTest):
             self.assertIn(f"Not reached by the call: {reason} ({len(names)}):\n  {' '.join(names)}\n", said)
         self.assertEqual("Not reached" in said, bool(found))
         return found
-
-    def test_who_was_refused_is_named_until_a_letter_is_taken(self) -> None:
-        """By each later run, of whatever letters, and by `status`. Else nobody sees that somebody was never asked to vote."""
-        self.assertEqual(self.not_reached(), {})
-        named = "Not reached by the call: ada (refused: 550 5.1.1 no such user)\n"
-        self.server.rcpt_answers = {"ada@club.example": "550 5.1.1 no such user"}
-        self.assertIn("Refused: ada, ada@club.example: 550 5.1.1 no such user\n", self.send("call").output)
-        self.add_lines(f"ben {RANKS}")
-        for words in (("--send", "--server", self.server.name), ()):
-            self.assertIn(named, self.election("letters", "receipts", *words).output)
-            self.assertEqual(self.not_reached(), {"ada": "refused"})
-        self.assertIn(named, self.send("call").output)
-        self.server.rcpt_answers = {}
-        self.assertNotIn("Not reached", self.send("reminders").output)
-        self.assertEqual(self.not_reached(), {})
 
     def test_who_got_no_letter_is_named(self) -> None:
         """One whose address changed since, and those whom a run that was cut off did not come to; not who gets it printed."""
@@ -127,12 +120,7 @@ class Sending(SendTest):
         self.send("call")
         self.assertEqual(self.not_reached(), {})
 
-    def test_letters_that_are_files_reach_those_to_whom_they_are_written(self) -> None:
-        self.written("call")
-        self.assertEqual(self.not_reached(), {})
-
     def came_back(self, name: str, what: str, sender: str = "mailer-daemon@mail.example") -> None:
-        """A mail server reports that a letter to an elector did not arrive."""
         sent = {taken.to: taken.data.decode().replace("\r\n", "\n") for taken in self.server.taken}[f"{name}@club.example"]
         message = parsed(sent.encode())
         head, body = sent.partition("\n\n")[0], message.get_content()
@@ -224,7 +212,14 @@ class Sending(SendTest):
 
     def test_a_receipt_that_is_a_file_is_sent_once_to_each_address(self) -> None:
         """Whether the address changed before it was written or after."""
+        self.assertEqual(self.written("receipts"), {})
+        self.add_lines(f"cleo {RANKS}", "dan 2,1,4,3")
+        ids = {message["To"]: message["Message-ID"] for message in self.written("receipts").values()}
+        self.assertEqual(sorted(ids), ["cleo@club.example", "dan@club.example"])
+        self.assert_sent("receipts")
+        self.assertEqual({parsed(one.data)["To"]: parsed(one.data)["Message-ID"] for one in self.server.taken}, ids)
         for name, is_before in (("ada", False), ("ben", True)):
+            self.server.taken.clear()
             self.add_lines(f"{name} {RANKS}")
             changes = ("letters", "receipts"), ("roll", "--yes")
             self.write("members.csv", elections.members_of(self.names).replace(f"{name}@club", f"{name}@new"))
@@ -233,10 +228,9 @@ class Sending(SendTest):
             for _ in range(2):
                 self.assert_sent("receipts")
                 self.assertEqual(sorted(self.server.addresses()), [f"{name}@club.example", f"{name}@new.example"])
-            self.server.taken.clear()
+        self.assert_none_is_due("receipts")
 
     def test_a_receipt_on_paper_is_printed_once(self) -> None:
-        """Ada has no address any longer."""
         self.change_roll("ada@club.example", "")
         self.add_lines(f"ada {RANKS}", f"ben {RANKS}")
         place = self.folder / "letters" / "receipts"
@@ -257,7 +251,7 @@ class Sending(SendTest):
         self.assertIn("Without an address: ada. Print letters/receipts/", self.send("receipts").output)
         self.assertEqual(len(list(place.rglob("*.html"))), 2)
 
-    def test_after_an_extension_who_has_no_call_gets_it_whole(self) -> None:
+    def test_after_an_extension_and_a_second_close(self) -> None:
         self.server.rcpt_answers = {"ben@club.example": "451 later", "cleo@club.example": "550 no"}
         self.assert_sent("call", status=9)
         self.done("call", "--until", "2026-12-06 12:00", "--zone", "UTC")
@@ -270,8 +264,8 @@ class Sending(SendTest):
         self.assertEqual(whole, ["ben", "cleo"])
         for text in texts.values():
             self.assertIn("Vote until: Sunday, 6 December 2026, 12:00 (UTC)", text)
-
-    def test_after_a_second_close_its_letter_goes_out_too(self) -> None:
+        # after a second close its letter goes out too
+        self.server.taken.clear()
         for count in (1, 2):
             self.done("close", "--early")
             self.assert_sent("closed")
@@ -279,34 +273,24 @@ class Sending(SendTest):
             self.assert_none_is_due("closed")
             self.done("reopen", "--because", "a bag was forgotten")
 
-    def test_a_refused_sender_stops_and_costs_nobody_their_letter(self) -> None:
+    def test_a_refused_sender_and_a_lost_connection_cost_nobody_their_letter(self) -> None:
         self.server.mail_answer = "553 not yours"
-        ended = self.send("call")
-        self.assert_fault(ended, 7, "it takes no letters now: 553 not yours", "0 of 9 letters taken in this run")
+        self.assert_fault(self.send("call"), 7, "it takes no letters now: 553 not yours", "0 of 9 letters taken in this run")
         self.server.mail_answer = "250 OK"
-        self.assert_sent("call")
-        self.assertEqual(sorted(self.server.addresses()), ALL)
-
-    def test_a_connection_that_is_lost_between_letters_is_made_anew(self) -> None:
+        # lost in a letter
+        self.server.at = lambda step, number: (step, number) == ("data", 3)
+        self.assert_fault(self.send("call"), 7, "lost during the letter to dan@club.example", "3 of 9 letters taken in this run")
+        # lost between letters it is made anew
         cut: set[int] = set()
 
         def once(step: str, number: int) -> bool:
-            is_new = step in ("mail", "rcpt") and number in (2, 5) and number not in cut
+            is_new = step in ("mail", "rcpt") and number in (5, 7) and number not in cut
             cut.update([number] if is_new else [])
             return is_new
 
         self.server.at = once
-        ended = self.send("call")
-        self.assertEqual((ended.status, len(cut)), (0, 2), ended)
-        self.assertEqual(self.server.addresses(), ALL)
-
-    def test_a_connection_that_is_lost_in_a_letter(self) -> None:
-        self.server.at = lambda step, number: (step, number) == ("data", 3)
-        ended = self.send("call")
-        self.assert_fault(ended, 7, "lost during the letter to dan@club.example", "3 of 9 letters taken in this run")
-        self.server.at = lambda step, number: False
         self.assert_sent("call", "Sent 6 of 6 letters.\n")
-        self.assertEqual(self.server.addresses(), ALL)
+        self.assertEqual((self.server.addresses(), len(cut)), (ALL, 2))
         self.assert_none_is_due("call")
 
     def test_a_server_that_is_not_there_or_lets_nobody_in(self) -> None:
@@ -319,7 +303,10 @@ class Sending(SendTest):
         self.assert_fault(ended, 7, "it refuses user or password: 535")
         self.assertNotIn("wrong", ended.output + ended.faults)
         self.write("password", "right\r\n")
-        self.assertEqual(self.send("call", "--user", "vote", "--password-file", "password").status, 0)
+        sender = ("--from", "ada.secretary@mail.example")
+        self.assertEqual(self.send("call", "--user", "vote", "--password-file", "password", *sender).status, 0)
+        message = parsed(self.server.taken[0].data)
+        self.assertEqual((message["From"], message["Reply-To"]), (sender[1], "vote@club.example"))
         self.assertEqual(self.server.logins[-1], (b"vote", b"right"))
         self.assertEqual(self.server.addresses(), ALL)
 
@@ -342,21 +329,6 @@ class Sending(SendTest):
                 self.assert_fault(self.election("letters", *words), 2, part)
         self.assertEqual((self.rows("call"), self.server.taken), ([], []))
 
-    def test_another_sender(self) -> None:
-        self.assertEqual(self.send("call", "--from", "ada.secretary@mail.example").status, 0)
-        message = parsed(self.server.taken[0].data)
-        self.assertEqual((message["From"], message["Reply-To"]), ("ada.secretary@mail.example", "vote@club.example"))
-
-    def test_what_was_written_as_files_can_be_sent(self) -> None:
-        self.assertEqual(self.written("receipts"), {})
-        self.add_lines("ada 1,2,4,3", "ben 2,1,4,3")
-        ids = {name: message["Message-ID"] for name, message in self.written("receipts").items()}
-        self.assertEqual(sorted(ids), ["ada", "ben"])
-        self.assert_sent("receipts")
-        sent = {parsed(one.data)["To"]: parsed(one.data)["Message-ID"] for one in self.server.taken}
-        self.assertEqual(sent, {f"{name}@club.example": message_id for name, message_id in ids.items()})
-        self.assert_none_is_due("receipts")
-
     def test_a_receipt_that_is_outdated_before_it_is_taken(self) -> None:
         """It would tell of nothing: the letter that it is about is a ballot now."""
         self.add(letter("cleo", f"dan {RANKS}\n"))
@@ -375,6 +347,8 @@ class Remembered(SendTest):
     def test_the_server_of_the_last_letters(self) -> None:
         self.assert_fault(self.election("letters", "call", "--send"), 2, "--send: no server is named", "give --server HOST[:PORT]")
         self.assertIn("or by debvote-election letters call --send --server HOST\n", self.told("letters", "call"))
+        # letters that are files reach those to whom they are written
+        self.assertEqual(self.numbers()["not_reached"], {})
         self.send("call")
         said = self.told("letters", "reminders", "--send")
         self.assertTrue(said.startswith(f"To the server of the last letters: {self.server.name}\n"), said)
@@ -390,6 +364,11 @@ class Remembered(SendTest):
         self.add_lines(f"ben {RANKS}")
         self.assertIn(other.name, self.election("letters", "receipts", "--send").output)
         self.assertEqual(other.addresses(), ["ada@club.example", "ben@club.example"])
+        # one that is gone
+        other.stop()
+        said = "the server of the last letters: if it is gone, name another with --server"
+        self.assert_fault(self.election("letters", "reminders", "--send"), 7, f"{other.name}: no connection", said)
+        self.assert_sent("reminders")
 
     def test_the_user_but_not_the_password(self) -> None:
         self.server = self.mail_server(authenticator=lambda *words: self.server.authenticated(*words), auth_require_tls=False)
@@ -415,15 +394,6 @@ class Remembered(SendTest):
         self.assertEqual(self.server.addresses(), ALL)
         self.assertIn("--server HOST\n", self.told("letters", "reminders"))
         self.assert_sent("reminders")
-
-    def test_a_server_that_is_gone(self) -> None:
-        self.send("call")
-        self.server.stop()
-        ended = self.election("letters", "reminders", "--send")
-        self.assert_fault(ended, 7, f"{self.server.name}: no connection", "the server of the last letters: if it is gone, name another with --server")
-        self.server = self.mail_server()
-        self.assert_sent("reminders")
-        self.assertEqual(self.server.addresses(), ALL)
 
 
 class Endless(unittest.TestCase):
@@ -458,47 +428,34 @@ class Killed(SendTest):
     names = ["ada", "ben", "cleo"]
 
     def test_none_is_lost_and_only_that_of_the_kill_may_go_out_twice(self) -> None:
-        kills = 0
-        for step in ("mail", "rcpt", "data"):
-            for number in range(3):
-                with self.subTest(step=step, number=number):
-                    self.server.taken.clear()
-                    self.done("call", "--until", f"2026-12-{5 + kills:02} 18:00", "--zone", "UTC")
-                    self.assertEqual(self.send_until_killed("call", step, number), -9)
-                    kills += 1
-                    self.assert_sent("call")
-                    addresses = [f"{name}@club.example" for name in self.names]
-                    twice = [addresses[number]] if step == "data" else []
-                    self.assertEqual(sorted(self.server.addresses()), sorted([*addresses, *twice]))
-                    ids = {parsed(taken.data)["Message-ID"] for taken in self.server.taken}
-                    self.assertEqual(len(ids), 3)
-                    self.assert_none_is_due("call")
-        self.assertEqual(kills, 9)
+        addresses = [f"{name}@club.example" for name in self.names]
+        for kills, (step, number) in enumerate(itertools.product(("mail", "rcpt", "data"), range(3))):
+            with self.subTest(step=step, number=number):
+                self.server.taken.clear()
+                self.done("call", "--until", f"2026-12-{5 + kills:02} 18:00", "--zone", "UTC")
+                self.assertEqual(self.send_until_killed("call", step, number), -9)
+                self.assert_sent("call")
+                twice = [addresses[number]] if step == "data" else []
+                self.assertEqual(sorted(self.server.addresses()), sorted([*addresses, *twice]))
+                self.assertEqual(len({parsed(taken.data)["Message-ID"] for taken in self.server.taken}), 3)
+                self.assert_none_is_due("call")
 
 
-class AtOnce(SendTest):
-    def test_two_runs_at_once_send_each_letter_once(self) -> None:
-        runs = [self.sending("call") for _ in range(3)]
-        outputs = [run.communicate(timeout=elections.SECONDS)[0] for run in runs]
-        self.assertEqual([run.returncode for run in runs], [0, 0, 0])
-        self.assertEqual(sum("Sent 9 of 9 letters." in output for output in outputs), 1, outputs)
-        self.assertEqual(self.server.addresses(), ALL)
-
-
-class Reminders(SendTest):
-    def test_a_run_that_was_cut_off_goes_on_and_else_each_is_a_new_one(self) -> None:
-        self.server.rcpt_answers = {"ben@club.example": "451 later", "dan@club.example": "451 later"}
+class SeveralRuns(SendTest):
+    def test_reminders_that_were_cut_off_go_on_and_else_each_run_is_a_new_one(self) -> None:
+        self.server.rcpt_answers = dict.fromkeys(("ben@club.example", "cleo@club.example", "dan@club.example"), "451 later")
         self.assert_sent("reminders", status=9)
-        self.assertEqual(len(self.server.taken), 7)
+        self.assertEqual(len(self.server.taken), 6)
         self.server.rcpt_answers = {}
-        # who has voted meanwhile is not reminded
+        # who has voted meanwhile is not reminded, nor does an address that its elector no longer has hold up a new run
         self.add_lines("dan 1,2,4,3")
+        self.change_roll("cleo@club", "cleo@new")
         self.assert_sent("reminders")
-        self.assertEqual(self.server.addresses()[7:], ["ben@club.example"])
+        self.assertEqual(self.server.addresses()[6:], ["ben@club.example"])
         self.assert_sent("reminders")
-        self.assertEqual(sorted(self.server.addresses()[8:]), sorted(set(ALL) - {"dan@club.example"}))
+        self.assertEqual(self.server.addresses()[7:], [*ALL[:2], "cleo@new.example", *ALL[4:]])
 
-    def test_a_letter_that_no_server_can_take_holds_up_no_new_run(self) -> None:
+    def test_a_reminder_that_no_server_can_take_holds_up_no_new_run(self) -> None:
         """One to be printed, or to an address that was wrong, or that the server postpones for days."""
         self.change_roll("gus@club.example", "")
         self.assert_sent("reminders")
@@ -513,18 +470,13 @@ class Reminders(SendTest):
         self.told("roll", "--yes")
         self.assert_sent("reminders", "Sent 8 of 8 letters.")
 
-    def test_nor_does_one_to_an_address_that_its_elector_no_longer_has(self) -> None:
-        self.server.rcpt_answers = {"ben@club.example": "451 later", "dan@club.example": "451 later"}
-        self.assert_sent("reminders", status=9)
-        self.change_roll("ben@club", "ben@new")
-        self.server.rcpt_answers = {}
-        self.assert_sent("reminders")
-        self.assertEqual(self.server.addresses()[7:], ["dan@club.example"])
-        self.assert_sent("reminders")
-        self.assertEqual(self.server.addresses()[8:], ["ada@club.example", "ben@new.example", *ALL[2:]])
+    def test_two_runs_at_once_send_each_letter_once(self) -> None:
+        runs = [self.sending("call") for _ in range(3)]
+        outputs = [run.communicate(timeout=elections.SECONDS)[0] for run in runs]
+        self.assertEqual([run.returncode for run in runs], [0, 0, 0])
+        self.assertEqual(sum("Sent 9 of 9 letters." in output for output in outputs), 1, outputs)
+        self.assertEqual(self.server.addresses(), ALL)
 
-
-class AtTerminal(SendTest):
     def test_the_password_is_asked_and_a_bar_is_shown(self) -> None:
         self.server = self.mail_server(authenticator=lambda *words: self.server.authenticated(*words), auth_require_tls=False)
         desk = terminal.Terminal(self, "letters", "call", "--send", "--server", self.server.name, "--user", "vote")
@@ -538,8 +490,6 @@ class AtTerminal(SendTest):
         self.assertIn("[" + "#" * 40 + "] 9 of 9", shown)
         self.assertIn("Sent 9 of 9 letters.", shown)
 
-
-class RemindedSoon(SendTest):
     def test_reminders_within_a_day_ask_at_a_terminal(self) -> None:
         self.assert_sent("reminders")
         words = ("letters", "reminders", "--send", "--server", self.server.name)
@@ -605,12 +555,6 @@ class Encrypted(unittest.TestCase):
 
 
 def sent_to(server: smtp.Server) -> list[OutgoingLetter]:
-    """What becomes of a letter that is sent to a server."""
-    return list(smtp.send_all([outgoing()], "vote@club.example", server, lambda letter: None))
-
-
-def outgoing() -> tuple[OutgoingLetter, bytes]:
-    """A letter to Ada."""
-    time = datetime.datetime(2026, 11, 23, tzinfo=datetime.UTC)
-    letter = OutgoingLetter(1, "call", 1, "ada@club.example", "<1@club.example>", time, ())
-    return letter, b"From: vote@club.example\n\n.\nFrom me\n"
+    """What becomes of a letter to Ada that is sent to a server."""
+    letter = OutgoingLetter(1, "call", 1, ALL[0], "<1@club.example>", datetime.datetime(2026, 11, 23, tzinfo=datetime.UTC), ())
+    return list(smtp.send_all([(letter, b"From: vote@club.example\n\n.\nFrom me\n")], "vote@club.example", server, lambda letter: None))

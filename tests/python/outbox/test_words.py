@@ -32,11 +32,9 @@ TIME = datetime.datetime(2026, 11, 23, 10, tzinfo=datetime.UTC)
 POLL = SealedPoll("Spring", ("Lake", "Hall"), (1, 1), "None", 1, ("ada", "ben"))
 ADA = Elector(1, "ada", 1, "Ada L.", ("ada@club.example",), mark="abcdefghjk")
 GUS = ADA._replace(name="gus", who="Gus G.", addresses=())
-TOO_LONG = (
-    "The texts about the options are too long for this letter: they are on the page of the vote. "
-    "The secretary gives them on paper to whoever asks."
-)
-TOO_LONG_WITHOUT_PAGE = "The texts about the options are too long for this letter. The secretary gives them to whoever asks."
+TEXTS = "The texts about the options are too long for this letter"
+TOO_LONG = f"{TEXTS}: they are on the page of the vote. The secretary gives them on paper to whoever asks."
+TOO_LONG_WITHOUT_PAGE = f"{TEXTS}. The secretary gives them to whoever asks."
 LETTER = OutgoingLetter(1, "call", 1, "ada@club.example", "<1@club.example>", TIME, ())
 
 
@@ -69,7 +67,6 @@ WAITS = next(one for one in all_that_came() if one.became is Outcome.WAITS and o
 
 
 def texts(now: Composer) -> list[str]:
-    """A letter of each kind."""
     return [
         now.call_letter(ADA, is_extension=False),
         now.call_letter(ADA._replace(code="c0de"), is_extension=False),
@@ -93,19 +90,16 @@ class Texts(unittest.TestCase):
                     same = english & set(text.splitlines())
                     commands = {line for line in same if "python3" in line or "sha256sum" in line}
                     self.assertEqual(same - commands if code != "en" else set(), set(), code)
-
-    def test_a_secret_vote_repeats_no_ranks(self) -> None:
-        self.assertIn("(ada 1,2,3)", vote().receipt(ADA, all_that_came()))
-        self.assertNotRegex(vote(has_aliases=True).receipt(ADA, all_that_came()), r"\d,\d|in words|Lake, then")
-
-    def test_each_kind_has_its_own_subject(self) -> None:
+        # each kind has its own subject
         for code in LANGUAGES:
             subjects = [vote(code).subject(kind) for kind in SUBJECTS] + [vote(code).subject("call", is_extension=True)]
             self.assertEqual(len(set(subjects)), 6, subjects)
             for subject in subjects:
                 self.assertTrue(subject.endswith(": Spring"), subject)
 
-    def test_a_signed_vote_asks_for_a_signature(self) -> None:
+    def test_a_secret_vote_repeats_no_ranks_and_a_signed_one_asks_for_a_signature(self) -> None:
+        self.assertIn("(ada 1,2,3)", vote().receipt(ADA, all_that_came()))
+        self.assertNotRegex(vote(has_aliases=True).receipt(ADA, all_that_came()), r"\d,\d|in words|Lake, then")
         text = " ".join(vote(is_signed=True).reminder(ADA, []).split())
         self.assertIn("has to be signed with OpenPGP", text)
         self.assertNotIn("send the line alone", text)
@@ -172,11 +166,15 @@ class CallLetter(unittest.TestCase):
                 self.assertLess(len(lines), 60)
                 self.assertLessEqual(max(map(len, lines)), 72)
 
-    def test_in_a_secret_vote_the_link_has_no_name(self) -> None:
+    def test_in_a_secret_vote_the_link_has_no_name_and_no_letter_a_command(self) -> None:
         for text in self.asking(vote(has_aliases=True), ADA._replace(code="c0de" * 8)):
             self.assertIn("https://club.example/vote/\n", text)
             self.assertNotRegex(text, r"#|each with its elector's name")
         self.assertNotIn("http", "".join(self.asking(vote(at=None))))
+        for code in LANGUAGES:
+            text = vote(code, has_aliases=True).call_letter(ADA._replace(code="c0de" * 8), is_extension=False)
+            self.assertIn("  c0dec0de", text)
+            self.assertNotRegex(text, "python|sha256")
 
     def test_the_words_of_the_secretary_come_first_and_it_is_said_once_whose_they_are(self) -> None:
         for code in LANGUAGES:
@@ -194,7 +192,7 @@ class CallLetter(unittest.TestCase):
             # a reminder begins so, too, if a letter waits
             self.assertTrue(now.reminder(ADA, [WAITS]).startswith(begin))
 
-    def test_a_letter_greets_once(self) -> None:
+    def test_greeting_mark_and_texts(self) -> None:
         """By the secretary's own words, or by the name where these do not greet."""
         greeting = (
             "Dear all", "Hello members!", "Liebe Mitglieder,", "Sehr geehrte Damen und Herren,", "Chers membres,", "Bonjour \u00e0 tous",
@@ -204,22 +202,14 @@ class CallLetter(unittest.TestCase):
             for text in self.asking(vote(letter_text=f"{first}\n\nMore.\n"))[:3]:
                 begin = first if first in greeting else f"Dear Ada L.,\n\n{first}"
                 self.assertTrue(text.startswith(f"{begin}\n\nMore.\n\n"), text)
-
-    def test_a_letter_with_a_code_has_no_command(self) -> None:
-        for code in LANGUAGES:
-            text = vote(code, has_aliases=True).call_letter(ADA._replace(code="c0de" * 8), is_extension=False)
-            self.assertIn("  c0dec0de", text)
-            self.assertNotRegex(text, "python|sha256")
-
-    def test_with_marked_it_says_to_answer_or_to_use_the_link(self) -> None:
+        # with --marked it says to answer, or to use the link
         for text in self.asking(vote(is_marked=True)):
             self.assertIn("Open the link above, or answer this letter: then the subject has your own mark", " ".join(text.split()))
         # one to an earlier address has no own mark
         for text in self.asking(vote(is_marked=True), ADA._replace(mark="")):
             self.assertIn("Open the link in your letter, or answer that letter: then", " ".join(text.split()))
         self.assertNotIn("own mark", "".join(self.asking(vote())))
-
-    def test_without_a_page_the_texts_follow(self) -> None:
+        # without a page the texts follow
         poll = dataclasses.replace(POLL, explanations=("A lake.\nada 1,2,3\n", "", ""))
         for letter in ("", self.letter):
             now = vote(poll=poll, at=None, letter_text=letter)
@@ -253,16 +243,41 @@ class CallLetter(unittest.TestCase):
 
 @unittest.skipUnless(BROWSER, "chromium is not installed")
 class Printed(unittest.TestCase):
+    def setUp(self) -> None:
+        self.printed: list[tuple[Composer, str]] = []
+
+    def assert_sides(self) -> None:
+        """Each letter that was printed has at most two sides, and a place for the rank of each option. All are printed at once."""
+        folder = pathlib.Path(self.enterContext(tempfile.TemporaryDirectory()))
+        pages = []
+        for number, (now, text) in enumerate(self.printed):
+            how = {"style": resources(PACKAGE, "letter.css"), "title": "Spring", "letters": [("Ada", rows_to_print(text))]}
+            page = render_page(PACKAGE, "print.html", now.call_data.language, **how).decode()
+            self.assertEqual(page.count('<p class="option"><span class="rank"></span>  Op'), len(now.call_data.poll.names))
+            pages.append(page.replace('<section class="letter"', f'<section id="at{number}" class="letter"'))
+        sections = [re.search(r"(?s)<section id.*</section>", page)[0] for page in pages]
+        # the file says on which page is the place of a link
+        links = "".join(f"<a href=#at{number}>x</a> " for number in range(len(pages) + 1))
+        sections.append(f'<section class="letter" id="at{len(pages)}">{links}</section>')
+        (folder / "page.html").write_text(pages[0].replace(sections[0], "\n".join(sections)))
+        words = [BROWSER, "--headless", "--no-sandbox", "--disable-gpu", f"--user-data-dir={folder}/of-browser"]
+        subprocess.run([*words, f"--print-to-pdf={folder}/page.pdf", f"{folder}/page.html"], check=True, capture_output=True)
+        data = (folder / "page.pdf").read_bytes()
+        sides = sorted(map(int, re.findall(rb"(\d+) 0 obj\s*<</Type\s*/Page\b", data)))
+        begins = [sides.index(int(re.search(rb"/at%d \[(\d+) 0 R" % number, data)[1])) for number in range(len(pages) + 1)]
+        for (_, text), first, following in zip(self.printed, begins, begins[1:], strict=False):
+            self.assertIn(following - first, (1, 2), text)
+
     def test_a_letter_has_at_most_two_sides(self) -> None:
         """With twelve options, no page, a secret code, and 600 characters of the secretary's own."""
         names = tuple(f"A rather long name of an option, as societies have them, number {number}" for number in range(1, 12))
         poll = dataclasses.replace(POLL, options=names, ratios=(1,) * 11)
         for code in LANGUAGES:
-            words = "Paper ballots go into the box in the hall of our house.\n" * 11
-            now = vote(code, poll=poll, at=None, has_aliases=True, letter_text=words)
+            now = vote(code, poll=poll, at=None, has_aliases=True, letter_text="Paper ballots go into the box in the hall of our house.\n" * 11)
             text = now.call_letter(GUS._replace(code="c0de" * 8), is_extension=False)
             self.assertGreater(len(text.splitlines()), 70)
-            self.check_sides(now, text)
+            self.printed.append((now, text))
+        self.assert_sides()
 
     def test_who_has_no_address_gets_the_texts_on_paper_or_reads_where_they_are(self) -> None:
         """As many as two sides have; and all else that others read on the page."""
@@ -278,7 +293,8 @@ class Printed(unittest.TestCase):
                 for head in ("What decides", "What will be public"):
                     self.assertIn(now.call_data.language.say(head).upper(), text)
                 self.assertEqual(f"{at}#{GUS.name}/{GUS.mark}" in text, at is not None)
-                self.check_sides(now, text)
+                self.printed.append((now, text))
+        self.assert_sides()
 
     def test_on_paper_the_ballot_is_cut_off_and_has_no_code(self) -> None:
         """It has all that is given back, and nothing else asks for ranks, or for an e-mail."""
@@ -299,54 +315,13 @@ class Printed(unittest.TestCase):
                 wanted = [say(head).upper() for head in ("What decides", "What will be public")]
                 self.assertEqual(heads, wanted if text is asking[0] else [])
                 head = f"{POLL.name} {say('Name: {name}', name='gus')}"
-                boxes = (
-                    "Write a number into each box: 1 is the best, equal numbers are allowed, and an empty box is last. Return only this part."
-                )
+                boxes = ("Write a number into each box: 1 is the best, equal numbers are allowed, and an empty box is last. Return only this part.")
                 found = [(" ".join(row.split()), kind) for row, kind in ballot]
                 self.assertEqual(found[:2], [(head, "paragraph"), (say(boxes), "paragraph")])
                 self.assertEqual([kind for _, kind in found[2:]], ["option"] * 3)
                 self.assertNotRegex(text, r"_,_|@|\[")
                 where = "Your ballot is the last part of this letter: fill it in, cut it off, and give it to whoever sent you this letter."
                 self.assertEqual(say(where) in " ".join(text.split()), not letter or text.count("friends") == 0)
-
-    def check_sides(self, now: Composer, text: str) -> None:
-        """Three letters have at most six sides, each with a place for the rank of each option."""
-        letters = [("Ada", rows_to_print(text))] * 3
-        style = resources(PACKAGE, "letter.css")
-        page = render_page(PACKAGE, "print.html", now.call_data.language, style=style, title="Spring", letters=letters)
-        self.assertEqual(page.count(b'<p class="option"><span class="rank"></span>  Op'), 3 * len(now.call_data.poll.names))
-        with tempfile.TemporaryDirectory() as folder:
-            place = pathlib.Path(folder)
-            (place / "page.html").write_bytes(page)
-            words = [BROWSER, "--headless", "--no-sandbox", "--disable-gpu", f"--user-data-dir={folder}/of-browser"]
-            words += [f"--print-to-pdf={folder}/page.pdf", f"{folder}/page.html"]
-            subprocess.run(words, check=True, capture_output=True)
-            sides = re.findall(rb"/Type\s*/Page\b", (place / "page.pdf").read_bytes())
-        self.assertLessEqual(len(sides), 6, text)
-
-
-class NoBallot(unittest.TestCase):
-    def guarded(self, line: str, options: int = 3) -> str:
-        text = without_ballots(f"x\n{line}\ny", options, lambda word: word.lower() in ("ada", "ben-2", "maier"))
-        self.assertTrue(text.startswith("x\n") and text.endswith("\ny"), text)
-        return text[2:-2]
-
-    def test_lines_that_read_as_ballots_get_a_bar(self) -> None:
-        for line in (
-            "ada 1,2,3", "  Ada: 1, 2, 3.", "\u201cada 1,-,3\u201d", "*ada* 1;2;3", "ada *1,2,3*", "ada:1,2,3", "ben-2 1,2,\u2013", "ada\u00a01 , 2 , 3", "ada -,\u2013,1", "ada 1,2,3 ,4",
-        ):  # fmt: skip
-            blanks = line[: len(line) - len(line.lstrip())]
-            self.assertEqual(self.guarded(line), f"{blanks}|{line.strip()}")
-
-    def test_and_those_that_would_if_they_were_broken_at_a_blank(self) -> None:
-        self.assertEqual(self.guarded("  paper: ada 1,2,3 or so"), "  |paper:\n  |ada 1,2,3 or so")
-        self.assertEqual(self.guarded("Zo\u00eb Maier 1,2,3"), "|Zo\u00eb\n|Maier 1,2,3")
-        self.assertEqual(self.guarded("ada 1,2,3 ben-2 3,2,1"), "|ada 1,2,3\n|ben-2 3,2,1")
-
-    def test_others_stay(self) -> None:
-        for line in ("ada 1,2", "ada _,_,_", "(ada 1,2,3)", "ada, ben, cleo", "3 of 4, 5 of 6, 7 of 8", "Euro 1,2,3", "ada 100,2,3"):
-            self.assertEqual(self.guarded(line), line)
-        self.assertEqual(self.guarded("The fee is 12,50 Euro", 2), "The fee is 12,50 Euro")
 
 
 class Bytes(unittest.TestCase):
@@ -361,32 +336,46 @@ class Bytes(unittest.TestCase):
             data = self.message(text)
             self.assertEqual(parsed(data).get_content(), text)
             self.assertTrue(data.isascii())
-            body = data.partition(b"\n\n")[2]
-            self.assertNotRegex(body, rb"(?m)^>*From |^\.$")
+            self.assertNotRegex(data.partition(b"\n\n")[2], rb"(?m)^>*From |^\.$")
             self.assertLess(max(map(len, data.split(b"\n"))), 998)
 
-    def test_a_subject_has_one_field_and_its_mark(self) -> None:
+    def test_heads(self) -> None:
         for title in ("a\nBcc: x@y.example", "\u00fc" * 200, "x" * 200, "a\r\n\r\nbody", "\u202e", "\ud800"):
             found = parsed(self.message("text\n", subject=f"Vote: {on_one_line(title)}"))
             self.assertTrue(found["Subject"].endswith(" [0123456789abcdef-abcdefghjk]"), found["Subject"])
             self.assertEqual([name for name, _ in found.raw_items()].count("Subject"), 1)
             self.assertIsNone(found["Bcc"])
             self.assertEqual(found.get_content(), "text\n")
-
-    def test_the_sender_has_the_name_of_the_society(self) -> None:
+        # the sender has the name of the society
         for name in ("", "Wahlleitung TSV", "B\u00fcro; Verein, e.V. <x@y.example>", "a\nBcc: x@y.example", '"\\'):
             found = parsed(self.message("text\n", sender_name=name))
             [address] = found["From"].addresses
             self.assertEqual((address.display_name, address.addr_spec), (on_one_line(name), "vote@club.example"))
             self.assertEqual((found["To"], found["Bcc"]), ("ada@club.example", None))
-
-    def test_addresses(self) -> None:
-        right = ("a@b.example", "a.b+c@d-e.example")
-        wrong = ("", "a", "a@b\nBcc: c@d", "a@b, c@d", "<a@b>", "a b@c.example", "\u00e4@b.example", "a@b@c", "-a@b", "a@b.example\n")
-        self.assertEqual([text for text in (*right, *wrong) if is_mail_address(text)], list(right))
-
-    def test_a_name_is_one_line(self) -> None:
         elector = ADA._replace(who="Ada\r\nBcc: x@y.example\n\nada 1,2,3\u2028" + "x" * 500)
         text = vote().text("closed_to_elector.txt", elector, letter="CLOSED\n")
         self.assertEqual(len(text.split("\n\n")), 2)
         self.assertEqual(one_line(parsed(self.message(text)))[:9], "Dear Ada ")
+        right = ("a@b.example", "a.b+c@d-e.example")
+        wrong = ("", "a", "a@b\nBcc: c@d", "a@b, c@d", "<a@b>", "a b@c.example", "\u00e4@b.example", "a@b@c", "-a@b", "a@b.example\n")
+        self.assertEqual([text for text in (*right, *wrong) if is_mail_address(text)], list(right))
+
+    def guarded(self, line: str, options: int = 3) -> str:
+        text = without_ballots(f"x\n{line}\ny", options, lambda word: word.lower() in ("ada", "ben-2", "maier"))
+        self.assertTrue(text.startswith("x\n") and text.endswith("\ny"), text)
+        return text[2:-2]
+
+    def test_lines_that_read_as_ballots_get_a_bar_and_others_stay(self) -> None:
+        for line in (
+            "ada 1,2,3", "  Ada: 1, 2, 3.", "\u201cada 1,-,3\u201d", "*ada* 1;2;3", "ada *1,2,3*", "ada:1,2,3", "ben-2 1,2,\u2013", "ada\u00a01 , 2 , 3", "ada -,\u2013,1", "ada 1,2,3 ,4",
+        ):  # fmt: skip
+            blanks = line[: len(line) - len(line.lstrip())]
+            self.assertEqual(self.guarded(line), f"{blanks}|{line.strip()}")
+        # those that would if they were broken at a blank
+        self.assertEqual(self.guarded("  paper: ada 1,2,3 or so"), "  |paper:\n  |ada 1,2,3 or so")
+        self.assertEqual(self.guarded("Zo\u00eb Maier 1,2,3"), "|Zo\u00eb\n|Maier 1,2,3")
+        self.assertEqual(self.guarded("ada 1,2,3 ben-2 3,2,1"), "|ada 1,2,3\n|ben-2 3,2,1")
+        # others stay
+        for line in ("ada 1,2", "ada _,_,_", "(ada 1,2,3)", "ada, ben, cleo", "3 of 4, 5 of 6, 7 of 8", "Euro 1,2,3", "ada 100,2,3"):
+            self.assertEqual(self.guarded(line), line)
+        self.assertEqual(self.guarded("The fee is 12,50 Euro", 2), "The fee is 12,50 Euro")
