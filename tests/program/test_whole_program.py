@@ -332,10 +332,7 @@ class LimitsTest(WholeTest):
 class RollsTest(WholeTest):
     def test_rolls(self):
         """10,000 electors, and one more."""
-        for number, wanted in [
-            (10_000, (b"poll ok: 2 options, 10000 electors\n", b"", 0)),
-            (10_001, (b"", fault("poll refused: size of roll"), 3)),
-        ]:
+        for number, wanted in [(10_000, (b"poll ok: 2 options, 10000 electors\n", b"", 0)), (10_001, (b"", fault("poll refused: size of roll"), 3))]:
             roll = ", ".join(f'"v{i}"' for i in range(number))
             text = f'title = "All"\noptions = ["A"]\nratios = [10]\ndefault = "None"\nquorum = 10\nroll = [{roll}]\n'
             (self.folder / "poll.toml").write_text(text)

@@ -1,19 +1,52 @@
-"""Reads a page: its tags, places and links, and each part beside what tests/reference.py counts: numbers, marks, lists and ballots.
+"""Reads a page: its tags, places and links, and each part beside what tests/reference.py counts: numbers, sentences, lists and ballots.
 
 The page is read as a browser reads it: a text that was not escaped is no text here. What a part must say is written down anew, by
 the count of the reference; nothing of debvote_tools is used.
 """
 
+import collections
 import decimal
 import html
 import html.parser
 import re
 import tomllib
 
+from tests import reference
+
 EMPTY_TAGS = {"meta", "br", "hr", "input", "rect", "path"}
 # of scripts a page has its own alone
 UNWANTED_TAGS = {"link", "iframe", "img", "object", "embed", "form", "base", "audio", "video", "image", "use"}
 UNWANTED_ATTRIBUTES = {"src", "style", "xlink:href"}
+
+
+# what is said of an option, and behind the name of the winner, by its kind
+SENTENCES = {
+    "needs nothing": "It needs no quorum and no majority.",
+    "missed the quorum": "It needs {needed} to reach the quorum, and has {has}.",
+    "has what it needs": "It needs {needed}, and has {has}.",
+    "missed its majority": "It needs more for it than against it, {needed}, and has {has}.",
+    "missed a majority of a ratio": "It needs {times} times as many for it as against it, {needed}, and has {has}.",
+    "equal to the default option": "{number} ranked it equal to the default option.",
+    "its own defeat removed": "It beats {b} by {over} to {under}, but this defeat was set aside in round {round} as the weakest.",
+    "loses directly": "{a} beats it by {over} to {under}.",
+    "loses by a chain": "{a} beats {b} by {over} to {under}.",
+    "left in a tie": "{a} against {b}: {over} to {under}.",
+    "left with a removed defeat": "{a} against {b}: {over} to {under}, a defeat that was set aside in round {round}.",
+    "left with many": "It is left with {number} other options, and no defeat among them is left.",
+    "lost by the casting vote": "The casting vote chose {winner}.",
+    "a tie of two": "No option has won yet: {left} are tied. The casting vote has to choose one of them. {against}",
+    "a tie of many": "No option has won yet: {left} are tied. The casting vote has to choose one of them. No defeat among them is left.",
+    "the casting vote": "has won by the casting vote. These options were left: {left}.",
+    "the default option, a few failed": "has won. It is the default option. All other options were dropped. {failed}",
+    "the default option, many failed": "has won. It is the default option. All other options were dropped. The nearest, {nearest}",
+    "a circle": "has won. Options beat each other in a circle, so the weakest defeat was set aside: {last}. Then it beats {beaten}, and nothing beats it.",
+    "circles": "has won. Options beat each other in circles, so {number} weakest defeats were set aside, the last of them {last}. "
+    "Then it beats {beaten}, and nothing beats it.",
+    "beats by chains": "has won. It beats {beaten}, and each other one by a chain of defeats.",
+    "beats one": "has won. It beats {beaten}.",
+    "beats each of two": "has won. It beats each option that was not dropped: {beaten}.",
+    "beats each of many": "has won. It beats each option that was not dropped, most narrowly {narrowest}.",
+}
 
 
 class Wrong(Exception):
@@ -136,6 +169,8 @@ class Parts:
         """`names` are those that people read of title (0) and options, where they differ from the plain ones."""
         self.page, self.count, self.names = page, count, names
         self.sections = sections_of(page)
+        # the kinds of sentences that were met
+        self.met = collections.Counter()
 
     def name(self, option):
         """An option as the page calls it."""
@@ -147,10 +182,18 @@ class Parts:
 
     def check(self):
         for check in (
-            self.headings, self.facts, self.lines, self.rule, self.bars, self.options, self.table, self.defeats, self.rounds, self.ballots,
-            self.who_voted,
+            self.headings, self.facts, self.deciding, self.lines, self.rule, self.bars, self.options, self.table, self.defeats, self.rounds,
+            self.ballots, self.who_voted,
         ):  # fmt: skip
             check()
+
+    def say(self, kind, pair=None, **places):
+        """A sentence of a kind, in which a pair of options may have its names, numbers and round."""
+        self.met[kind] += 1
+        if pair is not None:
+            (a, b), removed = pair, [number for number, (_, gone) in enumerate(self.count.rounds, start=1) if {pair, pair[::-1]} & gone]
+            places |= {"a": self.name(a), "b": self.name(b), "over": self.count.votes[a, b], "under": self.count.votes[b, a], "round": sum(removed)}
+        return SENTENCES[kind].format(**places)
 
     # ------------------------------------------------------------ the head
     def headings(self):
@@ -220,6 +263,7 @@ class Parts:
             head = entry.one("p", "option")
             demand_equal(f"the head of {option}", [part.text() for part in head.inner if isinstance(part, Node)], [self.name(option), chip])
             demand_equal(f"the number of {option}", head.one("span", "number").text(), str(option))
+            demand_equal(f"the reason of {option}", as_read(entry.one("p", "reason")), " ".join(self.reasons(option)))
             bars = list(entry.all("div", "bar"))
             if option == default:
                 demand_equal("the bar of the default option", bars, [])
@@ -238,7 +282,98 @@ class Parts:
             return "won"
         return "tied" if count.winner is None and option in count.final else "lost"
 
+    def reasons(self, option):
+        """Why it ended so for an option, a sentence each."""
+        count, default = self.count, self.count.poll.default
+        if option == default:
+            yield self.say("needs nothing")
+        else:
+            ratio = count.poll.ratios[option]
+            majority = "missed its majority" if ratio == 1 else "missed a majority of a ratio"
+            kind = {None: "has what it needs", "quorum": "missed the quorum", "majority": majority}[count.dropped.get(option)]
+            times = f"more than {ratio}" if count.poll.is_more_than else str(ratio)
+            yield self.say(kind, needed=needed_by(count, option), has=count.votes[option, default], times=times)
+            if equal := sum(ranks[option - 1] == ranks[default - 1] for ranks in count.last.values()):
+                yield self.say("equal to the default option", number=equal)
+        if option in count.dropped or option == count.winner and not count.final[1:]:
+            return
+        if option not in count.final:
+            yield from (self.say("its own defeat removed", pair) for _, gone in count.rounds for pair in sorted(gone) if pair[0] == option)
+            first, *more = self.chain(option)
+            yield self.say("loses directly", first)
+            yield from (self.say("loses by a chain", pair) for pair in more)
+            return
+        others = [other for other in count.final if other != option]
+        if len(others) < 3:
+            yield from (self.against(option, other) for other in others)
+        else:
+            yield self.say("left with many", number=len(others))
+        if count.winner not in (None, option):
+            yield self.say("lost by the casting vote", winner=self.name(count.winner))
+
+    def against(self, option, other):
+        """Two options that are left."""
+        is_removed = any({(option, other), (other, option)} & gone for _, gone in self.count.rounds)
+        return self.say("left with a removed defeat" if is_removed else "left in a tie", (option, other))
+
+    def chain(self, option):
+        """The shortest chain of defeats that were there when an option left the set: to the winner if one is, or else to the least number."""
+        gone = [removed for kept, removed in self.count.rounds if option in kept]
+        defeats, within = sorted(self.count.defeats.difference(*gone)), set(self.count.rounds[len(gone)][0])
+        chains, last = {option: []}, [option]
+        while not within & chains.keys():
+            step = {}
+            for loser in last:
+                step |= {a: [*chains[loser], (a, b)] for a, b in defeats if b == loser and a not in chains.keys() | step.keys()}
+            chains, last = chains | step, sorted(step)
+        return chains[self.count.winner if self.count.winner in chains else min(within & chains.keys())]
+
+    # ------------------------------------------------------------ what decides it
+    def deciding(self):
+        """The name of the winner stands alone, and below it what decides it."""
+        count, section = self.count, self.sections["Result"]
+        head, text = section.one("h2"), as_read(next(section.all("p")))
+        left = in_words(list(map(self.name, count.final)))
+        if count.winner is None:
+            demand_equal("the head of a tie", (head.text(), list(head.within())), ("A tie", []))
+            wanted = self.say("a tie of many", left=left) if count.final[2:] else self.say("a tie of two", left=left, against=self.against(*count.final))
+        else:
+            name = self.names.get(count.winner, count.poll.names[count.winner])
+            tags = [("b", {"data-option": str(count.winner)}), ("bdi", {})][: 2 if count.winner in self.names else 1]
+            demand_equal("the head of the result", (head.text(), [(node.tag, node.attributes) for node in head.within()]), (name, tags))
+            wanted = self.say("the casting vote", left=left) if count.final[1:] else self.deciding_alone(count.winner)
+        demand_equal("what decides it", text, wanted)
+
+    def deciding_alone(self, winner):
+        """What is said of an option that is left alone."""
+        count, default = self.count, self.count.poll.default
+        if winner == default:
+            demand_equal("all others were dropped", set(count.dropped), set(count.poll.options) - {default})
+            rows = sorted((needed_by(count, o) - count.votes[o, default], o) for o in count.dropped)
+            failed = [(self.name(o), f"needs {needed_by(count, o)} and has {count.votes[o, default]}.") for _, o in rows]
+            if len(failed) > 3:
+                return self.say("the default option, many failed", nearest=", ".join(failed[0]))
+            return self.say("the default option, a few failed", failed=" ".join(map(" ".join, failed)))
+        removed = [pair for _, pairs in count.rounds for pair in sorted(pairs)]
+        others = set(count.poll.options) - set(count.dropped) - {winner}
+        demand(not any(b == winner for _, b in count.defeats - set(removed)), "nothing beats the winner")
+        pairs = sorted((count.votes[a, b] - count.votes[b, a], b) for a, b in count.defeats - set(removed) if a == winner)
+        rows = [f"{self.name(b)} by {count.votes[winner, b]} to {count.votes[b, winner]}" for _, b in pairs]
+        narrowest = f"{len(rows)} options, most narrowly {rows[0]}" if len(rows) > 2 else in_words(rows)
+        if removed:
+            places = {"number": len(removed), "last": self.defeat(*removed[-1]), "beaten": narrowest}
+            return self.say("circles" if removed[1:] else "a circle", **places)
+        if len(rows) < len(others):
+            chains = reference.transitive_defeats([o for o in count.poll.options if o not in count.dropped], count.defeats)
+            demand({b for a, b in chains if a == winner} >= others, "the winner beats all by chains")
+            return self.say("beats by chains", beaten=narrowest)
+        kind = {1: "beats one", 2: "beats each of two"}.get(len(others), "beats each of many")
+        return self.say(kind, beaten=narrowest, narrowest=rows[0])
+
     # ------------------------------------------------------------ options, votes, defeats, rounds
+    def defeat(self, a, b):
+        return f"{self.name(a)} over {self.name(b)} by {self.count.votes[a, b]} to {self.count.votes[b, a]}"
+
     def options(self):
         count, poll = self.count, self.count.poll
         kinds = {o: "the default option" if o == poll.default else f"majority ratio {poll.ratios[o]}" for o in poll.options}
@@ -271,17 +406,12 @@ class Parts:
         return ("tied", "left") if count.winner is None and option in count.final else (None, None)
 
     def defeats(self):
-        count = self.count
-        wanted = [
-            f"{self.name(a)} over {self.name(b)} by {count.votes[a, b]} to {count.votes[b, a]}" for a, b in sorted(count.defeats)
-        ]
-        demand_equal("Defeats", self.entries("Defeats"), wanted)
+        demand_equal("Defeats", self.entries("Defeats"), [self.defeat(*pair) for pair in sorted(self.count.defeats)])
 
     def rounds(self):
         wanted = []
         for kept, removed in self.count.rounds:
-            votes = self.count.votes
-            pairs = in_words([f"{self.name(a)} over {self.name(b)} by {votes[a, b]} to {votes[b, a]}" for a, b in sorted(removed)])
+            pairs = in_words([self.defeat(*pair) for pair in sorted(removed)])
             then = f"Removed: {pairs}." if removed else "No defeat is within it, and the count ends."
             wanted.append(f"The set is {in_words(list(map(self.name, kept)))}. {then}")
         demand_equal("Rounds", self.entries("Defeats", "ol"), wanted)
@@ -367,6 +497,15 @@ def share(voters, electors):
     return f"{str(rounded).removesuffix('.0')} %"
 
 
+def as_read(node):
+    """A text in which each option is marked by its number."""
+    for option in node.all("b"):
+        demand(option.text().startswith(f"Option {option.attributes['data-option']}: "), f"the mark of {option.text()}")
+    return node.text()
+
+
 def try_parts(page, count, names):
-    """Meets all parts of a page with the count. Raises Wrong."""
-    Parts(page, count, names).check()
+    """Meets all parts of a page with the count. Raises Wrong, or returns the kinds of sentences that it has."""
+    parts = Parts(page, count, names)
+    parts.check()
+    return parts.met

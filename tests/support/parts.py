@@ -53,9 +53,7 @@ class Part:
     long after the child has ended, may get the status of another process.
     """
 
-    def __init__(
-        self, words: list[str], room: pathlib.Path, cwd: pathlib.Path = ROOT, counted: re.Pattern[str] = COUNT, **how: object
-    ) -> None:
+    def __init__(self, words: list[str], room: pathlib.Path, cwd: pathlib.Path = ROOT, counted: re.Pattern[str] = COUNT, **how: object) -> None:
         self.name = " ".join([*words, *(["in", cwd.name] if cwd.parent.name == "crates" else [])])
         self.counted = counted
         key = re.sub(r"\W+", "-", self.name).strip("-")

@@ -314,9 +314,7 @@ class ScriptsTest(publishing.PublishTest):
         self.page_of(window)
         self.expect("the same", window.count_again(files=files)[0].startswith("The same, line for line"), True)
         cut = window.count_again(files=files | {"sheet.txt": files["sheet.txt"].removesuffix(b"\n")})[0]
-        feeds = (
-            "There it is: Winner: 2 B (without a line feed at its end). By this count it is: Winner: 2 B (with a line feed at its end)."
-        )
+        feeds = "There it is: Winner: 2 B (without a line feed at its end). By this count it is: Winner: 2 B (with a line feed at its end)."
         self.expect(f"no line feed at the end: {cut}", feeds in cut, True)
         others = window.count_again(files=files | {"ballots.txt": files["ballots.txt"] + b"dan 1,2,3\n"})
         told = "If the files are as they were published, tell the other electors."

@@ -76,9 +76,7 @@ class Translations(languages.LanguageTest):
         for entry in self.entries["fr"][1:]:
             for form in entry.forms:
                 with self.subTest(text=entry.texts[0]):
-                    self.assertIsNone(
-                        re.search(r"[^\u00a0:/][;?!\u00bb]|\u00ab[^\u00a0]| :|\w: ", TAG.sub("", form).replace("https:", "")), form
-                    )
+                    self.assertIsNone(re.search(r"[^\u00a0:/][;?!\u00bb]|\u00ab[^\u00a0]| :|\w: ", TAG.sub("", form).replace("https:", "")), form)
 
     @unittest.skipUnless(MSGFMT, "msgfmt is not installed")
     def test_msgfmt_takes_each_file_and_makes_of_it_what_is_read_here(self) -> None:

@@ -113,9 +113,7 @@ class MarkedElections(Marked):
 
     def test_a_secret_vote(self) -> None:
         place = self.held("secret", "de", is_secret=True)
-        self.check_files(
-            place, "call/index.html", "call/call.txt", "private/slips.html", "letters/extension.txt", "letters/closed.txt"
-        )
+        self.check_files(place, "call/index.html", "call/call.txt", "private/slips.html", "letters/extension.txt", "letters/closed.txt")
         self.check_files(place, "result/index.html", "letters/result.txt", "result/closed.txt")
         self.check_messages(place, ALL_KINDS)
 

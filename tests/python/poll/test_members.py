@@ -86,12 +86,7 @@ class Read(MembersTest):
 
     def test_quotation_marks(self) -> None:
         text = 'name,who,mail\nada,"Lovelace, Ada",a@x\n"ben", "Ben ""the"" B","b@x"\ncleo,Cleo "C" C,c@x\ndan,"",""\n'
-        wanted = [
-            (2, "ada", "Lovelace, Ada", "a@x"),
-            (3, "ben", 'Ben "the" B', "b@x"),
-            (4, "cleo", 'Cleo "C" C', "c@x"),
-            (5, "dan", "", ""),
-        ]
+        wanted = [(2, "ada", "Lovelace, Ada", "a@x"), (3, "ben", 'Ben "the" B', "b@x"), (4, "cleo", 'Cleo "C" C', "c@x"), (5, "dan", "", "")]
         self.assert_rows(text, *wanted)
 
     def test_line_ends_within_a_cell_keep_the_numbers_of_lines(self) -> None:

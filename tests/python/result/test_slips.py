@@ -13,16 +13,8 @@ MOSTLY_REFUSED_TOLD = "more than half of the lines are refused, {} of {}; debvot
 # what is told of ballots, and what the page says
 SLIPS = {
     "an empty file": ("", [NOBODY_TOLD], [NOBODY]),
-    "names of another roll": (
-        "zoe 1,2,3\nyan 2,1,3\n",
-        [NOBODY_TOLD, MOSTLY_REFUSED_TOLD.format(2, 2)],
-        [NOBODY, MOSTLY_REFUSED.format(2, 2)],
-    ),
-    "more refused lines than ballots": (
-        "ada 1,2,3\nben 1,2\nCleo 1,2,3\n",
-        [MOSTLY_REFUSED_TOLD.format(2, 3)],
-        [MOSTLY_REFUSED.format(2, 3)],
-    ),
+    "names of another roll": ("zoe 1,2,3\nyan 2,1,3\n", [NOBODY_TOLD, MOSTLY_REFUSED_TOLD.format(2, 2)], [NOBODY, MOSTLY_REFUSED.format(2, 2)]),
+    "more refused lines than ballots": ("ada 1,2,3\nben 1,2\nCleo 1,2,3\n", [MOSTLY_REFUSED_TOLD.format(2, 3)], [MOSTLY_REFUSED.format(2, 3)]),
     "as many refused lines as ballots": ("ada 1,2,3\nben 1,2\n", [], []),
     "hyphens alone": ("ada -,-,-\n", [], []),
 }
