@@ -97,8 +97,7 @@ def quorum_line(electors, multiple):
 
 def rows_of_quorums(guide):
     """The rows of the guide's table of quorums: the number of electors, and the votes of each multiple."""
-    rows = re.findall(r"^\| (\d+) \| (\d+) \| (\d+) \| (\d+) \|$", guide.read_text(), re.MULTILINE)
-    return [list(map(int, row)) for row in rows]
+    return [list(map(int, row)) for row in re.findall(r"^\| (\d+) \| (\d+) \| (\d+) \| (\d+) \|$", guide.read_text(), re.MULTILINE)]
 
 
 # ---------------------------------------------------------------- the tests
@@ -111,8 +110,7 @@ class GuideTest(expecting.Expecting):
         self.assertTrue(commands, f"nothing was read of {guide}")
         found = answers_of(steps)
         for place, (words, wanted) in enumerate(commands):
-            answer = found[place] if place < len(found) else "(nothing)"
-            self.expect(f"{guide}: $ {words}", TIME.sub("TIME", answer), TIME.sub("TIME", wanted))
+            self.expect(f"{guide}: $ {words}", TIME.sub("TIME", found[place] if place < len(found) else "(nothing)"), TIME.sub("TIME", wanted))
 
 
 def class_of(guide):
@@ -131,5 +129,4 @@ class QuorumsTest(expecting.Expecting):
         self.assertTrue(rows, "no table was read")
         for electors, *numbers in rows:
             for multiple, number in enumerate(numbers, start=1):
-                said = f"Quorum: {multiple}Q, {number} votes"
-                self.expect(f"{electors} electors, {multiple}Q", quorum_line(electors, multiple), said)
+                self.expect(f"{electors} electors, {multiple}Q", quorum_line(electors, multiple), f"Quorum: {multiple}Q, {number} votes")

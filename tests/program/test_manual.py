@@ -52,8 +52,7 @@ def statuses_in(text):
 
 def statuses_of_formats():
     """The exit statuses of docs/FORMATS.md, with the words where each comes, and those of the help."""
-    part = FORMATS.read_text().partition("\n| status | where |")[2].partition("\n\n")[0]
-    return re.findall(r"^\| (\d+) \| (.*) \| (.*) \|$", part, re.MULTILINE)
+    return re.findall(r"^\| (\d+) \| (.*) \| (.*) \|$", FORMATS.read_text().partition("\n| status | where |")[2].partition("\n\n")[0], re.MULTILINE)
 
 
 @functools.cache
@@ -111,8 +110,7 @@ def try_warnings(expect, words):
     """The output of man or groff for each page."""
     for page in sorted((ROOT / "man").iterdir()):
         # standard error; the page that man prints goes to standard output
-        where = {"PATH": "/usr/bin:/bin", "MANWIDTH": "80"}
-        ended = subprocess.run([*words, page], capture_output=True, text=True, env=where, timeout=SECONDS)
+        ended = subprocess.run([*words, page], capture_output=True, text=True, env={"PATH": "/usr/bin:/bin", "MANWIDTH": "80"}, timeout=SECONDS)
         expect(f"{page.name}: warnings of {words[0]}", (ended.stderr, ended.returncode), ("", 0))
 
 
@@ -130,8 +128,7 @@ complete_words
 class HelpTest(expecting.Expecting):
     def test_the_help_names_commands_and_options(self):
         options = options_by_command()
-        is_read = len(options) > 4 and all(options[name] for name in options if name != "help")
-        self.expect("the help names commands and options", is_read, True)
+        self.expect("the help names commands and options", len(options) > 4 and all(options[name] for name in options if name != "help"), True)
 
     def test_words_of_help(self):
         """The line above the usage, and the words of the exit statuses."""
@@ -156,11 +153,9 @@ class HelpTest(expecting.Expecting):
 class PagesTest(expecting.Expecting):
     def test_page_of_debvote(self):
         page = plain((ROOT / "man" / "debvote.1").read_text())
-        commands = page[page.index("\n.SH COMMANDS") : page.index("\n.SH OPTIONS")]
-        names = re.findall(r"^\.SS (\w+)$", commands, re.MULTILINE)
+        names = re.findall(r"^\.SS (\w+)$", page[page.index("\n.SH COMMANDS") : page.index("\n.SH OPTIONS")], re.MULTILINE)
         self.expect("debvote.1: its commands", sorted(names), sorted(set(options_by_command()) - {""}))
-        options = sorted(tagged_options(part_of(page, "OPTIONS")))
-        self.expect("debvote.1: options without a command", options, sorted(options_by_command()[""]))
+        self.expect("debvote.1: options without a command", sorted(tagged_options(part_of(page, "OPTIONS"))), sorted(options_by_command()[""]))
         synopsis = part_of(page, "SYNOPSIS")
         for command in names:
             wanted = sorted(set(options_by_command().get(command, [])) - {"--help"})
@@ -174,8 +169,7 @@ class PagesTest(expecting.Expecting):
     def test_made_pages_and_completions(self):
         """The pages and completions that docs/make-manual makes are those that are here."""
         with tempfile.TemporaryDirectory() as folder:
-            output = output_of(ROOT / "docs" / "make-manual", folder)
-            self.expect("docs/make-manual", output, "")
+            self.expect("docs/make-manual", output_of(ROOT / "docs" / "make-manual", folder), "")
             files = sorted(file.relative_to(folder) for file in pathlib.Path(folder).rglob("*") if file.is_file())
             self.expect("docs/make-manual: files", len(files), 8)
             old = [str(file) for file in files if (ROOT / file).read_text() != (pathlib.Path(folder) / file).read_text()]
@@ -219,8 +213,7 @@ class CompletionsTest(expecting.Expecting):
     def test_zsh(self):
         """The commands, and the options without one, as the file writes them."""
         text = (ROOT / "completions" / "zsh" / "_debvote").read_text()
-        names = re.findall(r"^    '(\w+):", text, re.MULTILINE)
-        self.expect("zsh: the commands", sorted(names), sorted(set(options_by_command()) - {""}))
+        self.expect("zsh: the commands", sorted(re.findall(r"^    '(\w+):", text, re.MULTILINE)), sorted(set(options_by_command()) - {""}))
         top = sorted(set(re.findall(rf"'({OPTION})\[", "\n".join(re.findall(r"_arguments -C.*", text)))) | {"--help"})
         self.expect("zsh: options without a command", top, sorted(options_by_command()[""]))
 
@@ -230,8 +223,7 @@ class CompletionsTest(expecting.Expecting):
         for program, options in (("debvote", options_by_command()), ("debvote-election", options_of_election())):
             for command in options.keys() - {"", "help"}:
                 said = output_of("zsh", "-f", "-c", ZSH % (command, ROOT / "completions" / "zsh" / f"_{program}"))
-                found = re.findall(rf"^({OPTION})\[", said, re.MULTILINE)
-                self.expect(f"zsh: {program} {command}", sorted(found), sorted(options[command]))
+                self.expect(f"zsh: {program} {command}", sorted(re.findall(rf"^({OPTION})\[", said, re.MULTILINE)), sorted(options[command]))
 
     def test_fish(self):
         """The commands as the file writes them, each with its words."""

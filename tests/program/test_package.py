@@ -118,8 +118,7 @@ class PackageTest(expecting.Expecting):
     def test_refusals(self):
         """If there is no program, or one older than its sources, nothing is built, and a line says why."""
         program = self.scratch / "one" / "crates" / "debvote" / "out" / "debvote"
-        source = self.scratch / "one" / "crates" / "debvote" / "src" / "main.rt"
-        os.utime(source, (program.stat().st_mtime + 1,) * 2)
+        os.utime(self.scratch / "one" / "crates" / "debvote" / "src" / "main.rt", (program.stat().st_mtime + 1,) * 2)
         output, faults, status = run([self.scratch / "one" / "packaging" / "deb", self.scratch / "none"])
         is_told = "crates/debvote/out/debvote is older than crates/debvote/src/main.rt" in faults
         self.expect("a program older than its sources", (is_told, status, os.listdir(self.scratch / "none")), (True, 1, []))
@@ -147,8 +146,7 @@ class PackageTest(expecting.Expecting):
         version = run([PROGRAM, "--version"])[0].strip().removeprefix("debvote ")
         self.expect("the name", self.package.name, f"debvote_{version}_amd64.deb")
         fields = run(["dpkg-deb", "-f", self.package, "Version", "Depends", "Recommends", "Suggests"])[0]
-        needed = run(["objdump", "-p", PROGRAM])[0]
-        newest = max(tuple(map(int, found.split("."))) for found in re.findall(r"GLIBC_([\d.]+)", needed))
+        newest = max(tuple(map(int, found.split("."))) for found in re.findall(r"GLIBC_([\d.]+)", run(["objdump", "-p", PROGRAM])[0]))
         libc = f"libc6 (>= {'.'.join(map(str, newest))})"
         needs = f"Depends: {libc}, python3 (>= 3.11), python3-jinja2\nRecommends: gpg, gpgv\nSuggests: graphviz\n"
         self.expect("the fields", fields, f"Version: {version}\n{needs}")
@@ -211,12 +209,10 @@ class PackageTest(expecting.Expecting):
         self.expect("the changelog", log.splitlines()[0], f"debvote ({version}) unstable; urgency=medium")
         page = gzip.decompress((self.tree / "usr/share/man/man1/debvote.1.gz").read_bytes())
         self.expect("the manual page", page, (ROOT / "man" / "debvote.1").read_bytes())
-        is_said = "No licence has been chosen" in (self.tree / "usr/share/doc/debvote/copyright").read_text()
-        self.expect("what is said of the licence", is_said, True)
+        self.expect("what is said of the licence", "No licence has been chosen" in (self.tree / "usr/share/doc/debvote/copyright").read_text(), True)
 
     @unittest.skipUnless(shutil.which("lintian"), "lintian is not installed")
     def test_lintian(self):
-        root = ["--allow-root"] if os.geteuid() == 0 else []
-        found = run(["lintian", *root, "--fail-on", "error", self.package])
+        found = run(["lintian", *(["--allow-root"] if os.geteuid() == 0 else []), "--fail-on", "error", self.package])
         print(found[0], end="")
         self.expect("errors of lintian", found[2], 0)

@@ -85,8 +85,7 @@ def try_findings(expect, name, file):
     """`explain` finds in any other poll what the second count finds."""
     findings, wanted = reference_checks.explain(file.read_bytes())
     output, faults, status = run(["explain", "--poll", file])
-    is_said = reference_findings.are_said(findings, output.decode().splitlines())
-    expect(f"explain of {name}", (is_said, faults, status), (True, b"", wanted))
+    expect(f"explain of {name}", (reference_findings.are_said(findings, output.decode().splitlines()), faults, status), (True, b"", wanted))
 
 
 GOOD = "poll ok: 2 options, 1 electors"
@@ -147,8 +146,7 @@ def large_polls(size):
     for start, part, end, answer in LARGE_FILES:
         yield start + part, repeated(size, start, part, end) + keys_of(SMALL), answer
     for key, start, part, end, answer in LARGE_VALUES:
-        value = repeated(size, start, part, end)
-        yield f"{key} = {start}{part}", keys_of({**SMALL, key: value}), answer
+        yield f"{key} = {start}{part}", keys_of({**SMALL, key: repeated(size, start, part, end)}), answer
 
 
 # ---------------------------------------------------------------- the tests
@@ -193,8 +191,7 @@ class WordsTest(WholeTest):
             output, faults, status = run(words)
             lines = [b" ".join(line.split()) for line in output.splitlines()]
             missing = [name for name, what in wanted if name + b" " + what not in lines]
-            begins = any(line.startswith(usage) for line in lines)
-            self.expect(f"help: {words}", (missing, begins, faults, status), ([], True, b"", 0))
+            self.expect(f"help: {words}", (missing, any(line.startswith(usage) for line in lines), faults, status), ([], True, b"", 0))
 
     def test_version_and_words_that_are_no_text(self):
         """The version, and an argument that is not UTF-8."""
@@ -202,8 +199,7 @@ class WordsTest(WholeTest):
             self.expect(f"debvote {word}", run([word]), (b"debvote 2.1.0\n", b"", 0))
         for words in ([b"count", b"--poll", b"\xff"], [b"\xff"], [b"--version", b"\xfe"]):
             ended = subprocess.run([PROGRAM, *words], capture_output=True, timeout=SECONDS)
-            answer = ended.stdout, ended.stderr, ended.returncode
-            self.expect(f"words {words}", answer, (b"", fault("an argument is not UTF-8"), 2))
+            self.expect(f"words {words}", (ended.stdout, ended.stderr, ended.returncode), (b"", fault("an argument is not UTF-8"), 2))
 
     def test_a_terminal(self):
         """At a terminal the program says what it waits for, before it reads."""
@@ -231,15 +227,13 @@ class WordsTest(WholeTest):
 
         before = as_it_is()
         for command in (["count"], ["verify", "--sheet", self.folder / "sheet"], ["explain"]):
-            status = run([command[0], *words, *command[1:]])[2]
-            self.expect(f"{command[0]}: the files are as they were", (status, as_it_is() == before), (0, True))
+            self.expect(f"{command[0]}: the files are as they were", (run([command[0], *words, *command[1:]])[2], as_it_is() == before), (0, True))
 
     def test_streams(self):
         """A full disk, a closed pipe and a closed output end with a fault line and status 7, and not by a signal."""
         of_both = [[command, *files_of(EXAMPLE)] for command in ("count", "steps", "standing", "picture", "explain")]
         verify = ["verify", *files_of(EXAMPLE), "--sheet", EXAMPLE / "sheet"]
-        commands = [*of_both, verify, ["check", *files_of(EXAMPLE)[:2]], ["--help"], ["--version"]]
-        for words in commands:
+        for words in [*of_both, verify, ["check", *files_of(EXAMPLE)[:2]], ["--help"], ["--version"]]:
             with open("/dev/full", "wb") as full:
                 self.expect(f"{words[0]} into a full disk", run(words, stdout=full), (None, fault("output failed"), 7))
             broken = subprocess.Popen(["true"], stdin=subprocess.PIPE)
@@ -277,8 +271,7 @@ class LimitsTest(WholeTest):
             return run(["count", "--poll", poll, "--ballots", ballots, *words])
 
         longest = file("longest.toml", poll_text + b"#" * (POLL_LIMIT - len(poll_text)))
-        sheet = (EXAMPLE / "sheet").read_bytes()
-        self.expect("a poll of the greatest size", count(longest, ballots), (sheet, b"", 0))
+        self.expect("a poll of the greatest size", count(longest, ballots), ((EXAMPLE / "sheet").read_bytes(), b"", 0))
         longer = file("longer.toml", poll_text + b"#" * (POLL_LIMIT - len(poll_text) + 1))
         self.expect("a poll of one byte more", count(longer, ballots), (b"", fault("poll too long"), 3))
         self.expect("a poll too long and no ballots", count(longer, self.folder / "none"), (b"", fault("poll too long"), 3))
@@ -288,11 +281,9 @@ class LimitsTest(WholeTest):
         self.expect("ballots of the greatest size", (lines in output, faults, status), (True, b"", 0))
         more = file("more", b"x" * (BALLOTS_LIMIT + 1))
         self.expect("ballots of one byte more", count(poll, more), (b"", fault("ballots too long"), 4))
-        long_lines = file("long_lines", (b"x" * 334 + b"\n") * 100_000)
-        output, faults, status = count(poll, long_lines)
+        output, faults, status = count(poll, file("long_lines", (b"x" * 334 + b"\n") * 100_000))
         self.expect("100,000 long lines", (b"Refused: 100000\n" in output, faults, status), (True, b"", 0))
-        empty = file("empty", b"\n" * 100_000)
-        output, faults, status = count(poll, empty)
+        output, faults, status = count(poll, file("empty", b"\n" * 100_000))
         self.expect("100,000 empty lines", (b"Refused: 100000\n" in output, faults, status), (True, b"", 0))
         many = file("many", b"\n" * 100_001)
         self.expect("a line too many", count(poll, many), (b"", fault("ballots refused: too many lines"), 4))
@@ -316,16 +307,14 @@ class LimitsTest(WholeTest):
             self.expect(f"too long: {name}", run(["verify", *words]), (b"", fault(wanted[0]), wanted[1]))
         self.expect("no sheet", run(["verify", *files, self.folder / "none"]), (b"", fault("sheet unreadable"), 10))
         self.expect("a sheet", run(["verify", *files, EXAMPLE / "sheet"]), (b"verified\n", b"", 0))
-        nobody = count(poll, many, "--casting", "Zed")
-        self.expect("the casting vote before the lines", nobody, (b"", fault("casting option is not in the poll"), 8))
+        self.expect("the casting vote before the lines", count(poll, many, "--casting", "Zed"), (b"", fault("casting option is not in the poll"), 8))
         broken = count(file("broken.toml", b"title ="), many, "--casting", "Zed")
         self.expect("the poll before the casting vote and the lines", broken, (b"", fault("poll refused: syntax"), 3))
         joined = poll_text + b"%%\n"
         joined += b"x" * (JOINED_LIMIT - len(joined))
         self.expect("a joined input of the greatest size", run([], joined), (b"1 bad shape\n", b"", 0))
         self.expect("one byte more", run([], joined + b"x"), (b"", fault("ballots too long"), 4))
-        odd = file("odd", bytes(range(256)) * 1000)
-        output, faults, status = count(poll, odd)
+        output, faults, status = count(poll, file("odd", bytes(range(256)) * 1000))
         self.expect("bytes of all kinds", (b"Valid: 0\n" in output, faults, status), (True, b"", 0))
 
 
@@ -334,22 +323,19 @@ class RollsTest(WholeTest):
         """10,000 electors, and one more."""
         for number, wanted in [(10_000, (b"poll ok: 2 options, 10000 electors\n", b"", 0)), (10_001, (b"", fault("poll refused: size of roll"), 3))]:
             roll = ", ".join(f'"v{i}"' for i in range(number))
-            text = f'title = "All"\noptions = ["A"]\nratios = [10]\ndefault = "None"\nquorum = 10\nroll = [{roll}]\n'
-            (self.folder / "poll.toml").write_text(text)
+            (self.folder / "poll.toml").write_text(f'title = "All"\noptions = ["A"]\nratios = [10]\ndefault = "None"\nquorum = 10\nroll = [{roll}]\n')
             self.expect(f"a roll of {number}", run(["check", "--poll", self.folder / "poll.toml"]), wanted)
             (self.folder / "ballots").write_text("".join(f"v{i} 1,2\n" for i in range(number)))
             output, faults, status = run(["count", *files_of(self.folder), "--desks", 8])
             lines = [b"Quorum: 10Q, 500 votes", b"  1     - 10000", b"  1 over 2 by 10000 to 0", b"Winner: 1 A"]
-            is_counted = all(line in output.splitlines() for line in lines)
-            self.expect(f"a count of {number}", (is_counted, faults, status), (number == 10_000, *wanted[1:]))
+            self.expect(f"a count of {number}", (all(line in output.splitlines() for line in lines), faults, status), (number == 10_000, *wanted[1:]))
 
     def test_greatest_numbers(self):
         """The last of 10,000 electors is misshapen; and 499 and 500 votes when a quorum of 10Q needs 500."""
         names = [f"v{i}" for i in range(10_000)]
         poll = 'title = "All"\noptions = ["A"]\nratios = [1]\ndefault = "None"\nquorum = 10\nroll = {}\n'.format
         (self.folder / "poll.toml").write_text(poll(str(names[:-1] + ["V"]).replace("'", '"')))
-        wanted = (b"", fault("poll refused: voter at position 9999"), 3)
-        self.expect("the last elector", run(["check", "--poll", self.folder / "poll.toml"]), wanted)
+        self.expect("the last elector", run(["check", "--poll", self.folder / "poll.toml"]), (b"", fault("poll refused: voter at position 9999"), 3))
         (self.folder / "poll.toml").write_text(poll(str(names).replace("'", '"')))
         for number, line in [(499, b"  1 quorum"), (500, b"Winner: 1 A")]:
             (self.folder / "ballots").write_text("".join(f"v{i} 1,2\n" for i in range(number)))
@@ -373,13 +359,10 @@ class GreatestTest(WholeTest):
         totals = b"%d lines: %d valid, 0 refused, 0 of them late; " % (number, number)
         self.expect("check of the greatest poll", run(["check", *files[:2]]), (poll_alone, b"", 0))
         self.expect("explain of the greatest poll", run(["explain", *files[:2]]), (poll_alone, b"", 0))
-        replies = [b"counted"] * 10_000 + [b"replaced"] * (number - 10_000)
-        steps = b"".join(b"%d %s\n" % reply for reply in enumerate(replies, 1))
+        steps = b"".join(b"%d %s\n" % reply for reply in enumerate([b"counted"] * 10_000 + [b"replaced"] * (number - 10_000), 1))
         self.expect("steps of the most lines", run(["steps", *files]), (steps, b"", 0))
-        standing = "\n".join(lines[-10_000:]).encode() + b"\n"
-        self.expect("standing of the most lines", run(["standing", *files]), (standing, b"", 0))
-        explained = totals + b"10000 of 10000 electors have a ballot\n"
-        self.expect("explain of the most lines", run(["explain", *files]), (explained, b"", 0))
+        self.expect("standing of the most lines", run(["standing", *files]), ("\n".join(lines[-10_000:]).encode() + b"\n", b"", 0))
+        self.expect("explain of the most lines", run(["explain", *files]), (totals + b"10000 of 10000 electors have a ballot\n", b"", 0))
         sheet, faults, status = run(["count", *files, "--desks", 8])
         self.expect("a count of the most lines", (b"Winner: 2 B\n" in sheet, faults, status), (True, b"", 0))
         (self.folder / "sheet").write_bytes(sheet)

@@ -49,8 +49,7 @@ MARKED = re.compile(f"{BEGIN}[^{BEGIN}{END_MARK}]*{END_MARK}")
 
 def marked(text: str) -> str:
     """A sentence with everything marked except its places and its tags."""
-    parts = re.split(r"(\{\w+\}|<[^>]*>)", text)
-    return "".join(part if place % 2 or not part else f"{BEGIN}{part}{END_MARK}" for place, part in enumerate(parts))
+    return "".join(part if place % 2 or not part else f"{BEGIN}{part}{END_MARK}" for place, part in enumerate(re.split(r"(\{\w+\}|<[^>]*>)", text)))
 
 
 @contextlib.contextmanager
@@ -59,8 +58,7 @@ def marked_german() -> Iterator[None]:
     if os.environ.get("DEBVOTE_FORKS") == "0":
         raise unittest.SkipTest("the language with marked words is in forks of the test alone")
     head = (sentences.LOCALE / "de.po").read_text(encoding="utf-8").split("\n\n")[0]
-    entries = [sentences.as_po(texts, tuple(map(marked, texts))) for texts in sentences.in_code()]
-    catalog = catalog_of("\n".join([f"{head}\n", *entries]).encode())
+    catalog = catalog_of("\n".join([f"{head}\n", *[sentences.as_po(texts, tuple(map(marked, texts))) for texts in sentences.in_code()]]).encode())
     german = vars(language_of("de").catalog)
     before = dict(german)
     german.update(vars(catalog))
@@ -97,8 +95,7 @@ class LanguageTest(elections.ElectionTest):
         self.program("debvote-election", "new", "--language", language, folder)
         place = self.scratch / folder
         (place / "poll.toml").write_text(poll if codes is None else f"secret = true\n{poll}")
-        rows = [f"Person {name[1:]},{name}@example.org,{name}\n" for name in ELECTORS]
-        (place / "members.csv").write_text("".join(["who,mail,name\n", *rows]))
+        (place / "members.csv").write_text("".join(["who,mail,name\n", *[f"Person {name[1:]},{name}@example.org,{name}\n" for name in ELECTORS]]))
         self.election(folder, "roll")
         if codes is not None:
             self.election(folder, "codes", *codes)

@@ -139,8 +139,7 @@ def sections_of(page):
 
 def doubts_of(page):
     """The doubts that the page marks, as a reader reads them."""
-    boxes = list(tree_of(page).all("div", "doubts"))
-    return [entry.text().removeprefix("Doubt: ") for box in boxes for entry in box.all("li")]
+    return [entry.text().removeprefix("Doubt: ") for box in list(tree_of(page).all("div", "doubts")) for entry in box.all("li")]
 
 
 def try_page(expect, name, folder):
@@ -155,8 +154,7 @@ def try_page(expect, name, folder):
     ids = [node.attributes["id"] for node in nodes if "id" in node.attributes]
     roll = tomllib.loads((folder / "poll.toml").read_text())["roll"]
     expect(f"{name}: its places", (len(set(ids)), [place for place in set(ids) - set(roll) if place == place.lower()]), (len(ids), []))
-    voters = {line.split()[0] for line in (folder / "standing.txt").read_text().splitlines()}
-    expect(f"{name}: a place for each ballot", voters - set(ids), set())
+    expect(f"{name}: a place for each ballot", {line.split()[0] for line in (folder / "standing.txt").read_text().splitlines()} - set(ids), set())
     places = {f"#{place}" for place in ids} | {file.name for file in folder.iterdir()}
     expect(f"{name}: its links", {node.attributes["href"] for node in nodes if "href" in node.attributes} - places, set())
 
@@ -177,8 +175,7 @@ class Parts:
         return f"Option {option}: {self.names.get(option, self.count.poll.names[option])}"
 
     def entries(self, heading, kind="ul"):
-        lists = list(self.sections[heading].all(kind))
-        return [entry.text() for found in lists for entry in found.all("li")]
+        return [entry.text() for found in list(self.sections[heading].all(kind)) for entry in found.all("li")]
 
     def check(self):
         for check in (
@@ -199,8 +196,7 @@ class Parts:
     def headings(self):
         """Each part has a heading with its place, and a part of a group is one deeper than the group."""
         for place, section in self.sections.items():
-            heads = [node.attributes.get("id") for tag in ("h2", "h3") for node in section.all(tag)]
-            demand_equal(f"the heading of {place}", heads, [place])
+            demand_equal(f"the heading of {place}", [node.attributes.get("id") for tag in ("h2", "h3") for node in section.all(tag)], [place])
         demand_equal("the title", tree_of(self.page).one("h1").text(), self.names.get(0, self.count.poll.title))
         levels = [int(node.tag[1]) for node in tree_of(self.page).within() if re.fullmatch("h[1-6]", node.tag)]
         demand_equal("the first heading", levels[0], 1)
@@ -250,14 +246,12 @@ class Parts:
         whole = max(count.voters, least, 1)
         hint = next(self.sections["Why"].all("p", "hint")).text()
         name = self.name(default)
-        meaning = f"For: how many prefer the option to {name}. Against: how many prefer {name} to it."
-        said = (meaning in hint, f"stands for {whole}." in hint)
+        said = (f"For: how many prefer the option to {name}. Against: how many prefer {name} to it." in hint, f"stands for {whole}." in hint)
         demand_equal("the hint of the bars", said, (True, whole != count.voters))
         last = {o: max((n for n, (kept, _) in enumerate(count.rounds, 1) if o in kept), default=0) for o in poll.options}
         order = sorted(poll.options, key=lambda o: (o != count.winner, o in count.dropped, -last[o], o))
         lists = [list(found.all("li")) for found in self.sections["Why"].all("ol", "options")]
-        sizes = [len(order)] if len(order) <= 8 else [5, len(order) - 5]
-        demand_equal("how many options are seen, and folded", list(map(len, lists)), sizes)
+        demand_equal("how many options are seen, and folded", list(map(len, lists)), [len(order)] if len(order) <= 8 else [5, len(order) - 5])
         for option, entry in zip(order, [entry for entries in lists for entry in entries]):
             chip = self.chip(option) + (" · default option" if option == default else "")
             head = entry.one("p", "option")
@@ -367,8 +361,7 @@ class Parts:
             chains = reference.transitive_defeats([o for o in count.poll.options if o not in count.dropped], count.defeats)
             demand({b for a, b in chains if a == winner} >= others, "the winner beats all by chains")
             return self.say("beats by chains", beaten=narrowest)
-        kind = {1: "beats one", 2: "beats each of two"}.get(len(others), "beats each of many")
-        return self.say(kind, beaten=narrowest, narrowest=rows[0])
+        return self.say({1: "beats one", 2: "beats each of two"}.get(len(others), "beats each of many"), beaten=narrowest, narrowest=rows[0])
 
     # ------------------------------------------------------------ options, votes, defeats, rounds
     def defeat(self, a, b):
@@ -446,8 +439,7 @@ class Parts:
         heads = [head.text() for head in section.all("h4")]
         demand_equal("who voted, heads", heads, [f"Voted ({len(voted)})", f"No ballot that counts ({len(absent)})"])
         lists = [[(entry.text(), entry.attributes.get("id")) for entry in names.all("li")] for names in section.all("ul", "roll")]
-        wanted = [names for names in ([(name, None) for name in voted], [(name, name) for name in absent]) if names]
-        demand_equal("who voted", lists, wanted)
+        demand_equal("who voted", lists, [names for names in ([(name, None) for name in voted], [(name, name) for name in absent]) if names])
         number = f"{len(voted)} {'elector' if len(voted) == 1 else 'electors'} of {len(count.poll.roll)} {'has' if len(voted) == 1 else 'have'}"
         said = f"{number} a ballot that counts, which is {share(len(voted), len(count.poll.roll))}."
         demand_equal("who voted, number", next(section.all("p")).text(), said)

@@ -82,8 +82,7 @@ def tell(parts: Iterable[Part]) -> Count:
     counts = []
     for part in parts:
         counts.append(part.count())
-        lines = [line for line in part.text().splitlines() if not SKIPPED.fullmatch(line)]
-        print(f"== {part.name}", *lines, sep="\n", flush=True)
+        print(f"== {part.name}", *[line for line in part.text().splitlines() if not SKIPPED.fullmatch(line)], sep="\n", flush=True)
     print("== seconds, and those of processor")
     for part in parts:
         print(part.seconds.read_text().rstrip("\n") if part.seconds.exists() else f"{part.name}: it was killed", flush=True)

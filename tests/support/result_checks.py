@@ -123,14 +123,12 @@ def try_refused(page, count):
     part = page.partition('<h3 id="Refused-lines">')[2].partition("</section>")[0]
     found = []
     for entry in pages.sections_of(page)["Refused-lines"].all("li"):
-        which = re.fullmatch(r"lines? (\d+)(?: to (\d+))?: (.*?): ((?:late|bad [a-z ]+): .*)", entry.text(), re.DOTALL)
-        first, last, text, cause = which.groups()
+        first, last, text, cause = re.fullmatch(r"lines? (\d+)(?: to (\d+))?: (.*?): ((?:late|bad [a-z ]+): .*)", entry.text(), re.DOTALL).groups()
         for number in range(int(first), int(last or first) + 1):
             demand(text == line_shown(count.lines[number - 1]), f"the text of line {number}: {text}")
         # a remark about the line is open
         found += [reference_checks.promised(count.poll, f"ballots:{number}: {cause}") for number in range(int(first), int(last or first) + 1)]
-    is_other = reference_checks.is_other_file(b"\n".join(count.lines))
-    wanted = list(reference_checks.refusals(count.poll, count.lines, count.replies, is_other))
+    wanted = list(reference_checks.refusals(count.poll, count.lines, count.replies, reference_checks.is_other_file(b"\n".join(count.lines))))
     demand(found == wanted, f"refused lines {found[:3]} in place of {wanted[:3]}")
     demand(("No line was refused" in part) == (not wanted), "that no line was refused")
 
@@ -154,8 +152,7 @@ def with_names(poll, count, names):
     """The poll with these names, whose keys come first."""
     if not names:
         return poll
-    shown = [names.get(number, name) for number, name in count.poll.names.items()]
-    keys = {"shown_title": names.get(0, count.poll.title), "shown_options": shown}
+    keys = {"shown_title": names.get(0, count.poll.title), "shown_options": [names.get(number, name) for number, name in count.poll.names.items()]}
     mark = b"\xef\xbb\xbf" if poll.startswith(b"\xef\xbb\xbf") else b""
     said = "".join(f"{key} = {json.dumps(value, ensure_ascii=False)}\n" for key, value in keys.items())
     return mark + said.encode() + poll.removeprefix(mark)
@@ -165,8 +162,7 @@ def meet(seed):
     """Publishes the poll of a seed. Returns the kinds of sentences, or none if the poll is refused, and what is wrong."""
     election = random_polls().election_of(seed)
     try:
-        names = reference.poll_in(election.poll).names.values()
-        casting = election.casting if election.casting in names else None
+        casting = election.casting if election.casting in reference.poll_in(election.poll).names.values() else None
         count = count_of(election.poll, election.ballots, casting)
     except reference.Fault:
         return None, None
@@ -220,8 +216,7 @@ def is_toml_1_0(file):
 def try_made(folder, count, names):
     """Compares data, names, refused lines and sentences of a folder. Returns the kinds of sentences found."""
     data, table, page = ((folder / name).read_text() for name in ("result.json", "votes.csv", "index.html"))
-    version = subprocess.run([PROGRAM, "--version"], capture_output=True, text=True).stdout.strip()
-    document = document_of(count, version, names)
+    document = document_of(count, subprocess.run([PROGRAM, "--version"], capture_output=True, text=True).stdout.strip(), names)
     demand(json.loads(data) == document, f"result.json: {data} in place of {document}")
     demand(list(json.loads(data)) == list(document), "the order of its keys")
     demand(list(csv.reader(io.StringIO(table))) == list(table_of(count)), f"votes.csv: {table}")

@@ -36,8 +36,7 @@ def in_code() -> dict[tuple[str, ...], str]:
     found: dict[tuple[str, ...], str] = {}
     templates = jinja2.Environment(extensions=["jinja2.ext.i18n"])
     for file in sorted(PACKAGE.rglob("templates/*")):
-        said = templates.extract_translations(file.read_text(encoding="utf-8"), ["say", "say_number", "say_each", "marked"])
-        for line, name, words in said:
+        for line, name, words in templates.extract_translations(file.read_text(encoding="utf-8"), ["say", "say_number", "say_each", "marked"]):
             texts = words if isinstance(words, tuple) else (words,)
             texts = texts[:2] if name in WITH_TWO else texts[:1]
             # a macro says its argument, which is where the macro is called

@@ -164,8 +164,7 @@ class Letters(CallTest):
 
     def marks(self) -> dict[str, str]:
         """The own mark of each elector."""
-        found = self.rows("SELECT name, mark FROM elector_state JOIN elector USING (elector) ORDER BY elector_state.rowid")
-        return dict(found)
+        return dict(self.rows("SELECT name, mark FROM elector_state JOIN elector USING (elector) ORDER BY elector_state.rowid"))
 
     def announced(self, key: str) -> object:
         """What the last call that says it says of this."""
@@ -407,8 +406,7 @@ class Secret(CallTest):
             return set(re.findall(r"\b[0-9a-f]{32} _", self.read("private/slips.html").decode()))
 
         before = codes()
-        said = self.done("call", "--take-back").output
-        self.assertIn("then run debvote-election roll\n", said)
+        self.assertIn("then run debvote-election roll\n", self.done("call", "--take-back").output)
         self.assertEqual([*(self.folder / "private").iterdir()], [])
         self.assert_fault(self.election("codes", "--on-roll"), 9, "debvote-election roll")
         self.write("members.csv", elections.members_of([*elections.NAMES, "jan"]))

@@ -87,8 +87,7 @@ class Close(CloseTest):
         before = self.contents()
         # what lets a close pass over letters says nothing of the end
         for words in ((), ("--force", "--because", "all have voted")):
-            ended = self.election("close", *words)
-            self.assert_fault(ended, 9, "Friday, 4 December 2026, 18:00 (UTC+01:00)", "--early", "nothing was changed")
+            self.assert_fault(self.election("close", *words), 9, "Friday, 4 December 2026, 18:00 (UTC+01:00)", "--early", "nothing was changed")
         self.assertEqual(self.contents(), before)
         self.assertIn("the announced end of the vote has not come yet", self.done("close", "--early").output)
 
@@ -162,8 +161,7 @@ class Meanwhile(CloseTest):
         """It says which act was done, and not that nothing was changed."""
         self.add("ada 1,2,3,4")
         self.write("letters", "somebody's file")
-        ended = self.election("close")
-        self.assert_fault(ended, 7, "letters: File exists; it was not changed; act 5 (close) was done")
+        self.assert_fault(self.election("close"), 7, "letters: File exists; it was not changed; act 5 (close) was done")
         self.assertEqual(self.numbers()["stage"], "closed")
         (self.folder / "letters").unlink()
         self.assertIn("Made letters/closed.txt", self.done("close").output)
@@ -198,8 +196,7 @@ class Asked(CloseTest):
         self.assertIn("Closed: 3 lines came in time", output)
 
     def test_yes(self) -> None:
-        terminal = Terminal(self, "close", "--yes")
-        output, status = terminal.end()
+        output, status = Terminal(self, "close", "--yes").end()
         self.assertEqual((status, "[y/n]" in output), (0, False))
         self.assertIn("Until now 0 lines came in time. Added last: never. Entered last at a desk: never.", output)
 
@@ -217,8 +214,7 @@ class SecretClose(CloseTest):
         self.assertEqual(seal["checksum"], hashlib.sha256(f"{seal['seal']}\n{ballots}".encode()).hexdigest())
         self.assertIn(seal["checksum"], self.read("letters/closed.txt").decode())
         letters = b"".join(file.read_bytes() for file in (self.folder / "letters").iterdir())
-        private = hashlib.sha256(b"ada 17,33,99,-\nben 2,1,3,4\nada 2,3,4,-\n").hexdigest()
-        self.assertNotIn(private.encode(), letters)
+        self.assertNotIn(hashlib.sha256(b"ada 17,33,99,-\nben 2,1,3,4\nada 2,3,4,-\n").hexdigest().encode(), letters)
         self.assertNotIn(hashlib.sha256(ballots.encode()).hexdigest().encode(), letters)
         self.assertNotIn(seal["seal"].encode(), letters)
         # the poll that is exported is the one of these ballots
@@ -313,8 +309,7 @@ class Told(CloseTest):
             self.add(f"ada {hour[3:5]},2,3,4")
             self.set_clock(f"2026-12-04T{hour}+01:00")
             self.add(f"ben {hour[3:5]},2,3,4")
-            log = self.done("log").output
-            self.assertEqual(log.endswith("  the clock went back: the previous act has a later time\n"), back, hour)
+            self.assertEqual(self.done("log").output.endswith("  the clock went back: the previous act has a later time\n"), back, hour)
         self.set_clock("2026-12-04T19:00:00+01:00")
         self.done("close")
         self.done("publish")
@@ -329,5 +324,4 @@ class Told(CloseTest):
             self.add(f"{name} 1,2,3,4")
         self.done("close")
         self.done("publish")
-        said = "1 ballot came after the end, and counts, since the vote was not closed yet."
-        self.assertIn(said, self.read("result/index.html").decode())
+        self.assertIn("1 ballot came after the end, and counts, since the vote was not closed yet.", self.read("result/index.html").decode())

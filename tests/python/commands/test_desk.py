@@ -45,13 +45,10 @@ class AtATerminal(TerminalTest):
         self.assertEqual(self.lines(), [f"ada {RANKS}"])
         self.assertIn(f"ada has a ballot: {LAKE}. It will be replaced.\n", desk.after(f"ada {OTHER_RANKS}\n", CAST))
         self.assertIn(f"\n2 replaced  ada: {HALL}\n", desk.after("YES\n", "Ballot: "))
-        said = "This desk has entered 2 lines (1 counted, 1 replaced).\nNext: debvote-election status\n"
-        self.assertIn(said, self.end(desk, "q\n"))
+        self.assertIn("This desk has entered 2 lines (1 counted, 1 replaced).\nNext: debvote-election status\n", self.end(desk, "q\n"))
         self.assertEqual(self.acts(), [("desk", {"lines": 1})] * 2)
-        times = [act.time for act in self.book.acts()[self.first_act - 1 :]]
-        for envelope, time_of_act in zip(self.envelopes(), times, strict=True):
-            told = (envelope.elector, envelope.source, envelope.time, envelope.is_late)
-            self.assertEqual(told, (self.elector("ada"), None, time_of_act, False))
+        for envelope, time_of_act in zip(self.envelopes(), [act.time for act in self.book.acts()[self.first_act - 1 :]], strict=True):
+            self.assertEqual((envelope.elector, envelope.source, envelope.time, envelope.is_late), (self.elector("ada"), None, time_of_act, False))
 
     def test_a_no_forgets_and_another_answer_is_asked_again(self) -> None:
         """The end of the input and an interrupt are a no, too."""
@@ -156,8 +153,7 @@ class AtATerminal(TerminalTest):
                 desk.until("Ballot: ")
                 desk.after(f"{name} {RANKS}\ny\n", reply)
             self.end(desk, "q\n")
-        answers = [detail["came_before_close"] for name, detail in self.acts() if name == "desk"]
-        self.assertEqual(answers, [True, True, False, False])
+        self.assertEqual([detail["came_before_close"] for name, detail in self.acts() if name == "desk"], [True, True, False, False])
         self.assertEqual((len(self.lines()), len(self.late_lines())), (2, 2))
         # so does a desk that was there before
         before.after(f"ada {RANKS}\n", "Did this come before that close? [y/n] ")
@@ -167,8 +163,7 @@ class AtATerminal(TerminalTest):
     def test_notes_at_its_head(self) -> None:
         self.act("extend", {"until": "2020-12-04T18:00:00+01:00"})
         end = "the announced end of the vote, Friday, 4 December 2020, 18:00 (UTC+01:00), has passed"
-        desk = self.at_terminal(f"Note: {end}; what is entered still counts until ")
-        self.assertIn("1 counted  ada: ", self.end(desk, f"ada {RANKS}\ny\nq\n"))
+        self.assertIn("1 counted  ada: ", self.end(self.at_terminal(f"Note: {end}; what is entered still counts until "), f"ada {RANKS}\ny\nq\n"))
         self.act("call", {"signed": True}, {"keyring": b"keys"})
         self.at_terminal("Note: in this vote letters must be signed, and a desk checks no signature: ")
 
@@ -281,24 +276,21 @@ class FromAPipe(CalledTest):
 
     def test_many_lines_in_one_go(self) -> None:
         lines = [f"ada {number // 99 + 1},{number % 99 + 1},1,2" for number in range(9000)]
-        output = self.told("desk", given="\n".join(lines))
-        envelopes = [int(found) for found in re.findall(r"(?m)^(\d+) (?:counted|replaced)  ", output)]
+        envelopes = [int(found) for found in re.findall(r"(?m)^(\d+) (?:counted|replaced)  ", self.told("desk", given="\n".join(lines)))]
         self.assertEqual(envelopes, list(range(1, 9001)))
         self.assertEqual(self.lines(), lines)
 
     def test_lines_of_very_many_electors_in_one_go(self) -> None:
         """The replies are those of all lines, also if they are looked up by elector; a line that came before is cast again."""
         self.told("add", given="".join(f"{name} {RANKS}\n{name} {OTHER_RANKS}\n" for name in self.names[:4]))
-        output = self.told("desk", given="".join(f"{name} {RANKS}\n" for name in self.names))
-        replies = re.findall(r"(?m)^\d+ (counted|replaced)  (\w+): ", output)
+        replies = re.findall(r"(?m)^\d+ (counted|replaced)  (\w+): ", self.told("desk", given="".join(f"{name} {RANKS}\n" for name in self.names)))
         self.assertEqual(replies, [("replaced" if name in self.names[:4] else "counted", name) for name in self.names])
 
     def test_after_reopen_it_wants_an_answer(self) -> None:
         self.told("close")
         self.told("reopen", "--because", "a bag was forgotten")
         said = "and only what came before counts; nothing was entered: say whether this came before that close: --came-before-close yes"
-        ended = self.election("desk", given=f"ada {RANKS}\n")
-        self.assert_stops(ended, self.first_act + 1, 9, "--came-before-close: ", said)
+        self.assert_stops(self.election("desk", given=f"ada {RANKS}\n"), self.first_act + 1, 9, "--came-before-close: ", said)
         self.assertIn("1 counted  ada: ", self.told("desk", "--came-before-close", "yes", given=f"ada {RANKS}\n"))
         self.assertIn("2 late  ada: ", self.told("desk", "--came-before-close", "no", given=f"ada {RANKS}\n"))
 

@@ -5,8 +5,7 @@ from tests.support import languages
 
 class Folder(languages.LanguageTest):
     def language_of(self, page: str) -> str:
-        text = (self.scratch / page).read_text(encoding="utf-8")
-        return text.partition('<html lang="')[2].partition('"')[0]
+        return (self.scratch / page).read_text(encoding="utf-8").partition('<html lang="')[2].partition('"')[0]
 
     def test_the_book_keeps_it_and_all_commands_follow_it(self) -> None:
         said = self.program("debvote-election", "new", "--language", "es", "other")

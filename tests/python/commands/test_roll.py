@@ -51,8 +51,7 @@ class Roll(RollTest):
         ]:
             ended = self.roll(*rows)
             self.assertEqual(ended.status, 0, ended)
-            found = [text in ended.output for text in (*said, *unsaid)]
-            self.assertEqual(found, [True] * len(said) + [False] * len(unsaid), ended.output)
+            self.assertEqual([text in ended.output for text in (*said, *unsaid)], [True] * len(said) + [False] * len(unsaid), ended.output)
 
     def test_a_name_stays_with_its_person(self) -> None:
         self.roll("Anna Meier,a@club.example", "Ben,b@club.example")
@@ -128,8 +127,7 @@ class AfterTheCall(RollTest):
             self.assertIn("ben (Ben): address ben@club.example becomes ben@new.example. Is that right? [y/n] ", output)
             self.assertEqual(status, 9 if is_overtaken else 0, output)
             self.assertIn("another command changed" if is_overtaken else "1 elector changed; the result page says", output)
-            shown = "ada@club.example" if is_overtaken else "ada@new.example"
-            self.assertIn(shown, self.done("show", "ada").output)
+            self.assertIn("ada@club.example" if is_overtaken else "ada@new.example", self.done("show", "ada").output)
             self.assertIn("ben@club.example", self.done("show", "ben").output)
 
     def test_other_people_stop(self) -> None:
@@ -182,8 +180,7 @@ class Check(RollTest):
             self.assertEqual(ended.status, 3, (one, other, ended))
 
     def test_of_what_is_no_toml_debvote_says_why_and_nobody_else(self) -> None:
-        polls = ["title = \n", 'title = "a\n', 'options = ["a", \u201cb\u201d]\n', "ada 1,2,3\n", "a = 1\na = 2\n", "a = " + "[" * 9000]
-        for poll in polls:
+        for poll in ["title = \n", 'title = "a\n', 'options = ["a", \u201cb\u201d]\n', "ada 1,2,3\n", "a = 1\na = 2\n", "a = " + "[" * 9000]:
             with self.subTest(poll=poll[:40]):
                 ended = self.check(poll)
                 said = self.run_program(elections.PROGRAM, "explain", "--poll", "poll.toml", cwd=self.folder)

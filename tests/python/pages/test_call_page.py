@@ -76,8 +76,7 @@ def names_of(size: int) -> list[str]:
 
 def poll_of(names: list[str], electors: int, *more: str) -> SealedPoll:
     ratios = tuple(1 + place % 10 for place in range(len(names) - 1))
-    roll = (*(f"e{number:02}" for number in range(electors)), *more)
-    return SealedPoll(HOSTILE_TITLE, tuple(names[:-1]), ratios, names[-1], 3, roll)
+    return SealedPoll(HOSTILE_TITLE, tuple(names[:-1]), ratios, names[-1], 3, (*(f"e{number:02}" for number in range(electors)), *more))
 
 
 def choices_of(size: int, chance: random.Random) -> list[tuple[str, list[str]]]:
@@ -470,8 +469,7 @@ class ByKeys(PageTest):
             self.assertEqual(self.window.ask(text_of("Line")), line, key)
         # what is no line any more can't be taken
         self.assertEqual(self.window.ask(text_of("Missing")), "Give at least one option a rank.")
-        way = self.tab_to("What each option needs")
-        self.assertEqual({"Copy", "Letter"} & {place["name"] for place in way}, set())
+        self.assertEqual({"Copy", "Letter"} & {place["name"] for place in self.tab_to("What each option needs")}, set())
 
     def test_tab_comes_to_all_in_order_and_the_focus_is_seen(self) -> None:
         self.addCleanup(self.window.show)

@@ -140,17 +140,14 @@ class InBrowser(languages.LanguageTest):
         window.open(folder / "index.html")
         rows = window.count_again()
         sheet = (folder / "sheet.txt").read_text().splitlines()
-        published = said(language, COUNT_AGAIN, "sheet_published")
-        self.assertEqual(rows[0], said(language, COUNT_AGAIN, "same", sheet=published, lines=len(sheet)))
+        self.assertEqual(rows[0], said(language, COUNT_AGAIN, "same", sheet=said(language, COUNT_AGAIN, "sheet_published"), lines=len(sheet)))
         self.assertEqual(rows[1], said(language, COUNT_AGAIN, "last", line=sheet[-1]))
         self.assertEqual(window.ask("document.querySelector('#Again-answer p code').textContent"), sheet[-1])
-        ballots = len((folder / "standing.txt").read_text().splitlines())
-        self.assertEqual(rows[2], said(language, COUNT_AGAIN, "page_same", ballots=ballots))
+        self.assertEqual(rows[2], said(language, COUNT_AGAIN, "page_same", ballots=len((folder / "standing.txt").read_text().splitlines())))
         self.assertEqual(rows[-1], said(language, COUNT_AGAIN, "second"))
         # a page that shows another winner says so
         window.ask("document.querySelector('#Result b').textContent = 'Nobody'")
-        other = said(language, COUNT_AGAIN, "page_differs", where=said(language, COUNT_AGAIN, "the_result"))
-        self.assertIn(other, " ".join(window.count_again()))
+        self.assertIn(said(language, COUNT_AGAIN, "page_differs", where=said(language, COUNT_AGAIN, "the_result")), " ".join(window.count_again()))
 
     def check_find(self, window: at_browser.Window, language: str, place: pathlib.Path) -> None:
         def sentence(key: str, /, **places: object) -> str:

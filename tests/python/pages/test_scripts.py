@@ -55,8 +55,7 @@ class ScriptsTest(publishing.PublishTest):
         """A room with the result of the files of another one, with what an election adds to them."""
         programs = publishing.PROGRAM.parent
         files = {"poll": str(room / "poll.toml"), "ballots": str(room / "ballots")}
-        given = command_line.Arguments(**files, casting=None, desks=1, language="en", target="result")
-        two = command_line.facts_of(given, programs)
+        two = command_line.facts_of(command_line.Arguments(**files, casting=None, desks=1, language="en", target="result"), programs)
         made_room = plain_room(self.scratch / name)
         with folder.made(dataclasses.replace(two, **changes), made_room / "result", programs) as made:
             made.take_place(made_room / "result")
@@ -181,8 +180,7 @@ class ScriptsTest(publishing.PublishTest):
         self.expect("no ballot", none, [f"Your alias is {alias_of(self.code, 'cleo')}. It is on the roll, and no ballot counts under it."])
         other = f"No elector of this vote has the alias {alias_of('f' * 32, 'ada')}. Type name and code as they are in your letter or on your slip."
         self.expect("another code", window.find("ada", "f" * 32), [other])
-        short = "A code has 32 digits, 0 to 9 and a to f. Type yours as it was given to you."
-        self.expect("a short code", window.find("ada", "f" * 31), [short])
+        self.expect("a short code", window.find("ada", "f" * 31), ["A code has 32 digits, 0 to 9 and a to f. Type yours as it was given to you."])
         line = f"{alias} 2,1,-\n"
         for what, before, after, said in [
             ("a line twice", line, line * 2, "replaced"),
@@ -202,8 +200,7 @@ class ScriptsTest(publishing.PublishTest):
         window = self.window
         self.page_of(window, room=by_code)
         self.expect("in groups", window.find(f"{code[:16].upper()} {code[16:]}")[1:], ["Option 2: B", "Option 1: A", "Not ranked: Option 3: N", f"The line: {code} 2,1,-"])
-        short = "A code has 32 digits, 0 to 9 and a to f. Type yours as it was given to you."
-        self.expect("half of it", window.find(code[:16]), [short])
+        self.expect("half of it", window.find(code[:16]), ["A code has 32 digits, 0 to 9 and a to f. Type yours as it was given to you."])
         self.expect("no ballot", window.find(alias_of(self.code, "cleo")), ["The code is on the roll, and no ballot counts under it."])
         self.expect("nobody's", window.find("f" * 32), ["No elector has this code. Type it as it is on your slip."])
 
@@ -226,8 +223,7 @@ class ScriptsTest(publishing.PublishTest):
         room = self.published(self.room, "real names", real_names={"ada": "Zoë", "ben": "Zoë", "dan": "Dan"})
         window = self.window
         self.page_of(window, room=room)
-        found = window.find("zoe")
-        counts = [said for said in found if said.startswith("This ballot counts")]
+        counts = [said for said in window.find("zoe") if said.startswith("This ballot counts")]
         self.expect("one real name", counts, ["This ballot counts for ada:", "This ballot counts for ben:"])
         window.ask("document.getElementById('Name').focus()")
         window.press("1")
@@ -280,12 +276,10 @@ class ScriptsTest(publishing.PublishTest):
             said = f"The checksum of {name} is {hashlib.sha256(data).hexdigest()}."
             self.expect(f"{name} alone", window.count_again(files={name: data}), [said])
             self.expect(f"{name}, typed", window.count_again(hashlib.sha256(data).hexdigest(), {name: data}), [f"{said} Yours is the same."])
-            other = window.count_again(hashlib.sha256(data).hexdigest(), {name: data + b"x"})
-            self.expect(f"{name}, changed", LETTER_OTHER in other[0], True)
+            self.expect(f"{name}, changed", LETTER_OTHER in window.count_again(hashlib.sha256(data).hexdigest(), {name: data + b"x"})[0], True)
         sum_of_poll = sums["poll.toml"]
         for typed, number in ((sum_of_poll[:63], 63), (f"{sum_of_poll[:16]} {sum_of_poll[16:20]}", 20), (f"{sum_of_poll}0", 65), ("?", 0)):
-            part = f"A checksum has 64 digits, 0 to 9 and a to f, and you have typed {number}."
-            self.expect(f"typed {typed}", window.count_again(typed)[3], part)
+            self.expect(f"typed {typed}", window.count_again(typed)[3], f"A checksum has 64 digits, 0 to 9 and a to f, and you have typed {number}.")
 
     @at_browser.NEEDS_BROWSER
     def test_counting_again_on_changed_pages(self):

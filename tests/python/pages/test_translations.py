@@ -92,8 +92,7 @@ class Translations(languages.LanguageTest):
 
     def test_sentences_with_numbers_and_places(self) -> None:
         for code, wanted in (("en", ("1 file", "3 files")), ("de", ("1 Datei", "3 Dateien"))):
-            said = [language_of(code).say_number("{number} file", "{number} files", number) for number in (1, 3)]
-            self.assertEqual(tuple(said), wanted)
+            self.assertEqual(tuple([language_of(code).say_number("{number} file", "{number} files", number) for number in (1, 3)]), wanted)
         self.assertEqual(language_of("de").say("The line: {line}", line="{x}"), "Die Zeile: {x}")
         self.assertEqual(language_of("fr").between("{before}; {after}"), "\u00a0; ")
 

@@ -41,8 +41,7 @@ def unmarked(text: str) -> list[str]:
 def unsaid(page: str) -> list[str]:
     """What of a page is read and is unmarked."""
     said = [html.unescape(found) for found in SAID.findall(page)]
-    body = UNSAID.sub(" ", page[page.index("<title>") :])
-    texts = [html.unescape(text) for text in re.split(r"<[^>]*>", body)]
+    texts = [html.unescape(text) for text in re.split(r"<[^>]*>", UNSAID.sub(" ", page[page.index("<title>") :]))]
     return [word for text in [" ".join(texts), *map(words_of, said)] for word in unmarked(text)]
 
 
@@ -118,8 +117,7 @@ class MarkedElections(Marked):
         self.check_messages(place, ALL_KINDS)
 
     def test_codes_on_the_roll(self) -> None:
-        place = self.called("codes", "de", codes=("--on-roll",))
-        self.check_files(place, "call/index.html", "call/call.txt", "private/slips.html")
+        self.check_files(self.called("codes", "de", codes=("--on-roll",)), "call/index.html", "call/call.txt", "private/slips.html")
 
     def test_a_call_that_says_little(self) -> None:
         place = self.begun("little", "de", poll=POLL.replace("quorum = 1", "quorum = 0\nwording = 'more_than'"))
@@ -169,8 +167,7 @@ class MarkedPublications(Marked):
         poll = f'title = "Wohin?"\noptions = [{options}]\nratios = {[1] * 14}\ndefault = "Further discussion"\nquorum = 0\nroll = ["e01"]\n'
         for name, ranks, status in (("many", range(1, 16), 0), ("all-equal", [1] * 14 + [2], 1)):
             folder = self.publish(name, poll, f"e01 {','.join(map(str, ranks))}\n", status=status)
-            page = (folder / "index.html").read_text(encoding="utf-8").replace("Option ", "")
-            self.assertEqual(unsaid(page), [])
+            self.assertEqual(unsaid((folder / "index.html").read_text(encoding="utf-8").replace("Option ", "")), [])
 
 
 class MarkedDecisions(Marked):

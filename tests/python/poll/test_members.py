@@ -96,12 +96,10 @@ class Read(MembersTest):
 
     def test_several_addresses(self) -> None:
         text = 'who,mail\nAda,a@x b@x\nBen,"b@x, c@x;d@x"\nCleo,"Lovelace, Cleo <c@x>; <d@x>"\nDan,mailto:d@x d@x\n'
-        found = [row.addresses for row in self.read(text).electors]
-        self.assertEqual(found, [("a@x", "b@x"), ("b@x", "c@x", "d@x"), ("c@x", "d@x"), ("d@x",)])
+        self.assertEqual([row.addresses for row in self.read(text).electors], [("a@x", "b@x"), ("b@x", "c@x", "d@x"), ("c@x", "d@x"), ("d@x",)])
 
     def test_the_fingerprint_of_a_key(self) -> None:
-        text = f"who,mail,key\nAda,,{KEY[:20].lower()} {KEY[20:]}\nBen,,\n"
-        self.assertEqual([row.key for row in self.read(text).electors], [KEY, ""])
+        self.assertEqual([row.key for row in self.read(f"who,mail,key\nAda,,{KEY[:20].lower()} {KEY[20:]}\nBen,,\n").electors], [KEY, ""])
 
 class Unread(MembersTest):
     def test_faults_of_the_file(self) -> None:
@@ -182,8 +180,7 @@ class Rows(MembersTest):
         self.assert_faults(f"who,mail,name\nAda,,{'a' * 33}\n", (":2: ", "cannot be a name"))
 
     def test_a_sum_below_the_members(self) -> None:
-        sums = "Total,", "TOTAL: 3,", "Summe,3", ",Insgesamt", "Gesamtsumme = 3,", "Somme : 3,", "Suma 3,", "Subtotal,", "Anzahl: 1.000,"
-        for row in sums:
+        for row in ("Total,", "TOTAL: 3,", "Summe,3", ",Insgesamt", "Gesamtsumme = 3,", "Somme : 3,", "Suma 3,", "Subtotal,", "Anzahl: 1.000,"):
             with self.subTest(row=row):
                 first = next(filter(None, row.split(",")))
                 self.assert_faults(f"who,mail\nAda,ada@x\n{row}\n", (f":3: `{first}` is a sum and no member; take the line out",))
@@ -192,8 +189,7 @@ class Rows(MembersTest):
         self.assert_rows("who,mail\nAnna Total,\nSumm,\nSuma,s@x\n", *wanted)
 
     def test_characters_that_were_lost(self) -> None:
-        lost = ":2: `Zo\ufffd` has lost a character when it was saved (U+FFFD); write the "
-        self.assert_faults("who,mail\nZo\ufffd,z@x\n", (lost,))
+        self.assert_faults("who,mail\nZo\ufffd,z@x\n", (":2: `Zo\ufffd` has lost a character when it was saved (U+FFFD); write the ",))
         for end, (sign, shown) in itertools.product((b"\n", b"\r\n", b"\r"), ((b"\xeb", "Zo\u00eb,z@x"), (b"\x81", "Zo"))):
             self.assert_faults(b"who,mail%bAda,%bZo%b,z@x%b" % (end, end, sign, end), ("members.csv:3: it is not in UTF-8", shown))
 

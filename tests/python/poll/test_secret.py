@@ -59,8 +59,7 @@ def run(*words: str, given: str = "", folder: pathlib.Path | None = None) -> str
 class Codes(unittest.TestCase):
     def test_the_alias_is_the_one_that_an_elector_finds(self) -> None:
         for name, code in CODES.items():
-            command = BY_OPENSSL.replace("NAME", name).replace("CODE", code)
-            self.assertEqual(run("sh", "-c", command), ALIASES[name] + "\n")
+            self.assertEqual(run("sh", "-c", BY_OPENSSL.replace("NAME", name).replace("CODE", code)), ALIASES[name] + "\n")
             spaced = " ".join(re.findall("....", code))
             self.assertEqual(run("sh", "-c", BY_PYTHON, given=f"{spaced}\n{name}\n"), f"Code: Name: {ALIASES[name]}\n")
         self.assertNotEqual(alias_of(CODES["ada"], "ben"), ALIASES["ada"])
@@ -70,10 +69,8 @@ class Codes(unittest.TestCase):
             folder = pathlib.Path(name)
             for file in ("hmac.py", "hashlib.py", "sitecustomize.py", "codecs.py", "openssl.cnf", "printf", "cut"):
                 (folder / file).write_text("import os; os._exit(1)\n")
-            command = BY_OPENSSL.replace("NAME", "ada").replace("CODE", CODES["ada"])
-            self.assertEqual(run("sh", "-c", command, folder=folder), ALIASES["ada"] + "\n")
-            found = run("sh", "-c", BY_PYTHON, given=f"{CODES['ada']}\nada\n", folder=folder)
-            self.assertEqual(found, f"Code: Name: {ALIASES['ada']}\n")
+            self.assertEqual(run("sh", "-c", BY_OPENSSL.replace("NAME", "ada").replace("CODE", CODES["ada"]), folder=folder), ALIASES["ada"] + "\n")
+            self.assertEqual(run("sh", "-c", BY_PYTHON, given=f"{CODES['ada']}\nada\n", folder=folder), f"Code: Name: {ALIASES['ada']}\n")
 
     def test_codes_are_sixteen_bytes_of_the_generator_that_nobody_can_guess(self) -> None:
         with unittest.mock.patch("secrets.token_hex", return_value="c" * 32) as drawn:
@@ -185,8 +182,7 @@ class Slips(unittest.TestCase):
             self.assertEqual([other for other in CODES.values() if other in text], [code])
         self.assertIn("let each elector draw one", slips(WITH_CODES, CODES_ON_ROLL).decode())
         # a slip without a real name has the name on the roll in its place
-        bare = elector("ada", "", "", CODES["ada"], "")
-        self.assertTrue(self.each(CALL, [bare])[0].startswith("ada Where we meet Nameada Code"))
+        self.assertTrue(self.each(CALL, [elector("ada", "", "", CODES["ada"], "")])[0].startswith("ada Where we meet Nameada Code"))
 
     def test_hostile_texts_are_texts(self) -> None:
         texts = ["<script>alert(1)</script>", '" onload="x', "\u05d0\u05d1 & {title} %s </bdi></section>"]
@@ -244,8 +240,7 @@ class Table(unittest.TestCase):
     def test_each_elector_has_a_row(self) -> None:
         rows = [elector(name, f'{name.title()} "\u00c9", jr.', "", CODES[name], ALIASES[name]) for name in ROLL]
         found = list(csv.DictReader(io.StringIO(codes_csv(iter(rows)).decode())))
-        wanted = [{"name": row.name, "who": row.who, "mail": "", "code": row.code, "alias": row.alias} for row in rows]
-        self.assertEqual(found, wanted)
+        self.assertEqual(found, [{"name": row.name, "who": row.who, "mail": "", "code": row.code, "alias": row.alias} for row in rows])
         self.assertEqual(codes_csv([]), b"name,who,mail,code,alias\n")
 
     def test_a_spreadsheet_runs_no_cell(self) -> None:

@@ -27,16 +27,14 @@ def try_folder(expect, name, poll, ballots, more, folder):
     verified = publishing.run([publishing.PROGRAM, "verify", *files, "--sheet", folder / "sheet.txt"])[0]
     expect(f"{name}: what is said", output, sheet.splitlines()[-1] + "\n" + verified)
     texts = [(folder / file).read_bytes() for file in ("ballots.txt", "sheet.txt", "standing.txt")]
-    standing = publishing.run([publishing.PROGRAM, "standing", *files])[0]
-    expect(f"{name}: its files", texts, [ballots.read_bytes(), sheet.encode(), standing.encode()])
+    expect(f"{name}: its files", texts, [ballots.read_bytes(), sheet.encode(), publishing.run([publishing.PROGRAM, "standing", *files])[0].encode()])
     expect(f"{name}: its poll", *(in_plain_form(file.read_bytes()) for file in (folder / "poll.toml", poll)))
     expect(f"{name}: its poll is in plain form", (folder / "poll.toml").read_bytes(), plain_bytes(poll.read_bytes()))
     page, given, plain = ((file.read_bytes()) for file in (folder / "index.html", poll, folder / "poll.toml"))
     sums = [hashlib.sha256(data).hexdigest() for data in (given, plain)]
     named = [f"has the checksum (SHA-256) <code>{sums[0]}</code>", f"have this checksum, the poll's? <code>{sums[1]}</code>"]
     expect(f"{name}: the checksums of the poll", [text.encode() in page for text in named], [given != plain, True])
-    guide = (folder / "READING-A-SHEET.md").read_bytes()
-    expect(f"{name}: its guide", guide, (publishing.ROOT / "docs" / "READING-A-SHEET.md").read_bytes())
+    expect(f"{name}: its guide", (folder / "READING-A-SHEET.md").read_bytes(), (publishing.ROOT / "docs" / "READING-A-SHEET.md").read_bytes())
     found = {file.name: hashlib.sha256(file.read_bytes()).hexdigest() for file in folder.iterdir()}
     # the letter has the checksum of the checksums
     letter = (folder / "letter.txt").read_text()
@@ -44,8 +42,7 @@ def try_folder(expect, name, poll, ballots, more, folder):
     del found["SHA256SUMS"], found["letter.txt"]
     sums = dict(reversed(line.split("  ")) for line in (folder / "SHA256SUMS").read_text().splitlines())
     expect(f"{name}: its sums", sums, found)
-    pictures = {"picture.svg"} if publishing.HAS_PICTURES else set()
-    expect(f"{name}: its names", set(found), FILES | pictures)
+    expect(f"{name}: its names", set(found), FILES | ({"picture.svg"} if publishing.HAS_PICTURES else set()))
     modes = {file.stat().st_mode & 0o777 for file in folder.iterdir()}
     expect(f"{name}: it can be read by all", (folder.stat().st_mode & 0o777, modes), (0o755, {0o644}))
     return True

@@ -22,8 +22,7 @@ def try_names(expect, scratch):
     """The names that people read stand where names stand, and the plain ones in the list of the options alone. Returns the folder."""
     room = room_with(scratch / "names", "supermajority_and_recasts")
     names = [HOSTILE, "72 Euro", "דיון נוסף"]
-    texts = ["Changes § 4.\n\n\u200fÜber <b>alles</b>.", ""]
-    keys = {"shown_title": "Ob die Satzung geändert wird", "shown_options": names, "explanations": texts}
+    keys = {"shown_title": "Ob die Satzung geändert wird", "shown_options": names, "explanations": ["Changes § 4.\n\n\u200fÜber <b>alles</b>.", ""]}
     keys |= {"deadline": "2026-12-04T18:00:00+01:00", "note": "not kept"}
     poll = (room / "poll.toml").read_text()
     (room / "poll.toml").write_text("".join(f"{key} = {json.dumps(value, ensure_ascii=False)}\n" for key, value in keys.items()) + poll)
@@ -106,8 +105,7 @@ class WordsTest(publishing.PublishTest):
         verify = sections["How-to-verify"]
         heads = [head.text() for head in verify.all("h4")]
         program = subprocess.run([PROGRAM, "--version"], capture_output=True, text=True).stdout.strip()
-        wanted = ["To count again", f"With the program {program}", "Without debvote"]
-        self.expect("how to verify: its parts", heads, wanted)
+        self.expect("how to verify: its parts", heads, ["To count again", f"With the program {program}", "Without debvote"])
         own, winner, sums, letter, again = [" ".join(entry.text().split()) for entry in sections["Check-it"].one("ol").all("li")]
         poll_sum = hashlib.sha256((room / "result" / "poll.toml").read_bytes()).hexdigest()
         self.expect("check it: one's own ballot", own.startswith("Is your ballot as you sent it? Find your ballot shows it. If you did not vote"), True)
@@ -148,8 +146,7 @@ class WordsTest(publishing.PublishTest):
         (room / "ballots").write_text((room / "ballots").read_text() + "".join(f"{line}\n" for line in lines))
         self.expect("refused texts: the status", publish(room, *FILES, "result")[2], 0)
         page = (room / "result" / "index.html").read_text()
-        found = [entry.text() for entry in pages.sections_of(page)["Refused-lines"].all("li")]
-        self.expect("refused texts", found, REFUSED_TEXTS)
+        self.expect("refused texts", [entry.text() for entry in pages.sections_of(page)["Refused-lines"].all("li")], REFUSED_TEXTS)
         (room / "ballots").write_text((room / "ballots").read_text() + "".join(f"y{place}{'z' * 150}\n" for place in range(8_000)))
         self.expect("many refused texts: the status", publish(room, *FILES, "many")[2], 0)
         page = (room / "many" / "index.html").read_text()

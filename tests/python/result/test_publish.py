@@ -72,8 +72,7 @@ class OfElections(elections.ElectionTest, expecting.Expecting):
         """Runs a command that has to stop with these words; it makes no folder and no act."""
         acts, before = len(self.acts()), (self.folder / folder).exists()
         ended = self.election(*words, **how)
-        missing = [text for text in said if text not in ended.faults]
-        self.expect(f"{words}: {ended.faults}", (ended.output, missing, ended.status), ("", [], status))
+        self.expect(f"{words}: {ended.faults}", (ended.output, [text for text in said if text not in ended.faults], ended.status), ("", [], status))
         self.expect(f"{words}: nothing is made", (len(self.acts()), (self.folder / folder).exists()), (acts, before))
 
     def replace(self, *words, **how):
@@ -158,13 +157,11 @@ class OfElections(elections.ElectionTest, expecting.Expecting):
 
     def checksums_of_letters(self, files, ballots):
         """The checksums of the page are those of the letters, each in its place."""
-        answers = re.findall(r"<pre><code>([0-9a-f]{64})  (\S+)</code></pre>", files["index.html"].decode())
-        shown = {name: checksum for checksum, name in answers}
+        shown = {name: checksum for checksum, name in re.findall(r"<pre><code>([0-9a-f]{64})  (\S+)</code></pre>", files["index.html"].decode())}
         closed = re.findall(r"(?m)^  ([0-9a-f]{64})$", files["closed.txt"].decode())
         called = re.findall(r"\b[0-9a-f]{64}\b", (self.folder / "call" / "call.txt").read_text())
         named = re.findall(r"(?m)^  ([0-9a-f]{64})  (\S+)$", self.letter())
-        wanted = [(hashlib.sha256(files[name]).hexdigest(), name) for name in ("SHA256SUMS", "index.html")]
-        self.expect("the letter of the result", named, wanted)
+        self.expect("the letter of the result", named, [(hashlib.sha256(files[name]).hexdigest(), name) for name in ("SHA256SUMS", "index.html")])
         self.expect("the letter of the call", set(called), {shown["poll.toml"]})
         self.expect("the letter of the close", closed[:2], [shown["poll.toml"], shown[ballots]])
 
@@ -312,8 +309,7 @@ class OfOpenVotes(OfElections):
         self.expect("one of its own", (last.name, last.number, last.detail["casting"]), ("publish", acts + 2, "72 Euro"))
         self.checksums_of_letters(self.files(), "ballots.txt")
         self.expect("with its letter", self.letter() == letter, False)
-        said = self.say("publish")
-        self.expect("and again", ("as it was published before" in said, len(self.acts())), (True, acts + 2))
+        self.expect("and again", ("as it was published before" in self.say("publish"), len(self.acts())), (True, acts + 2))
 
     def test_the_letter_binds_each_file(self):
         """Whatever file somebody changes, the command of the letter shows it."""
@@ -366,8 +362,7 @@ class OfOpenVotes(OfElections):
         nobody = "No elector has a ballot that counts: nobody's vote has decided this."
         refused = "More than half of the lines of the ballot file are refused: 1 of 1."
         self.expect("doubts", self.doubts(), [nobody, refused, "The vote was not closed when this page was made: more ballots may come in."])
-        page = pages.tree_of((self.folder / "result" / "index.html").read_text())
-        given = [text.text() for text in next(page.all("div", "given")).all("p")]
+        given = [text.text() for text in next(pages.tree_of((self.folder / "result" / "index.html").read_text()).all("div", "given")).all("p")]
         self.expect("the reason", given[1:], ["A <test>.", "No more."])
         self.expect("it is in the act", [doubt["kind"] for doubt in self.acts()[-1].detail["doubts"]], ["no ballot", "mostly refused", "not closed"])
         self.add("ada-lovelace 1,2,3\n")
@@ -449,8 +444,7 @@ class OfOpenVotes(OfElections):
         done = self.sections()["What-was-done"].text()
         self.expect("moved", ("that did not know it yet. The reason, in the secretary's words: a new <laptop>" in done), True)
         with self.changed_book() as connection:
-            last = connection.execute("SELECT max(act) FROM act").fetchone()[0]
-            connection.execute("UPDATE act SET detail = '{}' WHERE act = ?", (last - 2,))
+            connection.execute("UPDATE act SET detail = '{}' WHERE act = ?", (connection.execute("SELECT max(act) FROM act").fetchone()[0] - 2,))
         self.stops("publish", said=["does not match its digest"])
 
     @contextlib.contextmanager
@@ -584,10 +578,8 @@ class OfOpenVotes(OfElections):
         self.expect("one that decides nothing is not told", ["casting vote" in text for text in texts], [False, False])
         self.reopened_with("dan 2,1,3\n")
         self.replace("--casting", "Groesse", *cast, "--force", "--because", "She had meant this", "--language", "en")
-        earlier = ["An earlier result of this vote was published with another casting vote, for 72 Euro."]
-        self.expect("another casting vote", self.doubts(), earlier)
-        letter = self.letter()
-        self.expect("the letter says whom it chose", "Winner: Option 2: Größe by casting vote" in letter, True)
+        self.expect("another casting vote", self.doubts(), ["An earlier result of this vote was published with another casting vote, for 72 Euro."])
+        self.expect("the letter says whom it chose", "Winner: Option 2: Größe by casting vote" in self.letter(), True)
         files = self.files()
         self.say("publish")
         self.expect("and again", self.files() == files, True)
@@ -639,8 +631,7 @@ class OfOpenVotes(OfElections):
                 raise OSError(28, "No space left on device", str(file))
             return rename(file, target)
 
-        patch = unittest.mock.patch.object(pathlib.Path, "rename", fail_second)
-        self.expect("it fails", self.in_child(patch, "publish", "--language", "en"), 7)
+        self.expect("it fails", self.in_child(unittest.mock.patch.object(pathlib.Path, "rename", fail_second), "publish", "--language", "en"), 7)
         self.expect("the old one is back", self.files() == before, True)
         self.say("publish")
         self.expect("the new one", (self.files() == before, self.left()), (False, []))
@@ -730,8 +721,7 @@ class OfSecretVotes(OfElections):
             words = [word for word in words if not (word == "17,33" and name in ("index.html", "READING-A-SHEET.md"))]
             self.expect(f"{name} tells nothing", [word for word in words if word.lower() in text], [])
         private = self.election("count").output
-        public = files["sheet.txt"].decode()
-        self.expect("the sheet from Voters on", public.partition("\nVoters")[2], private.partition("\nVoters")[2])
+        self.expect("the sheet from Voters on", files["sheet.txt"].decode().partition("\nVoters")[2], private.partition("\nVoters")[2])
         sections = self.sections()
         self.expect("numbers alone", "3 lines that came were refused: 2 as invalid, and 1 because" in sections["Refused-lines"].text(), True)
         struck = "The secretary struck an envelope: its line does not count."
@@ -762,8 +752,7 @@ class OfSecretVotes(OfElections):
         self.expect(f"a reason of --moved: {output} {faults}", ("these texts may tell" in faults, faults.count("  of <Ada>\n"), status), (True, 1, 9))
         self.expect("is an act, and no publication", [act.name for act in self.acts()[acts:]], ["moved"])
         self.say("publish", "--force", "--yes", status=1)
-        digest = hashlib.sha256(b"of <Ada>").hexdigest()
-        self.expect("the act keeps what was agreed to", self.acts()[-1].detail["agreed"], [digest])
+        self.expect("the act keeps what was agreed to", self.acts()[-1].detail["agreed"], [hashlib.sha256(b"of <Ada>").hexdigest()])
         self.say("publish", "--language", "fr", status=1)
         code = self.secrets()[0].code
         (self.folder / "about").write_text(f"x {code}\n")
@@ -801,8 +790,7 @@ class OfSecretVotes(OfElections):
         """A call that did not ask leaves the question to the publication."""
         (self.folder / "texts").mkdir()
         (self.folder / "texts" / "1.txt").write_text("Zoë is for it.\n")
-        unasked = unittest.mock.patch("debvote_tools.commands.call.agreed_texts", return_value=[])
-        self.expect("called", self.in_child(unasked, "call"), 0)
+        self.expect("called", self.in_child(unittest.mock.patch("debvote_tools.commands.call.agreed_texts", return_value=[]), "call"), 0)
         self.add("ada-lovelace 3,2,9\n")
         self.say("close")
         self.stops("publish", said=["texts/1.txt:\n  Zoë is for it.\n", "these texts may tell who voted what"])
@@ -816,8 +804,7 @@ class OfSecretVotes(OfElections):
         self.add("cleo 1,2,3\nzoe-mueller 5,4,6\ndan 1,2,3\n")
         self.say("reopen", "--because", "Cleo's letter", "--in-time", "6", "7", "8")
         self.say("close")
-        said = "a comparison with the earlier result shows how these voted: cleo, dan"
-        self.stops("publish", "result-2", said=[said], folder="result-2")
+        self.stops("publish", "result-2", said=["a comparison with the earlier result shows how these voted: cleo, dan"], folder="result-2")
         self.say("publish", "--yes", "result-2")
         self.expect("cleo and dan count", len((self.folder / "result-2" / "ballots.txt").read_text().splitlines()), 4)
         self.checksums_of_letters(self.files("result-2"), "-")

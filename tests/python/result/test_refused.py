@@ -31,8 +31,7 @@ def try_stand_ins(expect, poll, ballots, room, scratch):
     other = stand_in(scratch / "other", f'case $1 in count) echo "Result: 1" ;; verify) echo verified ;; {as_it_is}')
     found = publishing.run([*words, room / "result"], path=other)
     expect("a sheet of another format", (found[2], os.listdir(room)), (10, ["full"]))
-    plain = stand_in(scratch / "plain", f'exec {publishing.PROGRAM} "$@"')
-    found = publishing.run([*words, room / "result"], path=plain)
+    found = publishing.run([*words, room / "result"], path=stand_in(scratch / "plain", f'exec {publishing.PROGRAM} "$@"'))
     is_told = "Graphviz" in found[1] and "There is no picture" in (room / "result" / "index.html").read_text()
     expect("no Graphviz", (found[2], is_told, (room / "result" / "picture.svg").exists()), (0, True, False))
     slow = stand_in(scratch / "slow", f'case "$*" in *ballots.txt*) exec /bin/sleep 60 ;; {as_it_is}')
@@ -40,8 +39,7 @@ def try_stand_ins(expect, poll, ballots, room, scratch):
     while len(os.listdir(room)) < 3 and started.poll() is None:
         time.sleep(0.05)
     started.terminate()
-    status = started.wait(publishing.SECONDS)
-    expect("a run that is asked to end", (status, sorted(os.listdir(room))), (128 + signal.SIGTERM, ["full", "result"]))
+    expect("a run that is asked to end", (started.wait(publishing.SECONDS), sorted(os.listdir(room))), (128 + signal.SIGTERM, ["full", "result"]))
 
 
 class RefusedTest(publishing.PublishTest):
@@ -82,11 +80,9 @@ class RefusedTest(publishing.PublishTest):
         _, faults, status = publishing.publish_files(poll, ballots, room / "result" / "x")
         words = f"debvote-publish: {room}/result/x: it would be in {room}/result, whose files are published as they are; nothing was published: "
         self.expect("a folder in a published one", (faults, status), (f"{words}name a folder outside of it\n", 2))
-        now = {file.name: file.read_bytes() for file in (room / "result").iterdir()}
-        self.expect("the published one", now == before, True)
+        self.expect("the published one", {file.name: file.read_bytes() for file in (room / "result").iterdir()} == before, True)
         shutil.rmtree(room / "result")
-        nowhere = publishing.publish_files(poll, ballots, room / "result", path="/nowhere")
-        self.expect("no program", (nowhere[2], os.listdir(room)), (127, ["full"]))
+        self.expect("no program", (publishing.publish_files(poll, ballots, room / "result", path="/nowhere")[2], os.listdir(room)), (127, ["full"]))
         try_stand_ins(self.expect, poll, ballots, room, self.scratch)
 
     def test_an_empty_folder(self):
@@ -106,5 +102,4 @@ class RefusedTest(publishing.PublishTest):
             poll.write_text(f"{publishing.PLAIN_POLL}note = {number}\n")
             words = ["count", "--poll", poll, "--ballots", self.scratch / "none"]
             found = [publishing.run([*program, *words])[1:] for program in ([publishing.PROGRAM], [sys.executable, "-I", publishing.ROOT / "tests" / "reference.py"])]
-            wanted = ("", 0) if is_taken else ("debvote: poll refused: syntax\n", 3)
-            self.expect(number, found, [wanted] * 2)
+            self.expect(number, found, [("", 0) if is_taken else ("debvote: poll refused: syntax\n", 3)] * 2)
