@@ -2,6 +2,7 @@
 
 import contextlib
 import email.utils
+import itertools
 import os
 import pathlib
 import re
@@ -70,9 +71,12 @@ def marked_german() -> Iterator[None]:
 
 
 def forget_german() -> None:
-    """Forgets what other tests of this process have said in German: languages and templates keep some of it."""
-    vars(language_of("de")).pop("and_last", None)
-    templates_of.cache_clear()
+    """Forgets what this process has said in German: languages and templates keep some of it. No template is read again, which takes a while."""
+    for package, is_page in itertools.product(("poll", "result", "outbox"), (True, False)):
+        templates = templates_of(f"debvote_tools.{package}", language_of("de"), is_page=is_page)
+        vars(templates.globals["say"].__self__).pop("and_last", None)
+        for template in templates.cache.values():
+            template._module = None
 
 
 class LanguageTest(elections.ElectionTest):
@@ -88,7 +92,8 @@ class LanguageTest(elections.ElectionTest):
         return ended.output + ended.faults
 
     def election(self, folder: str, *words: object, given: str = "", status: int = 0) -> str:
-        return self.program("debvote-election", "--folder", folder, *words, given=given, status=status)
+        # where the command comes first, the program reads the words of this one alone
+        return self.program("debvote-election", words[0], "--folder", folder, *words[1:], given=given, status=status)
 
     def begun(self, folder: str, language: str, *, poll: str = POLL, codes: tuple[str, ...] | None = None) -> pathlib.Path:
         """An election in a language, with its roll; with arguments for `codes` it is secret."""
@@ -108,25 +113,29 @@ class LanguageTest(elections.ElectionTest):
         self.election(folder, "call", "--until", FIRST_END, "--zone", "Europe/Berlin", "--to", TO, "--at", AT, "--form", *names)
         return place
 
-    def held(self, folder: str, language: str, *, is_secret: bool = False) -> pathlib.Path:
+    def held(self, folder: str, language: str, *, is_secret: bool = False, has_letters: bool = True) -> pathlib.Path:
         """An election in a language, from its beginning to its publication, with everything that pages and letters can say."""
+
+        def send(*kinds: str) -> None:
+            for kind in kinds if has_letters else ():
+                self.election(folder, "letters", kind)
+
         place = self.called(folder, language, codes=() if is_secret else None)
-        self.election(folder, "letters", "call")
+        send("call")
         self.election(folder, "call", "--until", END, "--zone", "Europe/Berlin")
-        self.election(folder, "letters", "call")
+        send("call")
         self.election(folder, "add", "--yes", given=BALLOTS)
         self.election(folder, "add", "--yes", *self.letters(place))
         self.election(folder, "strike", 5, "--because", REASON)
-        self.election(folder, "letters", "reminders")
-        self.election(folder, "letters", "receipts")
+        send("reminders", "receipts")
         self.election(folder, "close", "--early", "--force", "--because", REASON)
         self.election(folder, "reopen", "--because", REASON)
         self.election(folder, "add", "--yes", "--came-before-close", "yes", given="e12 2,1,3,4\n")
         self.election(folder, "close", "--early", "--force", "--because", REASON)
-        self.election(folder, "letters", "closed")
+        send("closed")
         self.election(folder, "add", "--yes", given="e05 1,2,3,4\n")
         self.election(folder, "publish", "--yes")
-        self.election(folder, "letters", "result")
+        send("result")
         return place
 
     def letters(self, place: pathlib.Path) -> list[pathlib.Path]:

@@ -6,6 +6,7 @@ the count of the reference; nothing of debvote_tools is used.
 
 import collections
 import decimal
+import functools
 import html
 import html.parser
 import re
@@ -125,6 +126,7 @@ def tree_of(page):
     return built(page).root
 
 
+@functools.lru_cache(2)
 def built(page):
     builder = Builder()
     builder.feed(page)

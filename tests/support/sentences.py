@@ -6,6 +6,7 @@
 
 import ast
 import dataclasses
+import functools
 import pathlib
 import re
 import sys
@@ -31,6 +32,7 @@ class Entry:
     is_obsolete: bool
 
 
+@functools.cache
 def in_code() -> dict[tuple[str, ...], str]:
     """The sentences of the code and of the templates, each with the first place where it occurs."""
     found: dict[tuple[str, ...], str] = {}
