@@ -20,9 +20,9 @@ UNTIL = ("--until", "2026-12-04 18:00", "--zone", "Europe/Berlin")
 
 
 class CloseTest(elections.ElectionTest):
-    def add(self, *lines: str, words: tuple[str, ...] = ()) -> elections.Ended:
+    def add(self, *lines: str) -> elections.Ended:
         self.write("lines", "".join(f"{line}\n" for line in lines))
-        return self.done("add", "--yes", *words, "lines")
+        return self.done("add", "--yes", "lines")
 
     def numbers(self) -> dict[str, object]:
         return json.loads(self.done("status", "--json").output)
@@ -35,61 +35,45 @@ class CloseTest(elections.ElectionTest):
 
 class Close(CloseTest):
     def test_lines_after_it_are_late(self) -> None:
+        """Its letter names the checksums of the poll and of the ballots, and the digest; it is that of the close however often it is made."""
         self.add("ada 1,2,3,4", "ben 2,1,3,4", "zoe 1")
         before = self.exported()[0]
-        self.done("close")
+        ended = self.done("close")
+        letter = self.read("letters/closed.txt").decode()
+        sums = [hashlib.sha256(data).hexdigest() for data in (self.read("call/poll.toml"), before)]
+        places = [letter.index(text) for text in (*sums, self.numbers()["digest"])]
+        self.assertEqual(places, sorted(places))
+        self.assertIn(f"Checksum of the ballots: {sums[1]}", ended.output)
+        self.assertTrue(ended.output.endswith("\nNext: debvote-election letters closed, then debvote-election count\n"), ended)
+        self.assertIn("3 lines came in time", letter)
+        self.write("letters/closed.txt", "another")
+        log = self.done("log").output
         self.assertIn("late", self.add("ada 4,3,2,1").output)
+        self.assertIn("Nothing was changed", self.done("close").output)
+        self.assertEqual(self.read("letters/closed.txt").decode(), letter)
+        self.assertEqual(self.done("log").output.splitlines()[:-2], log.splitlines())
         self.assertEqual(self.exported(), (before, b"ada 4,3,2,1\n"))
         wanted = {"stage": "closed", "electors": 9, "lines": 3, "valid": 2, "refused": 1, "late": 1, "voters": 2, "waiting": 0}
         wanted |= {"stopping": [], "not_reached": {}, "printed": []}
         self.assertEqual({key: value for key, value in self.numbers().items() if key not in ("act", "digest", "without_ballot")}, wanted)
 
-    def test_letter(self) -> None:
-        self.add("ada 1,2,3,4")
-        checksum = hashlib.sha256(b"ada 1,2,3,4\n").hexdigest()
-        ended = self.done("close")
-        letter = self.read("letters/closed.txt").decode()
-        poll = hashlib.sha256(self.read("call/poll.toml")).hexdigest()
-        digest = self.numbers()["digest"]
-        self.assertLess(letter.index(poll), letter.index(checksum))
-        self.assertLess(letter.index(checksum), letter.index(digest))
-        self.assertIn(f"Checksum of the ballots: {checksum}", ended.output)
-        self.assertTrue(ended.output.endswith("\nNext: debvote-election letters closed, then debvote-election count\n"), ended)
-        self.assertIn("1 line came in time", letter)
-        (self.folder / "letters" / "closed.txt").write_text("another")
-        log = self.done("log").output
-        self.add("ben 1,2,3,4")
-        self.assertIn("Nothing was changed", self.done("close").output)
-        self.assertEqual(self.read("letters/closed.txt").decode(), letter)
-        self.assertEqual(self.done("log").output.splitlines()[:-2], log.splitlines())
-
-    def test_the_time_is_in_the_zone_of_the_end(self) -> None:
-        """Also if a later call announced the end."""
+    def test_the_end(self) -> None:
+        """A later call announced it, in another zone than that in which the book keeps times. A line that comes after it still counts."""
         self.set_clock("2026-11-27T09:00:00+00:00")
         self.done("call", *UNTIL)
-        self.set_clock("2026-12-04T17:30:00+00:00")
-        self.assertIn("0 lines came in time", self.done("close").output)
-        self.assertIn("18:30 (UTC+01:00)", " ".join(self.read("letters/closed.txt").decode().split()))
-
-    def test_after_the_end_a_line_still_counts(self) -> None:
-        self.set_clock("2026-11-27T09:00:00+00:00")
-        self.done("call", *UNTIL)
-        said = "\nEnd of the vote: Friday, 4 December 2026, 18:00 (UTC+01:00)"
-        self.assertIn(f"{said}\n", self.done("status").output)
-        self.set_clock("2026-12-04T19:00:00+01:00")
-        self.assertIn(f"{said}; that time has passed\n", self.done("status").output)
-        self.assertIn("1 counted", self.add("ada 1,2,3,4").output)
-        self.done("close")
-
-    def test_not_before_the_end(self) -> None:
-        self.set_clock("2026-11-27T09:00:00+00:00")
-        self.done("call", *UNTIL)
-        before = self.contents()
+        before, end = self.contents(), "Friday, 4 December 2026, 18:00 (UTC+01:00)"
         # what lets a close pass over letters says nothing of the end
         for words in ((), ("--force", "--because", "all have voted")):
-            self.assert_fault(self.election("close", *words), 9, "Friday, 4 December 2026, 18:00 (UTC+01:00)", "--early", "nothing was changed")
+            self.assert_fault(self.election("close", *words), 9, end, "--early", "nothing was changed")
         self.assertEqual(self.contents(), before)
-        self.assertIn("the announced end of the vote has not come yet", self.done("close", "--early").output)
+        for time, name, said in (("16:30", "ada", ""), ("17:30", "ben", "; that time has passed")):
+            self.set_clock(f"2026-12-04T{time}:00+00:00")
+            self.assertIn(f"\nEnd of the vote: {end}{said}\n", self.done("status").output)
+            self.assertIn("1 counted", self.add(f"{name} 1,2,3,4").output)
+        self.assertIn("2 lines came in time", self.done("close").output)
+        self.assertIn("18:30 (UTC+01:00)", " ".join(self.read("letters/closed.txt").decode().split()))
+        self.done("publish")
+        self.assertIn("1 ballot came after the end, and counts, since the vote was not closed yet.", self.read("result/index.html").decode())
 
 
 class Meanwhile(CloseTest):
@@ -250,25 +234,20 @@ class Reopen(CloseTest):
             self.assertIn(f"Checksum of the ballots: {checksum}\n", output)
         self.assertIn("3 lines came in time", self.read("letters/closed.txt").decode())
 
-    def test_faults(self) -> None:
+    def test_a_result_before_the_last_close_is_not_the_result(self) -> None:
+        """`status` says whether the vote is open, and whether it is published."""
+        self.assertRegex(self.done("status").output, r"\nClosed: at [^\n]* UTC\nQuorum")
+        self.done("publish")
+        self.assertEqual(self.numbers()["stage"], "published")
+        self.assertTrue(self.done("status").output.endswith(", then debvote-election letters result\n"))
         self.assert_fault(self.election("reopen"), 2, "reason")
         self.assert_fault(self.election("reopen", "--because", "x", "--in-time", "1"), 2, "envelope 1 is not one of the late lines")
         self.done("reopen", "--because", "x")
         self.assert_fault(self.election("reopen", "--because", "x"), 9, "not closed")
-
-    def test_a_result_before_the_last_close_is_not_the_result(self) -> None:
-        self.done("publish")
-        self.assertEqual(self.numbers()["stage"], "published")
-        self.assertTrue(self.done("status").output.endswith(", then debvote-election letters result\n"))
-        self.done("reopen", "--because", "x")
         self.assertEqual(self.numbers()["stage"], "called")
+        self.assertRegex(self.done("status").output, r"\nClosed: not yet\nReopened: at [^\n]* UTC\nQuorum")
         self.done("close")
         self.assertEqual(self.numbers()["stage"], "closed")
-
-    def test_status_says_whether_it_is_open(self) -> None:
-        self.assertRegex(self.done("status").output, r"\nClosed: at [^\n]* UTC\nQuorum")
-        self.done("reopen", "--because", "x")
-        self.assertRegex(self.done("status").output, r"\nClosed: not yet\nReopened: at [^\n]* UTC\nQuorum")
 
 
 class Told(CloseTest):
@@ -289,14 +268,10 @@ class Told(CloseTest):
         self.assertNotIn("fay 1,2", output)
         self.done("strike", "1", "--because", "it was hers who asked")
         self.assertIn("  envelope 2: ben 1,2\n", self.done("status").output)
-
-    def test_export(self) -> None:
-        self.add("ada 1,2,3,4", "zoe 1")
+        # what came is exported as it came, for the secretary alone
         out = self.scratch / "out"
         self.done("export", out)
-        came = sorted((out / "came").iterdir())
-        self.assertEqual([file.name for file in came], ["00001-lines"])
-        self.assertEqual(came[0].read_bytes(), b"ada 1,2,3,4\nzoe 1\n")
+        self.assertEqual({file.name: file.read_bytes() for file in (out / "came").iterdir()}, {"00001-lines": self.read("lines")})
         self.assertEqual((out / "poll.toml").read_bytes(), self.read("call/poll.toml"))
         self.assertEqual(out.stat().st_mode & 0o777, 0o700)
         self.assertEqual({file.stat().st_mode & 0o777 for file in out.rglob("*") if file.is_file()}, {0o600})
@@ -314,14 +289,3 @@ class Told(CloseTest):
         self.done("close")
         self.done("publish")
         self.assertEqual(self.read("result/index.html").decode().count("went back"), 2)
-
-    def test_a_line_after_the_end_by_its_zone(self) -> None:
-        """The end is announced in another zone than that in which the book keeps times."""
-        self.set_clock("2026-11-27T09:00:00+00:00")
-        self.done("call", *UNTIL)
-        for time, name in (("16:30", "ada"), ("17:30", "ben")):
-            self.set_clock(f"2026-12-04T{time}:00+00:00")
-            self.add(f"{name} 1,2,3,4")
-        self.done("close")
-        self.done("publish")
-        self.assertIn("1 ballot came after the end, and counts, since the vote was not closed yet.", self.read("result/index.html").decode())

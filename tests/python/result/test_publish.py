@@ -38,7 +38,6 @@ quorum = 0
 """
 MEMBERS = "who,mail,name\nAda <Lovelace>,ada@x.example,\nZoë Müller,zoe@x.example,\nCleo,cleo@x.example,cleo\nDan,,dan\n"
 TIE = "ada-lovelace 1,2,3\nzoe-mueller 2,1,3\n"
-NOTHING_DONE = "nothing was published"
 TEXT = "Who certifies this: <b>Anna</b>.\n"
 
 
@@ -106,7 +105,8 @@ class OfElections(elections.ElectionTest, expecting.Expecting):
                 data = b"Received: by mx; %s\nFrom: x@x.example\n\n%s\n" % (email.utils.format_datetime(time).encode(), line)
                 letter = queries.keep_letter(act, "letter.eml", data, "", to_json(parse(RawLetter("letter.eml", data))))
                 queries.decide(act, letter, "entered")
-                queries.add_envelopes(act, [queries.NewEnvelope(line, letter=letter, time=time)], [None], is_late=True)
+                elector = queries.elector_numbers(book, [line.decode().split()[0]]).values()
+                queries.add_envelopes(act, [queries.NewEnvelope(line, letter=letter, time=time)], elector, is_late=True)
         return close
 
     def other_debvote(self, text):
@@ -194,14 +194,8 @@ class OfOpenVotes(OfElections):
         names = {"poll.toml", "ballots.txt", "late.txt", "sheet.txt", "standing.txt", "result.json", "votes.csv", "recount.py"}
         names |= {"recount.js", "closed.txt", "READING-A-SHEET.md", "SHA256SUMS", "index.html"}
         self.expect("the files", set(files), names | ({"picture.svg"} if elections.HAS_PICTURES else set()))
-        for name, source in [
-            ("poll.toml", "call/poll.toml"),
-            ("poll.toml", "exported/poll.toml"),
-            ("ballots.txt", "exported/ballots.txt"),
-            ("late.txt", "exported/late.txt"),
-            ("closed.txt", "letters/closed.txt"),
-        ]:
-            self.expect(f"{name} is {source}", files[name], (self.folder / source).read_bytes())
+        for place in ("call/poll.toml", "exported/poll.toml", "exported/ballots.txt", "exported/late.txt", "letters/closed.txt"):
+            self.expect(place, files[place.partition("/")[2]], (self.folder / place).read_bytes())
         self.expect("the lines in time that are not struck", files["ballots.txt"], b"ada-lovelace 1,2,3\nno-one 1,2,3\ncleo 2,1,3\n")
         self.expect("late lines", files["late.txt"], b"dan 3,2,1\n")
         label = json.loads(files["result.json"])["options"][1]
@@ -212,7 +206,7 @@ class OfOpenVotes(OfElections):
         refused = [item.text() for item in sections["Refused-lines"].all("li")]
         self.expect("refused and late lines", (len(refused), refused[-1]), (2, "line 1: dan 3,2,1"))
         self.expect("about", TEXT.strip() in sections["About-this-vote"].text(), True)
-        done = [item.text().partition("): ")[2] for item in sections["What-was-done"].all("li")]
+        done = self.what_was_done()
         struck = "The secretary struck envelope 3: its line does not count. The reason, in the secretary's words: Zoë has sent it <b>twice</b>"
         self.expect("what was done", done[:2], ["The call was made; it named no time until which one could vote.", struck])
         tie = "No option has won yet: Option 1: 72 Euro and Option 2: Größe are tied. The casting vote has to choose one of them. "
@@ -223,9 +217,23 @@ class OfOpenVotes(OfElections):
         self.checksums_of_letters(files, "ballots.txt")
         last = self.acts()[-1]
         self.expect("the act", (last.name, last.detail["checksums"]["ballots.txt"]), ("publish", checksum))
+        self.expect("each file that is changed is shown", [name for name in (None, *sorted(files)) if self.is_shown(name) is (name is None)], [])
+
+    def is_shown(self, name):
+        """Whether the command of the letter shows that somebody has changed a file; with None nobody has."""
+        [command] = re.findall(r"(?m)^  (sha256sum .*)$", self.letter())
+        wanted, place = re.findall(r"(?m)^  ([0-9a-f]{64}  \S+)$", self.letter()), self.folder / "downloaded"
+        shutil.copytree(self.folder / "result", place)
+        if name is not None:
+            data = (place / name).read_bytes()
+            (place / name).write_bytes(data.replace(b"3", b"4", 1) if b"3" in data else data + b"\n")
+        ended = subprocess.run(["sh", "-c", command], cwd=place, capture_output=True, text=True)
+        shutil.rmtree(place)
+        lines = ended.stdout.splitlines()
+        return lines[:2] != wanted or ended.returncode != 0 or not all(line.endswith(": OK") for line in lines[2:])
 
     def test_the_same_bytes_again(self):
-        self.say("call", "--until", "2099-12-04 18:00", "--zone", "Europe/Berlin")
+        self.say("call", "--until", "2099-12-04 18:00", "--zone", "Europe/Berlin", "--at", "https://x.example/")
         self.add("ada-lovelace 1,2,3\n")
         self.say("close", "--early")
         (self.folder / "about").write_text(TEXT)
@@ -249,22 +257,20 @@ class OfOpenVotes(OfElections):
         self.expect("other words are an act", (len(self.acts()), self.files() == files), (acts + 1, False))
         self.expect("nothing is left beside it", [name for name in os.listdir(self.folder) if name.startswith(".")], [])
         self.expect("real names are not published", "Lovelace" in (self.folder / "elsewhere" / "index.html").read_text(), False)
+        self.check_closed_early()
 
-    def test_another_folder_stays(self):
+    def test_no_other_result_is_replaced(self):
+        """Neither that of another election, nor an earlier one of this, nor one that somebody has changed. An empty folder is taken."""
         self.closed()
         (self.folder / "result").mkdir()
         self.say("publish")
         (self.folder / "result" / "notes").write_text("mine")
         self.stops("publish", "--language", "en", said=["result: it exists already, and is not what this election has published last", "as result-2"], status=2)
+        (self.folder / "result" / "notes").unlink()
         (self.folder / "mine").mkdir()
         (self.folder / "mine" / "a").write_text("b")
-        self.stops("publish", "mine", said=["mine: it exists already"], status=2, folder="mine")
-        self.stops("publish", "members.csv", said=["members.csv: it exists already"], status=2)
-
-    def test_no_other_result_is_replaced(self):
-        """Neither that of another election, nor an earlier one of this, nor one that somebody has changed."""
-        self.closed()
-        self.say("publish")
+        for name in ("mine", "members.csv"):
+            self.stops("publish", name, said=[f"{name}: it exists already"], status=2, folder=name)
         (self.folder / "result" / "picture.svg").unlink(missing_ok=True)
         self.say("publish", "--language", "en")
         other = self.scratch / "another election"
@@ -296,7 +302,7 @@ class OfOpenVotes(OfElections):
         self.expect("what somebody wrote is there", (self.folder / "result-2" / "mine").read_text(), "mine")
 
     def test_made_again_otherwise(self):
-        """What was published is not made otherwise in silence; it can be published once more, with its letter."""
+        """What was published is not made otherwise in silence; it can be published once more, with its letter. After another close it is new."""
         self.closed(TIE, "--at", "https://x.example/")
         self.say("publish", "--casting", "72 Euro", "--cast-by", "Anna", "--cast-on", "2026-11-20")
         files, letter, acts = self.files(), self.letter(), len(self.acts())
@@ -310,37 +316,16 @@ class OfOpenVotes(OfElections):
         self.checksums_of_letters(self.files(), "ballots.txt")
         self.expect("with its letter", self.letter() == letter, False)
         self.expect("and again", ("as it was published before" in self.say("publish"), len(self.acts())), (True, acts + 2))
+        self.add("cleo 1,2,3\n")
+        self.say("reopen", "--because", "a lost letter", "--in-time", "3")
+        self.say("strike", "1", "--because", "twice")
+        self.say("close")
+        self.expect("a tie again, without a casting vote", self.replace(status=1).splitlines()[0], "Tie: 1 2")
 
-    def test_the_letter_binds_each_file(self):
-        """Whatever file somebody changes, the command of the letter shows it."""
-        self.closed()
-        self.add("dan 3,2,1\n")
-        self.say("publish", "--language", "en")
-        [command] = re.findall(r"(?m)^  (sha256sum .*)$", self.letter())
-        wanted = re.findall(r"(?m)^  ([0-9a-f]{64}  \S+)$", self.letter())
-
-        def shown(name=None):
-            place = self.folder / "downloaded"
-            shutil.copytree(self.folder / "result", place)
-            if name is not None:
-                data = (place / name).read_bytes()
-                (place / name).write_bytes(data.replace(b"3", b"4", 1) if b"3" in data else data + b"\n")
-            ended = subprocess.run(["sh", "-c", command], cwd=place, capture_output=True, text=True)
-            shutil.rmtree(place)
-            lines = ended.stdout.splitlines()
-            return lines[:2] != wanted or ended.returncode != 0 or not all(line.endswith(": OK") for line in lines[2:])
-
-        self.expect("as it was published", shown(), False)
-        names = sorted(self.files())
-        self.expect("each that is changed", [name for name in names if not shown(name)], [])
-        self.expect("how many", len(names), 14 if elections.HAS_PICTURES else 13)
-
-    def test_closed_early(self):
-        self.say("call", "--until", "2099-12-04 18:00", "--zone", "Europe/Berlin", "--at", "https://x.example/")
-        self.add("ada-lovelace 1,2,3\n")
-        self.say("close", "--early")
+    def check_closed_early(self):
+        """That is a doubt, and each letter tells until when one should have been able to vote."""
         self.reopened_with("zoe-mueller 1,2,3\n", words=("--early",))
-        self.say("publish", "--language", "en")
+        self.replace("--language", "en")
         end = "one should have been able to vote until Friday, 4 December 2099, 18:00 (UTC+01:00)."
         [doubt] = self.doubts()
         self.expect(f"the doubt: {doubt}", doubt.startswith("The vote was closed on ") and doubt.endswith(f"before its announced end: {end}"), True)
@@ -477,15 +462,7 @@ class OfOpenVotes(OfElections):
     def test_a_late_letter_before_a_later_ballot(self):
         """It would not count, and `reopen` would refuse it: so it is no doubt, as that of who has no ballot is, or a refused line."""
         self.closed("ada-lovelace 1,2,3\ndan 9\n")
-        book = open_book(self.folder / "election.db")
-        time = book.last_act().time - datetime.timedelta(seconds=60)
-        with self.state_of_this(), contextlib.closing(book.connection), book.act("add") as act:
-            for name in ("ada-lovelace", "cleo", "dan"):
-                data = b"Received: by mx; %s\nFrom: %s@x.example\n\n" % (email.utils.format_datetime(time).encode(), name.encode())
-                letter = queries.keep_letter(act, "a.eml", data, "", to_json(parse(RawLetter("a.eml", data))))
-                queries.decide(act, letter, "entered")
-                new = queries.NewEnvelope(f"{name} 3,2,1".encode(), letter=letter, time=time)
-                queries.add_envelopes(act, [new], queries.elector_numbers(book, [name]).values(), is_late=True)
+        self.late_letters(*((-60, f"{name} 3,2,1".encode()) for name in ("ada-lovelace", "cleo", "dan")))
         late = ["the ballot of letter 2 is late", "reopen --in-time 4 --because", "the ballot of letter 3 is late", "reopen --in-time 5 --because"]
         self.stops("publish", said=late)
         self.assertNotIn("letter 1", self.election("publish").faults)
@@ -520,18 +497,8 @@ class OfOpenVotes(OfElections):
         back = f"12:50 (UTC): The clock of the secretary's computer went back: the act before has a later time, {later}."
         self.expect("a clock that went back", back in done, True)
 
-    def test_words_of_a_publication_end_with_its_close(self):
-        """Without words the last publication is made again; after another close it is a new one, without a casting vote."""
-        self.closed(TIE)
-        self.say("publish", "--casting", "72 Euro", "--cast-by", "Anna", "--cast-on", "2026-11-20")
-        self.add("cleo 1,2,3\n")
-        self.say("reopen", "--because", "a lost letter", "--in-time", "3")
-        self.say("strike", "1", "--because", "twice")
-        self.say("close")
-        self.expect("a tie again", self.replace(status=1).splitlines()[0], "Tie: 1 2")
-
-    def test_bad_texts(self):
-        self.closed()
+    def test_bad_texts_and_a_folder_that_is_counted_otherwise(self):
+        self.closed(TIE.replace("2,1,3", "1,2,3"))
         for data, said in [
             (b"Anna\nM\xfcller\n", "about:2: it is not in UTF-8"),
             (b"A\n\x1b[1m", "about:2: it has the character U+001B, which no plain text has"),
@@ -548,6 +515,12 @@ class OfOpenVotes(OfElections):
         self.say("publish", "--about", "about", "--language", "en")
         about = [text.text() for text in self.sections()["About-this-vote"].all("p", "about")]
         self.expect("the paragraphs of a text", about, ["One", "\u05d3 <i>two</i>"])
+        # a folder that is counted otherwise takes no place
+        files, acts = self.files(), len(self.acts())
+        for task, answer in [("verify", 'echo "differs at line 1"; exit 9'), ("standing", 'echo "ada-lovelace 3,2,1"; exit')]:
+            ended = self.election("publish", "--language", "es", path=self.other_debvote(f"case $1 in {task}) {answer} ;; esac"))
+            self.expect(f"{task}: {ended.faults}", (ended.status, "nothing was published" in ended.faults), (9, True))
+            self.expect(f"{task}: nothing was changed", (self.files() == files, len(self.acts())), (True, acts))
 
     def test_casting_votes(self):
         self.closed(TIE)
@@ -588,24 +561,34 @@ class OfOpenVotes(OfElections):
         return [name for name in os.listdir(self.folder) if name.startswith(".")]
 
     def test_a_publication_that_is_killed_after_its_act(self):
-        """Made again it comes back in its place, whatever a kill has left there, and nothing else is left."""
+        """Made again it comes back in its place, whatever a kill has left there, and nothing else is left. One that fails has left the old one."""
         self.closed()
-        rename, moved = pathlib.Path.rename, []
 
         def kill(*_):
             os.kill(os.getpid(), signal.SIGKILL)
 
-        def kill_between(file, target):
-            moved.append(kill() if moved else rename(file, target))
+        def fail():
+            raise OSError(28, "No space left on device", "result")
 
-        for language, patch, is_there, left in [
-            ("de", unittest.mock.patch.object(Made, "take_place", kill), False, 1),
-            ("en", unittest.mock.patch.object(Made, "take_place", kill), True, 1),
-            ("fr", unittest.mock.patch.object(pathlib.Path, "rename", kill_between), False, 2),
+        def at_second_rename(end, rename=pathlib.Path.rename):
+            moved = []
+
+            def renamed(file, target):
+                moved.append(file)
+                return end() if len(moved) == 2 else rename(file, target)
+
+            return unittest.mock.patch.object(pathlib.Path, "rename", renamed)
+
+        for language, patch, status, is_there, left in [
+            ("de", unittest.mock.patch.object(Made, "take_place", kill), -signal.SIGKILL, False, 1),
+            ("en", unittest.mock.patch.object(Made, "take_place", kill), -signal.SIGKILL, True, 1),
+            ("fr", at_second_rename(kill), -signal.SIGKILL, False, 2),
+            ("es", at_second_rename(fail), 7, True, 1),
         ]:
             before, acts = {} if language == "de" else self.files(), len(self.acts())
-            self.expect(f"{language}: killed", self.in_child(patch, "publish", "--language", language), -signal.SIGKILL)
+            self.expect(f"{language}: it ends", self.in_child(patch, "publish", "--language", language), status)
             self.expect(f"{language}: what is left", ((self.folder / "result").exists(), len(self.left())), (is_there, left))
+            self.expect(f"{language}: the old one", not is_there or self.files() == before, True)
             self.say("publish")
             sums = {name: hashlib.sha256(data).hexdigest() for name, data in self.files().items()}
             last = self.acts()[-1].detail["checksums"]
@@ -618,34 +601,6 @@ class OfOpenVotes(OfElections):
         with files.locked(lasting, is_directory=True):
             self.say("publish")
         self.expect("that of a run that lasts", self.left(), [lasting.name])
-
-    def test_a_folder_that_can_not_take_its_place(self):
-        """The one that was there comes back; once it can, the new one takes its place."""
-        self.closed()
-        self.say("publish")
-        before, rename, moved = self.files(), pathlib.Path.rename, []
-
-        def fail_second(file, target):
-            moved.append(file)
-            if len(moved) == 2:
-                raise OSError(28, "No space left on device", str(file))
-            return rename(file, target)
-
-        self.expect("it fails", self.in_child(unittest.mock.patch.object(pathlib.Path, "rename", fail_second), "publish", "--language", "en"), 7)
-        self.expect("the old one is back", self.files() == before, True)
-        self.say("publish")
-        self.expect("the new one", (self.files() == before, self.left()), (False, []))
-
-    def test_a_folder_that_is_counted_otherwise_takes_no_place(self):
-        self.say("call")
-        self.add("ada-lovelace 1,2,3\nzoe-mueller 1,2,3\n")
-        self.say("close")
-        self.say("publish")
-        files, acts = self.files(), len(self.acts())
-        for task, answer in [("verify", 'echo "differs at line 1"; exit 9'), ("standing", 'echo "ada-lovelace 3,2,1"; exit')]:
-            ended = self.election("publish", "--language", "es", path=self.other_debvote(f"case $1 in {task}) {answer} ;; esac"))
-            self.expect(f"{task}: {ended.faults}", (ended.status, NOTHING_DONE in ended.faults), (9, True))
-            self.expect(f"{task}: nothing was changed", (self.files() == files, len(self.acts())), (True, acts))
 
     def test_hostile_texts(self):
         """Each text of a person stands as text on the page, whatever is in it, and in the letters."""
@@ -693,13 +648,10 @@ class OfSecretVotes(OfElections):
         with contextlib.closing(book.connection):
             return queries.electors(book)
 
-    def test_nothing_before_the_close(self):
+    def test_the_files(self):
         self.called()
         for words in (("count",), ("publish",), ("publish", "--force", "--because", "x", "--yes")):
             self.stops(*words, said=["the vote is secret, and can be counted only after the close"])
-
-    def test_the_files(self):
-        self.called()
         self.say("strike", "1", "--because", "private reason")
         self.say("close")
         self.add("dan 3,2,1\n")
@@ -799,6 +751,13 @@ class OfSecretVotes(OfElections):
     def test_two_results_that_can_be_compared(self):
         self.called()
         self.say("close")
+        # answers for the private files that are not theirs
+        for task, change, said in [
+            ("standing", "s/2,1,3/1,2,3/", "the ballots have the checksum"),
+            ("count", "s/Voters: 2/Voters: 3/", "the sheet under aliases differs from the sheet of the votes as they came"),
+        ]:
+            other = f'case "$*" in "{task} "*/dev/stdin*) {elections.PROGRAM} "$@" | sed "{change}"; exit ;; esac'
+            self.stops("publish", path=self.other_debvote(other), said=[said])
         self.say("publish", status=1)
         # that of Zoë has the same order, which is published as it was
         self.add("cleo 1,2,3\nzoe-mueller 5,4,6\ndan 1,2,3\n")
@@ -809,14 +768,3 @@ class OfSecretVotes(OfElections):
         self.expect("cleo and dan count", len((self.folder / "result-2" / "ballots.txt").read_text().splitlines()), 4)
         self.checksums_of_letters(self.files("result-2"), "-")
         self.expect("the reason stays in the log", "Cleo" in (self.folder / "result-2" / "index.html").read_text(), False)
-
-    def test_a_sheet_that_is_not_that_of_the_votes(self):
-        self.called()
-        self.say("close")
-        # answers for the private files that are not theirs
-        for task, change, said in [
-            ("standing", "s/2,1,3/1,2,3/", "the ballots have the checksum"),
-            ("count", "s/Voters: 2/Voters: 3/", "the sheet under aliases differs from the sheet of the votes as they came"),
-        ]:
-            other = f'case "$*" in "{task} "*/dev/stdin*) {elections.PROGRAM} "$@" | sed "{change}"; exit ;; esac'
-            self.stops("publish", path=self.other_debvote(other), said=[said])
