@@ -112,6 +112,7 @@ LARGE_FILES = [
     ("", "[[a]]\n", "", "key title"),
     # what does not end, or comes twice, or is too large, and a fault in the last of many lines
     ("", "#\n", "note =\n", SYNTAX),
+    ("", "k", "\n", SYNTAX),
     ('note = "', "x", "\n", SYNTAX),
     ('note = """', "x\n", "", SYNTAX),
     ("note = [", "1,", "\n", SYNTAX),
@@ -145,6 +146,7 @@ def large_polls(size):
     """The name, the text and the answer of each poll in which one thing is large."""
     for start, part, end, answer in LARGE_FILES:
         yield start + part, repeated(size, start, part, end) + keys_of(SMALL), answer
+    yield "nested lists that end", f"note = {'[' * (size // 2 - 9)}{']' * (size // 2 - 9)}\n" + keys_of(SMALL), SYNTAX
     for key, start, part, end, answer in LARGE_VALUES:
         yield f"{key} = {start}{part}", keys_of({**SMALL, key: repeated(size, start, part, end)}), answer
 
@@ -416,27 +418,6 @@ class LargePollsTest(WholeTest):
                 try_explain(self.expect, name, file)
 
 
-class HostilePollsTest(WholeTest):
-    def test_hostile_polls(self):
-        """Polls that are made to hurt: each is refused, and explained if it is no TOML."""
-        for name, text, words in [
-            ("nested lists", b"x = " + b"[" * 500_000, SYNTAX),
-            ("nested lists that end", b"x = " + b"[" * 500_000 + b"]" * 500_000, SYNTAX),
-            ("nested tables", b"x = " + b"{a=" * 300_000, SYNTAX),
-            ("nested keys", b"a" + b".a" * 500_000 + b" = 1", SYNTAX),
-            ("a long key", b"a" * POLL_LIMIT, SYNTAX),
-            ("a long text", b'title = "' + b"a" * (POLL_LIMIT - 9), SYNTAX),
-            ("many tables", b"[[a]]\n" * 170_000, "key title"),
-            ("no text", b"\xff" * 1000, SYNTAX),
-            ("zeros", b"\x00" * POLL_LIMIT, SYNTAX),
-        ]:
-            file = self.folder / "hostile.toml"
-            file.write_bytes(text)
-            self.expect(f"a poll of {name}", run(["check", "--poll", file]), (b"", fault(f"poll refused: {words}"), 3))
-            if words == SYNTAX:
-                try_no_toml(self.expect, f"a poll of {name}", file)
-
-
 class BytesTest(WholeTest):
     def test_bytes_in_a_poll(self):
         """A byte 0 or 255 at any position of a poll file is no TOML."""
@@ -446,3 +427,6 @@ class BytesTest(WholeTest):
                 (self.folder / "poll.toml").write_bytes(text[:place] + byte + text[place:])
                 answer = run(["check", "--poll", self.folder / "poll.toml"])
                 self.expect(f"a byte {byte} before {place}", answer, (b"", fault("poll refused: syntax"), 3))
+            (self.folder / "poll.toml").write_bytes(byte * POLL_LIMIT)
+            self.expect(f"{byte} alone", run(["check", "--poll", self.folder / "poll.toml"]), (b"", fault("poll refused: syntax"), 3))
+            try_no_toml(self.expect, f"{byte} alone", self.folder / "poll.toml")

@@ -101,22 +101,27 @@ class AtATerminal(TerminalTest):
         self.end(first, "q\n")
         self.assertEqual(self.lines(), [f"ada {RANKS}"])
 
-    def test_acts_about_others_ask_nothing_anew(self) -> None:
-        desk = self.at_terminal()
-        desk.after(f"ada {RANKS}\n", CAST)
-        self.told("add", given=f"ben {RANKS}\n")
-        self.assertIn("2 counted  ada: ", desk.after("y\n", "Ballot: "))
-        self.end(desk, "q\n")
-
-    def test_a_close_meanwhile(self) -> None:
+    def test_other_acts_meanwhile(self) -> None:
+        """Those about others ask nothing anew; after a close what is entered is late."""
         desk = self.at_terminal()
         self.assertNotIn("late", desk.after(f"ada {RANKS}\n", CAST))
+        self.told("add", given=f"ben {RANKS}\n")
+        self.assertIn("2 counted  ada: ", desk.after("y\n", "Ballot: "))
+        self.assertNotIn("late", desk.after(f"cleo {RANKS}\n", CAST))
         self.told("close")
         self.assertIn("It is late, and will not count.\n", desk.after("y\n", CAST))
         self.assertEqual(self.late_lines(), [])
-        self.assertIn("1 late  ada: ", desk.after("y\n", "Ballot: "))
+        self.assertIn("3 late  cleo: ", desk.after("y\n", "Ballot: "))
         self.end(desk, "q\n")
-        self.assertEqual((self.lines(), self.late_lines()), ([], [f"ada {RANKS}"]))
+        self.assertEqual((self.lines(), self.late_lines()), ([f"ben {RANKS}", f"ada {RANKS}"], [f"cleo {RANKS}"]))
+        desk = Terminal(self)
+        self.assertIn("Note: the vote was closed at ", desk.until("; what is entered now is late."))
+        desk.until("Ballot: ")
+        shown = desk.after(f"ada {OTHER_RANKS}\n", CAST)
+        self.assertIn("It is late, and will not count.\n", shown)
+        self.assertNotIn("replaced", shown)
+        self.assertIn("4 late  ada: ", desk.after("y\n", "Ballot: "))
+        self.end(desk, "q\n")
 
     def test_another_call_meanwhile(self) -> None:
         """The options have other numbers now."""
@@ -128,18 +133,6 @@ class AtATerminal(TerminalTest):
         output, status = desk.end()
         self.assertIn("the call for votes was made anew meanwhile; nothing was entered: start the desk again", output)
         self.assertEqual((status, self.lines()), (9, []))
-
-    def test_after_the_close(self) -> None:
-        self.told("add", given=f"ada {RANKS}\n")
-        self.told("close")
-        desk = Terminal(self)
-        self.assertIn("Note: the vote was closed at ", desk.until("; what is entered now is late."))
-        desk.until("Ballot: ")
-        shown = desk.after(f"ada {OTHER_RANKS}\n", CAST)
-        self.assertIn("It is late, and will not count.\n", shown)
-        self.assertNotIn("replaced", shown)
-        self.assertIn("2 late  ada: ", desk.after("y\n", "Ballot: "))
-        self.end(desk, "q\n")
 
     def test_after_reopen_it_asks_once(self) -> None:
         before = self.at_terminal()
@@ -221,13 +214,16 @@ class NamesAreCompleted(TerminalTest):
 
 class FromAPipe(CalledTest):
     def test_each_line_is_answered_at_once(self) -> None:
+        """A close while it waits makes what comes then late."""
         desk = self.desk()
         for number, name in enumerate(("ada", "ben", "cleo"), start=1):
             self.assertEqual(self.answer(desk, f"{name} {RANKS}\n"), f"{number} counted  {name}: {LAKE}\n")
             self.assertEqual(len(self.lines()), number)
+        self.told("close")
+        self.assertTrue(self.answer(desk, f"dan {RANKS}\n").startswith("4 late  dan: "))
         output, faults = desk.communicate()
-        self.assertIn("This desk has entered 3 lines (3 counted).\n", output)
-        self.assertEqual((desk.returncode, faults), (0, ""))
+        self.assertIn("This desk has entered 4 lines (3 counted, 1 late).\n", output)
+        self.assertEqual((desk.returncode, faults, len(self.lines()), self.late_lines()), (0, "", 3, [f"dan {RANKS}"]))
 
     def answer(self, desk: subprocess.Popen[str], text: str) -> str:
         """The next line of a desk after it is sent this."""
@@ -259,20 +255,17 @@ class FromAPipe(CalledTest):
         self.assertIn(f"2 bad shape  q: column 2: end of line; {words}\n", output)
         self.assertIn("gsu is not on the roll\nA valid line in this poll: ", output)
         self.assertEqual(self.lines(), ["ada 1,2,4,3", "q", "y", "gsu 1,2,4,3"])
-
-    def test_nothing_comes(self) -> None:
-        before = self.last_act()
-        for given in ("", "\n\n"):
-            self.assertIn("This desk has entered 0 lines.\n", self.told("desk", given=given))
-        self.assertEqual(self.last_act(), before)
-
-    def test_a_long_letter_is_told_and_not_cast(self) -> None:
+        # a letter is told, and not entered
         letter = b"Dear secretary, " * 13_000
         output = self.told("desk", given=b"ada 1,2,3,4\n" + letter + b"\nben 1,2,3,4\n")
         said = f"desk:2: the line has {len(letter)} bytes, and a ballot has a few dozen; it was not entered.\n"
         self.assertIn(f"{said}  To add it from a file: debvote-election add --force FILE\n", output)
-        self.assertIn("This desk has entered 2 lines (2 counted).", output)
-        self.assertEqual(self.lines(), ["ada 1,2,3,4", "ben 1,2,3,4"])
+        self.assertIn("This desk has entered 2 lines (1 replaced, 1 counted).", output)
+        self.assertEqual(self.lines()[4:], ["ada 1,2,3,4", "ben 1,2,3,4"])
+        before = self.last_act()
+        for given in ("", "\n\n"):
+            self.assertIn("This desk has entered 0 lines.\n", self.told("desk", given=given))
+        self.assertEqual(self.last_act(), before)
 
     def test_many_lines_in_one_go(self) -> None:
         lines = [f"ada {number // 99 + 1},{number % 99 + 1},1,2" for number in range(9000)]
@@ -293,14 +286,6 @@ class FromAPipe(CalledTest):
         self.assert_stops(self.election("desk", given=f"ada {RANKS}\n"), self.first_act + 1, 9, "--came-before-close: ", said)
         self.assertIn("1 counted  ada: ", self.told("desk", "--came-before-close", "yes", given=f"ada {RANKS}\n"))
         self.assertIn("2 late  ada: ", self.told("desk", "--came-before-close", "no", given=f"ada {RANKS}\n"))
-
-    def test_a_close_while_it_waits(self) -> None:
-        desk = self.desk()
-        self.assertTrue(self.answer(desk, f"ada {RANKS}\n").startswith("1 counted  ada: "))
-        self.told("close")
-        self.assertTrue(self.answer(desk, f"ben {RANKS}\n").startswith("2 late  ben: "))
-        desk.communicate()
-        self.assertEqual((self.lines(), self.late_lines()), ([f"ada {RANKS}"], [f"ben {RANKS}"]))
 
     def test_an_interrupt_ends_it_as_q_does(self) -> None:
         desk = self.desk()
