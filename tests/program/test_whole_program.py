@@ -47,6 +47,11 @@ def fault(words):
     return f"debvote: {words}\n".encode()
 
 
+def refused(words, status):
+    """The answer of a run that ends with this fault."""
+    return b"", fault(words), status
+
+
 def files_of(folder):
     return ["--poll", folder / "poll.toml", "--ballots", folder / "ballots"]
 
@@ -160,8 +165,9 @@ class WholeTest(expecting.Expecting):
         self.folder = pathlib.Path(self.enterContext(tempfile.TemporaryDirectory(prefix="debvote-whole-")))
 
     def expect(self, name, answer, wanted):
-        """The answer (output, faults, status) is as expected; None is anything."""
-        super().expect(name, tuple(None if w is None else a for w, a in zip(wanted, answer, strict=True)), wanted)
+        """The answer (output, faults, status) is as expected; None is anything, and a list has parts that an output has."""
+        found = ([part for part in w if part in a] if isinstance(w, list) else None if w is None else a for w, a in zip(wanted, answer, strict=True))
+        super().expect(name, tuple(found), wanted)
 
 
 class WordsTest(WholeTest):
@@ -201,7 +207,7 @@ class WordsTest(WholeTest):
             self.expect(f"debvote {word}", run([word]), (b"debvote 2.1.0\n", b"", 0))
         for words in ([b"count", b"--poll", b"\xff"], [b"\xff"], [b"--version", b"\xfe"]):
             ended = subprocess.run([PROGRAM, *words], capture_output=True, timeout=SECONDS)
-            self.expect(f"words {words}", (ended.stdout, ended.stderr, ended.returncode), (b"", fault("an argument is not UTF-8"), 2))
+            self.expect(f"words {words}", (ended.stdout, ended.stderr, ended.returncode), refused("an argument is not UTF-8", 2))
 
     def test_a_terminal(self):
         """At a terminal the program says what it waits for, before it reads."""
@@ -243,106 +249,90 @@ class WordsTest(WholeTest):
             self.expect(f"{words[0]} into a closed pipe", run(words, stdout=broken.stdin), (None, fault("output failed"), 7))
             closed = run(words, stdout=None, before=lambda: os.close(1))
             self.expect(f"{words[0]} into a closed output", closed, (None, fault("output failed"), 7))
-        closed = run([], stdin=None, before=lambda: os.close(0))
-        self.expect("a closed input", closed, (b"", fault("ballots unreadable"), 4))
-        closed = run(["check", "--poll", "none"], before=lambda: os.close(2))
-        self.expect("a fault into closed faults", closed, (b"", b"", 3))
+        self.expect("a closed input", run([], stdin=None, before=lambda: os.close(0)), refused("ballots unreadable", 4))
+        self.expect("a fault into closed faults", run(["check", "--poll", "none"], before=lambda: os.close(2)), (b"", b"", 3))
 
     def test_pipes(self):
         """A file may be a pipe, which gives its bytes once."""
-        poll, ballots, sheet = EXAMPLE / "poll.toml", EXAMPLE / "ballots", EXAMPLE / "sheet"
-        pipe = "/dev/stdin"
+        poll, ballots, sheet, pipe = EXAMPLE / "poll.toml", EXAMPLE / "ballots", EXAMPLE / "sheet", "/dev/stdin"
         counted = sheet.read_bytes(), b"", 0
         self.expect("ballots from a pipe", run(["count", "--poll", poll, "--ballots", pipe], ballots.read_bytes()), counted)
         self.expect("a poll from a pipe", run(["count", "--poll", pipe, "--ballots", ballots], poll.read_bytes()), counted)
-        verified = run(["verify", *files_of(EXAMPLE), "--sheet", pipe], sheet.read_bytes())
-        self.expect("a sheet from a pipe", verified, run(["verify", *files_of(EXAMPLE), "--sheet", sheet]))
+        self.expect("a sheet from a pipe", run(["verify", *files_of(EXAMPLE), "--sheet", pipe], sheet.read_bytes()), (b"verified\n", b"", 0))
 
 
 class LimitsTest(WholeTest):
     def test_limits_of_files(self):
         """Files of the greatest size and of one byte more, and as many lines."""
-        poll, ballots = EXAMPLE / "poll.toml", EXAMPLE / "ballots"
+        poll, ballots, sheet, none = EXAMPLE / "poll.toml", EXAMPLE / "ballots", EXAMPLE / "sheet", self.folder / "none"
         poll_text = poll.read_bytes()
 
         def file(name, content):
             (self.folder / name).write_bytes(content)
             return self.folder / name
 
-        def count(poll, ballots, *words):
-            return run(["count", "--poll", poll, "--ballots", ballots, *words])
-
-        longest = file("longest.toml", poll_text + b"#" * (POLL_LIMIT - len(poll_text)))
-        self.expect("a poll of the greatest size", count(longest, ballots), ((EXAMPLE / "sheet").read_bytes(), b"", 0))
-        longer = file("longer.toml", poll_text + b"#" * (POLL_LIMIT - len(poll_text) + 1))
-        self.expect("a poll of one byte more", count(longer, ballots), (b"", fault("poll too long"), 3))
-        self.expect("a poll too long and no ballots", count(longer, self.folder / "none"), (b"", fault("poll too long"), 3))
-        most = file("most", b"x" * BALLOTS_LIMIT)
-        lines = b"Lines: 1\nValid: 0\nRefused: 1\nVoters: 0\n"
-        output, faults, status = count(poll, most)
-        self.expect("ballots of the greatest size", (lines in output, faults, status), (True, b"", 0))
-        more = file("more", b"x" * (BALLOTS_LIMIT + 1))
-        self.expect("ballots of one byte more", count(poll, more), (b"", fault("ballots too long"), 4))
-        output, faults, status = count(poll, file("long_lines", (b"x" * 334 + b"\n") * 100_000))
-        self.expect("100,000 long lines", (b"Refused: 100000\n" in output, faults, status), (True, b"", 0))
-        output, faults, status = count(poll, file("empty", b"\n" * 100_000))
-        self.expect("100,000 empty lines", (b"Refused: 100000\n" in output, faults, status), (True, b"", 0))
-        many = file("many", b"\n" * 100_001)
-        self.expect("a line too many", count(poll, many), (b"", fault("ballots refused: too many lines"), 4))
-        for command in ("steps", "standing", "explain", "picture"):
-            answer = run([command, "--poll", poll, "--ballots", many])
-            self.expect(f"a line too many for {command}", answer, (b"", fault("ballots refused: too many lines"), 4))
-        refused = run(["explain", "--poll", file("refused.toml", b"title ="), "--ballots", many])
-        self.expect("a poll refused before the lines are read", refused[1:], (b"", 3))
-        files = ["--poll", poll, "--ballots", ballots, "--sheet"]
-        output, faults, status = run(["verify", *files, file("longest_sheet", b"x" * SHEET_LIMIT)])
-        self.expect("a sheet of the greatest size", (output[:26], faults, status), (b"differs at line 1\nsheet: x", b"", 9))
-        longer_sheet = file("longer_sheet", b"x" * (SHEET_LIMIT + 1))
-        self.expect("a sheet of one byte more", run(["verify", *files, longer_sheet]), (b"", fault("sheet too long"), 10))
-        for name, words, wanted in [
-            ("poll and ballots", ["--poll", longer, "--ballots", more, "--sheet", EXAMPLE / "sheet"], ("poll too long", 3)),
-            ("poll and sheet", ["--poll", longer, "--ballots", ballots, "--sheet", longer_sheet], ("poll too long", 3)),
-            ("ballots and sheet", ["--poll", poll, "--ballots", more, "--sheet", longer_sheet], ("ballots too long", 4)),
-            ("a poll too long before no sheet", ["--poll", longer, "--ballots", ballots, "--sheet", self.folder / "none"], ("poll too long", 3)),
-            ("no ballots before a sheet too long", ["--poll", poll, "--ballots", self.folder / "none", "--sheet", longer_sheet], ("ballots unreadable", 4)),
+        longest, longer = (file(f"poll {more}", poll_text.ljust(POLL_LIMIT + more, b"#")) for more in (0, 1))
+        more, many = file("more", b"x" * (BALLOTS_LIMIT + 1)), file("many", b"\n" * 100_001)
+        longest_sheet, longer_sheet = (file(f"sheet {more}", b"x" * (SHEET_LIMIT + more)) for more in (0, 1))
+        broken, too_long, too_many = file("broken", b"title ="), refused("poll too long", 3), refused("ballots refused: too many lines", 4)
+        for name, given, found, wanted in [
+            ("a poll of the greatest size", longest, ballots, (sheet.read_bytes(), b"", 0)),
+            ("a poll of one byte more", longer, ballots, too_long),
+            ("a poll too long and no ballots", longer, none, too_long),
+            ("ballots of the greatest size", poll, file("most", b"x" * BALLOTS_LIMIT), ([b"Lines: 1\nValid: 0\nRefused: 1\nVoters: 0\n"], b"", 0)),
+            ("ballots of one byte more", poll, more, refused("ballots too long", 4)),
+            ("100,000 long lines", poll, file("long", (b"x" * 334 + b"\n") * 100_000), ([b"Refused: 100000\n"], b"", 0)),
+            ("100,000 empty lines", poll, file("empty", b"\n" * 100_000), ([b"Refused: 100000\n"], b"", 0)),
+            ("bytes of all kinds", poll, file("odd", bytes(range(256)) * 1000), ([b"Valid: 0\n"], b"", 0)),
         ]:
-            self.expect(f"too long: {name}", run(["verify", *words]), (b"", fault(wanted[0]), wanted[1]))
-        self.expect("no sheet", run(["verify", *files, self.folder / "none"]), (b"", fault("sheet unreadable"), 10))
-        self.expect("a sheet", run(["verify", *files, EXAMPLE / "sheet"]), (b"verified\n", b"", 0))
-        self.expect("the casting vote before the lines", count(poll, many, "--casting", "Zed"), (b"", fault("casting option is not in the poll"), 8))
-        broken = count(file("broken.toml", b"title ="), many, "--casting", "Zed")
-        self.expect("the poll before the casting vote and the lines", broken, (b"", fault("poll refused: syntax"), 3))
-        joined = poll_text + b"%%\n"
-        joined += b"x" * (JOINED_LIMIT - len(joined))
+            self.expect(name, run(["count", "--poll", given, "--ballots", found]), wanted)
+        for command in ("count", "steps", "standing", "explain", "picture"):
+            self.expect(f"a line too many for {command}", run([command, "--poll", poll, "--ballots", many]), too_many)
+        for name, words, wanted in [
+            ("a poll refused before the lines are read", ["explain", "--poll", broken, "--ballots", many], (None, b"", 3)),
+            ("the casting vote before the lines", ["count", "--poll", poll, "--ballots", many, "--casting", "Zed"], refused("casting option is not in the poll", 8)),
+            ("the poll before the casting vote and the lines", ["count", "--poll", broken, "--ballots", many, "--casting", "Zed"], refused("poll refused: syntax", 3)),
+        ]:
+            self.expect(name, run(words), wanted)
+        for name, given, found, other, wanted in [
+            ("a sheet", poll, ballots, sheet, (b"verified\n", b"", 0)),
+            ("a sheet of the greatest size", poll, ballots, longest_sheet, ([b"differs at line 1\nsheet: x"], b"", 9)),
+            ("a sheet of one byte more", poll, ballots, longer_sheet, refused("sheet too long", 10)),
+            ("no sheet", poll, ballots, none, refused("sheet unreadable", 10)),
+            ("poll and ballots too long", longer, more, sheet, too_long),
+            ("poll and sheet too long", longer, ballots, longer_sheet, too_long),
+            ("ballots and sheet too long", poll, more, longer_sheet, refused("ballots too long", 4)),
+            ("a poll too long before no sheet", longer, ballots, none, too_long),
+            ("no ballots before a sheet too long", poll, none, longer_sheet, refused("ballots unreadable", 4)),
+        ]:
+            self.expect(name, run(["verify", "--poll", given, "--ballots", found, "--sheet", other]), wanted)
+        joined = (poll_text + b"%%\n").ljust(JOINED_LIMIT, b"x")
         self.expect("a joined input of the greatest size", run([], joined), (b"1 bad shape\n", b"", 0))
-        self.expect("one byte more", run([], joined + b"x"), (b"", fault("ballots too long"), 4))
-        output, faults, status = count(poll, file("odd", bytes(range(256)) * 1000))
-        self.expect("bytes of all kinds", (b"Valid: 0\n" in output, faults, status), (True, b"", 0))
+        self.expect("one byte more", run([], joined + b"x"), refused("ballots too long", 4))
 
 
 class RollsTest(WholeTest):
-    def test_rolls(self):
-        """10,000 electors, and one more."""
-        for number, wanted in [(10_000, (b"poll ok: 2 options, 10000 electors\n", b"", 0)), (10_001, (b"", fault("poll refused: size of roll"), 3))]:
-            roll = ", ".join(f'"v{i}"' for i in range(number))
-            (self.folder / "poll.toml").write_text(f'title = "All"\noptions = ["A"]\nratios = [10]\ndefault = "None"\nquorum = 10\nroll = [{roll}]\n')
-            self.expect(f"a roll of {number}", run(["check", "--poll", self.folder / "poll.toml"]), wanted)
-            (self.folder / "ballots").write_text("".join(f"v{i} 1,2\n" for i in range(number)))
-            output, faults, status = run(["count", *files_of(self.folder), "--desks", 8])
-            lines = [b"Quorum: 10Q, 500 votes", b"  1     - 10000", b"  1 over 2 by 10000 to 0", b"Winner: 1 A"]
-            self.expect(f"a count of {number}", (all(line in output.splitlines() for line in lines), faults, status), (number == 10_000, *wanted[1:]))
+    POLL = 'title = "All"\noptions = ["A"]\nratios = [10]\ndefault = "None"\nquorum = 10\nroll = {}\n'
 
-    def test_greatest_numbers(self):
-        """The last of 10,000 electors is misshapen; and 499 and 500 votes when a quorum of 10Q needs 500."""
-        names = [f"v{i}" for i in range(10_000)]
-        poll = 'title = "All"\noptions = ["A"]\nratios = [1]\ndefault = "None"\nquorum = 10\nroll = {}\n'.format
-        (self.folder / "poll.toml").write_text(poll(str(names[:-1] + ["V"]).replace("'", '"')))
-        self.expect("the last elector", run(["check", "--poll", self.folder / "poll.toml"]), (b"", fault("poll refused: voter at position 9999"), 3))
-        (self.folder / "poll.toml").write_text(poll(str(names).replace("'", '"')))
-        for number, line in [(499, b"  1 quorum"), (500, b"Winner: 1 A")]:
-            (self.folder / "ballots").write_text("".join(f"v{i} 1,2\n" for i in range(number)))
-            output, faults, status = run(["count", *files_of(self.folder)])
-            self.expect(f"{number} votes of 10Q", (line in output.splitlines(), faults, status), (True, b"", 0))
+    def write(self, names, votes):
+        """A poll with this roll, and a ballot of each of the first electors."""
+        (self.folder / "poll.toml").write_text(self.POLL.format(str(names).replace("'", '"')))
+        (self.folder / "ballots").write_text("".join(f"{name} 1,2\n" for name in names[:votes]))
+
+    def test_rolls(self):
+        """10,000 electors, and one more; the last of them is misshapen; and 499 and 500 votes when a quorum of 10Q needs 500."""
+        names = [f"v{i}" for i in range(10_001)]
+        counted = [b"Quorum: 10Q, 500 votes\n", b"  1     - 10000\n", b"  1 over 2 by 10000 to 0\n", b"Winner: 1 A\n"]
+        for what, roll, votes, checked, wanted in [
+            ("one more", names, 10_001, refused("poll refused: size of roll", 3), refused("poll refused: size of roll", 3)),
+            ("a misshapen last", [*names[:9_999], "V"], 0, refused("poll refused: voter at position 9999", 3), (b"", None, 3)),
+            ("all", names[:10_000], 10_000, (b"poll ok: 2 options, 10000 electors\n", b"", 0), (counted, b"", 0)),
+            ("499 votes", names[:10_000], 499, (None, b"", 0), ([b"  1 quorum\n"], b"", 0)),
+            ("500 votes", names[:10_000], 500, (None, b"", 0), ([b"Winner: 1 A\n"], b"", 0)),
+        ]:
+            self.write(roll, votes)
+            self.expect(f"a check of {what}", run(["check", *files_of(self.folder)[:2]]), checked)
+            self.expect(f"a count of {what}", run(["count", *files_of(self.folder), "--desks", 8]), wanted)
 
 
 class GreatestTest(WholeTest):
