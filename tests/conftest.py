@@ -15,7 +15,7 @@ from _pytest.terminal import TerminalReporter
 from tests.support import debian, forks, program
 
 # the classes that take longest begin first, so that none of them runs alone at the end
-LONGEST = ["Sequences", "LargestTest", "Damaged", "In_", "Lines", "MarkedPublications", "RandomTest", "Sending"]
+LONGEST = ["Sequences", "LargestTest", "Damaged", "In_", "Lines", "Marked", "RandomTest", "Sending"]
 
 
 def pytest_configure(config: pytest.Config) -> None:

@@ -76,8 +76,7 @@ def answers_of(steps):
         folder = pathlib.Path(name)
         (folder / "clock").write_text(datetime.datetime.now(datetime.UTC).isoformat())
         clock = {"PYTHONPATH": str(ROOT / "tests" / "clock"), "DEBVOTE_CLOCK": str(folder / "clock"), "PYTHONDONTWRITEBYTECODE": "1"}
-        environment = {"PATH": path_in(folder), "HOME": name, "LC_ALL": "C", **clock}
-        reader = folder / "reader"
+        environment, reader = {"PATH": path_in(folder), "HOME": name, "LC_ALL": "C", **clock}, folder / "reader"
         shutil.copytree(ROOT / "examples", reader / "examples")
         shutil.copyfile(ROOT / "tests" / "reference.py", reader / "reference.py")
         ended = subprocess.run(

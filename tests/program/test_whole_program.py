@@ -346,8 +346,7 @@ class GreatestTest(WholeTest):
         lines = [f"{name} 1,2,3" for name in names] * (VOTES_EACH - 1) + [f"{name} 2,1,3" for name in names]
         number = len(lines)
         (self.folder / "ballots").write_text("\n".join(lines) + "\n")
-        files = files_of(self.folder)
-        poll_alone = b"poll ok: 3 options, 10000 electors\n"
+        files, poll_alone = files_of(self.folder), b"poll ok: 3 options, 10000 electors\n"
         totals = b"%d lines: %d valid, 0 refused, 0 of them late; " % (number, number)
         self.expect("check of the greatest poll", run(["check", *files[:2]]), (poll_alone, b"", 0))
         self.expect("explain of the greatest poll", run(["explain", *files[:2]]), (poll_alone, b"", 0))
@@ -365,8 +364,7 @@ class GreatestTest(WholeTest):
         self.expect("the most lines in one input", run([], joined), (steps, b"", 0))
         (self.folder / "ballots").write_text("".join(f"{name} 1\n" for name in names) * VOTES_EACH)
         output, faults, status = run(["explain", *files])
-        found = output.splitlines()
-        hint = b"1 ranks, the poll has 3 options"
+        found, hint = output.splitlines(), b"1 ranks, the poll has 3 options"
         wanted = [b"ballots:%d: bad rank count: %s" % (line, hint) for line in range(1, number + 1)]
         self.expect("explain of the most refused lines", (found[:number] == wanted, faults, status), (True, b"", 9))
         nobody = b"%d lines: 0 valid, %d refused, 0 of them late; 0 of 10000 electors have a ballot" % (number, number)
@@ -382,8 +380,7 @@ class GreatestTest(WholeTest):
 
     def test_most_findings(self):
         """`explain` of a poll of the greatest size: a line for each of 10,000 misshapen names and 60,000 keys that are not read."""
-        names = [f"Elector-{i:05}-".ljust(32, "x") for i in range(10_000)]
-        keys = [f"k{i:05}" for i in range(60_000)]
+        names, keys = [f"Elector-{i:05}-".ljust(32, "x") for i in range(10_000)], [f"k{i:05}" for i in range(60_000)]
         roll = ", ".join(f'"{name}"' for name in names)
         poll = f'title = "All"\noptions = ["A", "B"]\nratios = [1, 1]\ndefault = "None"\nquorum = 0\nroll = [{roll}]\n'
         (self.folder / "poll.toml").write_text((poll + "".join(f"{key} = 1\n" for key in keys)).ljust(POLL_LIMIT, "#"))

@@ -245,8 +245,7 @@ class Parts:
         """The winner first, then as the rounds leave the options; of each the name, the chip, the numbers, the bar and the mark."""
         count, poll = self.count, self.count.poll
         default, least = poll.default, least_of(count)
-        whole = max(count.voters, least, 1)
-        hint = next(self.sections["Why"].all("p", "hint")).text()
+        whole, hint = max(count.voters, least, 1), next(self.sections["Why"].all("p", "hint")).text()
         name = self.name(default)
         said = (f"For: how many prefer the option to {name}. Against: how many prefer {name} to it." in hint, f"stands for {whole}." in hint)
         demand_equal("the hint of the bars", said, (True, whole != count.voters))
@@ -415,8 +414,7 @@ class Parts:
     def ballots(self):
         """Each ballot with its place, its ranks and its words."""
         count = self.count
-        found = [(entry.attributes["id"], entry.text()) for entry in self.sections["Ballots"].all("li")]
-        wanted = []
+        found, wanted = [(entry.attributes["id"], entry.text()) for entry in self.sections["Ballots"].all("li")], []
         for voter, name in enumerate(count.poll.roll):
             if voter in count.last:
                 ranks = count.last[voter]

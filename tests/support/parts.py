@@ -68,8 +68,7 @@ class Part:
 
     def count(self) -> Count:
         """Its counts, once it has ended. If it ended without a count of its failures, that is a failure too."""
-        status = self.process.wait()
-        lines = self.text().splitlines()
+        status, lines = self.process.wait(), self.text().splitlines()
         counts = [Count(int(found[1]), int(found[2])) for line in lines if (found := self.counted.fullmatch(line))]
         skipped = [Count(0, 0, collections.Counter({found[1]: int(found[2] or 1)})) for line in lines if (found := SKIPPED.fullmatch(line))]
         whole = sum([*counts, *skipped], Count(0, 0))
@@ -78,8 +77,7 @@ class Part:
 
 def tell(parts: Iterable[Part]) -> Count:
     """Waits for the parts, prints the output and the time of each, and returns their sum."""
-    parts = list(parts)
-    counts = []
+    parts, counts = list(parts), []
     for part in parts:
         counts.append(part.count())
         print(f"== {part.name}", *[line for line in part.text().splitlines() if not SKIPPED.fullmatch(line)], sep="\n", flush=True)

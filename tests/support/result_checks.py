@@ -64,8 +64,7 @@ class Count:
 
 
 def count_of(poll_data, ballots, casting_name):
-    poll = reference.poll_in(poll_data)
-    lines = reference.lines_of(ballots)
+    poll, lines = reference.poll_in(poll_data), reference.lines_of(ballots)
     replies, last = reference.replies_and_last_ballots(poll, lines)
     votes = reference.votes_of(poll, last)
     dropped = reference.dropped_options(poll, votes)
@@ -120,8 +119,7 @@ def table_of(count):
 # ---------------------------------------------------------------- the refused lines
 def try_refused(page, count):
     """The page has each refused line with its cause, in their order, and nothing else."""
-    part = page.partition('<h3 id="Refused-lines">')[2].partition("</section>")[0]
-    found = []
+    part, found = page.partition('<h3 id="Refused-lines">')[2].partition("</section>")[0], []
     for entry in pages.sections_of(page)["Refused-lines"].all("li"):
         first, last, text, cause = re.fullmatch(r"lines? (\d+)(?: to (\d+))?: (.*?): ((?:late|bad [a-z ]+): .*)", entry.text(), re.DOTALL).groups()
         for number in range(int(first), int(last or first) + 1):

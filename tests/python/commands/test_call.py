@@ -287,8 +287,7 @@ class Secret(CallTest):
         self.assert_fault(self.election("call"), 9, "electors have no codes", "debvote-election codes")
         table = self.called()
         self.assertEqual([(row[0], row[2]) for row in table], [(name, f"{name}@club.example") for name in elections.NAMES])
-        self.assertEqual(len({row[3] for row in table}), 9)
-        self.assertEqual([row[4] for row in table], [alias_of(row[3], row[0]) for row in table])
+        self.assertEqual((len({row[3] for row in table}), [row[4] for row in table]), (9, [alias_of(row[3], row[0]) for row in table]))
         self.assertEqual(list(read_plain(self.read("call/poll.toml")).roll), sorted(row[4] for row in table))
         slips = re.split('class="slip', self.read("private/slips.html").decode())[1:]
         slips = [re.sub(r"<[^>]*>|\s", "", slip) for slip in slips]
@@ -312,8 +311,7 @@ class Secret(CallTest):
         private.chmod(0o755)
         (private / "codes.csv").chmod(0o644)
         self.done("codes")
-        self.assertEqual(private.stat().st_mode & 0o777, 0o700)
-        self.assertEqual({file.stat().st_mode & 0o777 for file in private.iterdir()}, {0o600})
+        self.assertEqual((private.stat().st_mode & 0o777, {file.stat().st_mode & 0o777 for file in private.iterdir()}), (0o700, {0o600}))
         before = self.table()
         self.write("members.csv", elections.members_of([*elections.NAMES, "jan"]))
         self.assert_fault(self.election("codes"), 9, "roll")
@@ -330,14 +328,12 @@ class Secret(CallTest):
             self.done("codes")
             return [row[3:] for row in self.table()]
 
-        before = codes()
-        others = "".join(f",{name.title()},{name}@club.example\n" for name in elections.NAMES[1:])
+        before, others = codes(), "".join(f",{name.title()},{name}@club.example\n" for name in elections.NAMES[1:])
         self.write("members.csv", f"name,who,mail\nada,ADA,ada@club.example\n{others}")
         self.assertEqual(codes(), before)
         self.write("members.csv", f"name,who,mail\nada,Zed,zed@club.example\n{others}")
         after = codes()
-        self.assertEqual(after[1:], before[1:])
-        self.assertEqual([old == new for old, new in zip(before[0], after[0])], [False, False])
+        self.assertEqual((after[1:], [old == new for old, new in zip(before[0], after[0])]), (before[1:], [False, False]))
 
     def test_no_code_is_in_the_text_of_the_letters(self) -> None:
         self.done("codes")
@@ -390,8 +386,7 @@ class Secret(CallTest):
         self.write("members.csv", elections.members_of([*elections.NAMES, "jan"]))
         self.done("roll")
         self.assert_fault(self.election("call"), 9, "electors have no codes")
-        self.assertEqual(len(self.called()), 10)
-        self.assertEqual(self.published_codes() & aliases, set())
+        self.assertEqual((len(self.called()), self.published_codes() & aliases), (10, set()))
         self.done("letters", "call")
         letters = [email.message_from_bytes(file.read_bytes()) for file in (self.folder / "letters" / "call").rglob("*.eml")]
         texts = [letter.get_payload(decode=True).decode() for letter in letters]

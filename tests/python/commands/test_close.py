@@ -37,8 +37,7 @@ class Close(CloseTest):
     def test_lines_after_it_are_late(self) -> None:
         """Its letter names the checksums of the poll and of the ballots, and the digest; it is that of the close however often it is made."""
         self.add("ada 1,2,3,4", "ben 2,1,3,4", "zoe 1")
-        before = self.exported()[0]
-        ended = self.done("close")
+        before, ended = self.exported()[0], self.done("close")
         letter = self.read("letters/closed.txt").decode()
         sums = [hashlib.sha256(data).hexdigest() for data in (self.read("call/poll.toml"), before)]
         places = [letter.index(text) for text in (*sums, self.numbers()["digest"])]
@@ -50,8 +49,7 @@ class Close(CloseTest):
         log = self.done("log").output
         self.assertIn("late", self.add("ada 4,3,2,1").output)
         self.assertIn("Nothing was changed", self.done("close").output)
-        self.assertEqual(self.read("letters/closed.txt").decode(), letter)
-        self.assertEqual(self.done("log").output.splitlines()[:-2], log.splitlines())
+        self.assertEqual((self.read("letters/closed.txt").decode(), self.done("log").output.splitlines()[:-2]), (letter, log.splitlines()))
         self.assertEqual(self.exported(), (before, b"ada 4,3,2,1\n"))
         wanted = {"stage": "closed", "electors": 9, "lines": 3, "valid": 2, "refused": 1, "late": 1, "voters": 2, "waiting": 0}
         wanted |= {"stopping": [], "not_reached": {}, "printed": []}
@@ -272,8 +270,7 @@ class Told(CloseTest):
         out = self.scratch / "out"
         self.done("export", out)
         self.assertEqual({file.name: file.read_bytes() for file in (out / "came").iterdir()}, {"00001-lines": self.read("lines")})
-        self.assertEqual((out / "poll.toml").read_bytes(), self.read("call/poll.toml"))
-        self.assertEqual(out.stat().st_mode & 0o777, 0o700)
+        self.assertEqual(((out / "poll.toml").read_bytes(), out.stat().st_mode & 0o777), (self.read("call/poll.toml"), 0o700))
         self.assertEqual({file.stat().st_mode & 0o777 for file in out.rglob("*") if file.is_file()}, {0o600})
         self.assert_fault(self.election("export", out), 2, "already")
 

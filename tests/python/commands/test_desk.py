@@ -35,8 +35,7 @@ class AtATerminal(TerminalTest):
         head = desk.until("Ballot: ")
         self.assertIn("  1 At the lake\n  2 In the town hall\n  3 Sell the house and meet there\n  4 Further discussion\n", head)
         self.assertIn("Type a ballot as ada 1,2,3,4 (the elector, then a rank for each option in this order); q ends.\n", head)
-        before = self.last_act()
-        shown = desk.after("Ada 1, 2,4,3\n", CAST)
+        before, shown = self.last_act(), desk.after("Ada 1, 2,4,3\n", CAST)
         self.assertIn("desk:1: `Ada 1, 2,4,3` was changed to `ada 1,2,4,3` (spaces, capital letters)\n", shown)
         self.assertIn(f"\nada: {LAKE}\n", shown)
         self.assertNotIn("has a ballot", shown)
@@ -217,8 +216,7 @@ class FromAPipe(CalledTest):
         """A close while it waits makes what comes then late."""
         desk = self.desk()
         for number, name in enumerate(("ada", "ben", "cleo"), start=1):
-            self.assertEqual(self.answer(desk, f"{name} {RANKS}\n"), f"{number} counted  {name}: {LAKE}\n")
-            self.assertEqual(len(self.lines()), number)
+            self.assertEqual((self.answer(desk, f"{name} {RANKS}\n"), len(self.lines())), (f"{number} counted  {name}: {LAKE}\n", number))
         self.told("close")
         self.assertTrue(self.answer(desk, f"dan {RANKS}\n").startswith("4 late  dan: "))
         output, faults = desk.communicate()
@@ -270,8 +268,7 @@ class FromAPipe(CalledTest):
     def test_many_lines_in_one_go(self) -> None:
         lines = [f"ada {number // 99 + 1},{number % 99 + 1},1,2" for number in range(9000)]
         envelopes = [int(found) for found in re.findall(r"(?m)^(\d+) (?:counted|replaced)  ", self.told("desk", given="\n".join(lines)))]
-        self.assertEqual(envelopes, list(range(1, 9001)))
-        self.assertEqual(self.lines(), lines)
+        self.assertEqual((envelopes, self.lines()), (list(range(1, 9001)), lines))
 
     def test_lines_of_very_many_electors_in_one_go(self) -> None:
         """The replies are those of all lines, also if they are looked up by elector; a line that came before is cast again."""
@@ -304,8 +301,7 @@ class FromAPipe(CalledTest):
         faults = desk.stderr.read()
         self.assertEqual(desk.wait(), 7)
         self.assertIn("the output failed; the ballots to be reported were entered nevertheless (envelope 2)", faults)
-        self.assertEqual(len(faults.splitlines()), 1)
-        self.assertEqual(self.lines(), ["ada 1,2,4,3", "ben 1,2,4,3"])
+        self.assertEqual((len(faults.splitlines()), self.lines()), (1, ["ada 1,2,4,3", "ben 1,2,4,3"]))
 
     def test_an_add_beside_desks(self) -> None:
         """A file goes in although desks cast all the time."""

@@ -1,6 +1,7 @@
 """`new`: the folder, its files and modes, and what stops it."""
 
 import os
+import sys
 
 from tests.support import elections
 
@@ -15,11 +16,9 @@ class New(elections.ElectionTest):
         self.addCleanup(os.umask, os.umask(0))
         (self.folder / "empty").mkdir()
         for name in ("spring", "empty"):
-            ended = self.done("new", name)
-            folder = self.folder / name
+            ended, folder = self.done("new", name), self.folder / name
             self.assertEqual(sorted(file.name for file in folder.iterdir()), ["election.db", "members.csv", "poll.toml"])
-            self.assertEqual(folder.stat().st_mode & 0o777, 0o700)
-            self.assertEqual({file.stat().st_mode & 0o777 for file in folder.iterdir()}, {0o600})
+            self.assertEqual((folder.stat().st_mode & 0o777, {file.stat().st_mode & 0o777 for file in folder.iterdir()}), (0o700, {0o600}))
             self.assertIn(f"Next: cd {name}", ended.output)
             self.done("log", "--check", cwd=folder)
 
@@ -29,6 +28,8 @@ class New(elections.ElectionTest):
         (self.folder / "wahl" / "members.csv").write_text("who,mail\nJürgen Groß,j@club.example\n")
         self.assertIn("juergen-gross", self.done("roll", cwd=self.folder / "wahl").output)
         self.assertIn("plain: Zum Baerensee", self.done("check", cwd=self.folder / "wahl").output)
+        for words in ((elections.ELECTION, "new", "f"), (elections.PUBLISH, "--poll", "p", "--ballots", "b", "f")):
+            self.assertIn("--language: invalid choice: 'it'", self.run_program(sys.executable, *words, "--language", "it").faults)
 
     def test_nothing_is_overwritten(self) -> None:
         self.done("new", "spring")

@@ -131,8 +131,7 @@ class AfterTheCall(RollTest):
             self.assertIn("ben@club.example", self.done("show", "ben").output)
 
     def test_other_people_stop(self) -> None:
-        rows = [f"{name.title()},{name}@club.example" for name in elections.NAMES]
-        before = self.done("log").output
+        rows, before = [f"{name.title()},{name}@club.example" for name in elections.NAMES], self.done("log").output
         for changed in (rows[1:], [*rows, "Jan,jan@club.example"], ["Adele,ada@club.example", *rows[1:]]):
             ended = self.roll(*changed)
             self.assertEqual(ended.status, 9, ended)

@@ -10,8 +10,7 @@ from tests.support.called import HALL, LAKE, OTHER_RANKS, RANKS, CalledTest
 class Show(CalledTest):
     def shown(self, name: str = "ada") -> list[str]:
         """What is told, without the times."""
-        before = self.last_act()
-        output = self.told("show", name)
+        before, output = self.last_act(), self.told("show", name)
         self.assertEqual(self.last_act(), before)
         return re.sub(r"\d{4}-\d\d-\d\d \d\d:\d\d:\d\d UTC", "TIME", output).splitlines()
 
@@ -36,8 +35,7 @@ class Show(CalledTest):
             f"  envelope 7, TIME: {LAKE} (late)",
             f"The current ballot: {HALL}",
         ]
-        self.assertEqual(self.shown(), wanted)
-        self.assertEqual(self.shown("ben")[1:], [f"  envelope 2, TIME: {LAKE}", f"The current ballot: {LAKE}"])
+        self.assertEqual((self.shown(), self.shown("ben")[1:]), (wanted, [f"  envelope 2, TIME: {LAKE}", f"The current ballot: {LAKE}"]))
         self.assertEqual(self.shown("cleo"), ["cleo: Cleo cleo@club.example", "The current ballot: none"])
 
         # a ballot of a letter has the time of the letter

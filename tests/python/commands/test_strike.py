@@ -16,8 +16,7 @@ class Strike(CalledTest):
     def test_the_line_and_what_stands_then(self) -> None:
         said = f"Struck envelope 3: `ada {OTHER_RANKS}`, because: it was pencil\nThe current ballot of ada: {LAKE}\n"
         said += "A strike cannot be undone: if it was a mistake, enter the line again.\nNext: debvote-election status\n"
-        self.assertEqual(self.told("strike", 3, *WHY), said)
-        self.assertEqual(self.lines(), [f"ada {RANKS}", f"ben {RANKS}", "x"])
+        self.assertEqual((self.told("strike", 3, *WHY), self.lines()), (said, [f"ada {RANKS}", f"ben {RANKS}", "x"]))
         self.assertEqual(self.acts()[-1], ("strike", {"envelope": 3, "because": "it was pencil"}))
         self.assertIn("The current ballot of ada: none\n", self.told("strike", 1, *WHY))
         self.assertIn("Struck envelope 4: `x`, because: it was pencil\nA strike cannot be undone", self.told("strike", 4, *WHY))

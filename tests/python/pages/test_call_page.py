@@ -269,8 +269,7 @@ class Names(PageTest):
         self.open(dataclasses.replace(CALL, poll=with_roll(POLL, [f"x{number}" for number in range(2_001)])))
         self.assertEqual(self.window.ask(offered), [])
         for name in wanted:
-            result = self.window.ballot(name, "1234")
-            is_name = re.fullmatch("[A-Za-z0-9.-]+", name) is not None
+            result, is_name = self.window.ballot(name, "1234"), re.fullmatch("[A-Za-z0-9.-]+", name) is not None
             self.assertEqual((result["line"], result["suggested"]), (f"{name.lower()} 1,2,3,4" if is_name else "", []), name)
             self.assertEqual("Names on the roll have only small letters" in result["said"], not is_name, name)
 

@@ -144,8 +144,7 @@ class ScriptsTest(publishing.PublishTest):
 
     def test_finding_a_ballot_of_a_secret_vote(self):
         self.expect("secret", self.told_in_secret[1:], ("", 1))
-        window = self.page_of(self.secret)
-        alias = alias_of(self.code, "zoe-muller")
+        window, alias = self.page_of(self.secret), alias_of(self.code, "zoe-muller")
         wanted = ["Option 2: B", "Option 1: A", "Not ranked: Option 3: N", f"The line: {alias} 2,1,-"]
         for name in ("zoe-muller", "Zoë Müller", "  ZOE  MÜLLER "):
             self.expect(name, window.find(name, f" {self.code[:16].upper()} {self.code[16:]}")[1:], wanted)
@@ -167,8 +166,7 @@ class ScriptsTest(publishing.PublishTest):
 
     def test_finding_a_ballot_by_its_code(self):
         """Where codes are on the roll, half a code is not called the code of nobody."""
-        by_code = self.published(self.secret, "codes", has_codes=True)
-        code = alias_of(self.code, "zoe-muller")
+        by_code, code = self.published(self.secret, "codes", has_codes=True), alias_of(self.code, "zoe-muller")
         window = self.page_of(by_code)
         self.expect("in groups", window.find(f"{code[:16].upper()} {code[16:]}")[1:], ["Option 2: B", "Option 1: A", "Not ranked: Option 3: N", f"The line: {code} 2,1,-"])
         self.expect("half of it", window.find(code[:16]), ["A code has 32 digits, 0 to 9 and a to f. Type yours as it was given to you."])
@@ -202,8 +200,7 @@ class ScriptsTest(publishing.PublishTest):
 
     def test_folded_parts(self):
         """A link, or the address of the page, opens the folded part that it leads to; on paper all are open, without a script too."""
-        window = self.page_of()
-        unfolded = "[...document.querySelectorAll('.folded[open] h3')].map((node) => node.id)"
+        window, unfolded = self.page_of(), "[...document.querySelectorAll('.folded[open] h3')].map((node) => node.id)"
         self.expect("all are folded", window.ask(unfolded), [])
         window.ask("""document.querySelector('a[href="#Who-voted"]').click()""")
         self.expect("by a link", window.ask(unfolded), ["Who-voted"])
@@ -226,8 +223,7 @@ class ScriptsTest(publishing.PublishTest):
         folder = self.room / "result"
         sums = {name: hashlib.sha256((folder / name).read_bytes()).hexdigest() for name in ("poll.toml", "ballots.txt", "index.html")}
         window = self.page_of()
-        rows = window.count_again()
-        lines = (folder / "sheet.txt").read_text().count("\n")
+        rows, lines = window.count_again(), (folder / "sheet.txt").read_text().count("\n")
         self.expect("the sheet", rows[0], f"The same, line for line: this count comes to the published sheet, in all its {lines} lines.")
         self.expect("the page", rows[2].startswith("This page shows what its files come to: "), True)
         for typed in (sums["poll.toml"], f"{sums['poll.toml'].upper()}  poll.toml", f"\\{sums['poll.toml']} *a\\nb", f" {sums['ballots.txt']}\n"):

@@ -47,8 +47,7 @@ class Translations(languages.LanguageTest):
                     for form in entry.forms:
                         self.assertEqual(sentences.places_in(form), sentences.places_in(entry.texts[-1]))
                         self.assertEqual(sorted(TAG.findall(form)), sorted(TAG.findall(entry.texts[-1])))
-                        self.assertEqual(form.count("{"), len(re.findall(r"\{\w+\}", form)))
-                        self.assertEqual(form.strip(), form)
+                        self.assertEqual((form.count("{"), form.strip()), (len(re.findall(r"\{\w+\}", form)), form))
                         # it may come to stand in an attribute
                         self.assertNotIn('"', TAG.sub("", form))
 

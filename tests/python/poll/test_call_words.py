@@ -69,8 +69,7 @@ class Files(unittest.TestCase):
                 checksums = dict(line.split("  ")[::-1] for line in files["SHA256SUMS"].decode().splitlines())
                 self.assertEqual(checksums, {name: sha256_of(files[name]) for name in files if name != "SHA256SUMS"})
                 if kind != "codes":
-                    self.assertEqual(read_plain(files["poll.toml"]), data.poll)
-                    self.assertEqual(files["poll.toml"], data.poll.as_bytes())
+                    self.assertEqual((read_plain(files["poll.toml"]), files["poll.toml"]), (data.poll, data.poll.as_bytes()))
                 checksum, page = sha256_of(data.poll.as_bytes()), page_of(data)
                 for text in (page, as_read(extension_letter(data))):
                     self.assertIn(checksum, text)

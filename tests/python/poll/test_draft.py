@@ -94,13 +94,11 @@ class Sealed(DraftTest):
         draft = self.draft("\ufeff" + GERMAN + 'wording = "at_least"\nsecret = true\n', {"2.txt": "Schön.\n"})
         sealed = sealed_form(draft, ROLL, "de", deadline="2026-12-04T18:00:00+01:00", address="vote@x")
         poll = seal(draft, ROLL, "de", deadline="2026-12-04T18:00:00+01:00", address="vote@x")
-        self.assertEqual(poll.as_bytes(), sealed)
-        self.assertEqual((poll.deadline, poll.address, poll.secret), ("2026-12-04T18:00:00+01:00", "vote@x", True))
+        self.assertEqual((poll.as_bytes(), poll.deadline, poll.address, poll.secret), (sealed, "2026-12-04T18:00:00+01:00", "vote@x", True))
         self.assertEqual((poll.wording, poll.explanations), ("at_least", ("", "Schön.\n", "")))
         keys = [line.split(" = ")[0] for line in sealed.decode().splitlines()]
         wanted = "title options ratios default quorum wording roll deadline address secret shown_title shown_options explanations"
-        self.assertEqual(keys, wanted.split())
-        self.assertEqual(seal(self.draft(GERMAN + "secret = false\n"), ROLL, "de").secret, False)
+        self.assertEqual((keys, seal(self.draft(GERMAN + "secret = false\n"), ROLL, "de").secret), (wanted.split(), False))
 
 
 class Explained(DraftTest):

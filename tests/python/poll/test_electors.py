@@ -76,8 +76,7 @@ class Known(RollTest):
     def test_a_name_stays_with_its_person(self) -> None:
         roll = self.roll("Zoë", "Ben B;;ben", "Ada L;a@x", "Dan", known=KNOWN)
         self.assert_named(roll, "zoe", "ben", "ada", "dan")
-        self.assertEqual(numbers_of(roll), [3, 2, 1, None])
-        self.assertEqual(changes_of(roll), [("ben", ["who", "address", "key"])])
+        self.assertEqual((numbers_of(roll), changes_of(roll)), ([3, 2, 1, None], [("ben", ["who", "address", "key"])]))
         self.assertEqual((names_of(new_of(roll)), roll.gone), (["dan"], ()))
 
     def test_who_is_renamed_keeps_the_name_in_the_list(self) -> None:
@@ -103,8 +102,7 @@ class Known(RollTest):
         left = [KNOWN[0], KNOWN[1], Elector(3, "zoe", None, "Zoë", ())]
         roll = self.roll(*SAME, "Zoe", known=left)
         self.assert_named(roll, "ada", "ben", "zoe", "zoe-2")
-        self.assertEqual((names_of(new_of(roll)), numbers_of(roll)[2:]), (["zoe", "zoe-2"], [3, None]))
-        self.assertEqual(roll.gone, ())
+        self.assertEqual((names_of(new_of(roll)), numbers_of(roll)[2:], roll.gone), (["zoe", "zoe-2"], [3, None], ()))
         self.assertEqual(self.roll(*SAME[:2], known=left).gone, ())
         roll = self.roll(*SAME[:2], "Zoë;new@x", known=left)
         self.assertEqual((changes_of(roll), names_of(new_of(roll))), ([], ["zoe"]))

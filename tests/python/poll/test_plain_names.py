@@ -44,8 +44,7 @@ class Options(unittest.TestCase):
     def test_they_are_always_what_debvote_takes(self) -> None:
         odd = ["é" * 60, "ß" * 30, " a", "b ", "\u200b", "c\u0301" * 41, "\u2028", "a" * 39 + "é b", "İ" * 41, "́", "€" * 14]
         found = plain_options([*odd, *odd], "de")
-        self.assertEqual([name for name in found if not OPTION.fullmatch(name)], [])
-        self.assertEqual(len({alike(name) for name in found}), len(found))
+        self.assertEqual(([name for name in found if not OPTION.fullmatch(name)], len({alike(name) for name in found})), ([], len(found)))
 
 
 class Titles(unittest.TestCase):
@@ -141,7 +140,6 @@ class Refused(unittest.TestCase):
             self.assertEqual(len(bad_title(f"a{odd}b")), 1)
         self.assert_bad(["ä" * 200, "b" * 201], (2, "it has 201 characters; at most 200 are allowed"))
         self.assert_bad(["\u200b\u3164", "\u200c", "x"], (1, "no visible character"), (2, "no visible character"))
-        self.assertEqual([number for number, _, _ in bad_title("c" * 201)], [0])
-        self.assertEqual(bad_title("c" * 200), [])
+        self.assertEqual(([number for number, _, _ in bad_title("c" * 201)], bad_title("c" * 200)), ([0], []))
         # a subject of the last vote that was copied: each answer would wait as one about that vote
         self.assertEqual([len(bad_title(f"Budget [{mark}]")) for mark in ("0123456789abcdef", "01234567", "2026")], [1, 0, 0])

@@ -87,8 +87,7 @@ class Codes(unittest.TestCase):
                 self.assertEqual(new_code("ada"), good)
         with unittest.mock.patch("debvote_tools.poll.secret.alias_of", side_effect=["2" * 32, "12e" + "4" * 29, "b" * 32]) as made:
             code = new_code("ada")
-        self.assertEqual([call.args[1] for call in made.call_args_list], ["ada"] * 3)
-        self.assertEqual(made.call_args.args[0], code)
+        self.assertEqual(([call.args[1] for call in made.call_args_list], made.call_args.args[0]), (["ada"] * 3, code))
         self.assertFalse(NUMBER.fullmatch("12a4"))
 
     def test_what_looks_like_a_code(self) -> None:
@@ -106,8 +105,7 @@ class Published(unittest.TestCase):
         poll = aliased_poll(POLL, ALIASES | {"eve": "0" * 32})
         self.assertEqual(poll.roll, tuple(sorted(ALIASES.values())))
         self.assertNotEqual(list(poll.roll), list(ALIASES.values()))
-        self.assertEqual(dataclasses.replace(poll, roll=ROLL), POLL)
-        self.assertEqual(read_plain(poll.as_bytes()), poll)
+        self.assertEqual((dataclasses.replace(poll, roll=ROLL), read_plain(poll.as_bytes())), (POLL, poll))
         self.assertEqual([text for text in (*ROLL, *CODES.values()) if text in poll.as_bytes().decode()], [])
         with self.assertRaises(KeyError):
             aliased_poll(POLL, {"ada": ALIASES["ada"]})

@@ -20,8 +20,7 @@ HOSTILE = "</b><script>alert(1)</script> & \"'<img src=x onerror=alert(1)>"
 # ---------------------------------------------------------------- names and texts
 def try_names(expect, scratch):
     """The names that people read stand where names stand, and the plain ones in the list of the options alone. Returns the folder."""
-    room = room_with(scratch / "names", "supermajority_and_recasts")
-    names = [HOSTILE, "72 Euro", "דיון נוסף"]
+    room, names = room_with(scratch / "names", "supermajority_and_recasts"), [HOSTILE, "72 Euro", "דיון נוסף"]
     keys = {"shown_title": "Ob die Satzung geändert wird", "shown_options": names, "explanations": ["Changes § 4.\n\n\u200fÜber <b>alles</b>.", ""]}
     keys |= {"deadline": "2026-12-04T18:00:00+01:00", "note": "not kept"}
     poll = (room / "poll.toml").read_text()

@@ -13,8 +13,7 @@ ELECTORS = int(os.environ.get("DEBVOTE_LARGEST_ELECTORS", "10000"))
 
 def large_poll(options, electors):
     """A poll with names of the greatest length, and ballots that make a cycle."""
-    rng = random.Random(1)
-    names = [f"{number} {'WMwm' * 10}"[:40] for number in range(1, options + 1)]
+    rng, names = random.Random(1), [f"{number} {'WMwm' * 10}"[:40] for number in range(1, options + 1)]
     roll = [f"elector-{number}-".ljust(32, "m") for number in range(electors)]
     *others, default = names
     listed = [", ".join(f'"{name}"' for name in texts) for texts in (others, roll)]

@@ -331,8 +331,7 @@ class OfOpenVotes(OfElections):
         self.expect(f"the doubt: {doubt}", doubt.startswith("The vote was closed on ") and doubt.endswith(f"before its announced end: {end}"), True)
         self.expect("the letter of the result", doubt in " ".join(self.letter().split()), True)
         self.say("publish", "--language", "de")
-        texts = self.texts_of_messages()
-        until = "Freitag, 4. Dezember 2099, 18:00 (UTC+01:00)"
+        texts, until = self.texts_of_messages(), "Freitag, 4. Dezember 2099, 18:00 (UTC+01:00)"
         for text in (*texts, (self.folder / "letters" / "closed.txt").read_text()):
             self.expect(f"until when: {text}", until in " ".join(text.split()), True)
         self.expect("letters", len(texts), 3)
@@ -714,8 +713,7 @@ class OfSecretVotes(OfElections):
         """There they become public; later they are not asked about again."""
         (self.folder / "texts").mkdir()
         (self.folder / "texts" / "1.txt").write_text("Zoë is for it.\n")
-        acts = len(self.acts())
-        ended = self.election("call")
+        acts, ended = len(self.acts()), self.election("call")
         output, faults, status = ended.output, ended.faults, ended.status
         shown = "texts/1.txt:\n  Zoë is for it.\n"
         self.expect(f"it stops: {output} {faults}", (faults.startswith(shown), "--yes" in faults, status), (True, True, 9))
