@@ -10,7 +10,6 @@ import collections
 import concurrent.futures
 import csv
 import dataclasses
-import html
 import io
 import json
 import os

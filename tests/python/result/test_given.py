@@ -1,7 +1,4 @@
-"""What stands on a page beside the count: names and texts as people read them, whose words they are, and the refused lines.
-
-Names in any language stand as text, whatever they have in them. Of a folder each command of the page is typed.
-"""
+"""What stands on a page beside the count: whose words they are, and the refused lines; and each command of a page, as it is typed in its folder."""
 
 import hashlib
 import html
@@ -11,43 +8,9 @@ import re
 import shutil
 import subprocess
 
-from tests.support import looks, page_parts as pages, publishing
+from tests.support import page_parts as pages, publishing
 from tests.support.publishing import FILES, HAS_PICTURES, PATH, PROGRAM, SECONDS, plain_room, publish, room_with
 
-HOSTILE = "</b><script>alert(1)</script> & \"'<img src=x onerror=alert(1)>"
-
-
-# ---------------------------------------------------------------- names and texts
-def try_names(expect, scratch):
-    """The names that people read stand where names stand, and the plain ones in the list of the options alone. Returns the folder."""
-    room, names = room_with(scratch / "names", "supermajority_and_recasts"), [HOSTILE, "72 Euro", "דיון נוסף"]
-    keys = {"shown_title": "Ob die Satzung geändert wird", "shown_options": names, "explanations": ["Changes § 4.\n\n\u200fÜber <b>alles</b>.", ""]}
-    keys |= {"deadline": "2026-12-04T18:00:00+01:00", "note": "not kept"}
-    poll = (room / "poll.toml").read_text()
-    (room / "poll.toml").write_text("".join(f"{key} = {json.dumps(value, ensure_ascii=False)}\n" for key, value in keys.items()) + poll)
-    expect("names: its status", publish(room, *FILES, "result")[1:], ("", 0))
-    expect("names: the poll keeps what is sealed", "note" in (room / "result" / "poll.toml").read_text(), False)
-    page = (room / "result" / "index.html").read_text()
-    for name, wanted in [
-        ("the window", "<title>Result: Ob die Satzung geändert wird</title>"),
-        *([("the picture", "The picture has the plain names.")] if HAS_PICTURES else []),
-        ("a text", f'<p class="whose">About <b data-option="1">Option 1: <bdi>{pages.escaped(HOSTILE)}</bdi></b>, in the words of those who publish this page.'),
-        ("its paragraphs", '<p class="about"><bdi>\u200fÜber &lt;b&gt;alles&lt;/b&gt;.</bdi></p>'),
-    ]:
-        expect(f"names: {name}", wanted in page, True)
-    shown = page.partition('id="Poll-file"')[0]
-    for name in ("Amend it", "Write guidelines", "Further discussion"):
-        # in the picture each is a text of its own
-        found = re.finditer(f"(?<!>)(?<!>\\d: )(?<!default option ){name}", shown)
-        expect(f"names: {name} once", [shown[match.start() - 40 : match.end()] for match in found][1:], [])
-    expect("names: nothing runs", (page.count("<script"), "<script>alert" in page, "<img" in page), (1, False, False))
-    expect("names: the sheet has none", "Satzung" in (room / "result" / "sheet.txt").read_text(), False)
-    letter = (room / "result" / "letter.txt").read_text()
-    expect("names: the letter", ("Ob die Satzung geändert wird" in letter, "Winner: Option 2: 72 Euro" in letter), (True, True))
-    return room / "result"
-
-
-# ---------------------------------------------------------------- what is known, and who says it
 REFUSED_TEXTS = [
     'line 4: ada;1,2,3: bad shape: column 4: ";"; a ballot has a space there, or more of the name: a to z, 0 to 9, . or -',
     'line 5: <b>ada</b> 1,2,3: bad shape: column 1: "<"; a ballot has the name there: a to z, 0 to 9, . or -',
@@ -64,16 +27,7 @@ REFUSED_TEXTS = [
 ]
 
 
-# ---------------------------------------------------------------- modes and bytes
-class GivenTest(looks.LooksTest):
-    """What stands on a page beside the count; the page is read in a browser too."""
-
-    @classmethod
-    def made(cls):
-        return [try_names(cls.note, cls.scratch)]
-
-
-class WordsTest(publishing.PublishTest):
+class GivenTest(publishing.PublishTest):
     def test_honest_words(self):
         """The page says what it knows, what it does not, and what is enough for an elector."""
         room = room_with(self.scratch / "honest", "supermajority_and_recasts")
@@ -156,8 +110,6 @@ class WordsTest(publishing.PublishTest):
         self.expect("many refused texts: the last ones", last, f"lines {told} to 8015: {cause}")
         self.expect("many refused texts: so many are shown", (int(told) > 5_000, len(page) < publishing.LARGEST_PAGE), (True, True))
 
-
-class FilesTest(publishing.PublishTest):
     def test_commands(self):
         """Each command of the page is typed in the folder; what it answers is what the page says."""
         room = room_with(self.scratch / "commands", "cycle_and_casting_vote")

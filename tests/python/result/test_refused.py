@@ -7,7 +7,7 @@ import subprocess
 import sys
 import time
 
-from tests.support import publishing
+from tests.support import page_parts, publishing
 
 
 def stand_in(folder, text):
@@ -103,3 +103,35 @@ class RefusedTest(publishing.PublishTest):
             words = ["count", "--poll", poll, "--ballots", self.scratch / "none"]
             found = [publishing.run([*program, *words])[1:] for program in ([publishing.PROGRAM], [sys.executable, "-I", publishing.ROOT / "tests" / "reference.py"])]
             self.expect(number, found, [("", 0) if is_taken else ("debvote: poll refused: syntax\n", 3)] * 2)
+
+    def test_refused_polls(self):
+        """Where the poll is refused, the fault says what tells more (also that two files are exchanged), and nothing is made."""
+        room = publishing.plain_room(self.scratch / "refused")
+        (room / "bad.toml").write_text("title = 1\n")
+        (room / "new.toml").write_text(publishing.PLAIN_POLL + 'note = "\\e"\n')
+        for poll, ballots, wanted in [
+            ("ballots", "poll.toml", "ballots: poll refused: syntax; nothing was published: debvote explain --poll ballots says what"),
+            ("bad.toml", "ballots", "bad.toml: poll refused: key title; nothing was published: debvote explain --poll bad.toml says what"),
+            ("new.toml", "ballots", "new.toml: it can't be read (Unescaped '\\' in a string"),
+        ]:
+            output, faults, status = publishing.run([sys.executable, publishing.PUBLISH, "--poll", poll, "--ballots", ballots, "result"], cwd=room)
+            self.expect(f"{poll} and {ballots}: {faults}", (output, faults.startswith(f"debvote-publish: {wanted}"), status), ("", True, 3))
+        self.expect("what is left", sorted(os.listdir(room)), ["bad.toml", "ballots", "new.toml", "poll.toml"])
+
+    def test_secret_votes(self):
+        """A poll that says that its vote is secret is published with aliases alone."""
+        room = publishing.plain_room(self.scratch / "secret", poll=publishing.PLAIN_POLL + "secret = true\n")
+        output, faults, status = publishing.publish(room, *publishing.FILES, "result")
+        wanted = "poll.toml: the vote is secret, and this would publish each name with its vote; publish it from its election, "
+        self.expect(f"a secret vote with names: {faults}", (output, faults.startswith(f"debvote-publish: {wanted}"), status), ("", True, 9))
+        roll = ["0" * 31 + digit for digit in "0123"]
+        poll = publishing.PLAIN_POLL.replace('["ada", "ben", "cleo", "dan"]', str(roll).replace("'", '"')) + "secret = true\n"
+        twice = publishing.plain_room(self.scratch / "twice", poll=poll, ballots=f"{roll[0]} 1,2,3\n{roll[1]} 2,1,3\n{roll[0]} 2,1,3\n")
+        output, faults, status = publishing.publish(twice, *publishing.FILES, "result")
+        self.expect(f"an alias twice: {faults}", ("a line of this secret vote does not count, or counts more than once" in faults, status), (True, 9))
+        room = publishing.plain_room(self.scratch / "aliases", poll=poll, ballots=f"{roll[0]} 1,2,3\n{roll[1]} 2,1,3\n{roll[2]} 1,2,3\n")
+        self.expect("a secret vote with aliases", publishing.publish(room, *publishing.FILES, "result")[1:], ("", 0))
+        sections = page_parts.sections_of((room / "result" / "index.html").read_text())
+        self.expect("nobody is listed as one who voted", "Who-voted" in sections, False)
+        self.expect("the refused lines", "What was refused or came late is not published." in sections["Refused-lines"].text(), True)
+        self.expect("those who did not vote", [item.text() for item in sections["Find-your-ballot"].all("li")], [roll[3]])
