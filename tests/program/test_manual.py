@@ -126,18 +126,15 @@ complete_words
 
 # ---------------------------------------------------------------- the tests
 class HelpTest(expecting.Expecting):
-    def test_the_help_names_commands_and_options(self):
+    def test_words_of_help(self):
+        """The line above the usage, and the words of the exit statuses; commands and options were read."""
         options = options_by_command()
         self.expect("the help names commands and options", len(options) > 4 and all(options[name] for name in options if name != "help"), True)
-
-    def test_words_of_help(self):
-        """The line above the usage, and the words of the exit statuses."""
         said = output_of(PROGRAM, "--help")
         about = re.search(r"the line above its usage is `(.*?)`", FORMATS.read_text())
         self.expect("--help: the line above the usage", said.partition("\n\nUsage: ")[0], about[1] if about else None)
         wanted = [(number, words) for number, _, words in statuses_of_formats()]
-        self.expect("--help: the exit statuses", statuses_in(said), wanted)
-        self.expect("--help: exit statuses were read", len(wanted), 11)
+        self.expect("--help: the exit statuses", (statuses_in(said), len(wanted)), (wanted, 11))
 
     def test_version(self):
         """The version in the code; everywhere else it is the same."""
@@ -148,6 +145,9 @@ class HelpTest(expecting.Expecting):
         for program in (ELECTION, PUBLISH):
             found = [output_of(sys.executable, program, word) for word in ("--version", "-V")]
             self.expect(f"{program.name} --version", found, [f"{program.name} {version.removeprefix('debvote ')}\n"] * 2)
+        for page in sorted((ROOT / "man").iterdir()):
+            head = page.read_text().splitlines()[0].replace("\\-", "-")
+            self.expect(f"{page.name}: its head", re.findall(r'^\.TH (\S+) 1 \S+ "(.*?)"', head), [(page.stem.upper(), version)])
 
 
 class PagesTest(expecting.Expecting):
@@ -175,13 +175,6 @@ class PagesTest(expecting.Expecting):
             old = [str(file) for file in files if (ROOT / file).read_text() != (pathlib.Path(folder) / file).read_text()]
             self.expect("pages and completions that are not of today: run docs/make-manual", old, [])
 
-    def test_what_pages_say_of_themselves(self):
-        """The head of each page."""
-        version = output_of(PROGRAM, "--version").strip()
-        for page in sorted((ROOT / "man").iterdir()):
-            head = page.read_text().splitlines()[0].replace("\\-", "-")
-            self.expect(f"{page.name}: its head", re.findall(r'^\.TH (\S+) 1 \S+ "(.*?)"', head), [(page.stem.upper(), version)])
-
     @unittest.skipUnless(shutil.which("man"), "man is not installed")
     def test_warnings_of_man(self):
         try_warnings(self.expect, ["man", "--warnings", "-l"])
@@ -203,19 +196,21 @@ class CompletionsTest(expecting.Expecting):
             ("debvote-publish", "-", options_of_publish()),
         ]:
             words = [program, command, ""] if command.isalpha() else [program, *(command.split() or [""])]
-            script = (
-                f"source {ROOT}/completions/bash/{program}; COMP_WORDS=({' '.join(repr(word) for word in words)}); "
-                f'COMP_CWORD={len(words) - 1}; _{program.replace("-", "_")}; printf "%s\\n" "${{COMPREPLY[@]}}"'
-            )
+            script = f"source {ROOT}/completions/bash/{program}; COMP_WORDS=({' '.join(map(repr, words))}); COMP_CWORD={len(words) - 1}; "
+            script += f'_{program.replace("-", "_")}; printf "%s\\n" "${{COMPREPLY[@]}}"'
             found = output_of("bash", "--norc", "-c", script).split()
             self.expect(f"bash: {program} {command}", sorted(found), sorted(wanted))
 
-    def test_zsh(self):
-        """The commands, and the options without one, as the file writes them."""
+    def test_files_of_zsh_and_fish(self):
+        """The commands, and the options without one, as the file of zsh writes them; and the commands of fish, each with its words."""
+        commands = sorted(set(options_by_command()) - {""})
         text = (ROOT / "completions" / "zsh" / "_debvote").read_text()
-        self.expect("zsh: the commands", sorted(re.findall(r"^    '(\w+):", text, re.MULTILINE)), sorted(set(options_by_command()) - {""}))
+        self.expect("zsh: the commands", sorted(re.findall(r"^    '(\w+):", text, re.MULTILINE)), commands)
         top = sorted(set(re.findall(rf"'({OPTION})\[", "\n".join(re.findall(r"_arguments -C.*", text)))) | {"--help"})
         self.expect("zsh: options without a command", top, sorted(options_by_command()[""]))
+        text = (ROOT / "completions" / "fish" / "debvote.fish").read_text()
+        self.expect("fish: the commands", sorted(re.search(r"^set -l all (.*)$", text, re.MULTILINE)[1].split()), commands)
+        self.expect("fish: each command is described", sorted(re.findall(r'-a (\w+) -d "', text)), commands)
 
     @unittest.skipUnless(shutil.which("zsh"), "zsh is not installed")
     def test_zsh_itself(self):
@@ -224,13 +219,6 @@ class CompletionsTest(expecting.Expecting):
             for command in options.keys() - {"", "help"}:
                 said = output_of("zsh", "-f", "-c", ZSH % (command, ROOT / "completions" / "zsh" / f"_{program}"))
                 self.expect(f"zsh: {program} {command}", sorted(re.findall(rf"^({OPTION})\[", said, re.MULTILINE)), sorted(options[command]))
-
-    def test_fish(self):
-        """The commands as the file writes them, each with its words."""
-        text = (ROOT / "completions" / "fish" / "debvote.fish").read_text()
-        names = re.search(r"^set -l all (.*)$", text, re.MULTILINE)[1].split()
-        self.expect("fish: the commands", sorted(names), sorted(set(options_by_command()) - {""}))
-        self.expect("fish: each command is described", sorted(re.findall(r'-a (\w+) -d "', text)), sorted(names))
 
     @unittest.skipUnless(shutil.which("fish"), "fish is not installed")
     def test_fish_itself(self):

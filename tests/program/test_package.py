@@ -111,21 +111,17 @@ class PackageTest(expecting.Expecting):
         self.assertEqual(len(self.facts), 2)
         for fact in self.facts:
             self.expect(*fact)
-
-    def test_two_builds_have_the_same_bytes(self):
+        # two builds have the same bytes
         self.assertTrue(self.package.read_bytes() == self.other.read_bytes())
 
     def test_refusals(self):
         """If there is no program, or one older than its sources, nothing is built, and a line says why."""
         program = self.scratch / "one" / "crates" / "debvote" / "out" / "debvote"
         os.utime(self.scratch / "one" / "crates" / "debvote" / "src" / "main.rt", (program.stat().st_mtime + 1,) * 2)
-        output, faults, status = run([self.scratch / "one" / "packaging" / "deb", self.scratch / "none"])
-        is_told = "crates/debvote/out/debvote is older than crates/debvote/src/main.rt" in faults
-        self.expect("a program older than its sources", (is_told, status, os.listdir(self.scratch / "none")), (True, 1, []))
-        program.unlink()
-        output, faults, status = run([self.scratch / "one" / "packaging" / "deb", self.scratch / "none"])
-        is_told = "crates/debvote/out/debvote is not there" in faults
-        self.expect("no program", (is_told, status, os.listdir(self.scratch / "none")), (True, 1, []))
+        for said in ("crates/debvote/out/debvote is older than crates/debvote/src/main.rt", "crates/debvote/out/debvote is not there"):
+            _, faults, status = run([self.scratch / "one" / "packaging" / "deb", self.scratch / "none"])
+            self.expect(said, (said in faults, status, os.listdir(self.scratch / "none")), (True, 1, []))
+            program.unlink(missing_ok=True)
         self.expect("no folder", run([ROOT / "packaging" / "deb"])[2], 1)
 
     def test_content(self):
@@ -152,9 +148,7 @@ class PackageTest(expecting.Expecting):
         self.expect("the fields", fields, f"Version: {version}\n{needs}")
         sums = (self.package.parent / "SHA256SUMS").read_text()
         self.expect("the sum", sums, f"{hashlib.sha256(self.package.read_bytes()).hexdigest()}  {self.package.name}\n")
-
-    def test_scripts(self):
-        """dpkg runs these: they compile the Python, and remove what they have compiled."""
+        # dpkg runs these: they compile the Python, and remove what they have compiled
         run(["dpkg-deb", "-e", self.package, self.scratch / "control"])
         for name in ("postinst", "prerm"):
             file = self.scratch / "control" / name

@@ -210,14 +210,13 @@ class Parts:
         found = [entry.text() for entry in tree_of(self.page).one("ul", "facts").all("li")]
         reached = any(count.votes[option, poll.default] >= least_of(count) for option in poll.ratios)
         quorum = [f"quorum {least_of(count)} {'reached' if reached else 'not reached'}"] if poll.quorum else []
-        refused = sum(reply not in ("counted", "replaced") for reply in count.replies)
+        refused = len(count.lines) - count.valid
         lines = f"{refused} {'line' if refused == 1 else 'lines'} of {len(count.lines)} refused"
         demand_equal("the facts", found, [f"{count.voters} of {len(poll.roll)} voted", *quorum, lines])
 
     def lines(self):
         """How many lines there are, and where voters and valid lines differ."""
-        count, poll = self.count, self.count.poll
-        valid = sum(reply in ("counted", "replaced") for reply in count.replies)
+        count, poll, valid = self.count, self.count.poll, self.count.valid
         are = "line is" if len(count.lines) == 1 else "lines are"
         wanted = f"{len(count.lines)} {are} in the ballot file: {valid} valid, {len(count.lines) - valid} refused."
         if valid != count.voters:
@@ -254,7 +253,8 @@ class Parts:
         lists = [list(found.all("li")) for found in self.sections["Why"].all("ol", "options")]
         demand_equal("how many options are seen, and folded", list(map(len, lists)), [len(order)] if len(order) <= 8 else [5, len(order) - 5])
         for option, entry in zip(order, [entry for entries in lists for entry in entries]):
-            chip = self.chip(option) + (" · default option" if option == default else "")
+            ended = {"won": "won", "left": "tied", "lost": "lost"}.get(count.ended(option), f"no {count.ended(option)}")
+            chip = ended + (" · default option" if option == default else "")
             head = entry.one("p", "option")
             demand_equal(f"the head of {option}", [part.text() for part in head.inner if isinstance(part, Node)], [self.name(option), chip])
             demand_equal(f"the number of {option}", head.one("span", "number").text(), str(option))
@@ -268,14 +268,6 @@ class Parts:
             demand_equal(f"the numbers of {option}", [part.text() for part in bar.all("span")], [f"{over} for", f"{under} against"])
             needed = needed_by(count, option)
             demand_equal(f"the bar of {option}", bar_of(bar.one("svg")), (whole, over, whole - under, under, [needed] if needed <= whole else []))
-
-    def chip(self, option):
-        count = self.count
-        if option in count.dropped:
-            return f"no {count.dropped[option]}"
-        if option == count.winner:
-            return "won"
-        return "tied" if count.winner is None and option in count.final else "lost"
 
     def reasons(self, option):
         """Why it ended so for an option, a sentence each."""
@@ -384,20 +376,13 @@ class Parts:
         rows = list(self.sections["Votes"].one("tbody").all("tr"))
         demand_equal("how many rows", len(rows), len(poll.options))
         for a, row in zip(poll.options, rows):
-            ended, kind = self.mark(a)
-            demand_equal(f"the head of row {a}", row.one("th").text(), self.name(a) + (f" {ended}" if ended else ""))
+            ended = count.ended(a)
+            said, kind = {"won": (" won", "won"), "left": (" tied", "left"), "lost": ("", None)}.get(ended, (f" no {ended}", "dropped"))
+            demand_equal(f"the head of row {a}", row.one("th").text(), self.name(a) + said)
             demand_equal(f"the kind of row {a}", row.attributes.get("class"), kind)
             cells = [(cell.text(), cell.attributes.get("class")) for cell in row.all("td")]
             beats = {b: "beats" if (a, b) in count.defeats else None for b in poll.options}
             demand_equal(f"row {a}", cells, [("-", None) if a == b else (str(count.votes[a, b]), beats[b]) for b in poll.options])
-
-    def mark(self, option):
-        count = self.count
-        if option in count.dropped:
-            return f"no {count.dropped[option]}", "dropped"
-        if option == count.winner:
-            return "won", "won"
-        return ("tied", "left") if count.winner is None and option in count.final else (None, None)
 
     def defeats(self):
         demand_equal("Defeats", self.entries("Defeats"), [self.defeat(*pair) for pair in sorted(self.count.defeats)])
