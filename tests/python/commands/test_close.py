@@ -8,7 +8,6 @@ import os
 from collections.abc import Iterator
 from unittest import mock
 
-from debvote_tools.book.book import open_book
 from debvote_tools.cli import command_line
 from debvote_tools.commands import close
 from debvote_tools.result import folder as result_folder
@@ -181,29 +180,6 @@ class Asked(CloseTest):
         output, status = Terminal(self, "close", "--yes").end()
         self.assertEqual((status, "[y/n]" in output), (0, False))
         self.assertIn("Until now 0 lines came in time. Added last: never. Entered last at a desk: never.", output)
-
-
-class SecretClose(CloseTest):
-    poll = elections.POLL + "secret = true\n"
-
-    def test_checksum_tells_no_ballots(self) -> None:
-        self.add("ada 17,33,99,-", "ben 2,1,3,4", "ada 2,3,4,-")
-        self.done("close")
-        seal = open_book(self.folder / "election.db").last_act().detail
-        self.assertNotIn(seal["seal"], self.done("log").output)
-        aliases = {row.split(",")[0]: row.split(",")[4] for row in self.read("private/codes.csv").decode().splitlines()[1:]}
-        ballots = "".join(sorted(f"{aliases[name]} {ranks}\n" for name, ranks in {"ada": "1,2,3,-", "ben": "2,1,3,4"}.items()))
-        self.assertEqual(seal["checksum"], hashlib.sha256(f"{seal['seal']}\n{ballots}".encode()).hexdigest())
-        self.assertIn(seal["checksum"], self.read("letters/closed.txt").decode())
-        letters = b"".join(file.read_bytes() for file in (self.folder / "letters").iterdir())
-        self.assertNotIn(hashlib.sha256(b"ada 17,33,99,-\nben 2,1,3,4\nada 2,3,4,-\n").hexdigest().encode(), letters)
-        self.assertNotIn(hashlib.sha256(ballots.encode()).hexdigest().encode(), letters)
-        self.assertNotIn(seal["seal"].encode(), letters)
-        # the poll that is exported is the one of these ballots
-        self.exported()
-        [out] = self.scratch.glob("out*")
-        steps = self.debvote("steps", "--poll", out / "poll.toml", "--ballots", out / "ballots.txt").output
-        self.assertEqual(steps.split(), ["1", "counted", "2", "counted", "3", "replaced"])
 
 
 class Reopen(CloseTest):

@@ -162,24 +162,20 @@ class Faults(DraftTest):
             self.assert_faults(draft.faults, ("`secret` is neither true nor false", "secret = true"))
             self.assertNotIn(b"secret", sealed_form(draft, ROLL, "de"))
 
-    def test_bad_toml(self) -> None:
+    def test_a_poll_that_can_not_be_read(self) -> None:
+        toml = "poll.toml: it can't be read as TOML 1.0: .*"
         for poll, why in {
-            "title = \n": "line 1",
-            b"a = 1\nb = '\xff'\n": "'utf-8' codec can't decode",
-            "a = " + "[" * 9000: "recursion",
-            "a = {b = 1,\n}": "line 1",
+            "title = \n": f"{toml}line 1",
+            b"a = 1\nb = '\xff'\n": f"{toml}'utf-8' codec can't decode",
+            "a = " + "[" * 9000: f"{toml}recursion",
+            "a = {b = 1,\n}": f"{toml}line 1",
+            GERMAN + "#" * 1_048_576: "poll.toml: .*longer than 1048576 bytes",
+            None: "poll.toml: .*No such file or directory; write it",
         }.items():
-            with self.assertRaises(Fault) as caught:
-                self.draft(poll)
-            self.assertEqual(caught.exception.status, Status.BAD_POLL)
-            self.assertIn(why, str(caught.exception.words))
-            self.assertIn("poll.toml: it can't be read as TOML 1.0: ", str(caught.exception.words))
-
-    def test_a_poll_that_is_not_there_or_too_long(self) -> None:
-        for poll, why in {GERMAN + "#" * 1_048_576: "longer than 1048576 bytes", None: "No such file or directory; write it"}.items():
             (self.folder / "poll.toml").unlink()
-            with self.assertRaisesRegex(Fault, f"poll.toml: .*{why}"):
+            with self.assertRaisesRegex(Fault, why) as caught:
                 self.draft(poll)
+            self.assertTrue(caught.exception.status == Status.BAD_POLL or toml not in why)
 
 
 class Texts(DraftTest):

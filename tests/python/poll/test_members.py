@@ -80,11 +80,9 @@ class Read(MembersTest):
             with self.subTest(content[:60]):
                 self.assert_rows(content, (2, *row))
 
-    def test_trailing_delimiters_blank_rows_and_short_rows(self) -> None:
+    def test_trailing_delimiters_blank_rows_short_rows_and_quotation_marks(self) -> None:
         text = "\n,,\nname,who,mail,,\n,,,,\nada,Ada,,,\n\n   \nben\ncleo,,c@x,,,,,,\n,,,,"
         self.assert_rows(text, (5, "ada", "Ada", ""), (8, "ben", "", ""), (9, "cleo", "", "c@x"))
-
-    def test_quotation_marks(self) -> None:
         text = 'name,who,mail\nada,"Lovelace, Ada",a@x\n"ben", "Ben ""the"" B","b@x"\ncleo,Cleo "C" C,c@x\ndan,"",""\n'
         wanted = [(2, "ada", "Lovelace, Ada", "a@x"), (3, "ben", 'Ben "the" B', "b@x"), (4, "cleo", 'Cleo "C" C', "c@x"), (5, "dan", "", "")]
         self.assert_rows(text, *wanted)
@@ -97,8 +95,7 @@ class Read(MembersTest):
     def test_several_addresses(self) -> None:
         text = 'who,mail\nAda,a@x b@x\nBen,"b@x, c@x;d@x"\nCleo,"Lovelace, Cleo <c@x>; <d@x>"\nDan,mailto:d@x d@x\n'
         self.assertEqual([row.addresses for row in self.read(text).electors], [("a@x", "b@x"), ("b@x", "c@x", "d@x"), ("c@x", "d@x"), ("d@x",)])
-
-    def test_the_fingerprint_of_a_key(self) -> None:
+        # and the fingerprint of a key
         self.assertEqual([row.key for row in self.read(f"who,mail,key\nAda,,{KEY[:20].lower()} {KEY[20:]}\nBen,,\n").electors], [KEY, ""])
 
 class Unread(MembersTest):
@@ -135,20 +132,15 @@ class Unread(MembersTest):
         ]:
             self.assert_faults(text, (f"members.csv:{line}: ", "close each quotation mark"))
 
-    def test_a_folder_and_no_file(self) -> None:
-        folder = pathlib.Path(tempfile.mkdtemp())
-        self.addCleanup(folder.rmdir)
-        for file, part in ((folder, "Is a directory"), (folder / "no", "No such file")):
-            with self.assertRaises(Fault) as caught:
+    def test_a_folder_no_file_and_one_that_is_too_long(self) -> None:
+        folder = pathlib.Path(self.enterContext(tempfile.TemporaryDirectory()))
+        with open(folder / "long", "wb") as file:
+            file.truncate(TABLE_LIMIT + 1)
+        long = "it is longer than .* bytes; shorten it, then run debvote-election roll again"
+        for file, part in ((folder, f"{folder}: Is a directory"), (folder / "no", f"{folder}/no: No such file"), (folder / "long", long)):
+            with self.assertRaisesRegex(Fault, part) as caught:
                 members.members_in(file)
             self.assertEqual(caught.exception.status, Status.BAD_WORDS)
-            self.assertIn(f"{file}: {part}", str(caught.exception.words))
-
-    def test_a_file_that_is_too_long(self) -> None:
-        with tempfile.NamedTemporaryFile() as file:
-            file.truncate(TABLE_LIMIT + 1)
-            with self.assertRaisesRegex(Fault, "it is longer than .* bytes; shorten it, then run debvote-election roll again"):
-                members.members_in(pathlib.Path(file.name))
 
 
 class Rows(MembersTest):

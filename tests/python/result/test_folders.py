@@ -177,7 +177,11 @@ def publish_large(expect, scratch, options, electors):
 class FoldersTest(looks.LooksTest):
     @classmethod
     def made(cls):
-        published = publishing.side_by_side(cls.publish, examples.elections(cls.scratch))
+        # an option whose name has the words of a casting vote outside of a tie, and which wins, is told as the winner alone
+        named = publishing.PLAIN_POLL.replace('"A"', '"A, casting option 2 is not among them"')
+        room = publishing.plain_room(cls.scratch / "of-words", named)
+        words = "words-of-the-sheet", room / "poll.toml", room / "ballots", []
+        published = publishing.side_by_side(cls.publish, [*examples.elections(cls.scratch), words])
         cls.castings = {folder: casting for folder, casting in published if folder.exists()}
         cls.note("how many", len(cls.castings) > len(examples.CASES), True)
         slips = publishing.side_by_side(lambda name: try_slip(cls.note, name, cls.scratch), SLIPS)

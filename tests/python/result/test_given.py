@@ -78,16 +78,6 @@ class GivenTest(publishing.PublishTest):
         self.expect("ballots in the order of what?", ("in the order in which they were entered" in whole, "they came" in whole), (True, False))
         self.expect("nothing is said to be announced", "announced" in whole, False)
 
-    def test_a_name_with_words_of_the_sheet(self):
-        """An option whose name has the words of a casting vote outside of a tie, and which wins, is told as the winner alone."""
-        room = room_with(self.scratch / "words", "plain_win")
-        poll = (room / "poll.toml").read_text()
-        first = re.search(r'options\s*=\s*\["(.*?)"', poll)[1]
-        (room / "poll.toml").write_text(poll.replace(f'"{first}"', '"A, casting option 2 is not among them"'))
-        self.expect("words of the sheet: the status", publish(room, *FILES, "result")[2], 0)
-        outcome = json.loads((room / "result" / "result.json").read_text())["outcome"]
-        self.expect("words of the sheet: the outcome", (outcome["winner"], outcome["casting_vote_outside"]), (1, None))
-
     def test_refused_texts(self):
         """Each refused line stands there with its text, escaped and cut, and with the words that belong to it."""
         room = self.scratch / "refused-texts"

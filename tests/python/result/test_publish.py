@@ -653,6 +653,7 @@ class OfSecretVotes(OfElections):
             self.stops(*words, said=["the vote is secret, and can be counted only after the close"])
         self.say("strike", "1", "--because", "private reason")
         self.say("close")
+        self.check_what_a_close_tells()
         self.add("dan 3,2,1\n")
         self.say("publish", "--language", "en", status=1)
         self.whole()
@@ -678,6 +679,18 @@ class OfSecretVotes(OfElections):
         struck = "The secretary struck an envelope: its line does not count."
         self.expect("a strike without number and reason", [struck in item.text() for item in sections["What-was-done"].all("li")].count(True), 1)
         self.expect("who voted is not told", "Who-voted" in sections, False)
+
+    def check_what_a_close_tells(self):
+        """Neither the log nor a letter has the seal, or a checksum of the ballots without it; the poll that is exported is that of the ballots."""
+        self.say("export", "exported")
+        ballots, seal = (self.folder / "exported" / "ballots.txt").read_bytes(), self.acts()[-1].detail["seal"]
+        aliases = {elector.name: elector.alias for elector in self.secrets()}
+        published = "".join(sorted(f"{aliases[name]} {ranks}\n" for name, ranks in (("ada-lovelace", "1,2,3"), ("zoe-mueller", "2,1,3"))))
+        told = self.say("log") + "".join(file.read_text() for file in (self.folder / "letters").iterdir() if file.is_file())
+        secrets = [seal, *(hashlib.sha256(data).hexdigest() for data in (ballots, published.encode()))]
+        self.expect("what is told at the close", [text in told for text in secrets], [False] * 3)
+        steps = self.debvote("steps", "--poll", "exported/poll.toml", "--ballots", "exported/ballots.txt").output
+        self.expect("what debvote replies to what came", re.findall("(?m)^\\d+ (\\w+)", steps), ["counted", "counted", "bad", "bad"])
 
     def test_doubts_about_what_came(self):
         """The doubts are about the lines that came, and not about those that are published."""
