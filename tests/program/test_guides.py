@@ -99,7 +99,6 @@ def rows_of_quorums(guide):
     return [list(map(int, row)) for row in re.findall(r"^\| (\d+) \| (\d+) \| (\d+) \| (\d+) \|$", guide.read_text(), re.MULTILINE)]
 
 
-# ---------------------------------------------------------------- the tests
 class GuideTest(expecting.Expecting):
     """The commands of a guide print what the guide says."""
 

@@ -1,10 +1,6 @@
-"""Compares the manual pages and the completions with the help of the programs.
+"""Compares the manual pages and the completions with the help of the programs, with docs/FORMATS.md, and with what docs/make-manual makes today.
 
-The help of debvote and of each of its commands says which commands and options there are; its page and its completions must have just
-these. The pages and completions of debvote-election and debvote-publish are those that docs/make-manual makes today. The exit statuses
-in help and page of debvote, and the line above the usage, are as docs/FORMATS.md has them. The version of the pages, of docs/FORMATS.md
-and of the newest version in CHANGELOG.md is the program's. If they are installed, `groff` and `man` read the pages without a warning,
-and bash, zsh and fish complete as their files say.
+If they are installed, `groff` and `man` read the pages without a warning, and bash, zsh and fish complete as their files say.
 """
 
 import functools
@@ -114,7 +110,6 @@ def try_warnings(expect, words):
         expect(f"{page.name}: warnings of {words[0]}", (ended.stderr, ended.returncode), ("", 0))
 
 
-# ---------------------------------------------------------------- the completions
 # what a completion asks of zsh: this prints it, for the words after the command
 ZSH = """
 _arguments() { if [[ $1 == -C ]] { state=argument; return 1 } else { print -rl -- "$@" } }
@@ -124,7 +119,6 @@ complete_words
 """
 
 
-# ---------------------------------------------------------------- the tests
 class HelpTest(expecting.Expecting):
     def test_words_of_help(self):
         """The line above the usage, and the words of the exit statuses; commands and options were read."""

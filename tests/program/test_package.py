@@ -1,11 +1,5 @@
-"""Builds the Debian package of the program, looks at it, unpacks it, and runs its programs as a user without rights.
-
-It builds the package twice, from two copies of this repository with other times and modes, and compares the bytes; it looks for
-the files, their modes and their owner; it counts the examples with the unpacked program, publishes one, asks debvote-election for
-its help, and reads an input from /dev/stdin. `packaging/deb` must refuse if there is no program, or one older than its
-sources. If lintian is installed, it must find no error.
-
-If dpkg-deb, objdump, strip or msgfmt is not installed, nothing is tested.
+"""Builds the Debian package of the program twice, from two copies of this repository with other times and modes, looks at it, unpacks it, and
+runs its programs as a user without rights. If dpkg-deb, objdump, strip or msgfmt is not installed, nothing is tested.
 """
 
 import gzip
@@ -86,7 +80,6 @@ def build(expect, folder, to):
     return pathlib.Path(output.strip())
 
 
-# ---------------------------------------------------------------- the tests
 @unittest.skipUnless(all(map(shutil.which, TOOLS)), f"{', '.join(TOOLS)} are not all installed")
 class PackageTest(expecting.Expecting):
     @classmethod

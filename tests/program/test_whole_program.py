@@ -156,7 +156,6 @@ def large_polls(size):
         yield f"{key} = {start}{part}", keys_of({**SMALL, key: repeated(size, start, part, end)}), answer
 
 
-# ---------------------------------------------------------------- the tests
 class WholeTest(expecting.Expecting):
     """A test with its own folder."""
 

@@ -162,7 +162,6 @@ class Window:
         """The words within nodes, which a script returns, that are on two lines."""
         return list(self.ask(f"{BROKEN_WORDS}({nodes})"))
 
-    # ------------------------------------------------------------ the pages of a call and of a result
     def ballot(self, name: str | None, ranks: str | list[str]) -> dict[str, Any]:
         """What the page of a call shows once a name is typed and ranks are chosen, with the parts of the letter that it makes."""
         found = dict(self.ask(f"{CHOOSE}({json.dumps(name)}, {json.dumps(list(ranks))})"))

@@ -68,7 +68,6 @@ def escaped(text):
     return html.escape(text).replace("&quot;", "&#34;").replace("&#x27;", "&#39;")
 
 
-# ---------------------------------------------------------------- the tree of a page
 class Node:
     """An element with its attributes and what stands in it."""
 
@@ -161,7 +160,6 @@ def try_page(expect, name, folder):
     expect(f"{name}: its links", {node.attributes["href"] for node in nodes if "href" in node.attributes} - places, set())
 
 
-# ---------------------------------------------------------------- the parts
 class Parts:
     """The parts of a page beside the count of the reference."""
 
@@ -194,7 +192,6 @@ class Parts:
             places |= {"a": self.name(a), "b": self.name(b), "over": self.count.votes[a, b], "under": self.count.votes[b, a], "round": sum(removed)}
         return SENTENCES[kind].format(**places)
 
-    # ------------------------------------------------------------ the head
     def headings(self):
         """Each part has a heading with its place, and a part of a group is one deeper than the group."""
         for place, section in self.sections.items():
@@ -239,7 +236,6 @@ class Parts:
         of = f"The quorum is {least} vote{'' if least == 1 else 's'}: at least {poll.quorum}Q, where Q is half of the square root"
         demand_equal("the quorum", (of in said, "No quorum is asked for." in said), (poll.quorum > 0, poll.quorum == 0))
 
-    # ------------------------------------------------------------ the bars
     def bars(self):
         """The winner first, then as the rounds leave the options; of each the name, the chip, the numbers, the bar and the mark."""
         count, poll = self.count, self.count.poll
@@ -315,7 +311,6 @@ class Parts:
             chains, last = chains | step, sorted(step)
         return chains[self.count.winner if self.count.winner in chains else min(within & chains.keys())]
 
-    # ------------------------------------------------------------ what decides it
     def deciding(self):
         """The name of the winner stands alone, and below it what decides it."""
         count, section = self.count, self.sections["Result"]
@@ -356,7 +351,6 @@ class Parts:
             return self.say("beats by chains", beaten=narrowest)
         return self.say({1: "beats one", 2: "beats each of two"}.get(len(others), "beats each of many"), beaten=narrowest, narrowest=rows[0])
 
-    # ------------------------------------------------------------ options, votes, defeats, rounds
     def defeat(self, a, b):
         return f"{self.name(a)} over {self.name(b)} by {self.count.votes[a, b]} to {self.count.votes[b, a]}"
 
@@ -395,7 +389,6 @@ class Parts:
             wanted.append(f"The set is {in_words(list(map(self.name, kept)))}. {then}")
         demand_equal("Rounds", self.entries("Defeats", "ol"), wanted)
 
-    # ------------------------------------------------------------ ballots and electors
     def ballots(self):
         """Each ballot with its place, its ranks and its words."""
         count = self.count

@@ -3,7 +3,6 @@
 import concurrent.futures
 import os
 import pathlib
-import shutil
 import sys
 import tempfile
 

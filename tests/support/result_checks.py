@@ -81,7 +81,6 @@ def count_of(poll_data, ballots, casting_name):
     return Count(poll, lines, replies, last, votes, dropped, defeats, rounds, casting)
 
 
-# ---------------------------------------------------------------- the data
 def document_of(count, version, names):
     """The document of result.json, by docs/FORMATS.md."""
     poll, votes = count.poll, count.votes
@@ -116,7 +115,6 @@ def table_of(count):
         yield [str(a), name, str(poll.ratios.get(a, "")), count.ended(a), *votes]
 
 
-# ---------------------------------------------------------------- the refused lines
 def try_refused(page, count):
     """The page has each refused line with its cause, in their order, and nothing else."""
     part, found = page.partition('<h3 id="Refused-lines">')[2].partition("</section>")[0], []
@@ -138,7 +136,6 @@ def line_shown(line):
     return seen + (f" (the first 100 of {len(text)} characters)" if len(text) > 100 else "") if line else "(an empty line)"
 
 
-# ---------------------------------------------------------------- one poll
 def names_of(seed, count):
     """Names that people read for title (0) and options, in every second poll; those that differ from the plain ones."""
     if seed % 2:

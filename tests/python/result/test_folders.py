@@ -71,7 +71,6 @@ def plain_bytes(poll_bytes):
     return "".join(lines).replace("\x7f", "\\u007f").encode()
 
 
-# ---------------------------------------------------------------- names and texts
 HOSTILE = "</b><script>alert(1)</script> & \"'<img src=x onerror=alert(1)>"
 
 
@@ -104,7 +103,6 @@ def try_names(expect, scratch):
     return room / "result"
 
 
-# ---------------------------------------------------------------- slips of the hand
 NOBODY = "No elector has a ballot that counts: nobody's vote has decided this."
 NOBODY_TOLD = "no elector has a ballot that counts; check that these are the ballots of this poll"
 MOSTLY_REFUSED = "More than half of the lines of the ballot file are refused: {} of {}."
@@ -137,7 +135,6 @@ def try_slip(expect, name, scratch):
     return room / "result"
 
 
-# ---------------------------------------------------------------- large elections
 def large_poll(options, electors):
     """A poll with names of the greatest length, and ballots that make a cycle."""
     rng, names = random.Random(1), [f"{number} {'WMwm' * 10}"[:40] for number in range(1, options + 1)]
@@ -173,7 +170,6 @@ def publish_large(expect, scratch, options, electors):
     return room / name
 
 
-# ---------------------------------------------------------------- the tests
 class FoldersTest(looks.LooksTest):
     @classmethod
     def made(cls):

@@ -145,9 +145,13 @@ class OfElections(elections.ElectionTest, expecting.Expecting):
     def files(self, folder="result"):
         return {file.name: file.read_bytes() for file in (self.folder / folder).iterdir()}
 
+    def items(self, part):
+        """The texts of a list of the page."""
+        return [item.text() for item in self.sections()[part].all("li")]
+
     def what_was_done(self):
         """The acts that the page tells, without their times."""
-        return [item.text().partition("): ")[2] for item in self.sections()["What-was-done"].all("li")]
+        return [text.partition("): ")[2] for text in self.items("What-was-done")]
 
     def texts_of_messages(self):
         """The texts of the messages with the result that go out."""
@@ -200,12 +204,10 @@ class OfOpenVotes(OfElections):
         self.expect("late lines", files["late.txt"], b"dan 3,2,1\n")
         label = json.loads(files["result.json"])["options"][1]
         self.expect("names as data", (label["name"], label["label"]), ("Groesse", "Größe"))
-        sections = self.sections()
-        voted = [item.text() for item in sections["Who-voted"].all("li")]
-        self.expect("real names", voted, ["ada-lovelace Ada <Lovelace>", "cleo Cleo", "zoe-mueller Zoë Müller", "dan Dan"])
-        refused = [item.text() for item in sections["Refused-lines"].all("li")]
+        self.expect("real names", self.items("Who-voted"), ["ada-lovelace Ada <Lovelace>", "cleo Cleo", "zoe-mueller Zoë Müller", "dan Dan"])
+        refused = self.items("Refused-lines")
         self.expect("refused and late lines", (len(refused), refused[-1]), (2, "line 1: dan 3,2,1"))
-        self.expect("about", TEXT.strip() in sections["About-this-vote"].text(), True)
+        self.expect("about", TEXT.strip() in self.sections()["About-this-vote"].text(), True)
         done = self.what_was_done()
         struck = "The secretary struck envelope 3: its line does not count. The reason, in the secretary's words: Zoë has sent it <b>twice</b>"
         self.expect("what was done", done[:2], ["The call was made; it named no time until which one could vote.", struck])
@@ -240,11 +242,8 @@ class OfOpenVotes(OfElections):
         self.say("publish", "--about", "about")
         files, acts = self.files(), len(self.acts())
         (self.folder / "about").unlink()
-        umask = os.umask(0o077)
-        try:
-            said = self.say("publish")
-        finally:
-            os.umask(umask)
+        self.addCleanup(os.umask, os.umask(0o077))
+        said = self.say("publish")
         self.expect("no act", (len(self.acts()), "Made the folder result, as it was published before; " in said), (acts, True))
         self.whole()
         shutil.rmtree(self.folder / "result")
@@ -292,7 +291,7 @@ class OfOpenVotes(OfElections):
         shutil.rmtree(self.folder / "result-2")
         (self.folder / "result-2").mkdir()
         for name, data in files.items():
-            (self.folder / "result-2" / name).write_bytes(data)
+            self.write(f"result-2/{name}", data)
         self.stops("publish", "result-2", said=[said], status=2, folder="result-2")
         for change in ("index.html", "mine"):
             shutil.rmtree(self.folder / "result-2")
@@ -628,7 +627,7 @@ class OfOpenVotes(OfElections):
         for text in (f"{hostile} 1", *(f"{word} {hostile}" for word in ("text", "strike", "reopen", "about", "by", "force"))):
             self.expect(text, text in shown, True)
         self.expect("real names", [hostile in name.text() for name in page.all("li") if name.text().startswith("ada </p>")], [True])
-        refused = [line.text() for line in self.sections()["Refused-lines"].all("li")]
+        refused = self.items("Refused-lines")
         about = [" ".join(text.text().split()) for text in self.sections()["Options"].all("div", "given")]
         whose = f"About Option 1: {hostile} 1, in the words of those who publish this page. The program has not checked them:"
         self.expect("the text about an option", [text.startswith(whose) and text.endswith(f"text {hostile}") for text in about], [True])
