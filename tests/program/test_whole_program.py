@@ -172,33 +172,32 @@ class WholeTest(expecting.Expecting):
 class WordsTest(WholeTest):
     def test_help(self):
         """Help goes to standard output with status 0, and says what each command and each option is."""
-        poll = b"--poll <FILE>", b"The poll file, in TOML"
-        ballots = b"--ballots <FILE>", b"The ballot file, one ballot a line: name 1,2,3"
-        desks = b"--desks <K>", b"How many desks enter ballots at once, 1 to 8; the result is the same [default: 1]"
-        casting = b"--casting <NAME>", b"The option that the casting vote chooses in a tie (its exact name)"
-        count = b"count", b"Counts the ballots and prints the result"
-        steps = b"steps", b"Prints the reply to each ballot"
-        check = b"check", b"Checks a poll file"
-        explain = b"explain", b"Reports every problem in a poll and its ballots, and where it is"
-        standing = b"standing", b"Prints the ballots that count: each elector's last valid one"
-        sheet = b"--sheet <FILE>", b"The sheet that was published"
-        verify = b"verify", b"Counts the ballots and compares the result with a published sheet"
-        picture = b"picture", b"Counts the ballots and prints the result as a graph for Graphviz"
-        statuses = b"Exit", b"statuses:"
-        for words, usage, wanted in [
-            (["--help"], b"Usage: debvote", [count, steps, check, explain, standing, verify, picture, statuses]),
-            (["count", "--help"], b"Usage: debvote count", [poll, ballots, desks, casting]),
-            (["steps", "--help"], b"Usage: debvote steps", [poll, ballots]),
-            (["check", "--help"], b"Usage: debvote check", [poll]),
-            (["explain", "--help"], b"Usage: debvote explain", [poll, ballots]),
-            (["standing", "--help"], b"Usage: debvote standing", [poll, ballots]),
-            (["verify", "--help"], b"Usage: debvote verify", [poll, ballots, sheet, desks]),
-            (["picture", "--help"], b"Usage: debvote picture", [poll, ballots, desks, casting]),
+        options = {
+            "--poll": "<FILE> The poll file, in TOML",
+            "--ballots": "<FILE> The ballot file, one ballot a line: name 1,2,3",
+            "--desks": "<K> How many desks enter ballots at once, 1 to 8; the result is the same [default: 1]",
+            "--casting": "<NAME> The option that the casting vote chooses in a tie (its exact name)",
+            "--sheet": "<FILE> The sheet that was published",
+        }
+        top = []
+        for command, said, names in [
+            ("count", "Counts the ballots and prints the result", "--poll --ballots --desks --casting"),
+            ("steps", "Prints the reply to each ballot", "--poll --ballots"),
+            ("check", "Checks a poll file", "--poll"),
+            ("explain", "Reports every problem in a poll and its ballots, and where it is", "--poll --ballots"),
+            ("standing", "Prints the ballots that count: each elector's last valid one", "--poll --ballots"),
+            ("verify", "Counts the ballots and compares the result with a published sheet", "--poll --ballots --sheet --desks"),
+            ("picture", "Counts the ballots and prints the result as a graph for Graphviz", "--poll --ballots --desks --casting"),
         ]:
-            output, faults, status = run(words)
-            lines = [b" ".join(line.split()) for line in output.splitlines()]
-            missing = [name for name, what in wanted if name + b" " + what not in lines]
-            self.expect(f"help: {words}", (missing, any(line.startswith(usage) for line in lines), faults, status), ([], True, b"", 0))
+            top.append(f"{command} {said}")
+            self.check_help([command], [f"{name} {options[name]}" for name in names.split()])
+        self.check_help([], [*top, "Exit statuses:"])
+
+    def check_help(self, command, wanted):
+        output, faults, status = run([*command, "--help"])
+        lines = [" ".join(line.split()) for line in output.decode().splitlines()]
+        begins = any(line.startswith(" ".join(["Usage: debvote", *command])) for line in lines)
+        self.expect(f"help: {command}", ([line for line in wanted if line not in lines], begins, faults, status), ([], True, b"", 0))
 
     def test_version_and_words_that_are_no_text(self):
         """The version, and an argument that is not UTF-8."""

@@ -178,11 +178,13 @@ class Parts:
         return [entry.text() for found in list(self.sections[heading].all(kind)) for entry in found.all("li")]
 
     def check(self):
+        """Meets all parts with the count. Raises Wrong, or returns the kinds of sentences that the page has."""
         for check in (
             self.headings, self.facts, self.deciding, self.lines, self.rule, self.bars, self.options, self.table, self.defeats, self.rounds,
             self.ballots, self.who_voted,
         ):  # fmt: skip
             check()
+        return self.met
 
     def say(self, kind, pair=None, **places):
         """A sentence of a kind, in which a pair of options may have its names, numbers and round."""
@@ -472,10 +474,3 @@ def as_read(node):
     for option in node.all("b"):
         demand(option.text().startswith(f"Option {option.attributes['data-option']}: "), f"the mark of {option.text()}")
     return node.text()
-
-
-def try_parts(page, count, names):
-    """Meets all parts of a page with the count. Raises Wrong, or returns the kinds of sentences that it has."""
-    parts = Parts(page, count, names)
-    parts.check()
-    return parts.met

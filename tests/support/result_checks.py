@@ -219,7 +219,7 @@ def try_made(folder, count, names):
         shown = f"<bdi>{pages.escaped(text)}</bdi>" if number else f'<h1 dir="auto">{pages.escaped(text)}</h1>'
         demand(shown in page, f"name of {number}")
     try_refused(page, count)
-    return pages.try_parts(page, count, names)
+    return pages.Parts(page, count, names).check()
 
 
 def try_published(expect, name, folder, casting):

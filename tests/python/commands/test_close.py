@@ -3,7 +3,6 @@
 import contextlib
 import hashlib
 import io
-import json
 import os
 from collections.abc import Iterator
 from unittest import mock
@@ -13,23 +12,16 @@ from debvote_tools.commands import close
 from debvote_tools.result import folder as result_folder
 
 from tests.support import elections
+from tests.support.called import LettersTest
 from tests.support.terminal import Terminal
 
 UNTIL = ("--until", "2026-12-04 18:00", "--zone", "Europe/Berlin")
 
 
-class CloseTest(elections.ElectionTest):
+class CloseTest(LettersTest):
     def add(self, *lines: str) -> elections.Ended:
         self.write("lines", "".join(f"{line}\n" for line in lines))
         return self.done("add", "--yes", "lines")
-
-    def numbers(self) -> dict[str, object]:
-        return json.loads(self.done("status", "--json").output)
-
-    def exported(self) -> tuple[bytes, bytes]:
-        out = self.scratch / f"out{len(list(self.scratch.iterdir()))}"
-        self.done("export", out)
-        return (out / "ballots.txt").read_bytes(), (out / "late.txt").read_bytes()
 
 
 class Close(CloseTest):
@@ -38,7 +30,7 @@ class Close(CloseTest):
         self.add("ada 1,2,3,4", "ben 2,1,3,4", "zoe 1")
         before, ended = self.exported()[0], self.done("close")
         letter = self.read("letters/closed.txt").decode()
-        sums = [hashlib.sha256(data).hexdigest() for data in (self.read("call/poll.toml"), before)]
+        sums = [hashlib.sha256(data).hexdigest() for data in (self.read("call/poll.toml"), before.encode())]
         places = [letter.index(text) for text in (*sums, self.numbers()["digest"])]
         self.assertEqual(places, sorted(places))
         self.assertIn(f"Checksum of the ballots: {sums[1]}", ended.output)
@@ -49,7 +41,7 @@ class Close(CloseTest):
         self.assertIn("late", self.add("ada 4,3,2,1").output)
         self.assertIn("Nothing was changed", self.done("close").output)
         self.assertEqual((self.read("letters/closed.txt").decode(), self.done("log").output.splitlines()[:-2]), (letter, log.splitlines()))
-        self.assertEqual(self.exported(), (before, b"ada 4,3,2,1\n"))
+        self.assertEqual(self.exported(), (before, "ada 4,3,2,1\n"))
         wanted = {"stage": "closed", "electors": 9, "lines": 3, "valid": 2, "refused": 1, "late": 1, "voters": 2, "waiting": 0}
         wanted |= {"stopping": [], "not_reached": {}, "printed": []}
         self.assertEqual({key: value for key, value in self.numbers().items() if key not in ("act", "digest", "without_ballot")}, wanted)
@@ -104,9 +96,9 @@ class Meanwhile(CloseTest):
         with self.closing_after(iter(["ben 1,2,3,4", "cleo 2,1,3,4"])):
             status, said, faults = self.in_this_process("close")
         self.assertEqual((status, faults), (0, ""), said)
-        ballots = b"ada 1,2,3,4\nben 1,2,3,4\ncleo 2,1,3,4\n"
-        self.assertEqual(self.exported(), (ballots, b""))
-        self.assertIn(hashlib.sha256(ballots).hexdigest(), self.read("letters/closed.txt").decode())
+        ballots = "ada 1,2,3,4\nben 1,2,3,4\ncleo 2,1,3,4\n"
+        self.assertEqual(self.exported(), (ballots, ""))
+        self.assertIn(hashlib.sha256(ballots.encode()).hexdigest(), self.read("letters/closed.txt").decode())
         self.assertIn("Closed: 3 lines came in time", said)
         self.done("publish")
 
@@ -192,16 +184,16 @@ class Reopen(CloseTest):
     def test_what_had_come_in_time(self) -> None:
         ended = self.done("reopen", "--because", "a letter was forgotten", "--in-time", "3")
         self.assertIn("Envelope 4, entered anew from late envelope 3: cleo 2,1,3,4", ended.output)
-        self.assertEqual(self.exported(), (b"ada 1,2,3,4\ncleo 2,1,3,4\n", b"ben 1,2,3,4\ncleo 2,1,3,4\n"))
+        self.assertEqual(self.exported(), ("ada 1,2,3,4\ncleo 2,1,3,4\n", "ben 1,2,3,4\ncleo 2,1,3,4\n"))
         self.write("more", "dan 1,2,3,4\n")
         self.assertEqual(self.election("add", "--yes", "more").status, 9)
         self.done("add", "--yes", "--came-before-close", "yes", "more")
         self.write("more", "eve 1,2,3,4\n")
         self.done("add", "--yes", "--came-before-close", "no", "more")
-        self.assertEqual(self.exported()[0], b"ada 1,2,3,4\ncleo 2,1,3,4\ndan 1,2,3,4\n")
-        self.assertIn(b"eve", self.exported()[1])
+        self.assertEqual(self.exported()[0], "ada 1,2,3,4\ncleo 2,1,3,4\ndan 1,2,3,4\n")
+        self.assertIn("eve", self.exported()[1])
         self.assertEqual(self.numbers()["stage"], "called")
-        checksum = hashlib.sha256(self.exported()[0]).hexdigest()
+        checksum = hashlib.sha256(self.exported()[0].encode()).hexdigest()
         for said in ("Closed: 3 lines came in time", "with 3 lines in time. Nothing was changed"):
             output = self.done("close").output
             self.assertIn(said, output)

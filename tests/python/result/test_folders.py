@@ -248,3 +248,14 @@ class LargestTest(looks.LooksTest):
     @classmethod
     def made(cls):
         return [publish_large(cls.note, cls.scratch, 32, ELECTORS)]
+
+
+class RandomTest(publishing.PublishTest):
+    """Random polls, whose data, sentences and pages are met with the second count."""
+
+    def test_random_polls(self):
+        # no random poll leaves as many options in a tie
+        many = "rounds-cycle-of-31-options"
+        poll, ballots, _ = examples.of_case(many, self.scratch)
+        publishing.publish_files(poll, ballots, self.scratch / many)
+        result_checks.try_random_polls(self.expect, result_checks.try_published(self.expect, many, self.scratch / many, None))

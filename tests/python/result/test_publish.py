@@ -11,14 +11,12 @@ import re
 import shutil
 import subprocess
 import signal
-import sqlite3
 import tomllib
 import unittest.mock
 from time import sleep
 
 from debvote_tools import files
 from debvote_tools.book import queries
-from debvote_tools.book.book import open_book
 from debvote_tools.cli import command_line
 from debvote_tools.inbox.letter import parse
 from debvote_tools.inbox.letter_lines import to_json
@@ -29,6 +27,7 @@ from debvote_tools.text.language import ENGLISH
 from debvote_tools.text.rendering import templates_of
 
 from tests.support import elections, expecting, page_parts as pages
+from tests.support.called import CalledTest
 
 POLL = """title = "Wo wir uns treffen: Größe"
 options = ["72 Euro", "Größe"]
@@ -46,7 +45,7 @@ def hostile_name(folder):
     return tomllib.loads((folder / "call" / "poll.toml").read_text())["options"][0]
 
 
-class OfElections(elections.ElectionTest, expecting.Expecting):
+class OfElections(CalledTest, expecting.Expecting):
     """An election in a folder of its own for each test."""
 
     poll, members, new_words, call_words = POLL, MEMBERS, ("--language", "de"), None
@@ -56,10 +55,6 @@ class OfElections(elections.ElectionTest, expecting.Expecting):
         super().setUp()
         if "secret" in self.poll:
             self.say("codes")
-
-    def state_of_this(self):
-        """This process finds the programs, and its notes of books."""
-        return unittest.mock.patch.dict(os.environ, elections.environment() | {"XDG_STATE_HOME": str(self.state)})
 
     def say(self, *words, status=0, **how):
         """Runs a command, which has to end so, and returns what it printed."""
@@ -97,9 +92,9 @@ class OfElections(elections.ElectionTest, expecting.Expecting):
 
     def late_letters(self, *letters):
         """Letters that were entered late: how many seconds after the close each arrived, and its line."""
-        book = open_book(self.folder / "election.db")
+        book = self.book
         close = book.last_act().time
-        with self.state_of_this(), contextlib.closing(book.connection), book.act("add") as act:
+        with book.act("add") as act:
             for seconds, line in letters:
                 time = close + datetime.timedelta(seconds=seconds)
                 data = b"Received: by mx; %s\nFrom: x@x.example\n\n%s\n" % (email.utils.format_datetime(time).encode(), line)
@@ -125,16 +120,14 @@ class OfElections(elections.ElectionTest, expecting.Expecting):
                 os.chdir(self.folder)
                 for output in (1, 2):
                     os.dup2(os.open(os.devnull, os.O_WRONLY), output)
-                with self.state_of_this(), patch:
+                with unittest.mock.patch.dict(os.environ, elections.environment()), patch:
                     os._exit(command_line.main(elections.PROGRAM.parent, list(words)))
             finally:
                 os._exit(70)
         return os.waitstatus_to_exitcode(os.waitpid(child, 0)[1])
 
     def acts(self):
-        book = open_book(self.folder / "election.db")
-        with contextlib.closing(book.connection):
-            return book.acts()
+        return self.book.acts()
 
     def sections(self, folder="result"):
         return pages.sections_of((self.folder / folder / "index.html").read_text())
@@ -372,11 +365,8 @@ class OfOpenVotes(OfElections):
         self.say("strike", "1", "--because", "wrong hand")
         checksum = hashlib.sha256(b"zoe-mueller 1,2,3\ncleo 1,2,3\n").hexdigest()
         close = {"lines": 2, "checksum": checksum, "early": True, "waiting": 2, "after_end": 1, "because": "in a hurry"}
-        book = open_book(self.folder / "election.db")
-        with self.state_of_this(), contextlib.closing(book.connection):
-            for name, detail in [("extend", {"keyring": "a checksum"}), ("close", close)]:
-                with book.act(name, detail):
-                    pass
+        self.act("extend", {"keyring": "a checksum"})
+        self.act("close", close)
         self.say("publish", "--language", "en")
         because = " The reason, in the secretary's words:"
         end = "one could vote until Friday, 4 December 2099, 18:00 (UTC+01:00)."
@@ -418,29 +408,6 @@ class OfOpenVotes(OfElections):
             act = Act(time, done, places)
             self.expect(done, act.is_quiet, done in plain)
             self.expect(f"{done}, in words", told.dated(act).startswith("Friday, 4 December 2026, 00:00 (UTC): "), True)
-
-    def test_a_moved_book(self):
-        self.closed()
-        self.state = self.scratch / "other computer"
-        self.stops("publish", said=["this computer has never seen this election"])
-        self.say("publish", "--moved", "--because", "a new <laptop>", "--language", "en")
-        done = self.sections()["What-was-done"].text()
-        self.expect("moved", ("that did not know it yet. The reason, in the secretary's words: a new <laptop>" in done), True)
-        with self.changed_book() as connection:
-            connection.execute("UPDATE act SET detail = '{}' WHERE act = ?", (connection.execute("SELECT max(act) FROM act").fetchone()[0] - 2,))
-        self.stops("publish", said=["does not match its digest"])
-
-    @contextlib.contextmanager
-    def changed_book(self):
-        """The book, in which another program changes what it likes; its triggers are there again afterwards."""
-        with contextlib.closing(sqlite3.connect(self.folder / "election.db")) as connection:
-            triggers = connection.execute("SELECT name, sql FROM sqlite_master WHERE type = 'trigger'").fetchall()
-            for name, _ in triggers:
-                connection.execute(f"DROP TRIGGER {name}")
-            yield connection
-            for _, sql in triggers:
-                connection.execute(sql)
-            connection.commit()
 
     def test_late_letters(self):
         self.closed()
@@ -519,6 +486,11 @@ class OfOpenVotes(OfElections):
             ended = self.election("publish", "--language", "es", path=self.other_debvote(f"case $1 in {task}) {answer} ;; esac"))
             self.expect(f"{task}: {ended.faults}", (ended.status, "nothing was published" in ended.faults), (9, True))
             self.expect(f"{task}: nothing was changed", (self.files() == files, len(self.acts())), (True, acts))
+        # and that the book was moved stands there, with its reason
+        self.state = self.scratch / "other computer"
+        self.say("publish", "--moved", "--because", "a new <laptop>", "--language", "en")
+        moved = "that did not know it yet. The reason, in the secretary's words: a new <laptop>"
+        self.expect("moved", self.what_was_done()[-1].endswith(moved), True)
 
     def test_casting_votes(self):
         self.closed(TIE)
@@ -641,11 +613,6 @@ class OfSecretVotes(OfElections):
         self.say("call")
         self.add("ada-lovelace 3,2,9\nzoe-mueller 2,1,3\nada-lovelace 17,33,99\nno-one 1,2,3\ncleo 1,2,x\n")
 
-    def secrets(self):
-        book = open_book(self.folder / "election.db")
-        with contextlib.closing(book.connection):
-            return queries.electors(book)
-
     def test_the_files(self):
         self.called()
         for words in (("count",), ("publish",), ("publish", "--force", "--because", "x", "--yes")):
@@ -656,7 +623,7 @@ class OfSecretVotes(OfElections):
         self.add("dan 3,2,1\n")
         self.say("publish", "--language", "en", status=1)
         self.whole()
-        files, electors = self.files(), self.secrets()
+        files, electors = self.files(), queries.electors(self.book)
         aliases = {elector.name: elector.alias for elector in electors}
         ballots = sorted([f"{aliases['ada-lovelace']} 1,2,3\n", f"{aliases['zoe-mueller']} 2,1,3\n"])
         self.expect("the poll of the call", files["poll.toml"], (self.folder / "call" / "poll.toml").read_bytes())
@@ -683,7 +650,7 @@ class OfSecretVotes(OfElections):
         """Neither the log nor a letter has the seal, or a checksum of the ballots without it; the poll that is exported is that of the ballots."""
         self.say("export", "exported")
         ballots, seal = (self.folder / "exported" / "ballots.txt").read_bytes(), self.acts()[-1].detail["seal"]
-        aliases = {elector.name: elector.alias for elector in self.secrets()}
+        aliases = {elector.name: elector.alias for elector in queries.electors(self.book)}
         published = "".join(sorted(f"{aliases[name]} {ranks}\n" for name, ranks in (("ada-lovelace", "1,2,3"), ("zoe-mueller", "2,1,3"))))
         told = self.say("log") + "".join(file.read_text() for file in (self.folder / "letters").iterdir() if file.is_file())
         secrets = [seal, *(hashlib.sha256(data).hexdigest() for data in (ballots, published.encode()))]
@@ -717,7 +684,7 @@ class OfSecretVotes(OfElections):
         self.say("publish", "--force", "--yes", status=1)
         self.expect("the act keeps what was agreed to", self.acts()[-1].detail["agreed"], [hashlib.sha256(b"of <Ada>").hexdigest()])
         self.say("publish", "--language", "fr", status=1)
-        code = self.secrets()[0].code
+        code = queries.electors(self.book)[0].code
         (self.folder / "about").write_text(f"x {code}\n")
         self.stops("publish", "--about", "about", "--yes", said=["index.html would have the code of an elector in it"])
 
@@ -730,7 +697,7 @@ class OfSecretVotes(OfElections):
         shown = "texts/1.txt:\n  Zoë is for it.\n"
         self.expect(f"it stops: {output} {faults}", (faults.startswith(shown), "--yes" in faults, status), (True, True, 9))
         self.expect("nothing is made", (len(self.acts()), (self.folder / "call").exists()), (acts, False))
-        code = self.secrets()[0].code
+        code = queries.electors(self.book)[0].code
         (self.folder / "texts" / "2.txt").write_text(f"x {code}\n")
         self.expect("a code", " would have the code of an elector in it" in self.election("call", "--yes").faults, True)
         (self.folder / "texts" / "2.txt").unlink()
