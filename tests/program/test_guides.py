@@ -94,11 +94,6 @@ def quorum_line(electors, multiple):
     return subprocess.run(words, input=text, stdout=subprocess.PIPE, text=True, timeout=SECONDS).stdout.splitlines()[2]
 
 
-def rows_of_quorums(guide):
-    """The rows of the guide's table of quorums: the number of electors, and the votes of each multiple."""
-    return [list(map(int, row)) for row in re.findall(r"^\| (\d+) \| (\d+) \| (\d+) \| (\d+) \|$", guide.read_text(), re.MULTILINE)]
-
-
 class GuideTest(expecting.Expecting):
     """The commands of a guide print what the guide says."""
 
@@ -111,20 +106,17 @@ class GuideTest(expecting.Expecting):
             self.expect(f"{guide}: $ {words}", TIME.sub("TIME", found[place] if place < len(found) else "(nothing)"), TIME.sub("TIME", wanted))
 
 
-def class_of(guide):
-    """A class of tests for a guide, so that they run side by side."""
-    name = guide.lower().replace("-", "_")
-    return type(f"{name}_test", (GuideTest,), {f"test_{name}": lambda self: self.type_commands(guide)})
-
-
+# a class for each, so that they run side by side
 for guide in ("SECRETARY", "SECRET-VOTES", "SPECIAL-CASES", "READING-A-SHEET"):
-    globals()[f"Test_{guide}"] = class_of(guide)
+    name = guide.lower().replace("-", "_")
+    globals()[f"Test_{name}"] = type(f"{name}_test", (GuideTest,), {f"test_{name}": lambda self, guide=guide: self.type_commands(guide)})
 
 
 class QuorumsTest(expecting.Expecting):
     def test_numbers_are_those_of_the_program(self):
-        rows = rows_of_quorums(DOCS / "SECRETARY.md")
+        """The rows of the guide's table of quorums: the number of electors, and the votes of each multiple."""
+        rows = re.findall(r"^\| (\d+) \| (\d+) \| (\d+) \| (\d+) \|$", (DOCS / "SECRETARY.md").read_text(), re.MULTILINE)
         self.assertTrue(rows, "no table was read")
         for electors, *numbers in rows:
             for multiple, number in enumerate(numbers, start=1):
-                self.expect(f"{electors} electors, {multiple}Q", quorum_line(electors, multiple), f"Quorum: {multiple}Q, {number} votes")
+                self.expect(f"{electors} electors, {multiple}Q", quorum_line(int(electors), multiple), f"Quorum: {multiple}Q, {number} votes")

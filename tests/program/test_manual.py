@@ -41,11 +41,6 @@ def options_in(text):
     return re.findall(rf"^ +(?:-\w, +)?({OPTION})\b", text, re.MULTILINE)
 
 
-def statuses_in(text):
-    """The exit statuses that a help ends with, and their words, a line each."""
-    return [tuple(line.split(maxsplit=1)) for line in text.partition("\nExit statuses:\n")[2].splitlines()]
-
-
 def statuses_of_formats():
     """The exit statuses of docs/FORMATS.md, with the words where each comes, and those of the help."""
     return re.findall(r"^\| (\d+) \| (.*) \| (.*) \|$", FORMATS.read_text().partition("\n| status | where |")[2].partition("\n\n")[0], re.MULTILINE)
@@ -90,12 +85,6 @@ def tagged_options(text):
 
 
 @functools.cache
-def options_of_publish():
-    """The options of debvote-publish."""
-    return options_in(output_of(sys.executable, PUBLISH, "--help"))
-
-
-@functools.cache
 def options_of_election():
     """The options of each command of debvote-election, in the order of its commands."""
     names = re.findall(r"^    ([a-z]+) ", output_of(sys.executable, ELECTION, "--help"), re.MULTILINE)
@@ -127,8 +116,9 @@ class HelpTest(expecting.Expecting):
         said = output_of(PROGRAM, "--help")
         about = re.search(r"the line above its usage is `(.*?)`", FORMATS.read_text())
         self.expect("--help: the line above the usage", said.partition("\n\nUsage: ")[0], about[1] if about else None)
-        wanted = [(number, words) for number, _, words in statuses_of_formats()]
-        self.expect("--help: the exit statuses", (statuses_in(said), len(wanted)), (wanted, 11))
+        wanted = [f"{number} {words}" for number, _, words in statuses_of_formats()]
+        found = [" ".join(line.split()) for line in said.partition("\nExit statuses:\n")[2].splitlines()]
+        self.expect("--help: the exit statuses", (found, len(wanted)), (wanted, 11))
 
     def test_version(self):
         """The version in the code; everywhere else it is the same."""
@@ -187,7 +177,7 @@ class CompletionsTest(expecting.Expecting):
             ("debvote-election", "", [*options_of_election(), "--folder", "--help", "--version"]),
             ("debvote", "help", [command for command in options_by_command() if command]),
             ("debvote", "", [*(command for command in options_by_command() if command), *options_by_command()[""]]),
-            ("debvote-publish", "-", options_of_publish()),
+            ("debvote-publish", "-", options_in(output_of(sys.executable, PUBLISH, "--help"))),
         ]:
             words = [program, command, ""] if command.isalpha() else [program, *(command.split() or [""])]
             script = f"source {ROOT}/completions/bash/{program}; COMP_WORDS=({' '.join(map(repr, words))}); COMP_CWORD={len(words) - 1}; "

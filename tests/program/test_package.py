@@ -35,7 +35,6 @@ WANTED = {
 }
 
 NOBODY = ["setpriv", "--reuid=65534", "--regid=65534", "--clear-groups", "--no-new-privs"]
-HAS_PYTHON = os.path.exists("/usr/bin/python3")
 
 
 def run(words, **how):
@@ -167,7 +166,7 @@ class PackageTest(expecting.Expecting):
             answer = run([*nobody, program, "count", *files[:3], "/dev/stdin"], stdin=ballots, env=where)
         self.expect("ballots from /dev/stdin", answer, (sheet.read_text(), "", 0))
 
-    @unittest.skipUnless(HAS_PYTHON, "there is no /usr/bin/python3")
+    @unittest.skipUnless(os.path.exists("/usr/bin/python3"), "there is no /usr/bin/python3")
     def test_unpacked_python(self):
         """The same of the programs in Python."""
         nobody = NOBODY if os.geteuid() == 0 else []

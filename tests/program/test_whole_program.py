@@ -67,15 +67,6 @@ def line_of(stream):
     return line
 
 
-def end_of(program):
-    """The rest of what a program writes, and its status; if it does not end, it is killed, and has none."""
-    try:
-        return *program.communicate(timeout=SECONDS), program.returncode
-    except subprocess.TimeoutExpired:
-        program.kill()
-        return *program.communicate(), None
-
-
 # what `explain` says about a poll that is no TOML: what it is, or the position, the message, and the line there with a mark below
 NO_TOML = re.compile(rb"the poll file is no text; a poll is plain text in UTF-8\n|poll:\d+:\d+: [^\n]+\n[^\n]{0,240}\n *\^\n")
 
@@ -213,13 +204,14 @@ class WordsTest(WholeTest):
         program = subprocess.Popen([PROGRAM], stdin=inner, stdout=subprocess.PIPE, stderr=subprocess.PIPE)
         hint = line_of(program.stderr)
         os.write(outer, b"\x04")
-        output, faults, status = end_of(program)
+        self.addCleanup(program.kill)
+        output, faults = program.communicate(timeout=SECONDS)
         os.close(outer)
         os.close(inner)
         wanted = fault("reading a poll and its ballots from the terminal; see debvote --help")
         self.expect("a terminal: what is said before it reads", (hint,), (wanted,))
         # an empty input is a poll that lacks its first key
-        self.expect("a terminal: what is said then", (output, faults, status), (b"", fault("poll refused: key title"), 3))
+        self.expect("a terminal: what is said then", (output, faults, program.returncode), refused("poll refused: key title", 3))
 
     def test_files_stay(self):
         """A run leaves the files that it reads, and the folder around them, as they are."""

@@ -2,10 +2,10 @@
 
 import dataclasses
 import hashlib
-import hmac
 import json
 import re
 
+from debvote_tools.poll.secret import alias_of
 from debvote_tools.result import command_line, folder
 from debvote_tools.result.facts import SecretVote
 
@@ -17,10 +17,6 @@ POLL = publishing.PLAIN_POLL + 'shown_title = "Größe"\nshown_options = ["72 Eu
 BALLOTS = "ada 1,2,3\nben -,1,1\nada 2,1,-\nzoe 1,2,3\ncleo -,-,-\n"
 LAST_BALLOT = '<li id="cleo"><b>cleo</b> <code>-,-,-</code>: nothing is preferred</li>\n'
 LETTER_OTHER = "None of these is the checksum that you typed."
-
-
-def alias_of(code, name):
-    return hmac.new(code.encode(), name.encode(), "sha256").hexdigest()[:32]
 
 
 @at_browser.NEEDS_BROWSER

@@ -35,7 +35,6 @@ def try_folder(expect, name, poll, ballots, more, folder):
     expect(f"{name}: what is said", output, sheet.splitlines()[-1] + "\n" + verified)
     texts = [(folder / file).read_bytes() for file in ("ballots.txt", "sheet.txt", "standing.txt")]
     expect(f"{name}: its files", texts, [ballots.read_bytes(), sheet.encode(), publishing.run([publishing.PROGRAM, "standing", *files])[0].encode()])
-    expect(f"{name}: its poll", *(in_plain_form(file.read_bytes()) for file in (folder / "poll.toml", poll)))
     expect(f"{name}: its poll is in plain form", (folder / "poll.toml").read_bytes(), plain_bytes(poll.read_bytes()))
     page, given, plain = ((file.read_bytes()) for file in (folder / "index.html", poll, folder / "poll.toml"))
     sums = [hashlib.sha256(data).hexdigest() for data in (given, plain)]
@@ -59,15 +58,10 @@ def try_folder(expect, name, poll, ballots, more, folder):
 KEYS = "title options ratios default quorum wording roll last_envelope deadline address secret shown_title shown_options explanations"
 
 
-def in_plain_form(poll_bytes):
-    """What a poll says, without keys that a sealed poll does not have."""
-    document = tomllib.loads(poll_bytes.decode("utf-8-sig"))
-    return {key: document[key] for key in KEYS.split() if key in document}
-
-
 def plain_bytes(poll_bytes):
-    """The poll in plain form."""
-    lines = (f"{key} = {json.dumps(value, ensure_ascii=False)}\n" for key, value in in_plain_form(poll_bytes).items())
+    """The poll in plain form, without keys that a sealed poll does not have."""
+    document = tomllib.loads(poll_bytes.decode("utf-8-sig"))
+    lines = (f"{key} = {json.dumps(document[key], ensure_ascii=False)}\n" for key in KEYS.split() if key in document)
     return "".join(lines).replace("\x7f", "\\u007f").encode()
 
 

@@ -1,6 +1,5 @@
 """`publish`: the files, what was done, doubts, casting votes, secret votes, and the same bytes again."""
 
-import contextlib
 import datetime
 import email.utils
 import hashlib
@@ -38,11 +37,6 @@ quorum = 0
 MEMBERS = "who,mail,name\nAda <Lovelace>,ada@x.example,\nZoë Müller,zoe@x.example,\nCleo,cleo@x.example,cleo\nDan,,dan\n"
 TIE = "ada-lovelace 1,2,3\nzoe-mueller 2,1,3\n"
 TEXT = "Who certifies this: <b>Anna</b>.\n"
-
-
-def hostile_name(folder):
-    """The plain name of the first option of a called election."""
-    return tomllib.loads((folder / "call" / "poll.toml").read_text())["options"][0]
 
 
 class OfElections(CalledTest, expecting.Expecting):
@@ -589,7 +583,8 @@ class OfOpenVotes(OfElections):
         self.say("reopen", "--because", f"reopen {hostile}")
         self.say("close")
         (self.folder / "about").write_text(f"about {hostile}")
-        cast = ("--casting", hostile_name(self.folder), "--cast-by", f"by {hostile}", "--cast-on", "2026-11-20")
+        plain = tomllib.loads((self.folder / "call" / "poll.toml").read_text())["options"][0]
+        cast = ("--casting", plain, "--cast-by", f"by {hostile}", "--cast-on", "2026-11-20")
         self.say("publish", *cast, "--about", "about", "--force", "--because", f"force {hostile}", "--language", "en")
         pages.try_page(self.expect, "hostile", self.folder / "result")
         seen = ["Result", "Why", "Find-your-ballot", "Check-it", "About-this-vote"]

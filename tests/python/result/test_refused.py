@@ -22,15 +22,13 @@ def try_stand_ins(expect, poll, ballots, room, scratch):
     """Other programs in place of debvote, no Graphviz, and a run that is asked to end."""
     words = [sys.executable, publishing.PUBLISH, "--poll", poll, "--ballots", ballots]
     as_it_is = f'*) exec {publishing.PROGRAM} "$@" ;; esac'
-    differs = stand_in(scratch / "differs", f'case $1 in verify) echo "differs at line 1"; exit 9 ;; {as_it_is}')
-    found = publishing.run([*words, room / "result"], path=differs)
-    expect("a sheet that is not verified", (found[2], os.listdir(room)), (9, ["full"]))
-    killed = stand_in(scratch / "killed", f'case $1 in count) echo "Poll: half"; kill -KILL $$ ;; {as_it_is}')
-    found = publishing.run([*words, room / "result"], path=killed)
-    expect("a count that is killed", (found[2], os.listdir(room)), (128 + signal.SIGKILL, ["full"]))
-    other = stand_in(scratch / "other", f'case $1 in count) echo "Result: 1" ;; verify) echo verified ;; {as_it_is}')
-    found = publishing.run([*words, room / "result"], path=other)
-    expect("a sheet of another format", (found[2], os.listdir(room)), (10, ["full"]))
+    for name, text, status in [
+        ("a sheet that is not verified", 'verify) echo "differs at line 1"; exit 9 ;;', 9),
+        ("a count that is killed", 'count) echo "Poll: half"; kill -KILL $$ ;;', 128 + signal.SIGKILL),
+        ("a sheet of another format", 'count) echo "Result: 1" ;; verify) echo verified ;;', 10),
+    ]:
+        found = publishing.run([*words, room / "result"], path=stand_in(scratch / name, f"case $1 in {text} {as_it_is}"))
+        expect(name, (found[2], os.listdir(room)), (status, ["full"]))
     found = publishing.run([*words, room / "result"], path=stand_in(scratch / "plain", f'exec {publishing.PROGRAM} "$@"'))
     is_told = "Graphviz" in found[1] and "There is no picture" in (room / "result" / "index.html").read_text()
     expect("no Graphviz", (found[2], is_told, (room / "result" / "picture.svg").exists()), (0, True, False))
