@@ -264,7 +264,8 @@ class LimitsTest(WholeTest):
         longest, longer = (file(f"poll {more}", poll_text.ljust(POLL_LIMIT + more, b"#")) for more in (0, 1))
         more, many = file("more", b"x" * (BALLOTS_LIMIT + 1)), file("many", b"\n" * 100_001)
         longest_sheet, longer_sheet = (file(f"sheet {more}", b"x" * (SHEET_LIMIT + more)) for more in (0, 1))
-        broken, too_long, too_many = file("broken", b"title ="), refused("poll too long", 3), refused("ballots refused: too many lines", 4)
+        broken, zed, no_option = file("broken", b"title ="), ["--casting", "Zed"], refused("casting option is not in the poll", 8)
+        too_long, too_many = refused("poll too long", 3), refused("ballots refused: too many lines", 4)
         for name, given, found, wanted in [
             ("a poll of the greatest size", longest, ballots, (sheet.read_bytes(), b"", 0)),
             ("a poll of one byte more", longer, ballots, too_long),
@@ -280,8 +281,8 @@ class LimitsTest(WholeTest):
             self.expect(f"a line too many for {command}", run([command, "--poll", poll, "--ballots", many]), too_many)
         for name, words, wanted in [
             ("a poll refused before the lines are read", ["explain", "--poll", broken, "--ballots", many], (None, b"", 3)),
-            ("the casting vote before the lines", ["count", "--poll", poll, "--ballots", many, "--casting", "Zed"], refused("casting option is not in the poll", 8)),
-            ("the poll before the casting vote and the lines", ["count", "--poll", broken, "--ballots", many, "--casting", "Zed"], refused("poll refused: syntax", 3)),
+            ("the casting vote before the lines", ["count", "--poll", poll, "--ballots", many, *zed], no_option),
+            ("the poll before both", ["count", "--poll", broken, "--ballots", many, *zed], refused("poll refused: syntax", 3)),
         ]:
             self.expect(name, run(words), wanted)
         for name, given, found, other, wanted in [

@@ -40,7 +40,8 @@ SENTENCES = {
     "the casting vote": "has won by the casting vote. These options were left: {left}.",
     "the default option, a few failed": "has won. It is the default option. All other options were dropped. {failed}",
     "the default option, many failed": "has won. It is the default option. All other options were dropped. The nearest, {nearest}",
-    "a circle": "has won. Options beat each other in a circle, so the weakest defeat was set aside: {last}. Then it beats {beaten}, and nothing beats it.",
+    "a circle": "has won. Options beat each other in a circle, so the weakest defeat was set aside: {last}. "
+    "Then it beats {beaten}, and nothing beats it.",
     "circles": "has won. Options beat each other in circles, so {number} weakest defeats were set aside, the last of them {last}. "
     "Then it beats {beaten}, and nothing beats it.",
     "beats by chains": "has won. It beats {beaten}, and each other one by a chain of defeats.",
@@ -320,7 +321,8 @@ class Parts:
         left = in_words(list(map(self.name, count.final)))
         if count.winner is None:
             demand_equal("the head of a tie", (head.text(), list(head.within())), ("A tie", []))
-            wanted = self.say("a tie of many", left=left) if count.final[2:] else self.say("a tie of two", left=left, against=self.against(*count.final))
+            kind, more = ("a tie of many", {}) if count.final[2:] else ("a tie of two", {"against": self.against(*count.final)})
+            wanted = self.say(kind, left=left, **more)
         else:
             name = self.names.get(count.winner, count.poll.names[count.winner])
             tags = [("b", {"data-option": str(count.winner)}), ("bdi", {})][: 2 if count.winner in self.names else 1]

@@ -87,7 +87,8 @@ def document_of(count, version, names):
     return {
         "format": "debvote result 1", "program": version, "title": poll.title, "label": names.get(0, poll.title), "electors": len(poll.roll),
         "quorum": {"multiple": poll.quorum, "votes": pages.least_of(count)}, "wording": "more_than" if poll.is_more_than else "at_least",
-        "lines": len(count.lines), "last_envelope": poll.last_envelope, "valid": count.valid, "refused": len(count.lines) - count.valid, "voters": count.voters,
+        "lines": len(count.lines), "last_envelope": poll.last_envelope, "valid": count.valid, "refused": len(count.lines) - count.valid,
+        "voters": count.voters,
         "options": [
             {
                 "number": o, "name": name, "label": names.get(o, name), "is_default": o == poll.default, "ratio": poll.ratios.get(o),

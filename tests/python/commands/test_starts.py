@@ -57,7 +57,7 @@ class Starts(elections.ElectionTest):
 
     def mailbox(self) -> str:
         mark = hashlib.sha256(self.read("call/poll.toml")).hexdigest()[:16]
-        texts = [("ada", "Hello\n\nada 2,1,4,3"), ("ben", "ben 1,2,3,4\nben 2,1,3,4"), ("cleo", "1 2 3 4"), ("dan", "I vote as follows:\ndann 1,2,3,4")]
+        texts = [("ada", "Hello\n\nada 2,1,4,3"), ("ben", "ben 1,2,3,4\nben 2,1,3,4"), ("cleo", "1 2 3 4"), ("dan", "I vote:\ndann 1,2,3,4")]
         texts += [("eve", "eve 1, 2, 3, 4\n\nadieu")] * 2 + [("fay", "gus 1,2,3,4"), ("nobody", "hal 1,2")]
         letters = [letter_of(number, name, text, mark) for number, (name, text) in enumerate(texts, start=1)]
         return "".join([*letters, letter_of(20, "ida", "<p>ida 1,2,3,4</p>", mark, "html")])
@@ -73,19 +73,19 @@ class Starts(elections.ElectionTest):
         self.each(["add --csv --name name --ranks a,b,c,d --yes --force table.csv", "add --look mail", *["add --yes mail"] * 2])
         self.each(["held", "held 2", "held 2 --enter 1 --force", "held 3 4 --set-aside"])
         self.started("desk", given="ada 1,2,3,4\n")
-        self.each(["show ada", "status", "status --json", "undo --yes", "log", "log --check", "strike 1 --because x", "letters receipts", "letters reminders"])
-        self.started("roll", "--yes")
+        self.each(["show ada", "status", "status --json", "undo --yes", "log", "log --check", "strike 1 --because x"])
+        self.each(["letters receipts", "letters reminders", "roll --yes"])
         self.started("call", "--until", "2026-12-05 18:00+00:00")
 
     def result(self) -> None:
         """From the close on; and once more, beside an earlier result."""
         self.set_clock(ELEVEN)
-        close = "close --early --force --because x"
+        close, publish = "close --early --force --because x", "publish --yes --force --because x"
         self.each([close, "close", "letters closed"])
         self.started("desk", given="ida 1,2,3,4\n")
-        self.each(["reopen --because x", "add --look mail", close, "count --force", "publish --yes --force --because x", "publish", "reopen --because x"])
+        self.each(["reopen --because x", "add --look mail", close, "count --force", publish, "publish", "reopen --because x"])
         self.started("add", "--yes", "--came-before-close", "yes", "-", given="ida 1,2,3,4\n")
-        self.each([close, "publish --yes --force --because x result-2", "letters result", "letters receipts", "status", "export out", "backup copy.db"])
+        self.each([close, f"{publish} result-2", "letters result", "letters receipts", "status", "export out", "backup copy.db"])
 
 
 class Open(Starts):

@@ -153,8 +153,8 @@ class Marked(languages.LanguageTest):
         self.check_messages(place, "result")
 
     def test_doubts(self) -> None:
-        refused = "e01 1,2,3,4\n" + "bad\n" * 3
-        for name, codes, ballots in (("refused", None, refused), ("refused-in-secret", (), refused), ("nobody", None, "bad\n"), ("open", None, refused)):
+        bad = "e01 1,2,3,4\n" + "bad\n" * 3
+        for name, codes, ballots in (("refused", None, bad), ("refused-in-secret", (), bad), ("nobody", None, "bad\n"), ("open", None, bad)):
             place = self.called(name, "de", codes=codes)
             self.election(name, "add", "--yes", "--force", given=ballots)
             if name != "open":

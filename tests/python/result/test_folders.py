@@ -78,10 +78,11 @@ def try_names(expect, scratch):
     expect("names: its status", publishing.publish(room, *publishing.FILES, "result")[1:], ("", 0))
     expect("names: the poll keeps what is sealed", "note" in (room / "result" / "poll.toml").read_text(), False)
     page = (room / "result" / "index.html").read_text()
+    whose = f"About <b data-option=\"1\">Option 1: <bdi>{page_parts.escaped(HOSTILE)}</bdi></b>, in the words of those who publish this page."
     for name, wanted in [
         ("the window", "<title>Result: Ob die Satzung geändert wird</title>"),
         *([("the picture", "The picture has the plain names.")] if publishing.HAS_PICTURES else []),
-        ("a text", f'<p class="whose">About <b data-option="1">Option 1: <bdi>{page_parts.escaped(HOSTILE)}</bdi></b>, in the words of those who publish this page.'),
+        ("a text", f'<p class="whose">{whose}'),
         ("its paragraphs", '<p class="about"><bdi>\u200fÜber &lt;b&gt;alles&lt;/b&gt;.</bdi></p>'),
     ]:
         expect(f"names: {name}", wanted in page, True)

@@ -731,12 +731,12 @@ class OfSecretVotes(OfElections):
             other = f'case "$*" in "{task} "*/dev/stdin*) {elections.PROGRAM} "$@" | sed "{change}"; exit ;; esac'
             self.stops("publish", path=self.other_debvote(other), said=[said])
         self.say("publish", status=1)
-        # that of Zoë has the same order, which is published as it was
-        self.add("cleo 1,2,3\nzoe-mueller 5,4,6\ndan 1,2,3\n")
+        # that of Zoë has the same order, which is published as it was; that of Ada has another one
+        self.add("cleo 1,2,3\nzoe-mueller 5,4,6\nada-lovelace 2,1,3\n")
         self.say("reopen", "--because", "Cleo's letter", "--in-time", "6", "7", "8")
         self.say("close")
-        self.stops("publish", "result-2", said=["a comparison with the earlier result shows how these voted: cleo, dan"], folder="result-2")
+        self.stops("publish", "result-2", said=["a comparison with the earlier result shows how these voted: ada-lovelace, cleo"], folder="result-2")
         self.say("publish", "--yes", "result-2")
-        self.expect("cleo and dan count", len((self.folder / "result-2" / "ballots.txt").read_text().splitlines()), 4)
+        self.expect("Cleo counts, too", len((self.folder / "result-2" / "ballots.txt").read_text().splitlines()), 3)
         self.checksums_of_letters(self.files("result-2"), "-")
         self.expect("the reason stays in the log", "Cleo" in (self.folder / "result-2" / "index.html").read_text(), False)
