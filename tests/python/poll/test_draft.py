@@ -80,8 +80,7 @@ class Sealed(DraftTest):
     def test_what_is_plain_is_not_shown_twice(self) -> None:
         sealed = sealed_form(self.draft(PLAIN + 'wording = "more_than"\n'), ["ada"], "en")
         self.assertEqual(sealed.decode(), PLAIN + 'wording = "more_than"\nroll = ["ada"]\n')
-
-    def test_the_title_alone_or_an_option_alone(self) -> None:
+        # the title alone, or an option alone
         poll = seal(self.draft(PLAIN.replace("Fruhling", "Frühling")), ROLL, "de")
         self.assertEqual((poll.shown_title is None, poll.shown_options), (False, ()))
         poll = seal(self.draft(PLAIN.replace("diskutieren", "schwätzen")), ROLL, "de")
@@ -191,8 +190,6 @@ class Texts(DraftTest):
             *(("/1.txt: it is empty",), ("/2.txt:2: it is not in UTF-8",), ("/3.txt:3: ", "U+202E"), ("/4.txt: it is not the text",)),
         ]
         self.assert_faults(self.draft(texts=texts).faults, *wanted)
-
-    def test_characters(self) -> None:
         for odd in ("\x0b", "\r", "\x85", "\u2028", "\u2067", "\ue000", "\x00"):
             self.assert_faults(self.draft(texts={"1.txt": f"a\nb{odd}c"}).faults, (f"/1.txt:2: it has the character U+{ord(odd):04X}",))
 
@@ -202,7 +199,11 @@ class Texts(DraftTest):
         self.assert_faults(self.draft(texts={"1.txt": half, "2.txt": half, "3.txt": "y"}).faults, ("texts: the texts have 524289 bytes",))
         self.assert_faults(self.draft(texts={"1.txt": "x" * 524_289}).faults, ("/1.txt: it is longer than 524288 bytes",))
 
-    def test_what_would_keep_its_reader_waiting(self) -> None:
+    def test_what_is_no_file_or_no_folder(self) -> None:
+        """A pipe would keep its reader waiting."""
+        self.write("texts", "x")
+        self.assert_faults(draft_in(self.folder).faults, ("texts: Not a directory",))
+        (self.folder / "texts").unlink()
         self.draft(texts={})
         os.mkfifo(self.folder / "texts" / "1.txt")
         self.assert_faults(draft_in(self.folder).faults, ("/1.txt: it is no plain file; put a readable file there, or remove it",))
@@ -210,10 +211,6 @@ class Texts(DraftTest):
         os.mkfifo(self.folder / "poll.toml")
         with self.assertRaisesRegex(Fault, "poll.toml: it is no plain file; write it"):
             draft_in(self.folder)
-
-    def test_a_file_for_the_folder(self) -> None:
-        self.write("texts", "x")
-        self.assert_faults(draft_in(self.folder).faults, ("texts: Not a directory",))
 
 
 class Confusing(DraftTest):

@@ -6,7 +6,6 @@ from collections.abc import Iterable
 from debvote_tools.book.queries import Elector
 from debvote_tools.poll.members import Member, Roll, members_of, roll_of
 
-
 KEY = "0123456789ABCDEF0123456789ABCDEF01234567"
 KNOWN = [Elector(1, "ada", 1, "Ada L", ("a@x",)), Elector(2, "ben", 2, "Ben", ("b@x",), KEY), Elector(3, "zoe", 3, "Zoë", ())]
 SAME = ["Ada L;a@x", f"Ben;b@x;;{KEY}", "Zoë"]
@@ -159,9 +158,7 @@ class AfterTheCall(RollTest):
         self.assert_faults(self.called("Eve;a@x;ada", *SAME[1:]), (":2: ada (Eve) was Ada L",))
         self.assert_faults(self.called("Ada L;a@x", SAME[1], "Zoe;;zoe"), (":4: zoe (Zoe) was Zoë",))
         self.assert_named(self.called(*SAME[:2], "Zoe\u0308"), "ada", "ben", "zoe")
-
-    def test_another_person_in_the_place_of_one(self) -> None:
+        # another person in the place of one
         self.assert_faults(self.called(*SAME[:2], "Eve;z@x"), ("missing: zoe (Zoë)",), ("new: eve (Eve)",))
-
-    def test_who_was_gone_before_the_call_is_new(self) -> None:
+        # who was gone before the call is new
         self.assert_faults(self.roll(*SAME, "Dan", known=[*KNOWN, Elector(4, "dan", None, "Dan", ())], is_called=True), ("new: dan (Dan)",))

@@ -184,6 +184,4 @@ class Rows(MembersTest):
         self.assert_faults("who,mail\nZo\ufffd,z@x\n", (":2: `Zo\ufffd` has lost a character when it was saved (U+FFFD); write the ",))
         for end, (sign, shown) in itertools.product((b"\n", b"\r\n", b"\r"), ((b"\xeb", "Zo\u00eb,z@x"), (b"\x81", "Zo"))):
             self.assert_faults(b"who,mail%bAda,%bZo%b,z@x%b" % (end, end, sign, end), ("members.csv:3: it is not in UTF-8", shown))
-
-    def test_a_cell_that_is_cut_by_its_comma(self) -> None:
         self.assert_faults("who,mail,,\nLovelace, Ada,a@x,\n", (":2: `a@x` is after",), (":2: `Ada` is not a mail address",))

@@ -6,8 +6,6 @@ import unittest
 from debvote_tools.poll import plain_names
 from debvote_tools.poll.plain_names import alike, bad_options, bad_title, elector_name, made_different, plain_options, plain_title, similar_names
 
-
-
 OPTION = re.compile(r"[!-~]([ -~]{0,38}[!-~])?")
 
 
@@ -122,15 +120,13 @@ class Refused(unittest.TestCase):
         pairs = [("Am See", "am  SEE"), ("Café", "Cafe"), ("Straße", "STRASSE"), ("Am See", "Am\u00a0See\u200b")]
         for first, second in (*pairs, ("李", "李\ufe00"), ("a", "a\u0301"), ("ｘ", "X")):
             self.assert_bad([first, "other", second], (3, f"looks like option 1, `{first}`"))
-
-    def test_names_that_do_not(self) -> None:
+        # and names that do not
         self.assert_bad(["Am See", "Am Fee", "かき", "がき", "राम", "रोम", "Über", "Ueber", "1", "2", "!", "?"])
 
     def test_of_two_equal_plain_names_debvote_speaks(self) -> None:
         self.assert_bad(["a", "a", ""])
         self.assert_bad(["a", "A"], (2, "looks like option 1"))
-
-    def test_the_plain_name_of_another(self) -> None:
+        # the plain name of another
         self.assertEqual(plain_options(["Ü", "Ue", "Ue\u0301 2"], "de"), ["Ue 2", "Ue", "Ue 2 1"])
         self.assert_bad(["Ü", "Ue", "Ue\u0301 2"], (3, "looks like the plain name of option 1, `Ü`"))
 

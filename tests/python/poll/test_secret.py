@@ -63,8 +63,7 @@ class Codes(unittest.TestCase):
             spaced = " ".join(re.findall("....", code))
             self.assertEqual(run("sh", "-c", BY_PYTHON, given=f"{spaced}\n{name}\n"), f"Code: Name: {ALIASES[name]}\n")
         self.assertNotEqual(alias_of(CODES["ada"], "ben"), ALIASES["ada"])
-
-    def test_whatever_lies_in_the_folder_the_alias_is_found(self) -> None:
+        # whatever lies in the folder
         with tempfile.TemporaryDirectory(prefix="debvote-alias-") as name:
             folder = pathlib.Path(name)
             for file in ("hmac.py", "hashlib.py", "sitecustomize.py", "codecs.py", "openssl.cnf", "printf", "cut"):
