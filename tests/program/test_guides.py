@@ -76,8 +76,7 @@ def answers_of(steps):
         folder = pathlib.Path(name)
         (folder / "clock").write_text(datetime.datetime.now(datetime.UTC).isoformat())
         clock = {"PYTHONPATH": str(ROOT / "tests" / "clock"), "DEBVOTE_CLOCK": str(folder / "clock"), "PYTHONDONTWRITEBYTECODE": "1"}
-        environment = {"PATH": path_in(folder), "HOME": name, "LC_ALL": "C", **clock}
-        reader = folder / "reader"
+        environment, reader = {"PATH": path_in(folder), "HOME": name, "LC_ALL": "C", **clock}, folder / "reader"
         shutil.copytree(ROOT / "examples", reader / "examples")
         shutil.copyfile(ROOT / "tests" / "reference.py", reader / "reference.py")
         ended = subprocess.run(
@@ -95,13 +94,6 @@ def quorum_line(electors, multiple):
     return subprocess.run(words, input=text, stdout=subprocess.PIPE, text=True, timeout=SECONDS).stdout.splitlines()[2]
 
 
-def rows_of_quorums(guide):
-    """The rows of the guide's table of quorums: the number of electors, and the votes of each multiple."""
-    rows = re.findall(r"^\| (\d+) \| (\d+) \| (\d+) \| (\d+) \|$", guide.read_text(), re.MULTILINE)
-    return [list(map(int, row)) for row in rows]
-
-
-# ---------------------------------------------------------------- the tests
 class GuideTest(expecting.Expecting):
     """The commands of a guide print what the guide says."""
 
@@ -111,25 +103,20 @@ class GuideTest(expecting.Expecting):
         self.assertTrue(commands, f"nothing was read of {guide}")
         found = answers_of(steps)
         for place, (words, wanted) in enumerate(commands):
-            answer = found[place] if place < len(found) else "(nothing)"
-            self.expect(f"{guide}: $ {words}", TIME.sub("TIME", answer), TIME.sub("TIME", wanted))
+            self.expect(f"{guide}: $ {words}", TIME.sub("TIME", found[place] if place < len(found) else "(nothing)"), TIME.sub("TIME", wanted))
 
 
-def class_of(guide):
-    """A class of tests for a guide, so that they run side by side."""
-    name = guide.lower().replace("-", "_")
-    return type(f"{name}_test", (GuideTest,), {f"test_{name}": lambda self: self.type_commands(guide)})
-
-
+# a class for each, so that they run side by side
 for guide in ("SECRETARY", "SECRET-VOTES", "SPECIAL-CASES", "READING-A-SHEET"):
-    globals()[f"Test_{guide}"] = class_of(guide)
+    name = guide.lower().replace("-", "_")
+    globals()[f"Test_{name}"] = type(f"{name}_test", (GuideTest,), {f"test_{name}": lambda self, guide=guide: self.type_commands(guide)})
 
 
 class QuorumsTest(expecting.Expecting):
     def test_numbers_are_those_of_the_program(self):
-        rows = rows_of_quorums(DOCS / "SECRETARY.md")
+        """The rows of the guide's table of quorums: the number of electors, and the votes of each multiple."""
+        rows = re.findall(r"^\| (\d+) \| (\d+) \| (\d+) \| (\d+) \|$", (DOCS / "SECRETARY.md").read_text(), re.MULTILINE)
         self.assertTrue(rows, "no table was read")
         for electors, *numbers in rows:
             for multiple, number in enumerate(numbers, start=1):
-                said = f"Quorum: {multiple}Q, {number} votes"
-                self.expect(f"{electors} electors, {multiple}Q", quorum_line(electors, multiple), said)
+                self.expect(f"{electors} electors, {multiple}Q", quorum_line(int(electors), multiple), f"Quorum: {multiple}Q, {number} votes")

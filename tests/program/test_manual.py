@@ -1,10 +1,6 @@
-"""Compares the manual pages and the completions with the help of the programs.
+"""Compares the manual pages and the completions with the help of the programs, with docs/FORMATS.md, and with what docs/make-manual makes today.
 
-The help of debvote and of each of its commands says which commands and options there are; its page and its completions must have just
-these. The pages and completions of debvote-election and debvote-publish are those that docs/make-manual makes today. The exit statuses
-in help and page of debvote, and the line above the usage, are as docs/FORMATS.md has them. The version of the pages, of docs/FORMATS.md
-and of the newest version in CHANGELOG.md is the program's. If they are installed, `groff` and `man` read the pages without a warning,
-and bash, zsh and fish complete as their files say.
+If they are installed, `groff` and `man` read the pages without a warning, and bash, zsh and fish complete as their files say.
 """
 
 import functools
@@ -45,15 +41,9 @@ def options_in(text):
     return re.findall(rf"^ +(?:-\w, +)?({OPTION})\b", text, re.MULTILINE)
 
 
-def statuses_in(text):
-    """The exit statuses that a help ends with, and their words, a line each."""
-    return [tuple(line.split(maxsplit=1)) for line in text.partition("\nExit statuses:\n")[2].splitlines()]
-
-
 def statuses_of_formats():
     """The exit statuses of docs/FORMATS.md, with the words where each comes, and those of the help."""
-    part = FORMATS.read_text().partition("\n| status | where |")[2].partition("\n\n")[0]
-    return re.findall(r"^\| (\d+) \| (.*) \| (.*) \|$", part, re.MULTILINE)
+    return re.findall(r"^\| (\d+) \| (.*) \| (.*) \|$", FORMATS.read_text().partition("\n| status | where |")[2].partition("\n\n")[0], re.MULTILINE)
 
 
 @functools.cache
@@ -95,12 +85,6 @@ def tagged_options(text):
 
 
 @functools.cache
-def options_of_publish():
-    """The options of debvote-publish."""
-    return options_in(output_of(sys.executable, PUBLISH, "--help"))
-
-
-@functools.cache
 def options_of_election():
     """The options of each command of debvote-election, in the order of its commands."""
     names = re.findall(r"^    ([a-z]+) ", output_of(sys.executable, ELECTION, "--help"), re.MULTILINE)
@@ -111,12 +95,10 @@ def try_warnings(expect, words):
     """The output of man or groff for each page."""
     for page in sorted((ROOT / "man").iterdir()):
         # standard error; the page that man prints goes to standard output
-        where = {"PATH": "/usr/bin:/bin", "MANWIDTH": "80"}
-        ended = subprocess.run([*words, page], capture_output=True, text=True, env=where, timeout=SECONDS)
+        ended = subprocess.run([*words, page], capture_output=True, text=True, env={"PATH": "/usr/bin:/bin", "MANWIDTH": "80"}, timeout=SECONDS)
         expect(f"{page.name}: warnings of {words[0]}", (ended.stderr, ended.returncode), ("", 0))
 
 
-# ---------------------------------------------------------------- the completions
 # what a completion asks of zsh: this prints it, for the words after the command
 ZSH = """
 _arguments() { if [[ $1 == -C ]] { state=argument; return 1 } else { print -rl -- "$@" } }
@@ -126,21 +108,17 @@ complete_words
 """
 
 
-# ---------------------------------------------------------------- the tests
 class HelpTest(expecting.Expecting):
-    def test_the_help_names_commands_and_options(self):
-        options = options_by_command()
-        is_read = len(options) > 4 and all(options[name] for name in options if name != "help")
-        self.expect("the help names commands and options", is_read, True)
-
     def test_words_of_help(self):
-        """The line above the usage, and the words of the exit statuses."""
+        """The line above the usage, and the words of the exit statuses; commands and options were read."""
+        options = options_by_command()
+        self.expect("the help names commands and options", len(options) > 4 and all(options[name] for name in options if name != "help"), True)
         said = output_of(PROGRAM, "--help")
         about = re.search(r"the line above its usage is `(.*?)`", FORMATS.read_text())
         self.expect("--help: the line above the usage", said.partition("\n\nUsage: ")[0], about[1] if about else None)
-        wanted = [(number, words) for number, _, words in statuses_of_formats()]
-        self.expect("--help: the exit statuses", statuses_in(said), wanted)
-        self.expect("--help: exit statuses were read", len(wanted), 11)
+        wanted = [f"{number} {words}" for number, _, words in statuses_of_formats()]
+        found = [" ".join(line.split()) for line in said.partition("\nExit statuses:\n")[2].splitlines()]
+        self.expect("--help: the exit statuses", (found, len(wanted)), (wanted, 11))
 
     def test_version(self):
         """The version in the code; everywhere else it is the same."""
@@ -151,16 +129,17 @@ class HelpTest(expecting.Expecting):
         for program in (ELECTION, PUBLISH):
             found = [output_of(sys.executable, program, word) for word in ("--version", "-V")]
             self.expect(f"{program.name} --version", found, [f"{program.name} {version.removeprefix('debvote ')}\n"] * 2)
+        for page in sorted((ROOT / "man").iterdir()):
+            head = page.read_text().splitlines()[0].replace("\\-", "-")
+            self.expect(f"{page.name}: its head", re.findall(r'^\.TH (\S+) 1 \S+ "(.*?)"', head), [(page.stem.upper(), version)])
 
 
 class PagesTest(expecting.Expecting):
     def test_page_of_debvote(self):
         page = plain((ROOT / "man" / "debvote.1").read_text())
-        commands = page[page.index("\n.SH COMMANDS") : page.index("\n.SH OPTIONS")]
-        names = re.findall(r"^\.SS (\w+)$", commands, re.MULTILINE)
+        names = re.findall(r"^\.SS (\w+)$", page[page.index("\n.SH COMMANDS") : page.index("\n.SH OPTIONS")], re.MULTILINE)
         self.expect("debvote.1: its commands", sorted(names), sorted(set(options_by_command()) - {""}))
-        options = sorted(tagged_options(part_of(page, "OPTIONS")))
-        self.expect("debvote.1: options without a command", options, sorted(options_by_command()[""]))
+        self.expect("debvote.1: options without a command", sorted(tagged_options(part_of(page, "OPTIONS"))), sorted(options_by_command()[""]))
         synopsis = part_of(page, "SYNOPSIS")
         for command in names:
             wanted = sorted(set(options_by_command().get(command, [])) - {"--help"})
@@ -174,19 +153,11 @@ class PagesTest(expecting.Expecting):
     def test_made_pages_and_completions(self):
         """The pages and completions that docs/make-manual makes are those that are here."""
         with tempfile.TemporaryDirectory() as folder:
-            output = output_of(ROOT / "docs" / "make-manual", folder)
-            self.expect("docs/make-manual", output, "")
+            self.expect("docs/make-manual", output_of(ROOT / "docs" / "make-manual", folder), "")
             files = sorted(file.relative_to(folder) for file in pathlib.Path(folder).rglob("*") if file.is_file())
             self.expect("docs/make-manual: files", len(files), 8)
             old = [str(file) for file in files if (ROOT / file).read_text() != (pathlib.Path(folder) / file).read_text()]
             self.expect("pages and completions that are not of today: run docs/make-manual", old, [])
-
-    def test_what_pages_say_of_themselves(self):
-        """The head of each page."""
-        version = output_of(PROGRAM, "--version").strip()
-        for page in sorted((ROOT / "man").iterdir()):
-            head = page.read_text().splitlines()[0].replace("\\-", "-")
-            self.expect(f"{page.name}: its head", re.findall(r'^\.TH (\S+) 1 \S+ "(.*?)"', head), [(page.stem.upper(), version)])
 
     @unittest.skipUnless(shutil.which("man"), "man is not installed")
     def test_warnings_of_man(self):
@@ -206,23 +177,24 @@ class CompletionsTest(expecting.Expecting):
             ("debvote-election", "", [*options_of_election(), "--folder", "--help", "--version"]),
             ("debvote", "help", [command for command in options_by_command() if command]),
             ("debvote", "", [*(command for command in options_by_command() if command), *options_by_command()[""]]),
-            ("debvote-publish", "-", options_of_publish()),
+            ("debvote-publish", "-", options_in(output_of(sys.executable, PUBLISH, "--help"))),
         ]:
             words = [program, command, ""] if command.isalpha() else [program, *(command.split() or [""])]
-            script = (
-                f"source {ROOT}/completions/bash/{program}; COMP_WORDS=({' '.join(repr(word) for word in words)}); "
-                f'COMP_CWORD={len(words) - 1}; _{program.replace("-", "_")}; printf "%s\\n" "${{COMPREPLY[@]}}"'
-            )
+            script = f"source {ROOT}/completions/bash/{program}; COMP_WORDS=({' '.join(map(repr, words))}); COMP_CWORD={len(words) - 1}; "
+            script += f'_{program.replace("-", "_")}; printf "%s\\n" "${{COMPREPLY[@]}}"'
             found = output_of("bash", "--norc", "-c", script).split()
             self.expect(f"bash: {program} {command}", sorted(found), sorted(wanted))
 
-    def test_zsh(self):
-        """The commands, and the options without one, as the file writes them."""
+    def test_files_of_zsh_and_fish(self):
+        """The commands, and the options without one, as the file of zsh writes them; and the commands of fish, each with its words."""
+        commands = sorted(set(options_by_command()) - {""})
         text = (ROOT / "completions" / "zsh" / "_debvote").read_text()
-        names = re.findall(r"^    '(\w+):", text, re.MULTILINE)
-        self.expect("zsh: the commands", sorted(names), sorted(set(options_by_command()) - {""}))
+        self.expect("zsh: the commands", sorted(re.findall(r"^    '(\w+):", text, re.MULTILINE)), commands)
         top = sorted(set(re.findall(rf"'({OPTION})\[", "\n".join(re.findall(r"_arguments -C.*", text)))) | {"--help"})
         self.expect("zsh: options without a command", top, sorted(options_by_command()[""]))
+        text = (ROOT / "completions" / "fish" / "debvote.fish").read_text()
+        self.expect("fish: the commands", sorted(re.search(r"^set -l all (.*)$", text, re.MULTILINE)[1].split()), commands)
+        self.expect("fish: each command is described", sorted(re.findall(r'-a (\w+) -d "', text)), commands)
 
     @unittest.skipUnless(shutil.which("zsh"), "zsh is not installed")
     def test_zsh_itself(self):
@@ -230,15 +202,7 @@ class CompletionsTest(expecting.Expecting):
         for program, options in (("debvote", options_by_command()), ("debvote-election", options_of_election())):
             for command in options.keys() - {"", "help"}:
                 said = output_of("zsh", "-f", "-c", ZSH % (command, ROOT / "completions" / "zsh" / f"_{program}"))
-                found = re.findall(rf"^({OPTION})\[", said, re.MULTILINE)
-                self.expect(f"zsh: {program} {command}", sorted(found), sorted(options[command]))
-
-    def test_fish(self):
-        """The commands as the file writes them, each with its words."""
-        text = (ROOT / "completions" / "fish" / "debvote.fish").read_text()
-        names = re.search(r"^set -l all (.*)$", text, re.MULTILINE)[1].split()
-        self.expect("fish: the commands", sorted(names), sorted(set(options_by_command()) - {""}))
-        self.expect("fish: each command is described", sorted(re.findall(r'-a (\w+) -d "', text)), sorted(names))
+                self.expect(f"zsh: {program} {command}", sorted(re.findall(rf"^({OPTION})\[", said, re.MULTILINE)), sorted(options[command]))
 
     @unittest.skipUnless(shutil.which("fish"), "fish is not installed")
     def test_fish_itself(self):

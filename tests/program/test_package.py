@@ -1,11 +1,5 @@
-"""Builds the Debian package of the program, looks at it, unpacks it, and runs its programs as a user without rights.
-
-It builds the package twice, from two copies of this repository with other times and modes, and compares the bytes; it looks for
-the files, their modes and their owner; it counts the examples with the unpacked program, publishes one, asks debvote-election for
-its help, and reads an input from /dev/stdin. `packaging/deb` must refuse if there is no program, or one older than its
-sources. If lintian is installed, it must find no error.
-
-If dpkg-deb, objdump, strip or msgfmt is not installed, nothing is tested.
+"""Builds the Debian package of the program twice, from two copies of this repository with other times and modes, looks at it, unpacks it, and
+runs its programs as a user without rights. If dpkg-deb, objdump, strip or msgfmt is not installed, nothing is tested.
 """
 
 import gzip
@@ -41,7 +35,6 @@ WANTED = {
 }
 
 NOBODY = ["setpriv", "--reuid=65534", "--regid=65534", "--clear-groups", "--no-new-privs"]
-HAS_PYTHON = os.path.exists("/usr/bin/python3")
 
 
 def run(words, **how):
@@ -86,7 +79,6 @@ def build(expect, folder, to):
     return pathlib.Path(output.strip())
 
 
-# ---------------------------------------------------------------- the tests
 @unittest.skipUnless(all(map(shutil.which, TOOLS)), f"{', '.join(TOOLS)} are not all installed")
 class PackageTest(expecting.Expecting):
     @classmethod
@@ -111,22 +103,17 @@ class PackageTest(expecting.Expecting):
         self.assertEqual(len(self.facts), 2)
         for fact in self.facts:
             self.expect(*fact)
-
-    def test_two_builds_have_the_same_bytes(self):
+        # two builds have the same bytes
         self.assertTrue(self.package.read_bytes() == self.other.read_bytes())
 
     def test_refusals(self):
         """If there is no program, or one older than its sources, nothing is built, and a line says why."""
         program = self.scratch / "one" / "crates" / "debvote" / "out" / "debvote"
-        source = self.scratch / "one" / "crates" / "debvote" / "src" / "main.rt"
-        os.utime(source, (program.stat().st_mtime + 1,) * 2)
-        output, faults, status = run([self.scratch / "one" / "packaging" / "deb", self.scratch / "none"])
-        is_told = "crates/debvote/out/debvote is older than crates/debvote/src/main.rt" in faults
-        self.expect("a program older than its sources", (is_told, status, os.listdir(self.scratch / "none")), (True, 1, []))
-        program.unlink()
-        output, faults, status = run([self.scratch / "one" / "packaging" / "deb", self.scratch / "none"])
-        is_told = "crates/debvote/out/debvote is not there" in faults
-        self.expect("no program", (is_told, status, os.listdir(self.scratch / "none")), (True, 1, []))
+        os.utime(self.scratch / "one" / "crates" / "debvote" / "src" / "main.rt", (program.stat().st_mtime + 1,) * 2)
+        for said in ("crates/debvote/out/debvote is older than crates/debvote/src/main.rt", "crates/debvote/out/debvote is not there"):
+            _, faults, status = run([self.scratch / "one" / "packaging" / "deb", self.scratch / "none"])
+            self.expect(said, (said in faults, status, os.listdir(self.scratch / "none")), (True, 1, []))
+            program.unlink(missing_ok=True)
         self.expect("no folder", run([ROOT / "packaging" / "deb"])[2], 1)
 
     def test_content(self):
@@ -147,16 +134,13 @@ class PackageTest(expecting.Expecting):
         version = run([PROGRAM, "--version"])[0].strip().removeprefix("debvote ")
         self.expect("the name", self.package.name, f"debvote_{version}_amd64.deb")
         fields = run(["dpkg-deb", "-f", self.package, "Version", "Depends", "Recommends", "Suggests"])[0]
-        needed = run(["objdump", "-p", PROGRAM])[0]
-        newest = max(tuple(map(int, found.split("."))) for found in re.findall(r"GLIBC_([\d.]+)", needed))
+        newest = max(tuple(map(int, found.split("."))) for found in re.findall(r"GLIBC_([\d.]+)", run(["objdump", "-p", PROGRAM])[0]))
         libc = f"libc6 (>= {'.'.join(map(str, newest))})"
         needs = f"Depends: {libc}, python3 (>= 3.11), python3-jinja2\nRecommends: gpg, gpgv\nSuggests: graphviz\n"
         self.expect("the fields", fields, f"Version: {version}\n{needs}")
         sums = (self.package.parent / "SHA256SUMS").read_text()
         self.expect("the sum", sums, f"{hashlib.sha256(self.package.read_bytes()).hexdigest()}  {self.package.name}\n")
-
-    def test_scripts(self):
-        """dpkg runs these: they compile the Python, and remove what they have compiled."""
+        # dpkg runs these: they compile the Python, and remove what they have compiled
         run(["dpkg-deb", "-e", self.package, self.scratch / "control"])
         for name in ("postinst", "prerm"):
             file = self.scratch / "control" / name
@@ -182,7 +166,7 @@ class PackageTest(expecting.Expecting):
             answer = run([*nobody, program, "count", *files[:3], "/dev/stdin"], stdin=ballots, env=where)
         self.expect("ballots from /dev/stdin", answer, (sheet.read_text(), "", 0))
 
-    @unittest.skipUnless(HAS_PYTHON, "there is no /usr/bin/python3")
+    @unittest.skipUnless(os.path.exists("/usr/bin/python3"), "there is no /usr/bin/python3")
     def test_unpacked_python(self):
         """The same of the programs in Python."""
         nobody = NOBODY if os.geteuid() == 0 else []
@@ -211,12 +195,10 @@ class PackageTest(expecting.Expecting):
         self.expect("the changelog", log.splitlines()[0], f"debvote ({version}) unstable; urgency=medium")
         page = gzip.decompress((self.tree / "usr/share/man/man1/debvote.1.gz").read_bytes())
         self.expect("the manual page", page, (ROOT / "man" / "debvote.1").read_bytes())
-        is_said = "No licence has been chosen" in (self.tree / "usr/share/doc/debvote/copyright").read_text()
-        self.expect("what is said of the licence", is_said, True)
+        self.expect("what is said of the licence", "No licence has been chosen" in (self.tree / "usr/share/doc/debvote/copyright").read_text(), True)
 
     @unittest.skipUnless(shutil.which("lintian"), "lintian is not installed")
     def test_lintian(self):
-        root = ["--allow-root"] if os.geteuid() == 0 else []
-        found = run(["lintian", *root, "--fail-on", "error", self.package])
+        found = run(["lintian", *(["--allow-root"] if os.geteuid() == 0 else []), "--fail-on", "error", self.package])
         print(found[0], end="")
         self.expect("errors of lintian", found[2], 0)

@@ -46,6 +46,18 @@ CHOOSE = """((name, ranks) => {
 })"""
 
 
+# the words within some nodes that are on two lines: each lies in two boxes
+BROKEN_WORDS = r"""((nodes) => nodes.flatMap((node) => {
+  const texts = document.createTreeWalker(node, NodeFilter.SHOW_TEXT), range = document.createRange(), broken = [];
+  while (texts.nextNode()) for (const word of texts.currentNode.data.matchAll(/\S+/g)) {
+    range.setStart(texts.currentNode, word.index);
+    range.setEnd(texts.currentNode, word.index + word[0].length);
+    if (range.getClientRects().length > 1) broken.push(word[0]);
+  }
+  return broken;
+}))"""
+
+
 class Window:
     """A window with one page. It is closed with `with`."""
 
@@ -146,7 +158,10 @@ class Window:
         for key in keys:
             self.press(key)
 
-    # ------------------------------------------------------------ the pages of a call and of a result
+    def broken_words(self, nodes: str) -> list[str]:
+        """The words within nodes, which a script returns, that are on two lines."""
+        return list(self.ask(f"{BROKEN_WORDS}({nodes})"))
+
     def ballot(self, name: str | None, ranks: str | list[str]) -> dict[str, Any]:
         """What the page of a call shows once a name is typed and ranks are chosen, with the parts of the letter that it makes."""
         found = dict(self.ask(f"{CHOOSE}({json.dumps(name)}, {json.dumps(list(ranks))})"))

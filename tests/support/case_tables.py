@@ -129,8 +129,7 @@ def write_table(file: pathlib.Path, rows: dict[str, Row], comment: str = "") -> 
         lines += [f"poll = {written(row.poll)}"] if row.poll not in (shared, None) else []
         lines += [] if row.swap is None else [f"swap = [{', '.join(map(written_in_one_line, row.swap))}]"]
         lines += [] if row.called is None else [f"called = {written(row.called)}"]
-        texts = {"ballots": row.ballots, "sheet": row.sheet}
-        lines += [f"{part} = {written(text)}" for part, text in texts.items() if text is not None]
+        lines += [f"{part} = {written(text)}" for part, text in {"ballots": row.ballots, "sheet": row.sheet}.items() if text is not None]
         lines += [f"{part} = {written(getattr(row, part))}" for part in ("stdin", "stdout", "stderr") if getattr(row, part)]
         lines += [f"status = {row.status}"] if row.status else []
         parts.append("\n".join(lines) + "\n")

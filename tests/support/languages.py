@@ -2,6 +2,7 @@
 
 import contextlib
 import email.utils
+import itertools
 import os
 import pathlib
 import re
@@ -49,8 +50,7 @@ MARKED = re.compile(f"{BEGIN}[^{BEGIN}{END_MARK}]*{END_MARK}")
 
 def marked(text: str) -> str:
     """A sentence with everything marked except its places and its tags."""
-    parts = re.split(r"(\{\w+\}|<[^>]*>)", text)
-    return "".join(part if place % 2 or not part else f"{BEGIN}{part}{END_MARK}" for place, part in enumerate(parts))
+    return "".join(part if place % 2 or not part else f"{BEGIN}{part}{END_MARK}" for place, part in enumerate(re.split(r"(\{\w+\}|<[^>]*>)", text)))
 
 
 @contextlib.contextmanager
@@ -59,8 +59,7 @@ def marked_german() -> Iterator[None]:
     if os.environ.get("DEBVOTE_FORKS") == "0":
         raise unittest.SkipTest("the language with marked words is in forks of the test alone")
     head = (sentences.LOCALE / "de.po").read_text(encoding="utf-8").split("\n\n")[0]
-    entries = [sentences.as_po(texts, tuple(map(marked, texts))) for texts in sentences.in_code()]
-    catalog = catalog_of("\n".join([f"{head}\n", *entries]).encode())
+    catalog = catalog_of("\n".join([f"{head}\n", *[sentences.as_po(texts, tuple(map(marked, texts))) for texts in sentences.in_code()]]).encode())
     german = vars(language_of("de").catalog)
     before = dict(german)
     german.update(vars(catalog))
@@ -72,9 +71,12 @@ def marked_german() -> Iterator[None]:
 
 
 def forget_german() -> None:
-    """Forgets what other tests of this process have said in German: languages and templates keep some of it."""
-    vars(language_of("de")).pop("and_last", None)
-    templates_of.cache_clear()
+    """Forgets what this process has said in German: languages and templates keep some of it. No template is read again, which takes a while."""
+    for package, is_page in itertools.product(("poll", "result", "outbox"), (True, False)):
+        templates = templates_of(f"debvote_tools.{package}", language_of("de"), is_page=is_page)
+        vars(templates.globals["say"].__self__).pop("and_last", None)
+        for template in templates.cache.values():
+            template._module = None
 
 
 class LanguageTest(elections.ElectionTest):
@@ -90,15 +92,15 @@ class LanguageTest(elections.ElectionTest):
         return ended.output + ended.faults
 
     def election(self, folder: str, *words: object, given: str = "", status: int = 0) -> str:
-        return self.program("debvote-election", "--folder", folder, *words, given=given, status=status)
+        # where the command comes first, the program reads the words of this one alone
+        return self.program("debvote-election", words[0], "--folder", folder, *words[1:], given=given, status=status)
 
     def begun(self, folder: str, language: str, *, poll: str = POLL, codes: tuple[str, ...] | None = None) -> pathlib.Path:
         """An election in a language, with its roll; with arguments for `codes` it is secret."""
         self.program("debvote-election", "new", "--language", language, folder)
         place = self.scratch / folder
         (place / "poll.toml").write_text(poll if codes is None else f"secret = true\n{poll}")
-        rows = [f"Person {name[1:]},{name}@example.org,{name}\n" for name in ELECTORS]
-        (place / "members.csv").write_text("".join(["who,mail,name\n", *rows]))
+        (place / "members.csv").write_text("".join(["who,mail,name\n", *[f"Person {name[1:]},{name}@example.org,{name}\n" for name in ELECTORS]]))
         self.election(folder, "roll")
         if codes is not None:
             self.election(folder, "codes", *codes)
@@ -111,25 +113,29 @@ class LanguageTest(elections.ElectionTest):
         self.election(folder, "call", "--until", FIRST_END, "--zone", "Europe/Berlin", "--to", TO, "--at", AT, "--form", *names)
         return place
 
-    def held(self, folder: str, language: str, *, is_secret: bool = False) -> pathlib.Path:
+    def held(self, folder: str, language: str, *, is_secret: bool = False, has_letters: bool = True) -> pathlib.Path:
         """An election in a language, from its beginning to its publication, with everything that pages and letters can say."""
+
+        def send(*kinds: str) -> None:
+            for kind in kinds if has_letters else ():
+                self.election(folder, "letters", kind)
+
         place = self.called(folder, language, codes=() if is_secret else None)
-        self.election(folder, "letters", "call")
+        send("call")
         self.election(folder, "call", "--until", END, "--zone", "Europe/Berlin")
-        self.election(folder, "letters", "call")
+        send("call")
         self.election(folder, "add", "--yes", given=BALLOTS)
         self.election(folder, "add", "--yes", *self.letters(place))
         self.election(folder, "strike", 5, "--because", REASON)
-        self.election(folder, "letters", "reminders")
-        self.election(folder, "letters", "receipts")
+        send("reminders", "receipts")
         self.election(folder, "close", "--early", "--force", "--because", REASON)
         self.election(folder, "reopen", "--because", REASON)
         self.election(folder, "add", "--yes", "--came-before-close", "yes", given="e12 2,1,3,4\n")
         self.election(folder, "close", "--early", "--force", "--because", REASON)
-        self.election(folder, "letters", "closed")
+        send("closed")
         self.election(folder, "add", "--yes", given="e05 1,2,3,4\n")
         self.election(folder, "publish", "--yes")
-        self.election(folder, "letters", "result")
+        send("result")
         return place
 
     def letters(self, place: pathlib.Path) -> list[pathlib.Path]:

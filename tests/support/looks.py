@@ -47,11 +47,12 @@ def looks_of(folders, widths):
     with Window(1280, 900) as window:
         for folder in folders:
             window.open(folder / "index.html")
-            for is_dark in (False, True):
+            # a colour is the same at each width
+            for is_dark, seen in ((False, widths), (True, DOUBT_WIDTHS)):
                 window.show(is_dark=is_dark)
-                for width in widths:
+                for width in seen:
                     window.resize(width, 900)
-                    found.append({"page": f"{folder.name}, {width}", "width": width, "is_dark": is_dark, **window.ask(LOOK)})
+                    found.append({"folder": folder, "width": width, "is_dark": is_dark, **window.ask(LOOK)})
     return found
 
 
@@ -88,51 +89,9 @@ class LooksTest(publishing.PublishTest):
     @NEEDS_BROWSER
     def test_widths_and_colours(self):
         """All pages are as wide as the window, and have one pair of colours in light and another one in dark."""
-        self.expect("widths", [look["page"] for look in self.looks() if look["wide"] != look["width"]], [])
+        self.expect("widths", [(look["folder"], look["width"]) for look in self.looks() if look["wide"] != look["width"]], [])
         pairs = {(look["is_dark"], *look["own"]) for look in self.looks()}
         self.expect("colours of the pages", (len(pairs), len({pair[1:] for pair in pairs})), (2, 2))
-
-    def check_pictures(self, wanted):
-        """A picture fits its page, or scrolls by itself and is no smaller than three quarters of what was drawn; dark ones are light.
-
-        Among these there are some that fit, or some that do not, or both, as it is wanted.
-        """
-        inks, kinds = set(), set()
-        for look in self.looks():
-            if look["picture"]:
-                width, region, drawn, ink = look["picture"]
-                fits = width <= region + 1
-                self.expect(f"{look['page']}: a picture in {region}", fits or abs(width - round(drawn * 0.75)) <= 1, True)
-                self.expect(f"{look['page']}: a picture of {drawn} is not blown up", width <= drawn + 1, True)
-                kinds.add(fits)
-                inks.add(ink)
-        self.expect("pictures that fit and that scroll", kinds, wanted)
-        self.expect("pictures have one ink in light and another in dark", len(inks), 2)
-
-    def check_bars(self):
-        """Each bar is as long as its number says, is seen on the ground of the page by its edge, and its number can be read."""
-        fills = set()
-        for look in self.looks():
-            for bar in look["bars"]:
-                fill, edge, ink = bar["colours"]
-                name, wanted = f"{look['page']}: a bar of {bar['number']} of {bar['whole']}", 1000 * bar["number"] / bar["whole"]
-                # one that is folded has no width
-                self.expect(name, bar["share"] is None or abs(bar["share"] - wanted) <= 10, True)
-                self.expect(f"{name} can be seen", contrast(edge, look["paper"]) >= 3, True)
-                self.expect(f"the number of {name} can be read", contrast(ink, fill) >= 4.5, True)
-                fills.add((look["is_dark"], bar["isFor"], fill))
-        self.expect("bars for and against have each one fill in light and one in dark", len(fills), 4)
-
-    def check_doubts(self, folders):
-        """The doubts of each page are seen in the first window, and can be read on their own ground, light and dark."""
-        grounds = set()
-        for look in looks_of(tuple(folders), DOUBT_WIDTHS):
-            is_seen, ground, ink, word = look["doubts"]
-            is_read = min(contrast(ground, ink), contrast(ground, word)) >= 4.5
-            self.expect(f"{look['page']}: doubts", (is_seen, is_read, ground != look["paper"]), (True, True, True))
-            grounds.add(ground)
-        self.expect("doubts have one ground in light and another in dark", len(grounds), 2)
-
 
 def contrast(one, other):
     """The contrast of two colours as rgb(1,2,3), from 1 to 21; 4.5 is what a text needs."""

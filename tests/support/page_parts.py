@@ -1,19 +1,54 @@
-"""Reads a page: its tags, places and links, and each part beside what tests/reference.py counts: numbers, marks, lists and ballots.
+"""Reads a page: its tags, places and links, and each part beside what tests/reference.py counts: numbers, sentences, lists and ballots.
 
 The page is read as a browser reads it: a text that was not escaped is no text here. What a part must say is written down anew, by
 the count of the reference; nothing of debvote_tools is used.
 """
 
+import collections
 import decimal
+import functools
 import html
 import html.parser
 import re
 import tomllib
 
+from tests import reference
+
 EMPTY_TAGS = {"meta", "br", "hr", "input", "rect", "path"}
 # of scripts a page has its own alone
 UNWANTED_TAGS = {"link", "iframe", "img", "object", "embed", "form", "base", "audio", "video", "image", "use"}
 UNWANTED_ATTRIBUTES = {"src", "style", "xlink:href"}
+
+
+# what is said of an option, and behind the name of the winner, by its kind
+SENTENCES = {
+    "needs nothing": "It needs no quorum and no majority.",
+    "missed the quorum": "It needs {needed} to reach the quorum, and has {has}.",
+    "has what it needs": "It needs {needed}, and has {has}.",
+    "missed its majority": "It needs more for it than against it, {needed}, and has {has}.",
+    "missed a majority of a ratio": "It needs {times} times as many for it as against it, {needed}, and has {has}.",
+    "equal to the default option": "{number} ranked it equal to the default option.",
+    "its own defeat removed": "It beats {b} by {over} to {under}, but this defeat was set aside in round {round} as the weakest.",
+    "loses directly": "{a} beats it by {over} to {under}.",
+    "loses by a chain": "{a} beats {b} by {over} to {under}.",
+    "left in a tie": "{a} against {b}: {over} to {under}.",
+    "left with a removed defeat": "{a} against {b}: {over} to {under}, a defeat that was set aside in round {round}.",
+    "left with many": "It is left with {number} other options, and no defeat among them is left.",
+    "lost by the casting vote": "The casting vote chose {winner}.",
+    "a tie of two": "No option has won yet: {left} are tied. The casting vote has to choose one of them. {against}",
+    "a tie of many": "No option has won yet: {left} are tied. The casting vote has to choose one of them. No defeat among them is left.",
+    "the casting vote": "has won by the casting vote. These options were left: {left}.",
+    "the default option, a few failed": "has won. It is the default option. All other options were dropped. {failed}",
+    "the default option, many failed": "has won. It is the default option. All other options were dropped. The nearest, {nearest}",
+    "a circle": "has won. Options beat each other in a circle, so the weakest defeat was set aside: {last}. "
+    "Then it beats {beaten}, and nothing beats it.",
+    "circles": "has won. Options beat each other in circles, so {number} weakest defeats were set aside, the last of them {last}. "
+    "Then it beats {beaten}, and nothing beats it.",
+    "beats by chains": "has won. It beats {beaten}, and each other one by a chain of defeats.",
+    "beats one": "has won. It beats {beaten}.",
+    "beats each of two": "has won. It beats each option that was not dropped: {beaten}.",
+    "beats each of many": "has won. It beats each option that was not dropped, most narrowly {narrowest}.",
+}
 
 
 class Wrong(Exception):
@@ -34,7 +69,6 @@ def escaped(text):
     return html.escape(text).replace("&quot;", "&#34;").replace("&#x27;", "&#39;")
 
 
-# ---------------------------------------------------------------- the tree of a page
 class Node:
     """An element with its attributes and what stands in it."""
 
@@ -92,6 +126,7 @@ def tree_of(page):
     return built(page).root
 
 
+@functools.lru_cache(2)
 def built(page):
     builder = Builder()
     builder.feed(page)
@@ -106,8 +141,7 @@ def sections_of(page):
 
 def doubts_of(page):
     """The doubts that the page marks, as a reader reads them."""
-    boxes = list(tree_of(page).all("div", "doubts"))
-    return [entry.text().removeprefix("Doubt: ") for box in boxes for entry in box.all("li")]
+    return [entry.text().removeprefix("Doubt: ") for box in list(tree_of(page).all("div", "doubts")) for entry in box.all("li")]
 
 
 def try_page(expect, name, folder):
@@ -122,13 +156,11 @@ def try_page(expect, name, folder):
     ids = [node.attributes["id"] for node in nodes if "id" in node.attributes]
     roll = tomllib.loads((folder / "poll.toml").read_text())["roll"]
     expect(f"{name}: its places", (len(set(ids)), [place for place in set(ids) - set(roll) if place == place.lower()]), (len(ids), []))
-    voters = {line.split()[0] for line in (folder / "standing.txt").read_text().splitlines()}
-    expect(f"{name}: a place for each ballot", voters - set(ids), set())
+    expect(f"{name}: a place for each ballot", {line.split()[0] for line in (folder / "standing.txt").read_text().splitlines()} - set(ids), set())
     places = {f"#{place}" for place in ids} | {file.name for file in folder.iterdir()}
     expect(f"{name}: its links", {node.attributes["href"] for node in nodes if "href" in node.attributes} - places, set())
 
 
-# ---------------------------------------------------------------- the parts
 class Parts:
     """The parts of a page beside the count of the reference."""
 
@@ -136,28 +168,37 @@ class Parts:
         """`names` are those that people read of title (0) and options, where they differ from the plain ones."""
         self.page, self.count, self.names = page, count, names
         self.sections = sections_of(page)
+        # the kinds of sentences that were met
+        self.met = collections.Counter()
 
     def name(self, option):
         """An option as the page calls it."""
         return f"Option {option}: {self.names.get(option, self.count.poll.names[option])}"
 
     def entries(self, heading, kind="ul"):
-        lists = list(self.sections[heading].all(kind))
-        return [entry.text() for found in lists for entry in found.all("li")]
+        return [entry.text() for found in list(self.sections[heading].all(kind)) for entry in found.all("li")]
 
     def check(self):
+        """Meets all parts with the count. Raises Wrong, or returns the kinds of sentences that the page has."""
         for check in (
-            self.headings, self.facts, self.lines, self.rule, self.bars, self.options, self.table, self.defeats, self.rounds, self.ballots,
-            self.who_voted,
+            self.headings, self.facts, self.deciding, self.lines, self.rule, self.bars, self.options, self.table, self.defeats, self.rounds,
+            self.ballots, self.who_voted,
         ):  # fmt: skip
             check()
+        return self.met
 
-    # ------------------------------------------------------------ the head
+    def say(self, kind, pair=None, **places):
+        """A sentence of a kind, in which a pair of options may have its names, numbers and round."""
+        self.met[kind] += 1
+        if pair is not None:
+            (a, b), removed = pair, [number for number, (_, gone) in enumerate(self.count.rounds, start=1) if {pair, pair[::-1]} & gone]
+            places |= {"a": self.name(a), "b": self.name(b), "over": self.count.votes[a, b], "under": self.count.votes[b, a], "round": sum(removed)}
+        return SENTENCES[kind].format(**places)
+
     def headings(self):
         """Each part has a heading with its place, and a part of a group is one deeper than the group."""
         for place, section in self.sections.items():
-            heads = [node.attributes.get("id") for tag in ("h2", "h3") for node in section.all(tag)]
-            demand_equal(f"the heading of {place}", heads, [place])
+            demand_equal(f"the heading of {place}", [node.attributes.get("id") for tag in ("h2", "h3") for node in section.all(tag)], [place])
         demand_equal("the title", tree_of(self.page).one("h1").text(), self.names.get(0, self.count.poll.title))
         levels = [int(node.tag[1]) for node in tree_of(self.page).within() if re.fullmatch("h[1-6]", node.tag)]
         demand_equal("the first heading", levels[0], 1)
@@ -169,14 +210,13 @@ class Parts:
         found = [entry.text() for entry in tree_of(self.page).one("ul", "facts").all("li")]
         reached = any(count.votes[option, poll.default] >= least_of(count) for option in poll.ratios)
         quorum = [f"quorum {least_of(count)} {'reached' if reached else 'not reached'}"] if poll.quorum else []
-        refused = sum(reply not in ("counted", "replaced") for reply in count.replies)
+        refused = len(count.lines) - count.valid
         lines = f"{refused} {'line' if refused == 1 else 'lines'} of {len(count.lines)} refused"
         demand_equal("the facts", found, [f"{count.voters} of {len(poll.roll)} voted", *quorum, lines])
 
     def lines(self):
         """How many lines there are, and where voters and valid lines differ."""
-        count, poll = self.count, self.count.poll
-        valid = sum(reply in ("counted", "replaced") for reply in count.replies)
+        count, poll, valid = self.count, self.count.poll, self.count.valid
         are = "line is" if len(count.lines) == 1 else "lines are"
         wanted = f"{len(count.lines)} {are} in the ballot file: {valid} valid, {len(count.lines) - valid} refused."
         if valid != count.voters:
@@ -199,27 +239,25 @@ class Parts:
         of = f"The quorum is {least} vote{'' if least == 1 else 's'}: at least {poll.quorum}Q, where Q is half of the square root"
         demand_equal("the quorum", (of in said, "No quorum is asked for." in said), (poll.quorum > 0, poll.quorum == 0))
 
-    # ------------------------------------------------------------ the bars
     def bars(self):
         """The winner first, then as the rounds leave the options; of each the name, the chip, the numbers, the bar and the mark."""
         count, poll = self.count, self.count.poll
         default, least = poll.default, least_of(count)
-        whole = max(count.voters, least, 1)
-        hint = next(self.sections["Why"].all("p", "hint")).text()
+        whole, hint = max(count.voters, least, 1), next(self.sections["Why"].all("p", "hint")).text()
         name = self.name(default)
-        meaning = f"For: how many prefer the option to {name}. Against: how many prefer {name} to it."
-        said = (meaning in hint, f"stands for {whole}." in hint)
+        said = (f"For: how many prefer the option to {name}. Against: how many prefer {name} to it." in hint, f"stands for {whole}." in hint)
         demand_equal("the hint of the bars", said, (True, whole != count.voters))
         last = {o: max((n for n, (kept, _) in enumerate(count.rounds, 1) if o in kept), default=0) for o in poll.options}
         order = sorted(poll.options, key=lambda o: (o != count.winner, o in count.dropped, -last[o], o))
         lists = [list(found.all("li")) for found in self.sections["Why"].all("ol", "options")]
-        sizes = [len(order)] if len(order) <= 8 else [5, len(order) - 5]
-        demand_equal("how many options are seen, and folded", list(map(len, lists)), sizes)
+        demand_equal("how many options are seen, and folded", list(map(len, lists)), [len(order)] if len(order) <= 8 else [5, len(order) - 5])
         for option, entry in zip(order, [entry for entries in lists for entry in entries]):
-            chip = self.chip(option) + (" · default option" if option == default else "")
+            ended = {"won": "won", "left": "tied", "lost": "lost"}.get(count.ended(option), f"no {count.ended(option)}")
+            chip = ended + (" · default option" if option == default else "")
             head = entry.one("p", "option")
             demand_equal(f"the head of {option}", [part.text() for part in head.inner if isinstance(part, Node)], [self.name(option), chip])
             demand_equal(f"the number of {option}", head.one("span", "number").text(), str(option))
+            demand_equal(f"the reason of {option}", as_read(entry.one("p", "reason")), " ".join(self.reasons(option)))
             bars = list(entry.all("div", "bar"))
             if option == default:
                 demand_equal("the bar of the default option", bars, [])
@@ -230,15 +268,96 @@ class Parts:
             needed = needed_by(count, option)
             demand_equal(f"the bar of {option}", bar_of(bar.one("svg")), (whole, over, whole - under, under, [needed] if needed <= whole else []))
 
-    def chip(self, option):
-        count = self.count
-        if option in count.dropped:
-            return f"no {count.dropped[option]}"
-        if option == count.winner:
-            return "won"
-        return "tied" if count.winner is None and option in count.final else "lost"
+    def reasons(self, option):
+        """Why it ended so for an option, a sentence each."""
+        count, default = self.count, self.count.poll.default
+        if option == default:
+            yield self.say("needs nothing")
+        else:
+            ratio = count.poll.ratios[option]
+            majority = "missed its majority" if ratio == 1 else "missed a majority of a ratio"
+            kind = {None: "has what it needs", "quorum": "missed the quorum", "majority": majority}[count.dropped.get(option)]
+            times = f"more than {ratio}" if count.poll.is_more_than else str(ratio)
+            yield self.say(kind, needed=needed_by(count, option), has=count.votes[option, default], times=times)
+            if equal := sum(ranks[option - 1] == ranks[default - 1] for ranks in count.last.values()):
+                yield self.say("equal to the default option", number=equal)
+        if option in count.dropped or option == count.winner and not count.final[1:]:
+            return
+        if option not in count.final:
+            yield from (self.say("its own defeat removed", pair) for _, gone in count.rounds for pair in sorted(gone) if pair[0] == option)
+            first, *more = self.chain(option)
+            yield self.say("loses directly", first)
+            yield from (self.say("loses by a chain", pair) for pair in more)
+            return
+        others = [other for other in count.final if other != option]
+        if len(others) < 3:
+            yield from (self.against(option, other) for other in others)
+        else:
+            yield self.say("left with many", number=len(others))
+        if count.winner not in (None, option):
+            yield self.say("lost by the casting vote", winner=self.name(count.winner))
 
-    # ------------------------------------------------------------ options, votes, defeats, rounds
+    def against(self, option, other):
+        """Two options that are left."""
+        is_removed = any({(option, other), (other, option)} & gone for _, gone in self.count.rounds)
+        return self.say("left with a removed defeat" if is_removed else "left in a tie", (option, other))
+
+    def chain(self, option):
+        """The shortest chain of defeats that were there when an option left the set: to the winner if one is, or else to the least number."""
+        gone = [removed for kept, removed in self.count.rounds if option in kept]
+        defeats, within = sorted(self.count.defeats.difference(*gone)), set(self.count.rounds[len(gone)][0])
+        chains, last = {option: []}, [option]
+        while not within & chains.keys():
+            step = {}
+            for loser in last:
+                step |= {a: [*chains[loser], (a, b)] for a, b in defeats if b == loser and a not in chains.keys() | step.keys()}
+            chains, last = chains | step, sorted(step)
+        return chains[self.count.winner if self.count.winner in chains else min(within & chains.keys())]
+
+    def deciding(self):
+        """The name of the winner stands alone, and below it what decides it."""
+        count, section = self.count, self.sections["Result"]
+        head, text = section.one("h2"), as_read(next(section.all("p")))
+        left = in_words(list(map(self.name, count.final)))
+        if count.winner is None:
+            demand_equal("the head of a tie", (head.text(), list(head.within())), ("A tie", []))
+            kind, more = ("a tie of many", {}) if count.final[2:] else ("a tie of two", {"against": self.against(*count.final)})
+            wanted = self.say(kind, left=left, **more)
+        else:
+            name = self.names.get(count.winner, count.poll.names[count.winner])
+            tags = [("b", {"data-option": str(count.winner)}), ("bdi", {})][: 2 if count.winner in self.names else 1]
+            demand_equal("the head of the result", (head.text(), [(node.tag, node.attributes) for node in head.within()]), (name, tags))
+            wanted = self.say("the casting vote", left=left) if count.final[1:] else self.deciding_alone(count.winner)
+        demand_equal("what decides it", text, wanted)
+
+    def deciding_alone(self, winner):
+        """What is said of an option that is left alone."""
+        count, default = self.count, self.count.poll.default
+        if winner == default:
+            demand_equal("all others were dropped", set(count.dropped), set(count.poll.options) - {default})
+            rows = sorted((needed_by(count, o) - count.votes[o, default], o) for o in count.dropped)
+            failed = [(self.name(o), f"needs {needed_by(count, o)} and has {count.votes[o, default]}.") for _, o in rows]
+            if len(failed) > 3:
+                return self.say("the default option, many failed", nearest=", ".join(failed[0]))
+            return self.say("the default option, a few failed", failed=" ".join(map(" ".join, failed)))
+        removed = [pair for _, pairs in count.rounds for pair in sorted(pairs)]
+        others = set(count.poll.options) - set(count.dropped) - {winner}
+        demand(not any(b == winner for _, b in count.defeats - set(removed)), "nothing beats the winner")
+        pairs = sorted((count.votes[a, b] - count.votes[b, a], b) for a, b in count.defeats - set(removed) if a == winner)
+        rows = [f"{self.name(b)} by {count.votes[winner, b]} to {count.votes[b, winner]}" for _, b in pairs]
+        narrowest = f"{len(rows)} options, most narrowly {rows[0]}" if len(rows) > 2 else in_words(rows)
+        if removed:
+            places = {"number": len(removed), "last": self.defeat(*removed[-1]), "beaten": narrowest}
+            return self.say("circles" if removed[1:] else "a circle", **places)
+        if len(rows) < len(others):
+            chains = reference.transitive_defeats([o for o in count.poll.options if o not in count.dropped], count.defeats)
+            demand({b for a, b in chains if a == winner} >= others, "the winner beats all by chains")
+            return self.say("beats by chains", beaten=narrowest)
+        return self.say({1: "beats one", 2: "beats each of two"}.get(len(others), "beats each of many"), beaten=narrowest, narrowest=rows[0])
+
+    def defeat(self, a, b):
+        return f"{self.name(a)} over {self.name(b)} by {self.count.votes[a, b]} to {self.count.votes[b, a]}"
+
     def options(self):
         count, poll = self.count, self.count.poll
         kinds = {o: "the default option" if o == poll.default else f"majority ratio {poll.ratios[o]}" for o in poll.options}
@@ -255,43 +374,29 @@ class Parts:
         rows = list(self.sections["Votes"].one("tbody").all("tr"))
         demand_equal("how many rows", len(rows), len(poll.options))
         for a, row in zip(poll.options, rows):
-            ended, kind = self.mark(a)
-            demand_equal(f"the head of row {a}", row.one("th").text(), self.name(a) + (f" {ended}" if ended else ""))
+            ended = count.ended(a)
+            said, kind = {"won": (" won", "won"), "left": (" tied", "left"), "lost": ("", None)}.get(ended, (f" no {ended}", "dropped"))
+            demand_equal(f"the head of row {a}", row.one("th").text(), self.name(a) + said)
             demand_equal(f"the kind of row {a}", row.attributes.get("class"), kind)
             cells = [(cell.text(), cell.attributes.get("class")) for cell in row.all("td")]
             beats = {b: "beats" if (a, b) in count.defeats else None for b in poll.options}
             demand_equal(f"row {a}", cells, [("-", None) if a == b else (str(count.votes[a, b]), beats[b]) for b in poll.options])
 
-    def mark(self, option):
-        count = self.count
-        if option in count.dropped:
-            return f"no {count.dropped[option]}", "dropped"
-        if option == count.winner:
-            return "won", "won"
-        return ("tied", "left") if count.winner is None and option in count.final else (None, None)
-
     def defeats(self):
-        count = self.count
-        wanted = [
-            f"{self.name(a)} over {self.name(b)} by {count.votes[a, b]} to {count.votes[b, a]}" for a, b in sorted(count.defeats)
-        ]
-        demand_equal("Defeats", self.entries("Defeats"), wanted)
+        demand_equal("Defeats", self.entries("Defeats"), [self.defeat(*pair) for pair in sorted(self.count.defeats)])
 
     def rounds(self):
         wanted = []
         for kept, removed in self.count.rounds:
-            votes = self.count.votes
-            pairs = in_words([f"{self.name(a)} over {self.name(b)} by {votes[a, b]} to {votes[b, a]}" for a, b in sorted(removed)])
+            pairs = in_words([self.defeat(*pair) for pair in sorted(removed)])
             then = f"Removed: {pairs}." if removed else "No defeat is within it, and the count ends."
             wanted.append(f"The set is {in_words(list(map(self.name, kept)))}. {then}")
         demand_equal("Rounds", self.entries("Defeats", "ol"), wanted)
 
-    # ------------------------------------------------------------ ballots and electors
     def ballots(self):
         """Each ballot with its place, its ranks and its words."""
         count = self.count
-        found = [(entry.attributes["id"], entry.text()) for entry in self.sections["Ballots"].all("li")]
-        wanted = []
+        found, wanted = [(entry.attributes["id"], entry.text()) for entry in self.sections["Ballots"].all("li")], []
         for voter, name in enumerate(count.poll.roll):
             if voter in count.last:
                 ranks = count.last[voter]
@@ -316,8 +421,7 @@ class Parts:
         heads = [head.text() for head in section.all("h4")]
         demand_equal("who voted, heads", heads, [f"Voted ({len(voted)})", f"No ballot that counts ({len(absent)})"])
         lists = [[(entry.text(), entry.attributes.get("id")) for entry in names.all("li")] for names in section.all("ul", "roll")]
-        wanted = [names for names in ([(name, None) for name in voted], [(name, name) for name in absent]) if names]
-        demand_equal("who voted", lists, wanted)
+        demand_equal("who voted", lists, [names for names in ([(name, None) for name in voted], [(name, name) for name in absent]) if names])
         number = f"{len(voted)} {'elector' if len(voted) == 1 else 'electors'} of {len(count.poll.roll)} {'has' if len(voted) == 1 else 'have'}"
         said = f"{number} a ballot that counts, which is {share(len(voted), len(count.poll.roll))}."
         demand_equal("who voted, number", next(section.all("p")).text(), said)
@@ -367,6 +471,8 @@ def share(voters, electors):
     return f"{str(rounded).removesuffix('.0')} %"
 
 
-def try_parts(page, count, names):
-    """Meets all parts of a page with the count. Raises Wrong."""
-    Parts(page, count, names).check()
+def as_read(node):
+    """A text in which each option is marked by its number."""
+    for option in node.all("b"):
+        demand(option.text().startswith(f"Option {option.attributes['data-option']}: "), f"the mark of {option.text()}")
+    return node.text()

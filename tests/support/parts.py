@@ -53,9 +53,7 @@ class Part:
     long after the child has ended, may get the status of another process.
     """
 
-    def __init__(
-        self, words: list[str], room: pathlib.Path, cwd: pathlib.Path = ROOT, counted: re.Pattern[str] = COUNT, **how: object
-    ) -> None:
+    def __init__(self, words: list[str], room: pathlib.Path, cwd: pathlib.Path = ROOT, counted: re.Pattern[str] = COUNT, **how: object) -> None:
         self.name = " ".join([*words, *(["in", cwd.name] if cwd.parent.name == "crates" else [])])
         self.counted = counted
         key = re.sub(r"\W+", "-", self.name).strip("-")
@@ -70,8 +68,7 @@ class Part:
 
     def count(self) -> Count:
         """Its counts, once it has ended. If it ended without a count of its failures, that is a failure too."""
-        status = self.process.wait()
-        lines = self.text().splitlines()
+        status, lines = self.process.wait(), self.text().splitlines()
         counts = [Count(int(found[1]), int(found[2])) for line in lines if (found := self.counted.fullmatch(line))]
         skipped = [Count(0, 0, collections.Counter({found[1]: int(found[2] or 1)})) for line in lines if (found := SKIPPED.fullmatch(line))]
         whole = sum([*counts, *skipped], Count(0, 0))
@@ -80,12 +77,10 @@ class Part:
 
 def tell(parts: Iterable[Part]) -> Count:
     """Waits for the parts, prints the output and the time of each, and returns their sum."""
-    parts = list(parts)
-    counts = []
+    parts, counts = list(parts), []
     for part in parts:
         counts.append(part.count())
-        lines = [line for line in part.text().splitlines() if not SKIPPED.fullmatch(line)]
-        print(f"== {part.name}", *lines, sep="\n", flush=True)
+        print(f"== {part.name}", *[line for line in part.text().splitlines() if not SKIPPED.fullmatch(line)], sep="\n", flush=True)
     print("== seconds, and those of processor")
     for part in parts:
         print(part.seconds.read_text().rstrip("\n") if part.seconds.exists() else f"{part.name}: it was killed", flush=True)

@@ -3,24 +3,16 @@
 import concurrent.futures
 import os
 import pathlib
-import shutil
 import sys
 import tempfile
 
 from tests.support import expecting, forks
+from tests.support.elections import HAS_PICTURES, NO_PICTURE, PUBLISH, SECONDS
 from tests.support.program import PROGRAM, ROOT
 
-PUBLISH = ROOT / "bin" / "debvote-publish"
 CASES = ROOT / "tests" / "cases"
 EXAMPLES = ROOT / "examples"
 PATH = os.pathsep.join([str(PROGRAM.parent), os.environ["PATH"]])
-
-# the output of a run if Graphviz is not installed, which is about this machine
-HAS_PICTURES = shutil.which("dot") is not None
-NO_PICTURE = "Note: no picture: Graphviz (its program dot) is not installed\n"
-
-# a run that has not ended after this time hangs: far more than any takes on a busy machine
-SECONDS = 600
 
 # the greatest size of the page of the largest election, in bytes; 1.3 million of them are its poll and its ballots, which it
 # carries so that they can be counted again

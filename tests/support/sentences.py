@@ -6,6 +6,7 @@
 
 import ast
 import dataclasses
+import functools
 import pathlib
 import re
 import sys
@@ -31,13 +32,13 @@ class Entry:
     is_obsolete: bool
 
 
+@functools.cache
 def in_code() -> dict[tuple[str, ...], str]:
     """The sentences of the code and of the templates, each with the first place where it occurs."""
     found: dict[tuple[str, ...], str] = {}
     templates = jinja2.Environment(extensions=["jinja2.ext.i18n"])
     for file in sorted(PACKAGE.rglob("templates/*")):
-        said = templates.extract_translations(file.read_text(encoding="utf-8"), ["say", "say_number", "say_each", "marked"])
-        for line, name, words in said:
+        for line, name, words in templates.extract_translations(file.read_text(encoding="utf-8"), ["say", "say_number", "say_each", "marked"]):
             texts = words if isinstance(words, tuple) else (words,)
             texts = texts[:2] if name in WITH_TWO else texts[:1]
             # a macro says its argument, which is where the macro is called

@@ -42,6 +42,16 @@ class Open(CallTest):
         self.assertIn(FIRST, self.texts())
         subprocess.run(["sha256sum", "--quiet", "-c", "SHA256SUMS"], cwd=self.folder / "call", check=True)
         self.assertEqual({file.stat().st_mode & 0o777 for file in (self.folder / "call").iterdir()}, {0o644})
+        # made again it is the same, and no act
+        before, log = self.contents(), self.done("log").output
+        self.write("poll.toml", "title = 5\n")
+        self.write("members.csv", "nothing\n")
+        for file in (self.folder / "call").iterdir():
+            file.unlink()
+        self.write("call/poll.toml", "another")
+        self.done("call")
+        self.assertEqual(*({name: data for name, data in files.items() if name.startswith("call/")} for files in (self.contents(), before)))
+        self.assertEqual(self.done("log").output, log)
 
     def test_real_names_are_told_only_with_names(self) -> None:
         people = {name: f"Person{number} of {name.title()}" for number, name in enumerate(elections.NAMES)}
@@ -53,19 +63,6 @@ class Open(CallTest):
         self.done("call", "--take-back")
         self.done("call", *UNTIL, "--names")
         self.assertEqual([who for who in people.values() if who in self.read("call/index.html").decode()], list(people.values()))
-
-    def test_made_again_is_the_same_and_no_act(self) -> None:
-        self.done("call", *UNTIL, "--to", "vote@club.example")
-        before, log = self.contents(), self.done("log").output
-        self.write("poll.toml", "title = 5\n")
-        self.write("members.csv", "nothing\n")
-        for file in (self.folder / "call").iterdir():
-            file.unlink()
-        (self.folder / "call" / "poll.toml").write_text("another")
-        self.done("call")
-        after = self.contents()
-        self.assertEqual({name: after[name] for name in after if name.startswith("call/")}, {name: before[name] for name in before if name.startswith("call/")})
-        self.assertEqual(self.done("log").output, log)
 
     def test_the_list_has_to_be_the_one_that_was_read(self) -> None:
         rows = elections.members_of(elections.NAMES)
@@ -114,6 +111,9 @@ class Again(CallTest):
         self.assert_fault(self.election("call", "--until", "2026-12-06 17:00"), 2, "is not later")
         self.set_clock("2026-12-06T17:00:00+01:00")
         self.assert_fault(self.election("close"), 9, SECOND)
+        self.assertIn("the announced end of the vote has not come yet", self.done("close", "--early").output)
+        self.assert_fault(self.election("call", "--until", "2027-01-01 12:00"), 9, "closed")
+        self.done("call")
 
     def test_what_is_added_and_what_not(self) -> None:
         self.done("call", "--at", "https://club.example/vote/")
@@ -124,11 +124,6 @@ class Again(CallTest):
         for words in (("--to", "other@club.example"), ("--names",), ("--form",), ("--keyring", "poll.toml")):
             with self.subTest(words):
                 self.assert_fault(self.election("call", *words), 9, words[0], "--take-back")
-
-    def test_after_the_close(self) -> None:
-        self.done("close", "--early")
-        self.assert_fault(self.election("call", "--until", "2027-01-01 12:00"), 9, "closed")
-        self.done("call")
 
     def test_taken_back(self) -> None:
         self.done("call", "--until", "2026-12-05 18:00", "--zone", "Europe/Berlin")
@@ -164,8 +159,7 @@ class Letters(CallTest):
 
     def marks(self) -> dict[str, str]:
         """The own mark of each elector."""
-        found = self.rows("SELECT name, mark FROM elector_state JOIN elector USING (elector) ORDER BY elector_state.rowid")
-        return dict(found)
+        return dict(self.rows("SELECT name, mark FROM elector_state JOIN elector USING (elector) ORDER BY elector_state.rowid"))
 
     def announced(self, key: str) -> object:
         """What the last call that says it says of this."""
@@ -205,11 +199,9 @@ class Letters(CallTest):
         self.done("call", "--take-back")
         self.assertEqual(set(self.marks().values()), {""})
         self.done("call", *UNTIL)
-        self.assertFalse({*self.marks().values()} & {*first.values()})
-
-    def test_a_new_address_makes_a_new_own_mark(self) -> None:
-        self.done("call", *UNTIL)
         before = self.marks()
+        self.assertFalse({*before.values()} & {*first.values()})
+        # a new address makes a new one
         rows = elections.members_of(elections.NAMES).replace("\n", ",\n").replace("mail,", "mail,key", 1)
         self.write("members.csv", rows.replace("ada@club", "ada@new").replace("ben@club.example,", f"ben@club.example,{'A' * 40}"))
         self.done("roll", "--yes")
@@ -295,8 +287,7 @@ class Secret(CallTest):
         self.assert_fault(self.election("call"), 9, "electors have no codes", "debvote-election codes")
         table = self.called()
         self.assertEqual([(row[0], row[2]) for row in table], [(name, f"{name}@club.example") for name in elections.NAMES])
-        self.assertEqual(len({row[3] for row in table}), 9)
-        self.assertEqual([row[4] for row in table], [alias_of(row[3], row[0]) for row in table])
+        self.assertEqual((len({row[3] for row in table}), [row[4] for row in table]), (9, [alias_of(row[3], row[0]) for row in table]))
         self.assertEqual(list(read_plain(self.read("call/poll.toml")).roll), sorted(row[4] for row in table))
         slips = re.split('class="slip', self.read("private/slips.html").decode())[1:]
         slips = [re.sub(r"<[^>]*>|\s", "", slip) for slip in slips]
@@ -307,18 +298,20 @@ class Secret(CallTest):
         for row in table:
             self.assertNotIn(row[3], public)
             self.assertNotRegex(public, rf"\b{row[0]}\b")
+        # slips tell the end as it is, and the page
+        self.done("call", "--until", "2026-12-06 18:00", "--zone", "Europe/Berlin")
+        self.assertIn(SECOND, self.read("private/slips.html").decode())
+        self.done("call", "--at", "https://club.example/vote/")
+        self.assertIn("https://club.example/vote/", self.read("private/slips.html").decode())
 
-    def test_modes(self) -> None:
+    def test_codes_stay_and_new_electors_get_theirs(self) -> None:
+        """Only the secretary may read them, whatever modes the files have got."""
         self.done("codes")
         private = self.folder / "private"
         private.chmod(0o755)
         (private / "codes.csv").chmod(0o644)
         self.done("codes")
-        self.assertEqual(private.stat().st_mode & 0o777, 0o700)
-        self.assertEqual({file.stat().st_mode & 0o777 for file in private.iterdir()}, {0o600})
-
-    def test_codes_stay_and_new_electors_get_theirs(self) -> None:
-        self.done("codes")
+        self.assertEqual((private.stat().st_mode & 0o777, {file.stat().st_mode & 0o777 for file in private.iterdir()}), (0o700, {0o600}))
         before = self.table()
         self.write("members.csv", elections.members_of([*elections.NAMES, "jan"]))
         self.assert_fault(self.election("codes"), 9, "roll")
@@ -335,21 +328,12 @@ class Secret(CallTest):
             self.done("codes")
             return [row[3:] for row in self.table()]
 
-        before = codes()
-        others = "".join(f",{name.title()},{name}@club.example\n" for name in elections.NAMES[1:])
+        before, others = codes(), "".join(f",{name.title()},{name}@club.example\n" for name in elections.NAMES[1:])
         self.write("members.csv", f"name,who,mail\nada,ADA,ada@club.example\n{others}")
         self.assertEqual(codes(), before)
         self.write("members.csv", f"name,who,mail\nada,Zed,zed@club.example\n{others}")
         after = codes()
-        self.assertEqual(after[1:], before[1:])
-        self.assertEqual([old == new for old, new in zip(before[0], after[0])], [False, False])
-
-    def test_slips_tell_the_end_as_it_is(self) -> None:
-        self.called()
-        self.done("call", "--until", "2026-12-06 18:00", "--zone", "Europe/Berlin")
-        self.assertIn(SECOND, self.read("private/slips.html").decode())
-        self.done("call", "--at", "https://club.example/vote/")
-        self.assertIn("https://club.example/vote/", self.read("private/slips.html").decode())
+        self.assertEqual((after[1:], [old == new for old, new in zip(before[0], after[0])]), (before[1:], [False, False]))
 
     def test_no_code_is_in_the_text_of_the_letters(self) -> None:
         self.done("codes")
@@ -374,6 +358,17 @@ class Secret(CallTest):
         for text in (ended.output, self.texts(), self.done("status").output, self.done("status", "--json").output, self.done("log").output):
             self.assertFalse(codes & set(re.findall(r"[0-9a-f]{32}", text)))
         self.assertIsNone(json.loads(self.done("status", "--json").output)["without_ballot"])
+        # they lapse with the call
+        self.assertIn("then run debvote-election roll\n", self.done("call", "--take-back").output)
+        self.assertEqual([*(self.folder / "private").iterdir()], [])
+        self.assert_fault(self.election("codes", "--on-roll"), 9, "debvote-election roll")
+        self.write("members.csv", elections.members_of([*elections.NAMES, "jan"]))
+        self.done("roll")
+        self.done("codes", "--on-roll")
+        self.done("call", *UNTIL)
+        after = set(re.findall(r"\b([0-9a-f]{32}) _", self.read("private/slips.html").decode()))
+        self.assertEqual((len(after), codes & after), (10, set()))
+        self.assertIn("is void", self.texts())
 
     def published_codes(self) -> set[str]:
         return set(re.findall(r"\b[0-9a-f]{32}\b", self.read("call/poll.toml").decode()))
@@ -391,31 +386,13 @@ class Secret(CallTest):
         self.write("members.csv", elections.members_of([*elections.NAMES, "jan"]))
         self.done("roll")
         self.assert_fault(self.election("call"), 9, "electors have no codes")
-        self.assertEqual(len(self.called()), 10)
-        self.assertEqual(self.published_codes() & aliases, set())
+        self.assertEqual((len(self.called()), self.published_codes() & aliases), (10, set()))
         self.done("letters", "call")
         letters = [email.message_from_bytes(file.read_bytes()) for file in (self.folder / "letters" / "call").rglob("*.eml")]
         texts = [letter.get_payload(decode=True).decode() for letter in letters]
         for text in (*texts, self.read("call/index.html").decode()):
             self.assertIn("each code that was given out with it is void", " ".join(text.split()))
         self.assertEqual((len(texts), self.read("private/slips.html").decode().count("An earlier slip is void.")), (10, 10))
-
-    def test_codes_on_the_roll_lapse_with_the_call(self) -> None:
-        def codes() -> set[str]:
-            self.done("codes", "--on-roll")
-            self.done("call", *UNTIL)
-            return set(re.findall(r"\b[0-9a-f]{32} _", self.read("private/slips.html").decode()))
-
-        before = codes()
-        said = self.done("call", "--take-back").output
-        self.assertIn("then run debvote-election roll\n", said)
-        self.assertEqual([*(self.folder / "private").iterdir()], [])
-        self.assert_fault(self.election("codes", "--on-roll"), 9, "debvote-election roll")
-        self.write("members.csv", elections.members_of([*elections.NAMES, "jan"]))
-        self.done("roll")
-        after = codes()
-        self.assertEqual((len(before), len(after), before & after), (9, 10, set()))
-        self.assertIn("is void", self.texts())
 
     def test_not_a_secret_vote(self) -> None:
         self.write("poll.toml", elections.POLL)

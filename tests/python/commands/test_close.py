@@ -3,94 +3,66 @@
 import contextlib
 import hashlib
 import io
-import json
 import os
 from collections.abc import Iterator
 from unittest import mock
 
-from debvote_tools.book.book import open_book
 from debvote_tools.cli import command_line
 from debvote_tools.commands import close
 from debvote_tools.result import folder as result_folder
 
 from tests.support import elections
+from tests.support.called import LettersTest
 from tests.support.terminal import Terminal
 
 UNTIL = ("--until", "2026-12-04 18:00", "--zone", "Europe/Berlin")
 
 
-class CloseTest(elections.ElectionTest):
-    def add(self, *lines: str, words: tuple[str, ...] = ()) -> elections.Ended:
+class CloseTest(LettersTest):
+    def add(self, *lines: str) -> elections.Ended:
         self.write("lines", "".join(f"{line}\n" for line in lines))
-        return self.done("add", "--yes", *words, "lines")
-
-    def numbers(self) -> dict[str, object]:
-        return json.loads(self.done("status", "--json").output)
-
-    def exported(self) -> tuple[bytes, bytes]:
-        out = self.scratch / f"out{len(list(self.scratch.iterdir()))}"
-        self.done("export", out)
-        return (out / "ballots.txt").read_bytes(), (out / "late.txt").read_bytes()
+        return self.done("add", "--yes", "lines")
 
 
 class Close(CloseTest):
     def test_lines_after_it_are_late(self) -> None:
+        """Its letter names the checksums of the poll and of the ballots, and the digest; it is that of the close however often it is made."""
         self.add("ada 1,2,3,4", "ben 2,1,3,4", "zoe 1")
-        before = self.exported()[0]
-        self.done("close")
+        before, ended = self.exported()[0], self.done("close")
+        letter = self.read("letters/closed.txt").decode()
+        sums = [hashlib.sha256(data).hexdigest() for data in (self.read("call/poll.toml"), before.encode())]
+        places = [letter.index(text) for text in (*sums, self.numbers()["digest"])]
+        self.assertEqual(places, sorted(places))
+        self.assertIn(f"Checksum of the ballots: {sums[1]}", ended.output)
+        self.assertTrue(ended.output.endswith("\nNext: debvote-election letters closed, then debvote-election count\n"), ended)
+        self.assertIn("3 lines came in time", letter)
+        self.write("letters/closed.txt", "another")
+        log = self.done("log").output
         self.assertIn("late", self.add("ada 4,3,2,1").output)
-        self.assertEqual(self.exported(), (before, b"ada 4,3,2,1\n"))
+        self.assertIn("Nothing was changed", self.done("close").output)
+        self.assertEqual((self.read("letters/closed.txt").decode(), self.done("log").output.splitlines()[:-2]), (letter, log.splitlines()))
+        self.assertEqual(self.exported(), (before, "ada 4,3,2,1\n"))
         wanted = {"stage": "closed", "electors": 9, "lines": 3, "valid": 2, "refused": 1, "late": 1, "voters": 2, "waiting": 0}
         wanted |= {"stopping": [], "not_reached": {}, "printed": []}
         self.assertEqual({key: value for key, value in self.numbers().items() if key not in ("act", "digest", "without_ballot")}, wanted)
 
-    def test_letter(self) -> None:
-        self.add("ada 1,2,3,4")
-        checksum = hashlib.sha256(b"ada 1,2,3,4\n").hexdigest()
-        ended = self.done("close")
-        letter = self.read("letters/closed.txt").decode()
-        poll = hashlib.sha256(self.read("call/poll.toml")).hexdigest()
-        digest = self.numbers()["digest"]
-        self.assertLess(letter.index(poll), letter.index(checksum))
-        self.assertLess(letter.index(checksum), letter.index(digest))
-        self.assertIn(f"Checksum of the ballots: {checksum}", ended.output)
-        self.assertTrue(ended.output.endswith("\nNext: debvote-election letters closed, then debvote-election count\n"), ended)
-        self.assertIn("1 line came in time", letter)
-        (self.folder / "letters" / "closed.txt").write_text("another")
-        log = self.done("log").output
-        self.add("ben 1,2,3,4")
-        self.assertIn("Nothing was changed", self.done("close").output)
-        self.assertEqual(self.read("letters/closed.txt").decode(), letter)
-        self.assertEqual(self.done("log").output.splitlines()[:-2], log.splitlines())
-
-    def test_the_time_is_in_the_zone_of_the_end(self) -> None:
-        """Also if a later call announced the end."""
+    def test_the_end(self) -> None:
+        """A later call announced it, in another zone than that in which the book keeps times. A line that comes after it still counts."""
         self.set_clock("2026-11-27T09:00:00+00:00")
         self.done("call", *UNTIL)
-        self.set_clock("2026-12-04T17:30:00+00:00")
-        self.assertIn("0 lines came in time", self.done("close").output)
-        self.assertIn("18:30 (UTC+01:00)", " ".join(self.read("letters/closed.txt").decode().split()))
-
-    def test_after_the_end_a_line_still_counts(self) -> None:
-        self.set_clock("2026-11-27T09:00:00+00:00")
-        self.done("call", *UNTIL)
-        said = "\nEnd of the vote: Friday, 4 December 2026, 18:00 (UTC+01:00)"
-        self.assertIn(f"{said}\n", self.done("status").output)
-        self.set_clock("2026-12-04T19:00:00+01:00")
-        self.assertIn(f"{said}; that time has passed\n", self.done("status").output)
-        self.assertIn("1 counted", self.add("ada 1,2,3,4").output)
-        self.done("close")
-
-    def test_not_before_the_end(self) -> None:
-        self.set_clock("2026-11-27T09:00:00+00:00")
-        self.done("call", *UNTIL)
-        before = self.contents()
+        before, end = self.contents(), "Friday, 4 December 2026, 18:00 (UTC+01:00)"
         # what lets a close pass over letters says nothing of the end
         for words in ((), ("--force", "--because", "all have voted")):
-            ended = self.election("close", *words)
-            self.assert_fault(ended, 9, "Friday, 4 December 2026, 18:00 (UTC+01:00)", "--early", "nothing was changed")
+            self.assert_fault(self.election("close", *words), 9, end, "--early", "nothing was changed")
         self.assertEqual(self.contents(), before)
-        self.assertIn("the announced end of the vote has not come yet", self.done("close", "--early").output)
+        for time, name, said in (("16:30", "ada", ""), ("17:30", "ben", "; that time has passed")):
+            self.set_clock(f"2026-12-04T{time}:00+00:00")
+            self.assertIn(f"\nEnd of the vote: {end}{said}\n", self.done("status").output)
+            self.assertIn("1 counted", self.add(f"{name} 1,2,3,4").output)
+        self.assertIn("2 lines came in time", self.done("close").output)
+        self.assertIn("18:30 (UTC+01:00)", " ".join(self.read("letters/closed.txt").decode().split()))
+        self.done("publish")
+        self.assertIn("1 line came after the end, and is in time, since the vote was not closed yet.", self.read("result/index.html").decode())
 
 
 class Meanwhile(CloseTest):
@@ -124,9 +96,9 @@ class Meanwhile(CloseTest):
         with self.closing_after(iter(["ben 1,2,3,4", "cleo 2,1,3,4"])):
             status, said, faults = self.in_this_process("close")
         self.assertEqual((status, faults), (0, ""), said)
-        ballots = b"ada 1,2,3,4\nben 1,2,3,4\ncleo 2,1,3,4\n"
-        self.assertEqual(self.exported(), (ballots, b""))
-        self.assertIn(hashlib.sha256(ballots).hexdigest(), self.read("letters/closed.txt").decode())
+        ballots = "ada 1,2,3,4\nben 1,2,3,4\ncleo 2,1,3,4\n"
+        self.assertEqual(self.exported(), (ballots, ""))
+        self.assertIn(hashlib.sha256(ballots.encode()).hexdigest(), self.read("letters/closed.txt").decode())
         self.assertIn("Closed: 3 lines came in time", said)
         self.done("publish")
 
@@ -162,8 +134,7 @@ class Meanwhile(CloseTest):
         """It says which act was done, and not that nothing was changed."""
         self.add("ada 1,2,3,4")
         self.write("letters", "somebody's file")
-        ended = self.election("close")
-        self.assert_fault(ended, 7, "letters: File exists; it was not changed; act 5 (close) was done")
+        self.assert_fault(self.election("close"), 7, "letters: File exists; it was not changed; act 5 (close) was done")
         self.assertEqual(self.numbers()["stage"], "closed")
         (self.folder / "letters").unlink()
         self.assertIn("Made letters/closed.txt", self.done("close").output)
@@ -198,34 +169,9 @@ class Asked(CloseTest):
         self.assertIn("Closed: 3 lines came in time", output)
 
     def test_yes(self) -> None:
-        terminal = Terminal(self, "close", "--yes")
-        output, status = terminal.end()
+        output, status = Terminal(self, "close", "--yes").end()
         self.assertEqual((status, "[y/n]" in output), (0, False))
         self.assertIn("Until now 0 lines came in time. Added last: never. Entered last at a desk: never.", output)
-
-
-class SecretClose(CloseTest):
-    poll = elections.POLL + "secret = true\n"
-
-    def test_checksum_tells_no_ballots(self) -> None:
-        self.add("ada 17,33,99,-", "ben 2,1,3,4", "ada 2,3,4,-")
-        self.done("close")
-        seal = open_book(self.folder / "election.db").last_act().detail
-        self.assertNotIn(seal["seal"], self.done("log").output)
-        aliases = {row.split(",")[0]: row.split(",")[4] for row in self.read("private/codes.csv").decode().splitlines()[1:]}
-        ballots = "".join(sorted(f"{aliases[name]} {ranks}\n" for name, ranks in {"ada": "1,2,3,-", "ben": "2,1,3,4"}.items()))
-        self.assertEqual(seal["checksum"], hashlib.sha256(f"{seal['seal']}\n{ballots}".encode()).hexdigest())
-        self.assertIn(seal["checksum"], self.read("letters/closed.txt").decode())
-        letters = b"".join(file.read_bytes() for file in (self.folder / "letters").iterdir())
-        private = hashlib.sha256(b"ada 17,33,99,-\nben 2,1,3,4\nada 2,3,4,-\n").hexdigest()
-        self.assertNotIn(private.encode(), letters)
-        self.assertNotIn(hashlib.sha256(ballots.encode()).hexdigest().encode(), letters)
-        self.assertNotIn(seal["seal"].encode(), letters)
-        # the poll that is exported is the one of these ballots
-        self.exported()
-        [out] = self.scratch.glob("out*")
-        steps = self.debvote("steps", "--poll", out / "poll.toml", "--ballots", out / "ballots.txt").output
-        self.assertEqual(steps.split(), ["1", "counted", "2", "counted", "3", "replaced"])
 
 
 class Reopen(CloseTest):
@@ -238,41 +184,36 @@ class Reopen(CloseTest):
     def test_what_had_come_in_time(self) -> None:
         ended = self.done("reopen", "--because", "a letter was forgotten", "--in-time", "3")
         self.assertIn("Envelope 4, entered anew from late envelope 3: cleo 2,1,3,4", ended.output)
-        self.assertEqual(self.exported(), (b"ada 1,2,3,4\ncleo 2,1,3,4\n", b"ben 1,2,3,4\ncleo 2,1,3,4\n"))
+        self.assertEqual(self.exported(), ("ada 1,2,3,4\ncleo 2,1,3,4\n", "ben 1,2,3,4\ncleo 2,1,3,4\n"))
         self.write("more", "dan 1,2,3,4\n")
         self.assertEqual(self.election("add", "--yes", "more").status, 9)
         self.done("add", "--yes", "--came-before-close", "yes", "more")
         self.write("more", "eve 1,2,3,4\n")
         self.done("add", "--yes", "--came-before-close", "no", "more")
-        self.assertEqual(self.exported()[0], b"ada 1,2,3,4\ncleo 2,1,3,4\ndan 1,2,3,4\n")
-        self.assertIn(b"eve", self.exported()[1])
+        self.assertEqual(self.exported()[0], "ada 1,2,3,4\ncleo 2,1,3,4\ndan 1,2,3,4\n")
+        self.assertIn("eve", self.exported()[1])
         self.assertEqual(self.numbers()["stage"], "called")
-        checksum = hashlib.sha256(self.exported()[0]).hexdigest()
+        checksum = hashlib.sha256(self.exported()[0].encode()).hexdigest()
         for said in ("Closed: 3 lines came in time", "with 3 lines in time. Nothing was changed"):
             output = self.done("close").output
             self.assertIn(said, output)
             self.assertIn(f"Checksum of the ballots: {checksum}\n", output)
         self.assertIn("3 lines came in time", self.read("letters/closed.txt").decode())
 
-    def test_faults(self) -> None:
+    def test_a_result_before_the_last_close_is_not_the_result(self) -> None:
+        """`status` says whether the vote is open, and whether it is published."""
+        self.assertRegex(self.done("status").output, r"\nClosed: at [^\n]* UTC\nQuorum")
+        self.done("publish")
+        self.assertEqual(self.numbers()["stage"], "published")
+        self.assertTrue(self.done("status").output.endswith(", then debvote-election letters result\n"))
         self.assert_fault(self.election("reopen"), 2, "reason")
         self.assert_fault(self.election("reopen", "--because", "x", "--in-time", "1"), 2, "envelope 1 is not one of the late lines")
         self.done("reopen", "--because", "x")
         self.assert_fault(self.election("reopen", "--because", "x"), 9, "not closed")
-
-    def test_a_result_before_the_last_close_is_not_the_result(self) -> None:
-        self.done("publish")
-        self.assertEqual(self.numbers()["stage"], "published")
-        self.assertTrue(self.done("status").output.endswith(", then debvote-election letters result\n"))
-        self.done("reopen", "--because", "x")
         self.assertEqual(self.numbers()["stage"], "called")
+        self.assertRegex(self.done("status").output, r"\nClosed: not yet\nReopened: at [^\n]* UTC\nQuorum")
         self.done("close")
         self.assertEqual(self.numbers()["stage"], "closed")
-
-    def test_status_says_whether_it_is_open(self) -> None:
-        self.assertRegex(self.done("status").output, r"\nClosed: at [^\n]* UTC\nQuorum")
-        self.done("reopen", "--because", "x")
-        self.assertRegex(self.done("status").output, r"\nClosed: not yet\nReopened: at [^\n]* UTC\nQuorum")
 
 
 class Told(CloseTest):
@@ -293,16 +234,11 @@ class Told(CloseTest):
         self.assertNotIn("fay 1,2", output)
         self.done("strike", "1", "--because", "it was hers who asked")
         self.assertIn("  envelope 2: ben 1,2\n", self.done("status").output)
-
-    def test_export(self) -> None:
-        self.add("ada 1,2,3,4", "zoe 1")
+        # what came is exported as it came, for the secretary alone
         out = self.scratch / "out"
         self.done("export", out)
-        came = sorted((out / "came").iterdir())
-        self.assertEqual([file.name for file in came], ["00001-lines"])
-        self.assertEqual(came[0].read_bytes(), b"ada 1,2,3,4\nzoe 1\n")
-        self.assertEqual((out / "poll.toml").read_bytes(), self.read("call/poll.toml"))
-        self.assertEqual(out.stat().st_mode & 0o777, 0o700)
+        self.assertEqual({file.name: file.read_bytes() for file in (out / "came").iterdir()}, {"00001-lines": self.read("lines")})
+        self.assertEqual(((out / "poll.toml").read_bytes(), out.stat().st_mode & 0o777), (self.read("call/poll.toml"), 0o700))
         self.assertEqual({file.stat().st_mode & 0o777 for file in out.rglob("*") if file.is_file()}, {0o600})
         self.assert_fault(self.election("export", out), 2, "already")
 
@@ -313,21 +249,8 @@ class Told(CloseTest):
             self.add(f"ada {hour[3:5]},2,3,4")
             self.set_clock(f"2026-12-04T{hour}+01:00")
             self.add(f"ben {hour[3:5]},2,3,4")
-            log = self.done("log").output
-            self.assertEqual(log.endswith("  the clock went back: the previous act has a later time\n"), back, hour)
+            self.assertEqual(self.done("log").output.endswith("  the clock went back: the previous act has a later time\n"), back, hour)
         self.set_clock("2026-12-04T19:00:00+01:00")
         self.done("close")
         self.done("publish")
         self.assertEqual(self.read("result/index.html").decode().count("went back"), 2)
-
-    def test_a_line_after_the_end_by_its_zone(self) -> None:
-        """The end is announced in another zone than that in which the book keeps times."""
-        self.set_clock("2026-11-27T09:00:00+00:00")
-        self.done("call", *UNTIL)
-        for time, name in (("16:30", "ada"), ("17:30", "ben")):
-            self.set_clock(f"2026-12-04T{time}:00+00:00")
-            self.add(f"{name} 1,2,3,4")
-        self.done("close")
-        self.done("publish")
-        said = "1 line came after the end, and is in time, since the vote was not closed yet."
-        self.assertIn(said, self.read("result/index.html").decode())

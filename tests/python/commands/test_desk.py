@@ -35,8 +35,7 @@ class AtATerminal(TerminalTest):
         head = desk.until("Ballot: ")
         self.assertIn("  1 At the lake\n  2 In the town hall\n  3 Sell the house and meet there\n  4 Further discussion\n", head)
         self.assertIn("Type a ballot as ada 1,2,3,4 (the elector, then a rank for each option in this order); q ends.\n", head)
-        before = self.last_act()
-        shown = desk.after("Ada 1, 2,4,3\n", CAST)
+        before, shown = self.last_act(), desk.after("Ada 1, 2,4,3\n", CAST)
         self.assertIn("desk:1: `Ada 1, 2,4,3` was changed to `ada 1,2,4,3` (spaces, capital letters)\n", shown)
         self.assertIn(f"\nada: {LAKE}\n", shown)
         self.assertNotIn("has a ballot", shown)
@@ -45,13 +44,10 @@ class AtATerminal(TerminalTest):
         self.assertEqual(self.lines(), [f"ada {RANKS}"])
         self.assertIn(f"ada has a ballot: {LAKE}. It will be replaced.\n", desk.after(f"ada {OTHER_RANKS}\n", CAST))
         self.assertIn(f"\n2 replaced  ada: {HALL}\n", desk.after("YES\n", "Ballot: "))
-        said = "This desk has entered 2 lines (1 counted, 1 replaced).\nNext: debvote-election status\n"
-        self.assertIn(said, self.end(desk, "q\n"))
+        self.assertIn("This desk has entered 2 lines (1 counted, 1 replaced).\nNext: debvote-election status\n", self.end(desk, "q\n"))
         self.assertEqual(self.acts(), [("desk", {"lines": 1})] * 2)
-        times = [act.time for act in self.book.acts()[self.first_act - 1 :]]
-        for envelope, time_of_act in zip(self.envelopes(), times, strict=True):
-            told = (envelope.elector, envelope.source, envelope.time, envelope.is_late)
-            self.assertEqual(told, (self.elector("ada"), None, time_of_act, False))
+        for envelope, time_of_act in zip(self.envelopes(), [act.time for act in self.book.acts()[self.first_act - 1 :]], strict=True):
+            self.assertEqual((envelope.elector, envelope.source, envelope.time, envelope.is_late), (self.elector("ada"), None, time_of_act, False))
 
     def test_a_no_forgets_and_another_answer_is_asked_again(self) -> None:
         """The end of the input and an interrupt are a no, too."""
@@ -104,22 +100,27 @@ class AtATerminal(TerminalTest):
         self.end(first, "q\n")
         self.assertEqual(self.lines(), [f"ada {RANKS}"])
 
-    def test_acts_about_others_ask_nothing_anew(self) -> None:
-        desk = self.at_terminal()
-        desk.after(f"ada {RANKS}\n", CAST)
-        self.told("add", given=f"ben {RANKS}\n")
-        self.assertIn("2 counted  ada: ", desk.after("y\n", "Ballot: "))
-        self.end(desk, "q\n")
-
-    def test_a_close_meanwhile(self) -> None:
+    def test_other_acts_meanwhile(self) -> None:
+        """Those about others ask nothing anew; after a close what is entered is late."""
         desk = self.at_terminal()
         self.assertNotIn("late", desk.after(f"ada {RANKS}\n", CAST))
+        self.told("add", given=f"ben {RANKS}\n")
+        self.assertIn("2 counted  ada: ", desk.after("y\n", "Ballot: "))
+        self.assertNotIn("late", desk.after(f"cleo {RANKS}\n", CAST))
         self.told("close")
         self.assertIn("It is late, and will not count.\n", desk.after("y\n", CAST))
         self.assertEqual(self.late_lines(), [])
-        self.assertIn("1 late  ada: ", desk.after("y\n", "Ballot: "))
+        self.assertIn("3 late  cleo: ", desk.after("y\n", "Ballot: "))
         self.end(desk, "q\n")
-        self.assertEqual((self.lines(), self.late_lines()), ([], [f"ada {RANKS}"]))
+        self.assertEqual((self.lines(), self.late_lines()), ([f"ben {RANKS}", f"ada {RANKS}"], [f"cleo {RANKS}"]))
+        desk = Terminal(self)
+        self.assertIn("Note: the vote was closed at ", desk.until("; what is entered now is late."))
+        desk.until("Ballot: ")
+        shown = desk.after(f"ada {OTHER_RANKS}\n", CAST)
+        self.assertIn("It is late, and will not count.\n", shown)
+        self.assertNotIn("replaced", shown)
+        self.assertIn("4 late  ada: ", desk.after("y\n", "Ballot: "))
+        self.end(desk, "q\n")
 
     def test_another_call_meanwhile(self) -> None:
         """The options have other numbers now."""
@@ -131,18 +132,6 @@ class AtATerminal(TerminalTest):
         output, status = desk.end()
         self.assertIn("the call for votes was made anew meanwhile; nothing was entered: start the desk again", output)
         self.assertEqual((status, self.lines()), (9, []))
-
-    def test_after_the_close(self) -> None:
-        self.told("add", given=f"ada {RANKS}\n")
-        self.told("close")
-        desk = Terminal(self)
-        self.assertIn("Note: the vote was closed at ", desk.until("; what is entered now is late."))
-        desk.until("Ballot: ")
-        shown = desk.after(f"ada {OTHER_RANKS}\n", CAST)
-        self.assertIn("It is late, and will not count.\n", shown)
-        self.assertNotIn("replaced", shown)
-        self.assertIn("2 late  ada: ", desk.after("y\n", "Ballot: "))
-        self.end(desk, "q\n")
 
     def test_after_reopen_it_asks_once(self) -> None:
         before = self.at_terminal()
@@ -156,8 +145,7 @@ class AtATerminal(TerminalTest):
                 desk.until("Ballot: ")
                 desk.after(f"{name} {RANKS}\ny\n", reply)
             self.end(desk, "q\n")
-        answers = [detail["came_before_close"] for name, detail in self.acts() if name == "desk"]
-        self.assertEqual(answers, [True, True, False, False])
+        self.assertEqual([detail["came_before_close"] for name, detail in self.acts() if name == "desk"], [True, True, False, False])
         self.assertEqual((len(self.lines()), len(self.late_lines())), (2, 2))
         # so does a desk that was there before
         before.after(f"ada {RANKS}\n", "Did this come before that close? [y/n] ")
@@ -167,8 +155,7 @@ class AtATerminal(TerminalTest):
     def test_notes_at_its_head(self) -> None:
         self.act("extend", {"until": "2020-12-04T18:00:00+01:00"})
         end = "the announced end of the vote, Friday, 4 December 2020, 18:00 (UTC+01:00), has passed"
-        desk = self.at_terminal(f"Note: {end}; what is entered still counts until ")
-        self.assertIn("1 counted  ada: ", self.end(desk, f"ada {RANKS}\ny\nq\n"))
+        self.assertIn("1 counted  ada: ", self.end(self.at_terminal(f"Note: {end}; what is entered still counts until "), f"ada {RANKS}\ny\nq\n"))
         self.act("call", {"signed": True}, {"keyring": b"keys"})
         self.at_terminal("Note: in this vote letters must be signed, and a desk checks no signature: ")
 
@@ -226,13 +213,15 @@ class NamesAreCompleted(TerminalTest):
 
 class FromAPipe(CalledTest):
     def test_each_line_is_answered_at_once(self) -> None:
+        """A close while it waits makes what comes then late."""
         desk = self.desk()
         for number, name in enumerate(("ada", "ben", "cleo"), start=1):
-            self.assertEqual(self.answer(desk, f"{name} {RANKS}\n"), f"{number} counted  {name}: {LAKE}\n")
-            self.assertEqual(len(self.lines()), number)
+            self.assertEqual((self.answer(desk, f"{name} {RANKS}\n"), len(self.lines())), (f"{number} counted  {name}: {LAKE}\n", number))
+        self.told("close")
+        self.assertTrue(self.answer(desk, f"dan {RANKS}\n").startswith("4 late  dan: "))
         output, faults = desk.communicate()
-        self.assertIn("This desk has entered 3 lines (3 counted).\n", output)
-        self.assertEqual((desk.returncode, faults), (0, ""))
+        self.assertIn("This desk has entered 4 lines (3 counted, 1 late).\n", output)
+        self.assertEqual((desk.returncode, faults, len(self.lines()), self.late_lines()), (0, "", 3, [f"dan {RANKS}"]))
 
     def answer(self, desk: subprocess.Popen[str], text: str) -> str:
         """The next line of a desk after it is sent this."""
@@ -264,51 +253,36 @@ class FromAPipe(CalledTest):
         self.assertIn(f"2 bad shape  q: column 2: end of line; {words}\n", output)
         self.assertIn("gsu is not on the roll\nA valid line in this poll: ", output)
         self.assertEqual(self.lines(), ["ada 1,2,4,3", "q", "y", "gsu 1,2,4,3"])
-
-    def test_nothing_comes(self) -> None:
+        # a letter is told, and not entered
+        letter = b"Dear secretary, " * 13_000
+        output = self.told("desk", given=b"ada 1,2,3,4\n" + letter + b"\nben 1,2,3,4\n")
+        said = f"desk:2: the line has {len(letter)} bytes, and a ballot has a few dozen; it was not entered.\n"
+        self.assertIn(f"{said}  To add it from a file: debvote-election add --force FILE\n", output)
+        self.assertIn("This desk has entered 2 lines (1 replaced, 1 counted).", output)
+        self.assertEqual(self.lines()[4:], ["ada 1,2,3,4", "ben 1,2,3,4"])
         before = self.last_act()
         for given in ("", "\n\n"):
             self.assertIn("This desk has entered 0 lines.\n", self.told("desk", given=given))
         self.assertEqual(self.last_act(), before)
 
-    def test_a_long_letter_is_told_and_not_cast(self) -> None:
-        letter = b"Dear secretary, " * 13_000
-        output = self.told("desk", given=b"ada 1,2,3,4\n" + letter + b"\nben 1,2,3,4\n")
-        said = f"desk:2: the line has {len(letter)} bytes, and a ballot has a few dozen; it was not entered.\n"
-        self.assertIn(f"{said}  To add it from a file: debvote-election add --force FILE\n", output)
-        self.assertIn("This desk has entered 2 lines (2 counted).", output)
-        self.assertEqual(self.lines(), ["ada 1,2,3,4", "ben 1,2,3,4"])
-
     def test_many_lines_in_one_go(self) -> None:
         lines = [f"ada {number // 99 + 1},{number % 99 + 1},1,2" for number in range(9000)]
-        output = self.told("desk", given="\n".join(lines))
-        envelopes = [int(found) for found in re.findall(r"(?m)^(\d+) (?:counted|replaced)  ", output)]
-        self.assertEqual(envelopes, list(range(1, 9001)))
-        self.assertEqual(self.lines(), lines)
+        envelopes = [int(found) for found in re.findall(r"(?m)^(\d+) (?:counted|replaced)  ", self.told("desk", given="\n".join(lines)))]
+        self.assertEqual((envelopes, self.lines()), (list(range(1, 9001)), lines))
 
     def test_lines_of_very_many_electors_in_one_go(self) -> None:
         """The replies are those of all lines, also if they are looked up by elector; a line that came before is cast again."""
         self.told("add", given="".join(f"{name} {RANKS}\n{name} {OTHER_RANKS}\n" for name in self.names[:4]))
-        output = self.told("desk", given="".join(f"{name} {RANKS}\n" for name in self.names))
-        replies = re.findall(r"(?m)^\d+ (counted|replaced)  (\w+): ", output)
+        replies = re.findall(r"(?m)^\d+ (counted|replaced)  (\w+): ", self.told("desk", given="".join(f"{name} {RANKS}\n" for name in self.names)))
         self.assertEqual(replies, [("replaced" if name in self.names[:4] else "counted", name) for name in self.names])
 
     def test_after_reopen_it_wants_an_answer(self) -> None:
         self.told("close")
         self.told("reopen", "--because", "a bag was forgotten")
         said = "and only what came before counts; nothing was entered: say whether this came before that close: --came-before-close yes"
-        ended = self.election("desk", given=f"ada {RANKS}\n")
-        self.assert_stops(ended, self.first_act + 1, 9, "--came-before-close: ", said)
+        self.assert_stops(self.election("desk", given=f"ada {RANKS}\n"), self.first_act + 1, 9, "--came-before-close: ", said)
         self.assertIn("1 counted  ada: ", self.told("desk", "--came-before-close", "yes", given=f"ada {RANKS}\n"))
         self.assertIn("2 late  ada: ", self.told("desk", "--came-before-close", "no", given=f"ada {RANKS}\n"))
-
-    def test_a_close_while_it_waits(self) -> None:
-        desk = self.desk()
-        self.assertTrue(self.answer(desk, f"ada {RANKS}\n").startswith("1 counted  ada: "))
-        self.told("close")
-        self.assertTrue(self.answer(desk, f"ben {RANKS}\n").startswith("2 late  ben: "))
-        desk.communicate()
-        self.assertEqual((self.lines(), self.late_lines()), ([f"ada {RANKS}"], [f"ben {RANKS}"]))
 
     def test_an_interrupt_ends_it_as_q_does(self) -> None:
         desk = self.desk()
@@ -327,8 +301,7 @@ class FromAPipe(CalledTest):
         faults = desk.stderr.read()
         self.assertEqual(desk.wait(), 7)
         self.assertIn("the output failed; the ballots to be reported were entered nevertheless (envelope 2)", faults)
-        self.assertEqual(len(faults.splitlines()), 1)
-        self.assertEqual(self.lines(), ["ada 1,2,4,3", "ben 1,2,4,3"])
+        self.assertEqual((len(faults.splitlines()), self.lines()), (1, ["ada 1,2,4,3", "ben 1,2,4,3"]))
 
     def test_an_add_beside_desks(self) -> None:
         """A file goes in although desks cast all the time."""

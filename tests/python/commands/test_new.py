@@ -1,6 +1,7 @@
 """`new`: the folder, its files and modes, and what stops it."""
 
 import os
+import sys
 
 from tests.support import elections
 
@@ -11,20 +12,15 @@ class New(elections.ElectionTest):
         self.folder.mkdir()
 
     def test_folder(self) -> None:
-        ended = self.done("new", "spring")
-        folder = self.folder / "spring"
-        self.assertEqual(sorted(file.name for file in folder.iterdir()), ["election.db", "members.csv", "poll.toml"])
-        self.assertEqual(folder.stat().st_mode & 0o777, 0o700)
-        self.assertEqual({file.stat().st_mode & 0o777 for file in folder.iterdir()}, {0o600})
-        self.assertIn("Next: cd spring", ended.output)
-        self.done("log", "--check", cwd=folder)
-
-    def test_umask_and_empty_folder(self) -> None:
-        (self.folder / "spring").mkdir()
-        before = os.umask(0)
-        self.addCleanup(os.umask, before)
-        self.done("new", "spring")
-        self.assertEqual({file.stat().st_mode & 0o777 for file in (self.folder / "spring").iterdir()}, {0o600})
+        """Nobody else may read what is in it, whatever the umask is; a folder that is there may be empty."""
+        self.addCleanup(os.umask, os.umask(0))
+        (self.folder / "empty").mkdir()
+        for name in ("spring", "empty"):
+            ended, folder = self.done("new", name), self.folder / name
+            self.assertEqual(sorted(file.name for file in folder.iterdir()), ["election.db", "members.csv", "poll.toml"])
+            self.assertEqual((folder.stat().st_mode & 0o777, {file.stat().st_mode & 0o777 for file in folder.iterdir()}), (0o700, {0o600}))
+            self.assertIn(f"Next: cd {name}", ended.output)
+            self.done("log", "--check", cwd=folder)
 
     def test_language(self) -> None:
         self.assertIn("will be in German", self.done("new", "--language", "de", "wahl").output)
@@ -32,6 +28,8 @@ class New(elections.ElectionTest):
         (self.folder / "wahl" / "members.csv").write_text("who,mail\nJürgen Groß,j@club.example\n")
         self.assertIn("juergen-gross", self.done("roll", cwd=self.folder / "wahl").output)
         self.assertIn("plain: Zum Baerensee", self.done("check", cwd=self.folder / "wahl").output)
+        for words in ((elections.ELECTION, "new", "f"), (elections.PUBLISH, "--poll", "p", "--ballots", "b", "f")):
+            self.assertIn("--language: invalid choice: 'it'", self.run_program(sys.executable, *words, "--language", "it").faults)
 
     def test_nothing_is_overwritten(self) -> None:
         self.done("new", "spring")

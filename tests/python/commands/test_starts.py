@@ -38,11 +38,12 @@ class Starts(elections.ElectionTest):
         self.started("new", self.folder, cwd=self.scratch)
         self.write("poll.toml", elections.POLL + ("secret = true\n" if self.secret else ""))
         self.write("members.csv", elections.members_of(elections.NAMES))
-        self.started("roll")
-        if self.secret:
-            self.started("codes")
-        self.started("check")
+        self.each(["roll", *["codes"] * self.secret, "check"])
         self.started("call", "--to", "vote@club.example", "--at", "https://club.example/", "--until", "2026-12-04 18:00+00:00")
+
+    def each(self, commands: list[str]) -> None:
+        for words in commands:
+            self.started(*words.split())
 
     def started(self, *words: object, **how: object) -> None:
         """Runs a command, which must do what it is asked for, and counts how often it starts debvote."""
@@ -56,16 +57,8 @@ class Starts(elections.ElectionTest):
 
     def mailbox(self) -> str:
         mark = hashlib.sha256(self.read("call/poll.toml")).hexdigest()[:16]
-        texts = [
-            ("ada", "Hello\n\nada 2,1,4,3"),
-            ("ben", "ben 1,2,3,4\nben 2,1,3,4"),
-            ("cleo", "1 2 3 4"),
-            ("dan", "I vote as follows:\ndann 1,2,3,4"),
-            ("eve", "eve 1, 2, 3, 4\n\nadieu"),
-            ("eve", "eve 1, 2, 3, 4\n\nadieu"),
-            ("fay", "gus 1,2,3,4"),
-            ("nobody", "hal 1,2"),
-        ]
+        texts = [("ada", "Hello\n\nada 2,1,4,3"), ("ben", "ben 1,2,3,4\nben 2,1,3,4"), ("cleo", "1 2 3 4"), ("dan", "I vote:\ndann 1,2,3,4")]
+        texts += [("eve", "eve 1, 2, 3, 4\n\nadieu")] * 2 + [("fay", "gus 1,2,3,4"), ("nobody", "hal 1,2")]
         letters = [letter_of(number, name, text, mark) for number, (name, text) in enumerate(texts, start=1)]
         return "".join([*letters, letter_of(20, "ida", "<p>ida 1,2,3,4</p>", mark, "html")])
 
@@ -76,49 +69,23 @@ class Starts(elections.ElectionTest):
         self.write("mail", self.mailbox())
         self.started("letters", "call")
         self.set_clock(TEN)
-        self.started("add", "--look", "lines")
-        for words in (("--yes", "--force", "lines"), ("--yes", "--force", "lines"), ("--again", "--yes", "--force", "lines")):
-            self.started("add", *words)
-        self.started("add", "--csv", "--name", "name", "--ranks", "a,b,c,d", "--yes", "--force", "table.csv")
-        self.started("add", "--look", "mail")
-        self.started("add", "--yes", "mail")
-        self.started("add", "--yes", "mail")
-        self.started("held")
-        self.started("held", 2)
-        self.started("held", 2, "--enter", 1, "--force")
-        self.started("held", 3, 4, "--set-aside")
+        self.each(["add --look lines", *["add --yes --force lines"] * 2, "add --again --yes --force lines"])
+        self.each(["add --csv --name name --ranks a,b,c,d --yes --force table.csv", "add --look mail", *["add --yes mail"] * 2])
+        self.each(["held", "held 2", "held 2 --enter 1 --force", "held 3 4 --set-aside"])
         self.started("desk", given="ada 1,2,3,4\n")
-        for words in (("show", "ada"), ("status",), ("status", "--json"), ("undo", "--yes"), ("log",), ("log", "--check")):
-            self.started(*words)
-        self.started("strike", 1, "--because", "x")
-        for kind in ("receipts", "reminders"):
-            self.started("letters", kind)
-        self.started("roll", "--yes")
+        self.each(["show ada", "status", "status --json", "undo --yes", "log", "log --check", "strike 1 --because x"])
+        self.each(["letters receipts", "letters reminders", "roll --yes"])
         self.started("call", "--until", "2026-12-05 18:00+00:00")
 
     def result(self) -> None:
-        """From the close on."""
+        """From the close on; and once more, beside an earlier result."""
         self.set_clock(ELEVEN)
-        self.started("close", "--early", "--force", "--because", "x")
-        self.started("close")
-        self.started("letters", "closed")
+        close, publish = "close --early --force --because x", "publish --yes --force --because x"
+        self.each([close, "close", "letters closed"])
         self.started("desk", given="ida 1,2,3,4\n")
-        self.started("reopen", "--because", "x")
-        self.started("add", "--look", "mail")
-        self.started("close", "--early", "--force", "--because", "x")
-        self.started("count", "--force")
-        self.started("publish", "--yes", "--force", "--because", "x")
-        self.started("publish")
-        # once more, beside an earlier result
-        self.started("reopen", "--because", "x")
+        self.each(["reopen --because x", "add --look mail", close, "count --force", publish, "publish", "reopen --because x"])
         self.started("add", "--yes", "--came-before-close", "yes", "-", given="ida 1,2,3,4\n")
-        self.started("close", "--early", "--force", "--because", "x")
-        self.started("publish", "--yes", "--force", "--because", "x", "result-2")
-        for kind in ("result", "receipts"):
-            self.started("letters", kind)
-        self.started("status")
-        self.started("export", "out")
-        self.started("backup", "copy.db")
+        self.each([close, f"{publish} result-2", "letters result", "letters receipts", "status", "export out", "backup copy.db"])
 
 
 class Open(Starts):

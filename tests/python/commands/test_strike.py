@@ -14,13 +14,9 @@ class Strike(CalledTest):
         self.told("add", given=f"ada {RANKS}\nben {RANKS}\nada {OTHER_RANKS}\nx\n")
 
     def test_the_line_and_what_stands_then(self) -> None:
-        output = self.told("strike", 3, *WHY)
-        self.assertEqual(
-            output,
-            f"Struck envelope 3: `ada {OTHER_RANKS}`, because: it was pencil\nThe current ballot of ada: {LAKE}\n"
-            "A strike cannot be undone: if it was a mistake, enter the line again.\nNext: debvote-election status\n",
-        )
-        self.assertEqual(self.lines(), [f"ada {RANKS}", f"ben {RANKS}", "x"])
+        said = f"Struck envelope 3: `ada {OTHER_RANKS}`, because: it was pencil\nThe current ballot of ada: {LAKE}\n"
+        said += "A strike cannot be undone: if it was a mistake, enter the line again.\nNext: debvote-election status\n"
+        self.assertEqual((self.told("strike", 3, *WHY), self.lines()), (said, [f"ada {RANKS}", f"ben {RANKS}", "x"]))
         self.assertEqual(self.acts()[-1], ("strike", {"envelope": 3, "because": "it was pencil"}))
         self.assertIn("The current ballot of ada: none\n", self.told("strike", 1, *WHY))
         self.assertIn("Struck envelope 4: `x`, because: it was pencil\nA strike cannot be undone", self.told("strike", 4, *WHY))
@@ -28,6 +24,14 @@ class Strike(CalledTest):
         # the envelopes are still there, and keep their numbers
         self.assertEqual([envelope.struck is None for envelope in self.envelopes()], [False, True, False, False])
         self.assertIn("5 counted  cleo: ", self.told("desk", given=f"cleo {RANKS}\n"))
+        # a letter is set aside
+        with self.book.act("add") as act:
+            source = queries.keep_source(act, "inbox", b"letter")
+            letter = act.insert("letter", source=source, identity="1", known="{}")
+            queries.add_envelopes(act, [queries.NewEnvelope(b"cleo 1,2,3,4", "", source, letter)], [self.elector("cleo")], is_late=False)
+            queries.decide(act, letter, queries.ENTERED)
+        self.told("strike", 6, *WHY)
+        self.assertEqual(self.book.rows("SELECT letter, state FROM letter_state WHERE act = ?", self.last_act()), [(1, "struck")])
 
     def test_what_is_refused(self) -> None:
         self.told("strike", 3, *WHY)
@@ -44,8 +48,7 @@ class Strike(CalledTest):
         }
         for words, (status, said) in refused.items():
             self.assert_stops(self.election("strike", *words), before, status, said)
-
-    def test_one_that_undo_took_back(self) -> None:
+        # also one that undo took back
         self.told("undo")
         before = self.last_act()
         self.assert_stops(self.election("strike", 1, *WHY), before, 9, f"envelope 1 is struck already, by act {before} at ")
@@ -59,16 +62,6 @@ class Strike(CalledTest):
         self.assertIn("Struck envelope 2: ", self.told("strike", 2, *WHY))
         output = self.told("strike", 5, *WHY)
         self.assertIn(f"Struck envelope 5 (late): `cleo {RANKS}`, because: it was pencil\nThe current ballot of cleo: none\n", output)
-
-    def test_a_letter_is_set_aside(self) -> None:
-        with self.book.act("add") as act:
-            source = queries.keep_source(act, "inbox", b"letter")
-            letter = act.insert("letter", source=source, identity="1", known="{}")
-            new = [queries.NewEnvelope(b"cleo 1,2,3,4", "", source, letter)]
-            queries.add_envelopes(act, new, [self.elector("cleo")], is_late=False)
-            queries.decide(act, letter, queries.ENTERED)
-        self.told("strike", 5, *WHY)
-        self.assertEqual(self.book.rows("SELECT letter, state FROM letter_state WHERE act = ?", self.last_act()), [(1, "struck")])
 
 
 class AtATerminal(CalledTest):

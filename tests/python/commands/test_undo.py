@@ -8,38 +8,27 @@ from tests.support.terminal import Terminal
 
 class Undo(CalledTest):
     def test_one_after_the_other(self) -> None:
+        """What was taken back did not come, and gets new numbers."""
         self.told("add", given=f"ada {RANKS}\nben {RANKS}\n")
-        self.told("add", given=f"ada {OTHER_RANKS}\ncleo {RANKS}\nx\n")
-        self.told("desk", given=f"dan {RANKS}\n")
+        self.write("monday", f"ada {OTHER_RANKS}\ncleo {RANKS}\nx\n")
         first = self.first_act
-        output = self.told("undo")
-        said = rf"^Took back 1 line \(act {first + 2}: desk, [-\d]+ [:\d]+ UTC, envelope 6\)\.\n  dan: no ballot is left\nNext: "
-        self.assertRegex(output, said)
-        output = self.told("undo")
-        self.assertRegex(output, rf"^Took back 3 lines \(act {first + 1}: add of standard input, .* UTC, envelopes 3-5\)\.\n")
-        self.assertIn(f"\n  ada: {LAKE}, as before\n  cleo: no ballot is left\n", output)
-        self.assertEqual(self.lines(), [f"ada {RANKS}", f"ben {RANKS}"])
-        self.told("undo")
+        for act, numbers in ((first + 1, "3-5"), (first + 3, "6-8")):
+            self.told("add", "monday")
+            output = self.told("undo")
+            self.assertRegex(output, rf"^Took back 3 lines \(act {act}: add of monday, .* UTC, envelopes {numbers}\)\.\n")
+            self.assertIn(f"\n  ada: {LAKE}, as before\n  cleo: no ballot is left\n", output)
+            self.assertEqual(self.lines(), [f"ada {RANKS}", f"ben {RANKS}"])
+        self.told("desk", given=f"dan {RANKS}\n")
+        said = rf"^Took back 1 line \(act {first + 5}: desk, [-\d]+ [:\d]+ UTC, envelope 9\)\.\n  dan: no ballot is left\nNext: "
+        self.assertRegex(self.told("undo"), said)
+        # the one before that is not taken back yet
+        self.assertRegex(self.told("undo"), rf"^Took back 2 lines \(act {first}: add of standard input, .* UTC, envelopes 1-2\)\.\n")
         self.assertEqual(self.lines(), [])
         self.assert_stops(self.election("undo"), self.last_act(), 9, "undo: there is nothing to take back; nothing was changed: ")
-        self.assertEqual(self.acts()[3:], [("undo", {"act": number}) for number in (first + 2, first + 1, first)])
+        self.assertEqual([detail for name, detail in self.acts() if name == "undo"], [{"act": first + number} for number in (1, 3, 5, 0)])
         # nothing is gone
-        self.assertEqual([envelope.struck for envelope in self.envelopes()], [first + 5] * 2 + [first + 4] * 3 + [first + 3])
+        self.assertEqual([envelope.struck for envelope in self.envelopes()], [first + 7] * 2 + [first + 2] * 3 + [first + 4] * 3 + [first + 6])
         self.book.demand_whole()
-
-    def test_and_then_it_goes_on(self) -> None:
-        self.told("add", given=f"ada {RANKS}\n")
-        self.write("monday", f"ben {RANKS}\ncleo {RANKS}\n")
-        self.told("add", "monday")
-        self.told("undo")
-        # it came not, and it gets new numbers
-        self.assertIn("4 counted  ben: ", self.told("add", "monday"))
-        self.told("undo")
-        self.assertIn("6 counted  dan: ", self.told("add", given=f"dan {RANKS}\n"))
-        # the one before, which is not taken back yet
-        self.told("undo")
-        self.assertIn("  ada: no ballot is left\n", self.told("undo"))
-        self.assertEqual(self.lines(), [])
 
     def test_an_envelope_that_was_struck_already(self) -> None:
         self.told("add", given=f"ada {RANKS}\nben {RANKS}\ncleo {RANKS}\n")
@@ -47,8 +36,7 @@ class Undo(CalledTest):
         self.assertIn("Took back 2 lines (act ", output := self.told("undo"))
         self.assertIn("envelopes 1, 3).\n", output)
         self.assertNotIn("ben", output)
-        struck = [envelope.struck for envelope in self.envelopes()]
-        self.assertEqual(struck, [self.first_act + 2, self.first_act + 1, self.first_act + 2])
+        self.assertEqual([envelope.struck for envelope in self.envelopes()], [self.first_act + 2, self.first_act + 1, self.first_act + 2])
 
     def test_after_the_close_and_after_reopen(self) -> None:
         self.told("add", given=f"ada {RANKS}\n")
@@ -61,22 +49,18 @@ class Undo(CalledTest):
         self.assertRegex(self.told("undo"), r"^Took back 1 line \(.*, envelope 2\)\.\nNext: ")
         self.assertEqual((self.lines(), self.late_lines()), ([f"ada {RANKS}"], []))
 
-    def test_lines_that_reopen_offered(self) -> None:
+    def test_letters_wait_as_taken_back(self) -> None:
         """An act that enters lines is known by its envelopes, whatever its name is."""
         with self.book.act("offer") as act:
-            queries.add_envelopes(act, [queries.NewEnvelope(f"ada {RANKS}".encode())], [self.elector("ada")], is_late=False)
-        self.assertIn("Took back 1 line (act 4: offer, ".replace("4", str(self.first_act)), self.told("undo"))
-        self.assertEqual(self.lines(), [])
-
-    def test_letters_wait_as_taken_back(self) -> None:
-        with self.book.act("add") as act:
             for name in ("ada", "ben"):
                 source = queries.keep_source(act, "inbox", b"letter")
                 letter = act.insert("letter", source=source, identity=name, known="{}")
                 act.insert("letter_state", letter=letter, state="entered")
-                line = f"{name} {RANKS}".encode()
-                queries.add_envelopes(act, [queries.NewEnvelope(line, "", source, letter)], [self.elector(name)], is_late=False)
-        self.assertIn("2 letters then wait again, as taken back: 1, 2\n", self.told("undo"))
+                queries.add_envelopes(act, [queries.NewEnvelope(f"{name} {RANKS}".encode(), "", source, letter)], [self.elector(name)], is_late=False)
+        output = self.told("undo")
+        self.assertIn(f"Took back 2 lines (act {self.first_act}: offer, ", output)
+        self.assertIn("2 letters then wait again, as taken back: 1, 2\n", output)
+        self.assertEqual(self.lines(), [])
         states = "SELECT letter, state FROM letter_state WHERE act = ? ORDER BY letter"
         self.assertEqual(self.book.rows(states, self.last_act()), [(1, "taken back"), (2, "taken back")])
 
@@ -92,8 +76,7 @@ class AtATerminal(CalledTest):
         """It shows what would stand, and asks."""
         terminal = Terminal(self, "undo")
         shown = terminal.until("? [y/n] ")
-        wanted = rf"^  ada: {LAKE}, as before\n  ben: no ballot would be left\nTake back 3 lines \(.*, envelopes 2-4\)\? "
-        self.assertRegex(shown, wanted)
+        self.assertRegex(shown, rf"^  ada: {LAKE}, as before\n  ben: no ballot would be left\nTake back 3 lines \(.*, envelopes 2-4\)\? ")
         return terminal
 
     def end(self, terminal: Terminal, keys: str, status: int, *lines: str) -> str:
@@ -104,17 +87,19 @@ class AtATerminal(CalledTest):
         return output
 
     def test_answers(self) -> None:
-        """No answer, at the end of the input, is a no."""
+        """No answer, at the end of the input, is a no; with --yes nothing is asked."""
+        lines = f"ada {RANKS}", f"ada {OTHER_RANKS}", f"ben {RANKS}", "x"
         for keys in ("n\n", "\x04"):
-            output = self.end(self.asked(), keys, 9, f"ada {RANKS}", f"ada {OTHER_RANKS}", f"ben {RANKS}", "x")
-            self.assertIn("undo: you did not say yes; nothing was changed: ", output)
+            self.assertIn("undo: you did not say yes; nothing was changed: ", self.end(self.asked(), keys, 9, *lines))
             self.assertEqual(self.last_act(), self.before)
+        self.told("desk", given=f"ada {RANKS}\n")
+        terminal = Terminal(self, "undo")
+        self.assertIn(f"  ada: {HALL}, as before\n", terminal.until("? [y/n] "))
+        self.end(terminal, "y\n", 0, *lines)
         self.assertRegex(self.end(self.asked(), "y\n", 0, f"ada {RANKS}"), r"Took back 3 lines \(.*\)\.\nNext: ")
-
-    def test_without_a_question(self) -> None:
-        output = self.end(Terminal(self, "undo", "--yes"), "", 0, f"ada {RANKS}")
+        output = self.end(Terminal(self, "undo", "--yes"), "", 0)
         self.assertNotIn("[y/n]", output)
-        self.assertIn("  ben: no ballot is left\n", output)
+        self.assertIn("  ada: no ballot is left\n", output)
 
     def test_what_was_shown_is_what_is_taken_back(self) -> None:
         """Another act while it asks: it shows what would be taken back now, and asks anew."""
@@ -135,9 +120,4 @@ class AtATerminal(CalledTest):
     def test_a_close_meanwhile(self) -> None:
         terminal = self.asked()
         self.told("close")
-        output = self.end(terminal, "y\n", 9, f"ada {RANKS}", f"ada {OTHER_RANKS}", f"ben {RANKS}", "x")
-        self.assertIn("the vote was closed at ", output)
-
-    def test_the_words_of_a_ballot_that_comes_back(self) -> None:
-        self.told("desk", given=f"ada {RANKS}\n")
-        self.assertIn(f"  ada: {HALL}, as before\n", Terminal(self, "undo").until("? [y/n] "))
+        self.assertIn("the vote was closed at ", self.end(terminal, "y\n", 9, f"ada {RANKS}", f"ada {OTHER_RANKS}", f"ben {RANKS}", "x"))

@@ -19,8 +19,8 @@ from tests.support.at_browser import NEEDS_BROWSER, Window
 from tests.support.calls import CALL, KINDS, POLL, SECRET, WITH_CODES
 from tests.support.program import PROGRAM
 
-SIZES = (2, 3, 8, 31, 32)
-CHOICES = 40
+# how many ballots of how many options
+SIZES = {2: 40, 3: 40, 8: 40, 31: 10, 32: 10}
 ADDRESS = "secretary+vote=2026@example.org"
 OWN = "23456789ab"
 
@@ -76,14 +76,13 @@ def names_of(size: int) -> list[str]:
 
 def poll_of(names: list[str], electors: int, *more: str) -> SealedPoll:
     ratios = tuple(1 + place % 10 for place in range(len(names) - 1))
-    roll = (*(f"e{number:02}" for number in range(electors)), *more)
-    return SealedPoll(HOSTILE_TITLE, tuple(names[:-1]), ratios, names[-1], 3, roll)
+    return SealedPoll(HOSTILE_TITLE, tuple(names[:-1]), ratios, names[-1], 3, (*(f"e{number:02}" for number in range(electors)), *more))
 
 
-def choices_of(size: int, chance: random.Random) -> list[tuple[str, list[str]]]:
+def choices_of(size: int, many: int, chance: random.Random) -> list[tuple[str, list[str]]]:
     """Names as electors type them, and ranks: many equal, many different, few or all of them given."""
     chosen = []
-    for number in range(CHOICES):
+    for number in range(many):
         most, share = chance.randint(1, size), chance.choice((0.1, 0.5, 0.9, 1))
         ranks = [str(chance.randint(1, most)) if chance.random() < share else "-" for _ in range(size)]
         ranks[chance.randrange(size)] = str(chance.randint(1, size))
@@ -150,9 +149,9 @@ class Lines(PageTest):
 
     def test_each_line_is_read_as_what_was_chosen(self) -> None:
         chance = random.Random(2026)
-        for size in SIZES:
-            names, choices = names_of(size), choices_of(size, chance)
-            poll = poll_of(names, CHOICES)
+        for size, many in SIZES.items():
+            names, choices = names_of(size), choices_of(size, many, chance)
+            poll = poll_of(names, many)
             folder = self.open(CallData(ENGLISH, poll, 1, to=ADDRESS))
             # no elector's name has a capital letter
             wanted = {"title": f"Vote: {HOSTILE_TITLE}", "head": HOSTILE_TITLE, "wide": 360, "requests": 0, "scripts": 1}
@@ -196,17 +195,12 @@ class Lines(PageTest):
         result = self.window.ballot("ada", "----")
         self.assertEqual((result["line"], result["missing"], result["words"]), ("", "Give at least one option a rank.", ""))
 
-    def test_what_a_browser_fills_in_again_is_read(self) -> None:
+    def test_what_a_browser_fills_in_again_and_words(self) -> None:
         self.open(CALL)
-        self.window.ask("""(() => {
-          document.getElementById("Name").value = "ada";
+        self.window.ask("""document.getElementById("Name").value = "ada";
           document.querySelectorAll(".rank").forEach((rank, place) => { rank.querySelectorAll("input")[place].checked = true; });
-          dispatchEvent(new Event("pageshow"));
-        })()""")
+          dispatchEvent(new Event("pageshow"));""")
         self.assertEqual(self.window.ask(text_of("Line")), "ada 1,2,3,4")
-
-    def test_words(self) -> None:
-        self.open(CALL)
         for ranks, words in {
             "21-3": "{2}; then {1}; then {4}; not ranked: {3}",
             "1111": "equally {1}, {2}, {3} and {4}",
@@ -216,16 +210,15 @@ class Lines(PageTest):
             "2112": "equally {2} and {3}; then equally {1} and {4}",
         }.items():
             self.assertEqual(self.window.ballot("ada", ranks)["words"], words)
+        # a letter that is to be signed has the mark below the ballot
+        self.open(KINDS["signed"])
+        self.assertEqual(self.window.ballot("ada", "1234")["body"], f"ada 1,2,3,4\r\n[{POLL.mark}]\r\n")
 
     def test_after_the_end_it_says_so_and_still_makes_the_line(self) -> None:
         for until, is_over in ((None, None), (datetime.datetime(2020, 1, 1, tzinfo=datetime.UTC), True), (datetime.datetime.max, False)):
             self.open(dataclasses.replace(CALL, until=until and until.replace(tzinfo=datetime.UTC)))
             self.assertEqual(self.window.ballot("ada", "21-3")["line"], "ada 2,1,-,3")
             self.assertEqual(self.window.ask("document.getElementById('Over')?.checkVisibility()"), is_over)
-
-    def test_a_letter_that_is_to_be_signed_has_the_mark_below_the_ballot(self) -> None:
-        self.open(KINDS["signed"])
-        self.assertEqual(self.window.ballot("ada", "1234")["body"], f"ada 1,2,3,4\r\n[{POLL.mark}]\r\n")
 
     def test_no_name_is_typed_into_the_page_of_a_secret_vote(self) -> None:
         """Whoever can change the page would learn it. The line has a gap in its place, to be filled in the letter."""
@@ -276,8 +269,7 @@ class Names(PageTest):
         self.open(dataclasses.replace(CALL, poll=with_roll(POLL, [f"x{number}" for number in range(2_001)])))
         self.assertEqual(self.window.ask(offered), [])
         for name in wanted:
-            result = self.window.ballot(name, "1234")
-            is_name = re.fullmatch("[A-Za-z0-9.-]+", name) is not None
+            result, is_name = self.window.ballot(name, "1234"), re.fullmatch("[A-Za-z0-9.-]+", name) is not None
             self.assertEqual((result["line"], result["suggested"]), (f"{name.lower()} 1,2,3,4" if is_name else "", []), name)
             self.assertEqual("Names on the roll have only small letters" in result["said"], not is_name, name)
 
@@ -292,21 +284,21 @@ class Names(PageTest):
         }.items():  # fmt: skip
             found = self.window.ballot(typed, "1234")
             self.assertEqual((found["suggested"], found["line"]), (suggested, ""), typed)
-
-    def test_real_names(self) -> None:
+        # those that look like one another
         names = {"ben": "Zo\u00eb \u00c5ngstr\u00f6m", "cleo": "Zoe Angstr\u00f6mer"}
         self.open(dataclasses.replace(CALL, real_names=names))
-        found = self.window.ballot("Zoe Angstrom", "1234")
-        self.assertEqual((found["line"], found["said"]), ("ben 1,2,3,4", "On the roll: ben"))
-        found = self.window.ballot("Zoe", "1234")
-        self.assertEqual((found["line"], found["said"]), ("", "On the roll: bencleo"))
+
+        def line_and_said(typed: str | None) -> tuple[str, str]:
+            found = self.window.ballot(typed, "1234")
+            return found["line"], found["said"]
+
+        self.assertEqual(line_and_said("Zoe Angstrom"), ("ben 1,2,3,4", "On the roll: ben"))
+        self.assertEqual(line_and_said("Zoe"), ("", "On the roll: bencleo"))
         offered = self.window.ask("[...document.getElementById('Name').list.options].map((option) => [option.value, option.label])")
         self.assertEqual(offered[1:3], [["ben", names["ben"]], ["cleo", names["cleo"]]])
         self.window.ask("document.querySelectorAll('#Name-said button')[1].click()")
-        found = self.window.ballot(None, "1234")
-        self.assertEqual((found["line"], found["said"]), ("cleo 1,2,3,4", ""))
-        found = self.window.ballot("eve", "1234")
-        self.assertEqual((found["line"], found["said"]), ("", "eve is not on the roll of this poll; the names on the roll are below."))
+        self.assertEqual(line_and_said(None), ("cleo 1,2,3,4", ""))
+        self.assertEqual(line_and_said("eve"), ("", "eve is not on the roll of this poll; the names on the roll are below."))
 
     def test_the_personal_link(self) -> None:
         # by the place: the name that is filled in, and the own mark in the subject
@@ -470,8 +462,7 @@ class ByKeys(PageTest):
             self.assertEqual(self.window.ask(text_of("Line")), line, key)
         # what is no line any more can't be taken
         self.assertEqual(self.window.ask(text_of("Missing")), "Give at least one option a rank.")
-        way = self.tab_to("What each option needs")
-        self.assertEqual({"Copy", "Letter"} & {place["name"] for place in way}, set())
+        self.assertEqual({"Copy", "Letter"} & {place["name"] for place in self.tab_to("What each option needs")}, set())
 
     def test_tab_comes_to_all_in_order_and_the_focus_is_seen(self) -> None:
         self.addCleanup(self.window.show)

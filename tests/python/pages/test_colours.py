@@ -71,11 +71,8 @@ class ColoursTest(expecting.Expecting):
         known = {*TEXTS, *DRAWN, *(name for table in (TEXTS, DRAWN) for names in table.values() for name in names)}
         self.expect("names of colours", set(light), known)
         own = {name for name in light if not light[name].startswith("var(")}
-        self.expect(
-            "colours that have one in light and another in dark", {name for name in light if dark[name] != light[name]}, own
-        )
-        grounds = set(re.findall(r"background: *var\(--([a-z]+)\)", others))
-        self.expect("grounds", grounds, set(TEXTS))
+        self.expect("colours that have one in light and another in dark", {name for name in light if dark[name] != light[name]}, own)
+        self.expect("grounds", set(re.findall(r"background: *var\(--([a-z]+)\)", others)), set(TEXTS))
         written = set(re.findall(r"(?<![-\w])color: *var\(--([a-z]+)\)", others))
         self.expect("colours of texts", written, {name for names in TEXTS.values() for name in names})
         values = [word for found in re.findall(COLOURED, others) for word in found.split()]

@@ -2,11 +2,10 @@
 
 import dataclasses
 import hashlib
-import hmac
 import json
-import pathlib
 import re
 
+from debvote_tools.poll.secret import alias_of
 from debvote_tools.result import command_line, folder
 from debvote_tools.result.facts import SecretVote
 
@@ -20,10 +19,7 @@ LAST_BALLOT = '<li id="cleo"><b>cleo</b> <code>-,-,-</code>: nothing is preferre
 LETTER_OTHER = "None of these is the checksum that you typed."
 
 
-def alias_of(code, name):
-    return hmac.new(code.encode(), name.encode(), "sha256").hexdigest()[:32]
-
-
+@at_browser.NEEDS_BROWSER
 class ScriptsTest(publishing.PublishTest):
     """A vote that is not secret, and one that is, each on its page."""
 
@@ -39,37 +35,32 @@ class ScriptsTest(publishing.PublishTest):
         ballots = sorted(f"{alias} {ranks}\n" for alias, ranks in zip(roll, ["1,2,3", "2,1,-", "1,1,1"]))
         cls.secret = plain_room(cls.scratch / "secret", poll, "".join(ballots))
         cls.told_in_secret = publish(cls.secret, *FILES, "result")
-        cls.window = cls.enterClassContext(at_browser.Window(800, 900)) if at_browser.BROWSER else None
+        cls.window = cls.enterClassContext(at_browser.Window(800, 900))
 
-    def page_of(self, window, change=None, room=None):
-        """Opens the page, or what a change makes of it."""
+    def page_of(self, room=None, change=None):
+        """The window, with the page, in which the first text of a change is the other one."""
         text = ((room or self.room) / "result" / "index.html").read_text()
-        changed = text if change is None else change(text)
+        changed = text.replace(*change, 1) if change else text
         self.assertEqual(changed != text, change is not None)
         # a changed page would not run, since its policy names its scripts
-        file = pathlib.Path(self.scratch) / "page.html"
+        file = self.scratch / "page.html"
         file.write_text(changed)
-        window.open(file)
+        self.window.open(file)
+        return self.window
 
     def published(self, room, name, **changes):
         """A room with the result of the files of another one, with what an election adds to them."""
         programs = publishing.PROGRAM.parent
         files = {"poll": str(room / "poll.toml"), "ballots": str(room / "ballots")}
-        given = command_line.Arguments(**files, casting=None, desks=1, language="en", target="result")
-        two = command_line.facts_of(given, programs)
+        two = command_line.facts_of(command_line.Arguments(**files, casting=None, desks=1, language="en", target="result"), programs)
         made_room = plain_room(self.scratch / name)
         with folder.made(dataclasses.replace(two, **changes), made_room / "result", programs) as made:
             made.take_place(made_room / "result")
         return made_room
 
-    def test_the_folders_are_made(self):
-        self.expect("open", self.told, ("Winner: 2 B\nverified\n", "", 0))
-        self.expect("secret", self.told_in_secret[1:], ("", 1))
-
-    @at_browser.NEEDS_BROWSER
     def test_finding_a_ballot(self):
-        window = self.window
-        self.page_of(window)
+        self.expect("open", self.told, ("Winner: 2 B\nverified\n", "", 0))
+        window = self.page_of()
         ballot = ['Option 2: <i>B</i> & "C"', "Option 1: 72 Euro", "Not ranked: Option 3: N", "The line: ada 2,1,-"]
         for name in ("ada", " Ada ", "ÁDA"):
             self.expect(name, window.find(name), ["This ballot counts for ada:", *ballot])
@@ -98,21 +89,16 @@ class ScriptsTest(publishing.PublishTest):
             top = window.ask("document.getElementById('Find-your-ballot').getBoundingClientRect().top")
             self.expect(f"{address}: it is shown at once", -1 <= top < 900, True)
         others = ["This page shows other ballots than its files have. Tell the other electors."]
-        for what, change in [
-            ("other ranks", lambda text: text.replace("<code>2,1,-</code>", "<code>1,2,-</code>")),
-            ("no entry", lambda text: text.replace('<li id="ada">', '<li id="eva">')),
-        ]:
-            self.page_of(window, change)
-            self.expect(what, window.find("ada"), others)
+        for before, after in (("<code>2,1,-</code>", "<code>1,2,-</code>"), ('<li id="ada">', '<li id="eva">')):
+            self.page_of(change=(before, after))
+            self.expect(f"{after} in place of {before}", window.find("ada"), others)
 
-    @at_browser.NEEDS_BROWSER
     def test_a_family_name_alone(self):
         """Whoever may be meant is named, with the real name where the page has it, and nobody is told that the name is wrong."""
         poll = re.sub("roll = .*", 'roll = ["anna-meier", "ben-lee", "eve-lee", "dan"]', publishing.PLAIN_POLL)
         room = plain_room(self.scratch / "family", poll, "anna-meier 1,2,3\ndan 1,2\ndan-x 1,2,3\nEVE-LEE 1;2\n")
         made = self.published(room, "family-names", real_names={"anna-meier": "Anna Meier", "dan": "Dan"})
-        window = self.window
-        self.page_of(window, room=made)
+        window = self.page_of(made)
         self.expect("one", window.find("Meier"), ["Do you mean anna-meier (Anna Meier)?"])
         self.expect("several", window.find("lee"), ["Do you mean ben-leeeve-lee?"])
         self.expect("none", window.find("Meyer"), ["No elector has the name meyer. Type it as it is on the roll."])
@@ -127,7 +113,6 @@ class ScriptsTest(publishing.PublishTest):
         window.ask("document.querySelector('#Answer a').click()")
         window.until("document.getElementById('Refused-lines').closest('details').open")
 
-    @at_browser.NEEDS_BROWSER
     def test_the_table_of_votes_breaks_no_word(self):
         """With eight options, on a telephone; the numbers go on beside the names."""
         names = ["Schwarzwald", "Bodensee", "Nordseebad", "Alpenvorland", "Spreewald", "Rheintal", "Sauerland"]
@@ -135,45 +120,27 @@ class ScriptsTest(publishing.PublishTest):
         poll = poll.replace("ratios = [1, 1]", "ratios = [1, 1, 1, 1, 1, 1, 1]")
         room = plain_room(self.scratch / "eight", poll, "ada 1,2,3,4,5,6,7,8\n")
         self.expect("it is published", publish(room, *FILES, "result")[2], 0)
-        window = self.window
-        self.addCleanup(window.resize, 800, 900)
-        window.resize(360, 640)
-        self.page_of(window, room=room)
+        self.addCleanup(self.window.resize, 800, 900)
+        self.window.resize(360, 640)
+        window = self.page_of(room)
         window.ask("document.getElementById('Votes').closest('details').open = true")
-        # a word that is broken lies in two boxes, one below the other
-        broken = window.ask(r"""[...document.querySelectorAll("th[scope=row]")].flatMap((head) => {
-          const walker = document.createTreeWalker(head, NodeFilter.SHOW_TEXT), found = [];
-          for (let node = walker.nextNode(); node; node = walker.nextNode()) {
-            for (const word of node.data.matchAll(/\S+/g)) {
-              const range = document.createRange();
-              range.setStart(node, word.index);
-              range.setEnd(node, word.index + word[0].length);
-              if (range.getClientRects().length > 1) found.push(word[0]);
-            }
-          }
-          return found;
-        })""")
-        self.expect("broken words", broken, [])
+        self.expect("broken words", window.broken_words("[...document.querySelectorAll('th[scope=row]')]"), [])
         self.expect("the page is as wide as the window", window.ask("document.documentElement.scrollWidth"), 360)
 
-    @at_browser.NEEDS_BROWSER
     def test_electors_with_names_of_things_of_the_page(self):
         roll = ["find", "code", "show", "answer", "votes", "name", "result", "again", "poll-file", "ballots", "graph0"]
         poll = re.sub("roll = .*", f"roll = {json.dumps(roll)}", publishing.PLAIN_POLL)
         room = plain_room(self.scratch / "names", poll, "".join(f"{name} 1,2,3\n" for name in roll[:-1]))
         self.expect("it is published", publish(room, *FILES, "result"), ("Winner: 1 A\nverified\n", "", 0))
-        window = self.window
-        self.page_of(window, room=room)
+        window = self.page_of(room)
         for name in roll[:-1]:
             self.expect(name, window.find(name), [f"This ballot counts for {name}:", "Option 1: A", "Option 2: B", "Option 3: N", f"The line: {name} 1,2,3"])
         self.expect("no ballot", window.find(roll[-1]), [f"{roll[-1]} is on the roll, and no ballot counts for this name."])
         self.expect("counted again", window.count_again()[0].startswith("The same, line for line"), True)
 
-    @at_browser.NEEDS_BROWSER
     def test_finding_a_ballot_of_a_secret_vote(self):
-        window = self.window
-        self.page_of(window, room=self.secret)
-        alias = alias_of(self.code, "zoe-muller")
+        self.expect("secret", self.told_in_secret[1:], ("", 1))
+        window, alias = self.page_of(self.secret), alias_of(self.code, "zoe-muller")
         wanted = ["Option 2: B", "Option 1: A", "Not ranked: Option 3: N", f"The line: {alias} 2,1,-"]
         for name in ("zoe-muller", "Zoë Müller", "  ZOE  MÜLLER "):
             self.expect(name, window.find(name, f" {self.code[:16].upper()} {self.code[16:]}")[1:], wanted)
@@ -181,8 +148,7 @@ class ScriptsTest(publishing.PublishTest):
         self.expect("no ballot", none, [f"Your alias is {alias_of(self.code, 'cleo')}. It is on the roll, and no ballot counts under it."])
         other = f"No elector of this vote has the alias {alias_of('f' * 32, 'ada')}. Type name and code as they are in your letter or on your slip."
         self.expect("another code", window.find("ada", "f" * 32), [other])
-        short = "A code has 32 digits, 0 to 9 and a to f. Type yours as it was given to you."
-        self.expect("a short code", window.find("ada", "f" * 31), [short])
+        self.expect("a short code", window.find("ada", "f" * 31), ["A code has 32 digits, 0 to 9 and a to f. Type yours as it was given to you."])
         line = f"{alias} 2,1,-\n"
         for what, before, after, said in [
             ("a line twice", line, line * 2, "replaced"),
@@ -190,44 +156,35 @@ class ScriptsTest(publishing.PublishTest):
             ("a line of nobody", line, f"{line}{'0' * 32} 1,2,3\n", "bad not on roll"),
             ("a last envelope", "]\nsecret = true", "]\nlast_envelope = 3\nsecret = true", "last_envelope"),
         ]:
-            self.page_of(window, lambda text, before=before, after=after: text.replace(before, after), room=self.secret)
+            self.page_of(self.secret, (before, after))
             odd = window.find("ada", self.code)[0]
             self.expect(f"{what}: {odd}", (odd.startswith("This is not how a secret vote is published: "), said in odd), (True, True))
 
-    @at_browser.NEEDS_BROWSER
     def test_finding_a_ballot_by_its_code(self):
         """Where codes are on the roll, half a code is not called the code of nobody."""
-        by_code = self.published(self.secret, "codes", has_codes=True)
-        code = alias_of(self.code, "zoe-muller")
-        window = self.window
-        self.page_of(window, room=by_code)
+        by_code, code = self.published(self.secret, "codes", has_codes=True), alias_of(self.code, "zoe-muller")
+        window = self.page_of(by_code)
         self.expect("in groups", window.find(f"{code[:16].upper()} {code[16:]}")[1:], ["Option 2: B", "Option 1: A", "Not ranked: Option 3: N", f"The line: {code} 2,1,-"])
-        short = "A code has 32 digits, 0 to 9 and a to f. Type yours as it was given to you."
-        self.expect("half of it", window.find(code[:16]), [short])
+        self.expect("half of it", window.find(code[:16]), ["A code has 32 digits, 0 to 9 and a to f. Type yours as it was given to you."])
         self.expect("no ballot", window.find(alias_of(self.code, "cleo")), ["The code is on the roll, and no ballot counts under it."])
         self.expect("nobody's", window.find("f" * 32), ["No elector has this code. Type it as it is on your slip."])
 
-    @at_browser.NEEDS_BROWSER
     def test_the_checksum_of_the_close(self):
         """In a secret vote it covers the random line, too."""
         folder, seal = self.secret / "result", "5" * 32
         secret = SecretVote(codes=frozenset(), seal=seal, sheet_text=(folder / "sheet.txt").read_text(), late=0)
         room = self.published(self.secret, "sealed", secret=secret)
-        window = self.window
-        self.page_of(window, room=room)
+        window = self.page_of(room)
         sealed = hashlib.sha256(f"{seal}\n".encode() + (folder / "ballots.txt").read_bytes()).hexdigest()
         rows = [row for row in window.count_again(sealed) if "as the letter of the close has to have it" in row]
         said = f"The checksum of seal.txt and the ballots, as the letter of the close has to have it, is {sealed}."
         self.expect("sealed", rows, [f"{said} This page names it too. Yours is the same."])
 
-    @at_browser.NEEDS_BROWSER
     def test_what_is_typed(self):
         """Enter shows the ballot, and an answer goes when another name is typed; of two with one real name both are shown."""
         room = self.published(self.room, "real names", real_names={"ada": "Zoë", "ben": "Zoë", "dan": "Dan"})
-        window = self.window
-        self.page_of(window, room=room)
-        found = window.find("zoe")
-        counts = [said for said in found if said.startswith("This ballot counts")]
+        window = self.page_of(room)
+        counts = [said for said in window.find("zoe") if said.startswith("This ballot counts")]
         self.expect("one real name", counts, ["This ballot counts for ada:", "This ballot counts for ben:"])
         window.ask("document.getElementById('Name').focus()")
         window.press("1")
@@ -237,12 +194,9 @@ class ScriptsTest(publishing.PublishTest):
         window.until("document.getElementById('Answer').textContent !== ''")
         self.expect("by Enter", window.found(), ["No elector has the name zoe1. Type it as it is on the roll."])
 
-    @at_browser.NEEDS_BROWSER
     def test_folded_parts(self):
         """A link, or the address of the page, opens the folded part that it leads to; on paper all are open, without a script too."""
-        window = self.window
-        self.page_of(window)
-        unfolded = "[...document.querySelectorAll('.folded[open] h3')].map((node) => node.id)"
+        window, unfolded = self.page_of(), "[...document.querySelectorAll('.folded[open] h3')].map((node) => node.id)"
         self.expect("all are folded", window.ask(unfolded), [])
         window.ask("""document.querySelector('a[href="#Who-voted"]').click()""")
         self.expect("by a link", window.ask(unfolded), ["Who-voted"])
@@ -252,23 +206,20 @@ class ScriptsTest(publishing.PublishTest):
         for address, part in (("Votes", "Votes"), ("How-to-verify", "How-to-verify"), ("%", None)):
             window.ask(f"location.hash = '#{address}'")
             window.until(f"{json.dumps(part)} === null || {unfolded}.includes({json.dumps(part)})")
-        with at_browser.Window(800, 900) as window:
-            window.show(on_paper=True)
-            self.page_of(window)
-            seen = window.ask("[...document.querySelectorAll('.folded')].map((part) => part.children[1].getBoundingClientRect().height > 0)")
-            self.expect("on paper", (seen, window.ask(unfolded)), ([True] * 9, []))
-            # browsers print no grounds: paper has the ink on the paper
-            won = window.ask("(({ backgroundColor, color }) => [backgroundColor, color === getComputedStyle(document.body).color])(getComputedStyle(document.querySelector('.chip.won')))")
-            self.expect("the chip of the winner on paper", won, ["rgba(0, 0, 0, 0)", True])
+        self.addCleanup(window.show)
+        window.show(on_paper=True)
+        self.page_of()
+        seen = window.ask("[...document.querySelectorAll('.folded')].map((part) => part.children[1].getBoundingClientRect().height > 0)")
+        self.expect("on paper", (seen, window.ask(unfolded)), ([True] * 9, []))
+        # browsers print no grounds: paper has the ink on the paper
+        won = window.ask("(({ backgroundColor, color }) => [backgroundColor, color === getComputedStyle(document.body).color])(getComputedStyle(document.querySelector('.chip.won')))")
+        self.expect("the chip of the winner on paper", won, ["rgba(0, 0, 0, 0)", True])
 
-    @at_browser.NEEDS_BROWSER
     def test_counting_again(self):
         folder = self.room / "result"
         sums = {name: hashlib.sha256((folder / name).read_bytes()).hexdigest() for name in ("poll.toml", "ballots.txt", "index.html")}
-        window = self.window
-        self.page_of(window)
-        rows = window.count_again()
-        lines = (folder / "sheet.txt").read_text().count("\n")
+        window = self.page_of()
+        rows, lines = window.count_again(), (folder / "sheet.txt").read_text().count("\n")
         self.expect("the sheet", rows[0], f"The same, line for line: this count comes to the published sheet, in all its {lines} lines.")
         self.expect("the page", rows[2].startswith("This page shows what its files come to: "), True)
         for typed in (sums["poll.toml"], f"{sums['poll.toml'].upper()}  poll.toml", f"\\{sums['poll.toml']} *a\\nb", f" {sums['ballots.txt']}\n"):
@@ -280,14 +231,11 @@ class ScriptsTest(publishing.PublishTest):
             said = f"The checksum of {name} is {hashlib.sha256(data).hexdigest()}."
             self.expect(f"{name} alone", window.count_again(files={name: data}), [said])
             self.expect(f"{name}, typed", window.count_again(hashlib.sha256(data).hexdigest(), {name: data}), [f"{said} Yours is the same."])
-            other = window.count_again(hashlib.sha256(data).hexdigest(), {name: data + b"x"})
-            self.expect(f"{name}, changed", LETTER_OTHER in other[0], True)
+            self.expect(f"{name}, changed", LETTER_OTHER in window.count_again(hashlib.sha256(data).hexdigest(), {name: data + b"x"})[0], True)
         sum_of_poll = sums["poll.toml"]
         for typed, number in ((sum_of_poll[:63], 63), (f"{sum_of_poll[:16]} {sum_of_poll[16:20]}", 20), (f"{sum_of_poll}0", 65), ("?", 0)):
-            part = f"A checksum has 64 digits, 0 to 9 and a to f, and you have typed {number}."
-            self.expect(f"typed {typed}", window.count_again(typed)[3], part)
+            self.expect(f"typed {typed}", window.count_again(typed)[3], f"A checksum has 64 digits, 0 to 9 and a to f, and you have typed {number}.")
 
-    @at_browser.NEEDS_BROWSER
     def test_counting_again_on_changed_pages(self):
         changes = {
             "the result": ('<h2 id="Result"><b data-option="2"><bdi>&lt;i&gt;B', '<h2 id="Result"><b data-option="2"><bdi>&lt;i&gt;C'),
@@ -300,23 +248,18 @@ class ScriptsTest(publishing.PublishTest):
             "the ballots, which are not as many": (LAST_BALLOT, ""),
             "the ballot of ada": ("</bdi>; then Option 1: <bdi>72 Euro</bdi>; not", "</bdi>; then Option 1: <bdi>73 Euro</bdi>; not"),
         }
-        window = self.window
-        for what, (before, after) in changes.items():
-            self.page_of(window, lambda text, before=before, after=after: text.replace(before, after, 1))
+        for what, change in changes.items():
+            window = self.page_of(change=change)
             said = [row for row in window.count_again() if row.startswith("This page does not show what its files come to: ")]
             self.expect(f"changed: {what}", [what.strip() in row for row in said], [True])
 
-    @at_browser.NEEDS_BROWSER
     def test_files_from_the_disk(self):
         folder = self.room / "result"
         files = {name: (folder / name).read_bytes() for name in ("poll.toml", "ballots.txt", "sheet.txt")}
-        window = self.window
-        self.page_of(window)
+        window = self.page_of()
         self.expect("the same", window.count_again(files=files)[0].startswith("The same, line for line"), True)
         cut = window.count_again(files=files | {"sheet.txt": files["sheet.txt"].removesuffix(b"\n")})[0]
-        feeds = (
-            "There it is: Winner: 2 B (without a line feed at its end). By this count it is: Winner: 2 B (with a line feed at its end)."
-        )
+        feeds = "There it is: Winner: 2 B (without a line feed at its end). By this count it is: Winner: 2 B (with a line feed at its end)."
         self.expect(f"no line feed at the end: {cut}", feeds in cut, True)
         others = window.count_again(files=files | {"ballots.txt": files["ballots.txt"] + b"dan 1,2,3\n"})
         told = "If the files are as they were published, tell the other electors."

@@ -39,16 +39,19 @@ class Translations(languages.LanguageTest):
                     self.assertTrue(all(entry.forms), entry.texts)
                     self.assertFalse(entry.is_fuzzy or entry.is_obsolete, entry.texts)
 
-    def test_each_translation_has_the_places_and_the_tags_of_its_sentence(self) -> None:
+    def test_each_translation_has_the_places_the_tags_and_the_end_of_its_sentence(self) -> None:
+        ends = re.compile(r"([.:?])(?:</\w+>)?$")
         for code, entries in self.entries.items():
             for entry in entries[1:]:
                 with self.subTest(language=code, text=entry.texts[0]):
+                    wanted, found = ends.search(entry.texts[0]), ends.search(entry.forms[0])
+                    if wanted and wanted[1] in ":?":
+                        self.assertEqual(found and found[1], wanted[1])
                     self.assertEqual(len(entry.forms), len(entry.texts))
                     for form in entry.forms:
                         self.assertEqual(sentences.places_in(form), sentences.places_in(entry.texts[-1]))
                         self.assertEqual(sorted(TAG.findall(form)), sorted(TAG.findall(entry.texts[-1])))
-                        self.assertEqual(form.count("{"), len(re.findall(r"\{\w+\}", form)))
-                        self.assertEqual(form.strip(), form)
+                        self.assertEqual((form.count("{"), form.strip()), (len(re.findall(r"\{\w+\}", form)), form))
                         # it may come to stand in an attribute
                         self.assertNotIn('"', TAG.sub("", form))
 
@@ -62,23 +65,11 @@ class Translations(languages.LanguageTest):
                 first, second = re.findall(r"\{\w+\}", text)
                 self.assertTrue(form.startswith(first) and form.endswith(second), f"{code}: {form}")
 
-    def test_a_sentence_ends_as_its_translation_does(self) -> None:
-        ends = re.compile(r"([.:?])(?:</\w+>)?$")
-        for code, entries in self.entries.items():
-            for entry in entries[1:]:
-                wanted = ends.search(entry.texts[0])
-                if wanted and wanted[1] in ":?":
-                    with self.subTest(language=code, text=entry.texts[0]):
-                        found = ends.search(entry.forms[0])
-                        self.assertEqual(found and found[1], wanted[1])
-
     def test_french_signs_stand_behind_a_space_that_does_not_break(self) -> None:
         for entry in self.entries["fr"][1:]:
             for form in entry.forms:
                 with self.subTest(text=entry.texts[0]):
-                    self.assertIsNone(
-                        re.search(r"[^\u00a0:/][;?!\u00bb]|\u00ab[^\u00a0]| :|\w: ", TAG.sub("", form).replace("https:", "")), form
-                    )
+                    self.assertIsNone(re.search(r"[^\u00a0:/][;?!\u00bb]|\u00ab[^\u00a0]| :|\w: ", TAG.sub("", form).replace("https:", "")), form)
 
     @unittest.skipUnless(MSGFMT, "msgfmt is not installed")
     def test_msgfmt_takes_each_file_and_makes_of_it_what_is_read_here(self) -> None:
@@ -92,13 +83,10 @@ class Translations(languages.LanguageTest):
                 self.assertEqual({**by_msgfmt._catalog, "": ""}, {**here._catalog, "": ""})
                 self.assertEqual([by_msgfmt.plural(n) for n in range(200)], [here.plural(n) for n in range(200)])
 
-    def test_sentences_with_numbers_and_places(self) -> None:
+    def test_numbers_and_places(self) -> None:
         for code, wanted in (("en", ("1 file", "3 files")), ("de", ("1 Datei", "3 Dateien"))):
-            said = [language_of(code).say_number("{number} file", "{number} files", number) for number in (1, 3)]
-            self.assertEqual(tuple(said), wanted)
+            self.assertEqual(tuple([language_of(code).say_number("{number} file", "{number} files", number) for number in (1, 3)]), wanted)
         self.assertEqual(language_of("de").say("The line: {line}", line="{x}"), "Die Zeile: {x}")
         self.assertEqual(language_of("fr").between("{before}; {after}"), "\u00a0; ")
-
-    def test_numbers(self) -> None:
         for code, wanted in {"en": "33.3 %", "de": "33,3 %", "fr": "33,3 %", "es": "33,3 %"}.items():
             self.assertEqual((share(1, 3, language_of(code)), share(1, 2, language_of(code))), (wanted, "50 %"))

@@ -41,8 +41,7 @@ def unmarked(text: str) -> list[str]:
 def unsaid(page: str) -> list[str]:
     """What of a page is read and is unmarked."""
     said = [html.unescape(found) for found in SAID.findall(page)]
-    body = UNSAID.sub(" ", page[page.index("<title>") :])
-    texts = [html.unescape(text) for text in re.split(r"<[^>]*>", body)]
+    texts = [html.unescape(text) for text in re.split(r"<[^>]*>", UNSAID.sub(" ", page[page.index("<title>") :]))]
     return [word for text in [" ".join(texts), *map(words_of, said)] for word in unmarked(text)]
 
 
@@ -54,50 +53,40 @@ def words_of(said: str) -> str:
 
 
 class Marked(languages.LanguageTest):
-    """A test in a language whose words are all marked."""
+    """Elections in a language whose words are all marked."""
 
     @classmethod
     def setUpClass(cls) -> None:
         super().setUpClass()
         cls.enterClassContext(languages.marked_german())
 
-    def check_page(self, file: pathlib.Path) -> str:
-        page = file.read_text(encoding="utf-8")
-        with self.subTest(page=str(file.relative_to(self.scratch))):
-            self.assertIn('<html lang="de">', page)
-            self.assertIn(BEGIN, page)
-            self.assertEqual(unsaid(page), [])
-        return page
+    def election(self, *words: object, **how: object) -> str:
+        """What a command says to the secretary, who reads English."""
+        said = super().election(*words, **how)
+        self.assertNotIn(BEGIN, said)
+        return said
 
-    def check_letter(self, text: str, name: str) -> None:
-        with self.subTest(letter=name):
+    def check(self, text: str, name: str) -> None:
+        """A page or a letter."""
+        with self.subTest(name):
             self.assertIn(BEGIN, text)
-            self.assertEqual(unmarked(text), [])
+            self.assertEqual(unsaid(text) if name.endswith(".html") else unmarked(text), [])
+            self.assertEqual('<html lang="de">' in text, name.endswith(".html"))
 
     def check_files(self, place: pathlib.Path, *files: str) -> None:
         """These pages and letters of an election."""
         for name in files:
-            if name.endswith(".html"):
-                self.check_page(place / name)
-            else:
-                self.check_letter((place / name).read_text(encoding="utf-8"), name)
+            self.check((place / name).read_text(encoding="utf-8"), f"{place.name}/{name}")
 
-    def check_messages(self, place: pathlib.Path, kinds: set[str]) -> None:
+    def check_messages(self, place: pathlib.Path, *kinds: str) -> None:
         """The messages that go out, each with its subject."""
         files = sorted(place.glob("letters/*/*/*.eml"))
-        self.assertEqual({file.parent.parent.name for file in files}, kinds)
+        self.assertEqual({file.parent.parent.name for file in files}, set(kinds))
         for file in files:
             message = email.message_from_bytes(file.read_bytes(), policy=email.policy.default)
             body = message.get_body()
             assert body is not None
-            self.check_letter(f"{message['Subject']}\n{body.get_content()}", str(file.relative_to(place)))
-
-
-ALL_KINDS = {"call", "receipts", "reminders", "closed", "result"}
-
-
-class MarkedElections(Marked):
-    """Elections from their beginning to their end."""
+            self.check(f"{message['Subject']}\n{body.get_content()}", str(file.relative_to(self.scratch)))
 
     def test_the_test_finds_a_word(self) -> None:
         self.assertEqual(unmarked(f"{BEGIN}What{END_MARK} 12 At the lake, e01 {BEGIN}.{END_MARK}"), [])
@@ -105,52 +94,30 @@ class MarkedElections(Marked):
         self.assertEqual(unsaid('<title></title><p aria-label="Bars"><code>x</code></p>'), ["Bars"])
         self.assertEqual(unsaid(f"<title>{BEGIN}x{END_MARK}</title><p>has <b>1</b></p>"), ["has"])
 
-    def test_an_open_vote(self) -> None:
-        place = self.held("open", "de")
-        self.check_files(place, "call/index.html", "call/call.txt", "letters/extension.txt", "letters/closed.txt")
-        self.check_files(place, "result/index.html", "letters/result.txt", "result/closed.txt")
-        self.check_messages(place, ALL_KINDS)
+    def test_from_the_beginning_to_the_end(self) -> None:
+        for name, more in (("open", ()), ("secret", ("private/slips.html",))):
+            place = self.held(name, "de", is_secret=name == "secret")
+            self.check_files(place, "call/index.html", "call/call.txt", *more, "letters/extension.txt", "letters/closed.txt")
+            self.check_files(place, "result/index.html", "letters/result.txt", "result/closed.txt")
+            self.check_messages(place, "call", "receipts", "reminders", "closed", "result")
 
-    def test_a_secret_vote(self) -> None:
-        place = self.held("secret", "de", is_secret=True)
-        self.check_files(
-            place, "call/index.html", "call/call.txt", "private/slips.html", "letters/extension.txt", "letters/closed.txt"
-        )
-        self.check_files(place, "result/index.html", "letters/result.txt", "result/closed.txt")
-        self.check_messages(place, ALL_KINDS)
-
-    def test_codes_on_the_roll(self) -> None:
-        place = self.called("codes", "de", codes=("--on-roll",))
-        self.check_files(place, "call/index.html", "call/call.txt", "private/slips.html")
-
-    def test_a_call_that_says_little(self) -> None:
+    def test_other_calls(self) -> None:
+        """With codes on the roll, one that says little, and one whose letters are printed."""
+        self.check_files(self.called("codes", "de", codes=("--on-roll",)), "call/index.html", "call/call.txt", "private/slips.html")
         place = self.begun("little", "de", poll=POLL.replace("quorum = 1", "quorum = 0\nwording = 'more_than'"))
+        (place / "members.csv").write_text((place / "members.csv").read_text().replace("e01@example.org", ""))
+        self.election("little", "roll")
         self.election("little", "call")
         self.check_files(place, "call/index.html", "call/call.txt")
-
-    def test_letters_on_paper(self) -> None:
-        place = self.begun("paper", "de")
-        (place / "members.csv").write_text((place / "members.csv").read_text().replace("e01@example.org", ""))
-        self.election("paper", "roll")
-        self.election("paper", "call")
-        self.election("paper", "letters", "call", "--from", languages.TO)
+        self.election("little", "letters", "call", "--from", languages.TO)
         (page,) = place.rglob("letters/*/*/*.html")
         self.assertNotEqual(MARKED.findall(page.read_text(encoding="utf-8")), [])
 
-
-class MarkedPublications(Marked):
-    """What debvote-publish makes of two files."""
-
-    def publish(self, name: str, poll: str, ballots: str, *words: object, status: int = 0) -> pathlib.Path:
-        for file, text in {"poll.toml": poll, "ballots": ballots}.items():
-            (self.scratch / f"{name}-{file}").write_text(text)
-        given = ["--poll", f"{name}-poll.toml", "--ballots", f"{name}-ballots", "--language", "de"]
-        self.program("debvote-publish", *given, *words, name, status=status)
-        return self.scratch / name
-
-    def test_elections_of_all_kinds(self) -> None:
+    def test_what_debvote_publish_makes_of_two_files(self) -> None:
         poll = POLL + f"roll = {languages.ELECTORS}\n".replace("'", '"')
         equal = poll.replace("[1, 1, 3]", "[1, 1, 1]").replace("quorum = 1", "quorum = 0")
+        options = ", ".join(f'"{number}"' for number in range(1, 15))
+        many = f'title = "Wohin?"\noptions = [{options}]\nratios = {[1] * 14}\ndefault = "Further discussion"\nquorum = 0\nroll = ["e01"]\n'
         cycle = "".join(f"e0{n} {ranks}\n" for n, ranks in enumerate(["1,2,3,4", "2,3,1,4", "3,1,2,4"] * 3, start=1))
         tie = "e01 1,2,3,4\ne02 2,1,3,4\ne03 1,2,-,4\ne04 2,1,-,4\n"
         for name, given, ballots, words, status in (
@@ -163,20 +130,13 @@ class MarkedPublications(Marked):
             ("long", poll, f"e01 1,2,3,4\n{'x' * 150}\n\n\n", (), 0),
             ("late", "last_envelope = 2\n" + poll, BALLOTS, (), 1),
             ("one", equal, "e01 1,2,3,4\n", (), 0),
+            ("many", many, f"e01 {','.join(map(str, range(1, 16)))}\n", (), 0),
+            ("many-equal", many, f"e01 {'1,' * 14}2\n", (), 1),
         ):
-            self.check_files(self.publish(name, given, ballots, *words, status=status), "index.html", "letter.txt")
-
-    def test_many_options(self) -> None:
-        options = ", ".join(f'"Option {number}"' for number in range(1, 15))
-        poll = f'title = "Wohin?"\noptions = [{options}]\nratios = {[1] * 14}\ndefault = "Further discussion"\nquorum = 0\nroll = ["e01"]\n'
-        for name, ranks, status in (("many", range(1, 16), 0), ("all-equal", [1] * 14 + [2], 1)):
-            folder = self.publish(name, poll, f"e01 {','.join(map(str, ranks))}\n", status=status)
-            page = (folder / "index.html").read_text(encoding="utf-8").replace("Option ", "")
-            self.assertEqual(unsaid(page), [])
-
-
-class MarkedDecisions(Marked):
-    """What the page and the letter of the result tell of what the secretary decided."""
+            (self.scratch / "poll.toml").write_text(given)
+            (self.scratch / "ballots").write_text(ballots)
+            self.program("debvote-publish", "--poll", "poll.toml", "--ballots", "ballots", "--language", "de", *words, name, status=status)
+            self.check_files(self.scratch / name, "index.html", "letter.txt")
 
     def test_casting_votes(self) -> None:
         place = self.begun("cast", "de", poll=POLL.replace("[1, 1, 3]", "[1, 1, 1]").replace("quorum = 1", "quorum = 0"))
@@ -184,35 +144,27 @@ class MarkedDecisions(Marked):
         self.election("cast", "add", "--yes", given="e01 1,2,3,4\ne02 2,1,3,4\n")
         self.election("cast", "close")
         given = ("--cast-by", "Person 01", "--cast-on", "2026-11-05")
-        for option, words, status in (
-            (None, (), 1),
-            ("At the lake", given, 0),
-            ("In the town hall", (*given, "--force", "--because", languages.REASON), 0),
-        ):
-            casting = () if option is None else ("--casting", option)
-            self.election("cast", "publish", *casting, *words, status=status)
+        again = ("--casting", "In the town hall", *given, "--force", "--because", languages.REASON)
+        for words, status in (((), 1), (("--casting", "At the lake", *given), 0), (again, 0)):
+            self.election("cast", "publish", *words, status=status)
             self.check_files(place, "result/index.html", "letters/result.txt")
             self.election("cast", "letters", "result")
         self.assertIn('class="doubts"', (place / "result" / "index.html").read_text(encoding="utf-8"))
-        self.check_messages(place, {"result"})
+        self.check_messages(place, "result")
 
     def test_doubts(self) -> None:
-        refused = "e01 1,2,3,4\n" + "bad\n" * 3
-        for name, codes, ballots, is_closed in (
-            ("refused", None, refused, True),
-            ("refused-in-secret", (), refused, True),
-            ("nobody", None, "bad\n", True),
-            ("open", None, refused, False),
-        ):
+        bad = "e01 1,2,3,4\n" + "bad\n" * 3
+        for name, codes, ballots in (("refused", None, bad), ("refused-in-secret", (), bad), ("nobody", None, "bad\n"), ("open", None, bad)):
             place = self.called(name, "de", codes=codes)
             self.election(name, "add", "--yes", "--force", given=ballots)
-            if is_closed:
+            if name != "open":
                 self.election(name, "close", "--early")
             self.election(name, "publish", "--force", "--because", languages.REASON, "--yes")
-            self.assertIn('class="doubts"', self.check_page(place / "result" / "index.html"))
-            if is_closed:
+            self.check_files(place, "result/index.html")
+            self.assertIn('class="doubts"', (place / "result" / "index.html").read_text(encoding="utf-8"))
+            if name != "open":
                 self.election(name, "letters", "result")
-                self.check_messages(place, {"result"})
+                self.check_messages(place, "result")
 
     def test_what_was_done(self) -> None:
         place = self.called("done", "de")
@@ -224,4 +176,4 @@ class MarkedDecisions(Marked):
         self.election("done", "add", "--yes", "--moved", "--because", languages.REASON, given="e01 1,2,3,4\n")
         self.election("done", "close")
         self.election("done", "publish")
-        self.check_page(place / "result" / "index.html")
+        self.check_files(place, "result/index.html")

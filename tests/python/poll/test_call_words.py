@@ -69,8 +69,7 @@ class Files(unittest.TestCase):
                 checksums = dict(line.split("  ")[::-1] for line in files["SHA256SUMS"].decode().splitlines())
                 self.assertEqual(checksums, {name: sha256_of(files[name]) for name in files if name != "SHA256SUMS"})
                 if kind != "codes":
-                    self.assertEqual(read_plain(files["poll.toml"]), data.poll)
-                    self.assertEqual(files["poll.toml"], data.poll.as_bytes())
+                    self.assertEqual((read_plain(files["poll.toml"]), files["poll.toml"]), (data.poll, data.poll.as_bytes()))
                 checksum, page = sha256_of(data.poll.as_bytes()), page_of(data)
                 for text in (page, as_read(extension_letter(data))):
                     self.assertIn(checksum, text)
@@ -157,15 +156,12 @@ class Files(unittest.TestCase):
         self.assertIn("\n\nSell \u05d0\u05d1\n\nit\n\nWHAT DECIDES\n\nMajority", letter)
 
     def test_the_roll(self) -> None:
-        listed = "".join(f"<li><code>{name}</code></li>\n" for name in ROLL)
-        self.assertIn(listed, call_files(CALL)["index.html"].decode())
+        self.assertIn("".join(f"<li><code>{name}</code></li>\n" for name in ROLL), call_files(CALL)["index.html"].decode())
         self.assertIn("\n  ada, ben, cleo, dan\n", call_files(dataclasses.replace(CALL, at=None))["call.txt"].decode())
         names = dataclasses.replace(CALL, real_names={"ada": "Ada <i>", "dan": ""})
-        page = call_files(names)["index.html"].decode()
-        self.assertIn("<li><code>ada</code> <bdi>Ada &lt;i&gt;</bdi></li>\n<li><code>ben</code></li>\n", page)
+        self.assertIn("<li><code>ada</code> <bdi>Ada &lt;i&gt;</bdi></li>\n<li><code>ben</code></li>\n", call_files(names)["index.html"].decode())
         # real names are shown only where they will be published
-        hidden = call_files(dataclasses.replace(names, real_names=None))
-        self.assertNotIn(b"Ada", b"".join(hidden.values()))
+        self.assertNotIn(b"Ada", b"".join(call_files(dataclasses.replace(names, real_names=None)).values()))
         for count, in_page, in_letter in ((200, True, True), (201, True, False), (2_000, True, False), (2_001, False, False)):
             data = dataclasses.replace(CALL, at=None, poll=with_roll(POLL, [f"e{number:04}" for number in range(count)]))
             files = {name: call_files(data)[name].decode() for name in ("index.html", "call.txt")}
@@ -263,8 +259,7 @@ class NoBallot(unittest.TestCase):
 
     def test_of_calls_and_extensions(self) -> None:
         for code, (kind, data), count in itertools.product(LANGUAGES, KINDS.items(), (1, 2, 3, 7)):
-            options = (*POLL.options, "D", "E", "F", "G")[:count]
-            poll = dataclasses.replace(data.poll, options=options, ratios=(1,) * count)
+            poll = dataclasses.replace(data.poll, options=(*POLL.options, "D", "E", "F", "G")[:count], ratios=(1,) * count)
             call = dataclasses.replace(data, poll=poll, language=language_of(code), until=LATER)
             for text in (call_letter(call), extension_letter(call)):
                 with self.subTest(language=code, kind=kind, options=count):

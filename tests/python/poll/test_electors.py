@@ -6,7 +6,6 @@ from collections.abc import Iterable
 from debvote_tools.book.queries import Elector
 from debvote_tools.poll.members import Member, Roll, members_of, roll_of
 
-
 KEY = "0123456789ABCDEF0123456789ABCDEF01234567"
 KNOWN = [Elector(1, "ada", 1, "Ada L", ("a@x",)), Elector(2, "ben", 2, "Ben", ("b@x",), KEY), Elector(3, "zoe", 3, "Zoë", ())]
 SAME = ["Ada L;a@x", f"Ben;b@x;;{KEY}", "Zoë"]
@@ -35,8 +34,7 @@ class RollTest(unittest.TestCase):
 
     def roll(self, *rows: str, known: list[Elector] | None = None, language: str = "en", is_called: bool = False) -> Roll:
         """The roll of rows of who, mail, name and key; the first is on line 2."""
-        text = "\n".join(["who;mail;name;key", *rows])
-        return roll_of(members_of(text.encode()), known or [], language, is_called=is_called)
+        return roll_of(members_of("\n".join(["who;mail;name;key", *rows]).encode()), known or [], language, is_called=is_called)
 
     def assert_named(self, roll: Roll, *names: str) -> None:
         self.assertEqual(([fault.words for fault in roll.faults], names_of(roll.electors)), ([], list(names)))
@@ -54,8 +52,7 @@ class Proposals(RollTest):
         self.assert_named(self.roll("Zoë Müller", "Ann", language="fr"), "zoe-muller", "ann")
 
     def test_an_address_where_nothing_is_left_of_who(self) -> None:
-        roll = self.roll("李明;x@y@z Li.Ming@x", "...;dot@x")
-        self.assertEqual(names_of(roll.electors), ["x", "dot"])
+        self.assertEqual(names_of(self.roll("李明;x@y@z Li.Ming@x", "...;dot@x").electors), ["x", "dot"])
         self.assert_faults(self.roll("李明", "李;李@x", "Ada"), (":2: no name can be made from 李明",), (":3: no name",))
 
     def test_who_would_get_one_name_gets_a_number(self) -> None:
@@ -70,8 +67,7 @@ class Proposals(RollTest):
 
     def test_ten_thousand_of_one_name(self) -> None:
         marks = str.maketrans("01", "!?")
-        roll = self.roll(*(f"Ann {number:b}".translate(marks) for number in range(10_000)))
-        names = names_of(roll.electors)
+        names = names_of(self.roll(*(f"Ann {number:b}".translate(marks) for number in range(10_000))).electors)
         self.assertEqual((names[0], names[-1], len({*names})), ("ann-1", "ann-10000", 10_000))
 
 
@@ -79,8 +75,7 @@ class Known(RollTest):
     def test_a_name_stays_with_its_person(self) -> None:
         roll = self.roll("Zoë", "Ben B;;ben", "Ada L;a@x", "Dan", known=KNOWN)
         self.assert_named(roll, "zoe", "ben", "ada", "dan")
-        self.assertEqual(numbers_of(roll), [3, 2, 1, None])
-        self.assertEqual(changes_of(roll), [("ben", ["who", "address", "key"])])
+        self.assertEqual((numbers_of(roll), changes_of(roll)), ([3, 2, 1, None], [("ben", ["who", "address", "key"])]))
         self.assertEqual((names_of(new_of(roll)), roll.gone), (["dan"], ()))
 
     def test_who_is_renamed_keeps_the_name_in_the_list(self) -> None:
@@ -106,21 +101,18 @@ class Known(RollTest):
         left = [KNOWN[0], KNOWN[1], Elector(3, "zoe", None, "Zoë", ())]
         roll = self.roll(*SAME, "Zoe", known=left)
         self.assert_named(roll, "ada", "ben", "zoe", "zoe-2")
-        self.assertEqual((names_of(new_of(roll)), numbers_of(roll)[2:]), (["zoe", "zoe-2"], [3, None]))
-        self.assertEqual(roll.gone, ())
+        self.assertEqual((names_of(new_of(roll)), numbers_of(roll)[2:], roll.gone), (["zoe", "zoe-2"], [3, None], ()))
         self.assertEqual(self.roll(*SAME[:2], known=left).gone, ())
         roll = self.roll(*SAME[:2], "Zoë;new@x", known=left)
         self.assertEqual((changes_of(roll), names_of(new_of(roll))), ([], ["zoe"]))
 
     def test_of_two_namesakes_that_of_the_last_list_is_meant(self) -> None:
-        known = [Elector(1, "ann-1", None, "Ann", ()), Elector(2, "ann-2", 1, "Ann", ())]
-        self.assert_named(self.roll("Ann", known=known), "ann-2")
+        self.assert_named(self.roll("Ann", known=[Elector(1, "ann-1", None, "Ann", ()), Elector(2, "ann-2", 1, "Ann", ())]), "ann-2")
         roll = self.roll("Ann", known=[Elector(1, "ann-1", 1, "Ann", ()), Elector(2, "ann-2", 2, "Ann", ())])
         self.assertEqual((numbers_of(roll), len(roll.gone)), ([None], 2))
 
     def test_who_is_not_named_is_nobody_else(self) -> None:
-        known = [Elector(1, "x", 1, "", ()), Elector(2, "ben", 2, "", ())]
-        roll = self.roll(";;y", "Ben;;ben", known=known)
+        roll = self.roll(";;y", "Ben;;ben", known=[Elector(1, "x", 1, "", ()), Elector(2, "ben", 2, "", ())])
         self.assert_named(roll, "y", "ben")
         self.assertEqual((numbers_of(roll), names_of(roll.gone)), ([None, 2], ["x"]))
 
@@ -132,8 +124,7 @@ class Known(RollTest):
         self.assert_faults(self.roll(";a@x", ";b@x", f";;;{KEY}"), *((f":{line}: it has no `who`",) for line in (2, 3, 4)))
 
     def test_a_name_that_belongs_to_another(self) -> None:
-        roll = self.roll("Ada L;;ben", "Ben;b@x", known=KNOWN)
-        self.assert_faults(roll, (":2: `ben` is the name of Ben (line 3) already", "write another name"))
+        self.assert_faults(self.roll("Ada L;;ben", "Ben;b@x", known=KNOWN), (":2: `ben` is the name of Ben (line 3) already", "write another name"))
         # where the other has gone, or is spelled anew, it is theirs
         self.assert_named(self.roll("Benjamin;;ben", known=KNOWN), "ben")
 
@@ -167,11 +158,7 @@ class AfterTheCall(RollTest):
         self.assert_faults(self.called("Eve;a@x;ada", *SAME[1:]), (":2: ada (Eve) was Ada L",))
         self.assert_faults(self.called("Ada L;a@x", SAME[1], "Zoe;;zoe"), (":4: zoe (Zoe) was Zoë",))
         self.assert_named(self.called(*SAME[:2], "Zoe\u0308"), "ada", "ben", "zoe")
-
-    def test_another_person_in_the_place_of_one(self) -> None:
+        # another person in the place of one
         self.assert_faults(self.called(*SAME[:2], "Eve;z@x"), ("missing: zoe (Zoë)",), ("new: eve (Eve)",))
-
-    def test_who_was_gone_before_the_call_is_new(self) -> None:
-        known = [*KNOWN, Elector(4, "dan", None, "Dan", ())]
-        roll = self.roll(*SAME, "Dan", known=known, is_called=True)
-        self.assert_faults(roll, ("new: dan (Dan)",))
+        # who was gone before the call is new
+        self.assert_faults(self.roll(*SAME, "Dan", known=[*KNOWN, Elector(4, "dan", None, "Dan", ())], is_called=True), ("new: dan (Dan)",))

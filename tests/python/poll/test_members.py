@@ -80,18 +80,11 @@ class Read(MembersTest):
             with self.subTest(content[:60]):
                 self.assert_rows(content, (2, *row))
 
-    def test_trailing_delimiters_blank_rows_and_short_rows(self) -> None:
+    def test_trailing_delimiters_blank_rows_short_rows_and_quotation_marks(self) -> None:
         text = "\n,,\nname,who,mail,,\n,,,,\nada,Ada,,,\n\n   \nben\ncleo,,c@x,,,,,,\n,,,,"
         self.assert_rows(text, (5, "ada", "Ada", ""), (8, "ben", "", ""), (9, "cleo", "", "c@x"))
-
-    def test_quotation_marks(self) -> None:
         text = 'name,who,mail\nada,"Lovelace, Ada",a@x\n"ben", "Ben ""the"" B","b@x"\ncleo,Cleo "C" C,c@x\ndan,"",""\n'
-        wanted = [
-            (2, "ada", "Lovelace, Ada", "a@x"),
-            (3, "ben", 'Ben "the" B', "b@x"),
-            (4, "cleo", 'Cleo "C" C', "c@x"),
-            (5, "dan", "", ""),
-        ]
+        wanted = [(2, "ada", "Lovelace, Ada", "a@x"), (3, "ben", 'Ben "the" B', "b@x"), (4, "cleo", 'Cleo "C" C', "c@x"), (5, "dan", "", "")]
         self.assert_rows(text, *wanted)
 
     def test_line_ends_within_a_cell_keep_the_numbers_of_lines(self) -> None:
@@ -101,12 +94,9 @@ class Read(MembersTest):
 
     def test_several_addresses(self) -> None:
         text = 'who,mail\nAda,a@x b@x\nBen,"b@x, c@x;d@x"\nCleo,"Lovelace, Cleo <c@x>; <d@x>"\nDan,mailto:d@x d@x\n'
-        found = [row.addresses for row in self.read(text).electors]
-        self.assertEqual(found, [("a@x", "b@x"), ("b@x", "c@x", "d@x"), ("c@x", "d@x"), ("d@x",)])
-
-    def test_the_fingerprint_of_a_key(self) -> None:
-        text = f"who,mail,key\nAda,,{KEY[:20].lower()} {KEY[20:]}\nBen,,\n"
-        self.assertEqual([row.key for row in self.read(text).electors], [KEY, ""])
+        self.assertEqual([row.addresses for row in self.read(text).electors], [("a@x", "b@x"), ("b@x", "c@x", "d@x"), ("c@x", "d@x"), ("d@x",)])
+        # and the fingerprint of a key
+        self.assertEqual([row.key for row in self.read(f"who,mail,key\nAda,,{KEY[:20].lower()} {KEY[20:]}\nBen,,\n").electors], [KEY, ""])
 
 class Unread(MembersTest):
     def test_faults_of_the_file(self) -> None:
@@ -142,20 +132,15 @@ class Unread(MembersTest):
         ]:
             self.assert_faults(text, (f"members.csv:{line}: ", "close each quotation mark"))
 
-    def test_a_folder_and_no_file(self) -> None:
-        folder = pathlib.Path(tempfile.mkdtemp())
-        self.addCleanup(folder.rmdir)
-        for file, part in ((folder, "Is a directory"), (folder / "no", "No such file")):
-            with self.assertRaises(Fault) as caught:
+    def test_a_folder_no_file_and_one_that_is_too_long(self) -> None:
+        folder = pathlib.Path(self.enterContext(tempfile.TemporaryDirectory()))
+        with open(folder / "long", "wb") as file:
+            file.truncate(TABLE_LIMIT + 1)
+        long = "it is longer than .* bytes; shorten it, then run debvote-election roll again"
+        for file, part in ((folder, f"{folder}: Is a directory"), (folder / "no", f"{folder}/no: No such file"), (folder / "long", long)):
+            with self.assertRaisesRegex(Fault, part) as caught:
                 members.members_in(file)
             self.assertEqual(caught.exception.status, Status.BAD_WORDS)
-            self.assertIn(f"{file}: {part}", str(caught.exception.words))
-
-    def test_a_file_that_is_too_long(self) -> None:
-        with tempfile.NamedTemporaryFile() as file:
-            file.truncate(TABLE_LIMIT + 1)
-            with self.assertRaisesRegex(Fault, "it is longer than .* bytes; shorten it, then run debvote-election roll again"):
-                members.members_in(pathlib.Path(file.name))
 
 
 class Rows(MembersTest):
@@ -187,8 +172,7 @@ class Rows(MembersTest):
         self.assert_faults(f"who,mail,name\nAda,,{'a' * 33}\n", (":2: ", "cannot be a name"))
 
     def test_a_sum_below_the_members(self) -> None:
-        sums = "Total,", "TOTAL: 3,", "Summe,3", ",Insgesamt", "Gesamtsumme = 3,", "Somme : 3,", "Suma 3,", "Subtotal,", "Anzahl: 1.000,"
-        for row in sums:
+        for row in ("Total,", "TOTAL: 3,", "Summe,3", ",Insgesamt", "Gesamtsumme = 3,", "Somme : 3,", "Suma 3,", "Subtotal,", "Anzahl: 1.000,"):
             with self.subTest(row=row):
                 first = next(filter(None, row.split(",")))
                 self.assert_faults(f"who,mail\nAda,ada@x\n{row}\n", (f":3: `{first}` is a sum and no member; take the line out",))
@@ -197,10 +181,7 @@ class Rows(MembersTest):
         self.assert_rows("who,mail\nAnna Total,\nSumm,\nSuma,s@x\n", *wanted)
 
     def test_characters_that_were_lost(self) -> None:
-        lost = ":2: `Zo\ufffd` has lost a character when it was saved (U+FFFD); write the "
-        self.assert_faults("who,mail\nZo\ufffd,z@x\n", (lost,))
+        self.assert_faults("who,mail\nZo\ufffd,z@x\n", (":2: `Zo\ufffd` has lost a character when it was saved (U+FFFD); write the ",))
         for end, (sign, shown) in itertools.product((b"\n", b"\r\n", b"\r"), ((b"\xeb", "Zo\u00eb,z@x"), (b"\x81", "Zo"))):
             self.assert_faults(b"who,mail%bAda,%bZo%b,z@x%b" % (end, end, sign, end), ("members.csv:3: it is not in UTF-8", shown))
-
-    def test_a_cell_that_is_cut_by_its_comma(self) -> None:
         self.assert_faults("who,mail,,\nLovelace, Ada,a@x,\n", (":2: `a@x` is after",), (":2: `Ada` is not a mail address",))

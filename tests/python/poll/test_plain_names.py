@@ -6,8 +6,6 @@ import unittest
 from debvote_tools.poll import plain_names
 from debvote_tools.poll.plain_names import alike, bad_options, bad_title, elector_name, made_different, plain_options, plain_title, similar_names
 
-
-
 OPTION = re.compile(r"[!-~]([ -~]{0,38}[!-~])?")
 
 
@@ -44,8 +42,7 @@ class Options(unittest.TestCase):
     def test_they_are_always_what_debvote_takes(self) -> None:
         odd = ["é" * 60, "ß" * 30, " a", "b ", "\u200b", "c\u0301" * 41, "\u2028", "a" * 39 + "é b", "İ" * 41, "́", "€" * 14]
         found = plain_options([*odd, *odd], "de")
-        self.assertEqual([name for name in found if not OPTION.fullmatch(name)], [])
-        self.assertEqual(len({alike(name) for name in found}), len(found))
+        self.assertEqual(([name for name in found if not OPTION.fullmatch(name)], len({alike(name) for name in found})), ([], len(found)))
 
 
 class Titles(unittest.TestCase):
@@ -123,15 +120,13 @@ class Refused(unittest.TestCase):
         pairs = [("Am See", "am  SEE"), ("Café", "Cafe"), ("Straße", "STRASSE"), ("Am See", "Am\u00a0See\u200b")]
         for first, second in (*pairs, ("李", "李\ufe00"), ("a", "a\u0301"), ("ｘ", "X")):
             self.assert_bad([first, "other", second], (3, f"looks like option 1, `{first}`"))
-
-    def test_names_that_do_not(self) -> None:
+        # and names that do not
         self.assert_bad(["Am See", "Am Fee", "かき", "がき", "राम", "रोम", "Über", "Ueber", "1", "2", "!", "?"])
 
     def test_of_two_equal_plain_names_debvote_speaks(self) -> None:
         self.assert_bad(["a", "a", ""])
         self.assert_bad(["a", "A"], (2, "looks like option 1"))
-
-    def test_the_plain_name_of_another(self) -> None:
+        # the plain name of another
         self.assertEqual(plain_options(["Ü", "Ue", "Ue\u0301 2"], "de"), ["Ue 2", "Ue", "Ue 2 1"])
         self.assert_bad(["Ü", "Ue", "Ue\u0301 2"], (3, "looks like the plain name of option 1, `Ü`"))
 
@@ -141,7 +136,6 @@ class Refused(unittest.TestCase):
             self.assertEqual(len(bad_title(f"a{odd}b")), 1)
         self.assert_bad(["ä" * 200, "b" * 201], (2, "it has 201 characters; at most 200 are allowed"))
         self.assert_bad(["\u200b\u3164", "\u200c", "x"], (1, "no visible character"), (2, "no visible character"))
-        self.assertEqual([number for number, _, _ in bad_title("c" * 201)], [0])
-        self.assertEqual(bad_title("c" * 200), [])
+        self.assertEqual(([number for number, _, _ in bad_title("c" * 201)], bad_title("c" * 200)), ([0], []))
         # a subject of the last vote that was copied: each answer would wait as one about that vote
         self.assertEqual([len(bad_title(f"Budget [{mark}]")) for mark in ("0123456789abcdef", "01234567", "2026")], [1, 0, 0])

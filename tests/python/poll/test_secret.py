@@ -59,21 +59,17 @@ def run(*words: str, given: str = "", folder: pathlib.Path | None = None) -> str
 class Codes(unittest.TestCase):
     def test_the_alias_is_the_one_that_an_elector_finds(self) -> None:
         for name, code in CODES.items():
-            command = BY_OPENSSL.replace("NAME", name).replace("CODE", code)
-            self.assertEqual(run("sh", "-c", command), ALIASES[name] + "\n")
+            self.assertEqual(run("sh", "-c", BY_OPENSSL.replace("NAME", name).replace("CODE", code)), ALIASES[name] + "\n")
             spaced = " ".join(re.findall("....", code))
             self.assertEqual(run("sh", "-c", BY_PYTHON, given=f"{spaced}\n{name}\n"), f"Code: Name: {ALIASES[name]}\n")
         self.assertNotEqual(alias_of(CODES["ada"], "ben"), ALIASES["ada"])
-
-    def test_whatever_lies_in_the_folder_the_alias_is_found(self) -> None:
+        # whatever lies in the folder
         with tempfile.TemporaryDirectory(prefix="debvote-alias-") as name:
             folder = pathlib.Path(name)
             for file in ("hmac.py", "hashlib.py", "sitecustomize.py", "codecs.py", "openssl.cnf", "printf", "cut"):
                 (folder / file).write_text("import os; os._exit(1)\n")
-            command = BY_OPENSSL.replace("NAME", "ada").replace("CODE", CODES["ada"])
-            self.assertEqual(run("sh", "-c", command, folder=folder), ALIASES["ada"] + "\n")
-            found = run("sh", "-c", BY_PYTHON, given=f"{CODES['ada']}\nada\n", folder=folder)
-            self.assertEqual(found, f"Code: Name: {ALIASES['ada']}\n")
+            self.assertEqual(run("sh", "-c", BY_OPENSSL.replace("NAME", "ada").replace("CODE", CODES["ada"]), folder=folder), ALIASES["ada"] + "\n")
+            self.assertEqual(run("sh", "-c", BY_PYTHON, given=f"{CODES['ada']}\nada\n", folder=folder), f"Code: Name: {ALIASES['ada']}\n")
 
     def test_codes_are_sixteen_bytes_of_the_generator_that_nobody_can_guess(self) -> None:
         with unittest.mock.patch("secrets.token_hex", return_value="c" * 32) as drawn:
@@ -90,8 +86,7 @@ class Codes(unittest.TestCase):
                 self.assertEqual(new_code("ada"), good)
         with unittest.mock.patch("debvote_tools.poll.secret.alias_of", side_effect=["2" * 32, "12e" + "4" * 29, "b" * 32]) as made:
             code = new_code("ada")
-        self.assertEqual([call.args[1] for call in made.call_args_list], ["ada"] * 3)
-        self.assertEqual(made.call_args.args[0], code)
+        self.assertEqual(([call.args[1] for call in made.call_args_list], made.call_args.args[0]), (["ada"] * 3, code))
         self.assertFalse(NUMBER.fullmatch("12a4"))
 
     def test_what_looks_like_a_code(self) -> None:
@@ -109,8 +104,7 @@ class Published(unittest.TestCase):
         poll = aliased_poll(POLL, ALIASES | {"eve": "0" * 32})
         self.assertEqual(poll.roll, tuple(sorted(ALIASES.values())))
         self.assertNotEqual(list(poll.roll), list(ALIASES.values()))
-        self.assertEqual(dataclasses.replace(poll, roll=ROLL), POLL)
-        self.assertEqual(read_plain(poll.as_bytes()), poll)
+        self.assertEqual((dataclasses.replace(poll, roll=ROLL), read_plain(poll.as_bytes())), (POLL, poll))
         self.assertEqual([text for text in (*ROLL, *CODES.values()) if text in poll.as_bytes().decode()], [])
         with self.assertRaises(KeyError):
             aliased_poll(POLL, {"ada": ALIASES["ada"]})
@@ -185,8 +179,7 @@ class Slips(unittest.TestCase):
             self.assertEqual([other for other in CODES.values() if other in text], [code])
         self.assertIn("let each elector draw one", slips(WITH_CODES, CODES_ON_ROLL).decode())
         # a slip without a real name has the name on the roll in its place
-        bare = elector("ada", "", "", CODES["ada"], "")
-        self.assertTrue(self.each(CALL, [bare])[0].startswith("ada Where we meet Nameada Code"))
+        self.assertTrue(self.each(CALL, [elector("ada", "", "", CODES["ada"], "")])[0].startswith("ada Where we meet Nameada Code"))
 
     def test_hostile_texts_are_texts(self) -> None:
         texts = ["<script>alert(1)</script>", '" onload="x', "\u05d0\u05d1 & {title} %s </bdi></section>"]
@@ -244,8 +237,7 @@ class Table(unittest.TestCase):
     def test_each_elector_has_a_row(self) -> None:
         rows = [elector(name, f'{name.title()} "\u00c9", jr.', "", CODES[name], ALIASES[name]) for name in ROLL]
         found = list(csv.DictReader(io.StringIO(codes_csv(iter(rows)).decode())))
-        wanted = [{"name": row.name, "who": row.who, "mail": "", "code": row.code, "alias": row.alias} for row in rows]
-        self.assertEqual(found, wanted)
+        self.assertEqual(found, [{"name": row.name, "who": row.who, "mail": "", "code": row.code, "alias": row.alias} for row in rows])
         self.assertEqual(codes_csv([]), b"name,who,mail,code,alias\n")
 
     def test_a_spreadsheet_runs_no_cell(self) -> None:

@@ -1,14 +1,21 @@
-"""The folders and the pages of examples, of cases, and of an election whose names are made to hurt a page.
+"""The folders and the pages of examples, of cases, of slips of the hand, of large elections, and of names that are made to hurt a page.
 
-In each folder the files must be what the program writes, with their sums; page_parts.py and result_checks.py say what
-must stand on the page.
+In each folder the files must be what the program writes, with their sums; page_parts.py and result_checks.py say what must stand on the
+page. All pages are read in one browser.
+
+DEBVOTE_LARGEST_ELECTORS says how many electors the largest election has; 10000 if it is not given.
 """
 
 import hashlib
 import json
+import os
+import random
+import re
 import tomllib
 
 from tests.support import examples, looks, page_parts, publishing, result_checks
+
+ELECTORS = int(os.environ.get("DEBVOTE_LARGEST_ELECTORS", "10000"))
 
 # the files of a folder, but for picture, sums and letter
 FILES = {"poll.toml", "ballots.txt", "sheet.txt", "standing.txt", "result.json", "votes.csv", "recount.py", "index.html"}
@@ -27,16 +34,13 @@ def try_folder(expect, name, poll, ballots, more, folder):
     verified = publishing.run([publishing.PROGRAM, "verify", *files, "--sheet", folder / "sheet.txt"])[0]
     expect(f"{name}: what is said", output, sheet.splitlines()[-1] + "\n" + verified)
     texts = [(folder / file).read_bytes() for file in ("ballots.txt", "sheet.txt", "standing.txt")]
-    standing = publishing.run([publishing.PROGRAM, "standing", *files])[0]
-    expect(f"{name}: its files", texts, [ballots.read_bytes(), sheet.encode(), standing.encode()])
-    expect(f"{name}: its poll", *(in_plain_form(file.read_bytes()) for file in (folder / "poll.toml", poll)))
+    expect(f"{name}: its files", texts, [ballots.read_bytes(), sheet.encode(), publishing.run([publishing.PROGRAM, "standing", *files])[0].encode()])
     expect(f"{name}: its poll is in plain form", (folder / "poll.toml").read_bytes(), plain_bytes(poll.read_bytes()))
     page, given, plain = ((file.read_bytes()) for file in (folder / "index.html", poll, folder / "poll.toml"))
     sums = [hashlib.sha256(data).hexdigest() for data in (given, plain)]
     named = [f"has the checksum (SHA-256) <code>{sums[0]}</code>", f"have this checksum, the poll's? <code>{sums[1]}</code>"]
     expect(f"{name}: the checksums of the poll", [text.encode() in page for text in named], [given != plain, True])
-    guide = (folder / "READING-A-SHEET.md").read_bytes()
-    expect(f"{name}: its guide", guide, (publishing.ROOT / "docs" / "READING-A-SHEET.md").read_bytes())
+    expect(f"{name}: its guide", (folder / "READING-A-SHEET.md").read_bytes(), (publishing.ROOT / "docs" / "READING-A-SHEET.md").read_bytes())
     found = {file.name: hashlib.sha256(file.read_bytes()).hexdigest() for file in folder.iterdir()}
     # the letter has the checksum of the checksums
     letter = (folder / "letter.txt").read_text()
@@ -44,8 +48,7 @@ def try_folder(expect, name, poll, ballots, more, folder):
     del found["SHA256SUMS"], found["letter.txt"]
     sums = dict(reversed(line.split("  ")) for line in (folder / "SHA256SUMS").read_text().splitlines())
     expect(f"{name}: its sums", sums, found)
-    pictures = {"picture.svg"} if publishing.HAS_PICTURES else set()
-    expect(f"{name}: its names", set(found), FILES | pictures)
+    expect(f"{name}: its names", set(found), FILES | ({"picture.svg"} if publishing.HAS_PICTURES else set()))
     modes = {file.stat().st_mode & 0o777 for file in folder.iterdir()}
     expect(f"{name}: it can be read by all", (folder.stat().st_mode & 0o777, modes), (0o755, {0o644}))
     return True
@@ -55,25 +58,126 @@ def try_folder(expect, name, poll, ballots, more, folder):
 KEYS = "title options ratios default quorum wording roll last_envelope deadline address secret shown_title shown_options explanations"
 
 
-def in_plain_form(poll_bytes):
-    """What a poll says, without keys that a sealed poll does not have."""
-    document = tomllib.loads(poll_bytes.decode("utf-8-sig"))
-    return {key: document[key] for key in KEYS.split() if key in document}
-
-
 def plain_bytes(poll_bytes):
-    """The poll in plain form."""
-    lines = (f"{key} = {json.dumps(value, ensure_ascii=False)}\n" for key, value in in_plain_form(poll_bytes).items())
+    """The poll in plain form, without keys that a sealed poll does not have."""
+    document = tomllib.loads(poll_bytes.decode("utf-8-sig"))
+    lines = (f"{key} = {json.dumps(document[key], ensure_ascii=False)}\n" for key in KEYS.split() if key in document)
     return "".join(lines).replace("\x7f", "\\u007f").encode()
+
+
+HOSTILE = "</b><script>alert(1)</script> & \"'<img src=x onerror=alert(1)>"
+
+
+def try_names(expect, scratch):
+    """The names that people read stand where names stand, and the plain ones in the list of the options alone. Returns the folder."""
+    room, names = publishing.room_with(scratch / "names", "supermajority_and_recasts"), [HOSTILE, "72 Euro", "דיון נוסף"]
+    keys = {"shown_title": "Ob die Satzung geändert wird", "shown_options": names, "explanations": ["Changes § 4.\n\n\u200fÜber <b>alles</b>.", ""]}
+    keys |= {"deadline": "2026-12-04T18:00:00+01:00", "note": "not kept"}
+    poll = (room / "poll.toml").read_text()
+    (room / "poll.toml").write_text("".join(f"{key} = {json.dumps(value, ensure_ascii=False)}\n" for key, value in keys.items()) + poll)
+    expect("names: its status", publishing.publish(room, *publishing.FILES, "result")[1:], ("", 0))
+    expect("names: the poll keeps what is sealed", "note" in (room / "result" / "poll.toml").read_text(), False)
+    page = (room / "result" / "index.html").read_text()
+    whose = f"About <b data-option=\"1\">Option 1: <bdi>{page_parts.escaped(HOSTILE)}</bdi></b>, in the words of those who publish this page."
+    for name, wanted in [
+        ("the window", "<title>Result: Ob die Satzung geändert wird</title>"),
+        *([("the picture", "The picture has the plain names.")] if publishing.HAS_PICTURES else []),
+        ("a text", f'<p class="whose">{whose}'),
+        ("its paragraphs", '<p class="about"><bdi>\u200fÜber &lt;b&gt;alles&lt;/b&gt;.</bdi></p>'),
+    ]:
+        expect(f"names: {name}", wanted in page, True)
+    shown = page.partition('id="Poll-file"')[0]
+    for name in ("Amend it", "Write guidelines", "Further discussion"):
+        # in the picture each is a text of its own
+        found = re.finditer(f"(?<!>)(?<!>\\d: )(?<!default option ){name}", shown)
+        expect(f"names: {name} once", [shown[match.start() - 40 : match.end()] for match in found][1:], [])
+    expect("names: nothing runs", (page.count("<script"), "<script>alert" in page, "<img" in page), (1, False, False))
+    expect("names: the sheet has none", "Satzung" in (room / "result" / "sheet.txt").read_text(), False)
+    letter = (room / "result" / "letter.txt").read_text()
+    expect("names: the letter", ("Ob die Satzung geändert wird" in letter, "Winner: Option 2: 72 Euro" in letter), (True, True))
+    return room / "result"
+
+
+NOBODY = "No elector has a ballot that counts: nobody's vote has decided this."
+NOBODY_TOLD = "no elector has a ballot that counts; check that these are the ballots of this poll"
+MOSTLY_REFUSED = "More than half of the lines of the ballot file are refused: {} of {}."
+MOSTLY_REFUSED_TOLD = "more than half of the lines are refused, {} of {}; debvote explain says why"
+
+# what is told of ballots, and what the page says
+SLIPS = {
+    "an empty file": ("", [NOBODY_TOLD], [NOBODY]),
+    "names of another roll": ("zoe 1,2,3\nyan 2,1,3\n", [NOBODY_TOLD, MOSTLY_REFUSED_TOLD.format(2, 2)], [NOBODY, MOSTLY_REFUSED.format(2, 2)]),
+    "more refused lines than ballots": ("ada 1,2,3\nben 1,2\nCleo 1,2,3\n", [MOSTLY_REFUSED_TOLD.format(2, 3)], [MOSTLY_REFUSED.format(2, 3)]),
+    "as many refused lines as ballots": ("ada 1,2,3\nben 1,2\n", [], []),
+    "hyphens alone": ("ada -,-,-\n", [], []),
+}
+
+
+def try_slip(expect, name, scratch):
+    """What is told of the ballots, and what stands on the page. Returns the folder."""
+    ballots, told, shown = SLIPS[name]
+    room = publishing.plain_room(scratch / "slips" / name.replace(" ", "-"), ballots=ballots)
+    output, faults, status = publishing.publish(room, *publishing.FILES, "result")
+    expect(f"{name}: what is told", faults, "".join(f"Note: {line}; the result page says so\n" for line in told))
+    sheet, _, wanted = publishing.run([publishing.PROGRAM, "count", *publishing.FILES], cwd=room)
+    expect(f"{name}: how it ended", (output, status), (sheet.splitlines()[-1] + "\nverified\n", wanted))
+    text = (room / "result" / "index.html").read_text(encoding="utf-8")
+    expect(f"{name}: what the page says", page_parts.doubts_of(text), shown)
+    is_below = "doubts" in text.partition("<body>")[2].partition("</section>")[2].partition("<script>")[0]
+    expect(f"{name}: doubts stand in the part of the result alone", is_below, False)
+    page_parts.try_page(expect, name, room / "result")
+    result_checks.try_published(expect, name, room / "result", None)
+    return room / "result"
+
+
+def large_poll(options, electors):
+    """A poll with names of the greatest length, and ballots that make a cycle."""
+    rng, names = random.Random(1), [f"{number} {'WMwm' * 10}"[:40] for number in range(1, options + 1)]
+    roll = [f"elector-{number}-".ljust(32, "m") for number in range(electors)]
+    *others, default = names
+    listed = [", ".join(f'"{name}"' for name in texts) for texts in (others, roll)]
+    poll = f'title = "{"W" * 80}"\noptions = [{listed[0]}]\nratios = [{", ".join("1" for _ in others)}]\n'
+    poll += f'default = "{default}"\nquorum = 1\nroll = [{listed[1]}]\n'
+    ballots = ""
+    for name in roll:
+        turn, ranks = rng.choice([0, options // 3, 2 * options // 3]), list(range(1, options))
+        ballots += f"{name} {','.join(map(str, [*ranks[turn:], *ranks[:turn], options]))}\n"
+    return poll, ballots
+
+
+def publish_large(expect, scratch, options, electors):
+    """Publishes a large election, and says how many bytes it has. Returns the folder."""
+    name = f"{options}-options-{electors}-electors"
+    room = scratch / name
+    room.mkdir()
+    poll, ballots = large_poll(options, electors)
+    (room / "poll.toml").write_text(poll)
+    (room / "ballots").write_text(ballots)
+    # whether it is a tie does not matter here
+    expect(f"{name}: its status", publishing.publish(room, *publishing.FILES, name)[2] in (0, 1), True)
+    sizes = {file.name: file.stat().st_size for file in (room / name).iterdir()}
+    print(f"{name}: index.html {sizes['index.html']} bytes, the folder {sum(sizes.values())} bytes", flush=True)
+    expect(f"{name}: its bytes", sizes["index.html"] < publishing.LARGEST_PAGE, True)
+    page = (room / name / "index.html").read_text()
+    has_picture = ('<div class="picture">\n<svg' in page, 'href="picture.svg"' in page, "scrolls sideways by itself" in page)
+    if "picture.svg" in sizes:
+        expect(f"{name}: its picture", has_picture, (True, True, True) if options <= 12 else (False, True, False))
+    return room / name
 
 
 class FoldersTest(looks.LooksTest):
     @classmethod
     def made(cls):
-        published = publishing.side_by_side(cls.publish, examples.elections(cls.scratch))
+        # an option whose name has the words of a casting vote outside of a tie, and which wins, is told as the winner alone
+        named = publishing.PLAIN_POLL.replace('"A"', '"A, casting option 2 is not among them"')
+        room = publishing.plain_room(cls.scratch / "of-words", named)
+        words = "words-of-the-sheet", room / "poll.toml", room / "ballots", []
+        published = publishing.side_by_side(cls.publish, [*examples.elections(cls.scratch), words])
         cls.castings = {folder: casting for folder, casting in published if folder.exists()}
         cls.note("how many", len(cls.castings) > len(examples.CASES), True)
-        return list(cls.castings)
+        slips = publishing.side_by_side(lambda name: try_slip(cls.note, name, cls.scratch), SLIPS)
+        large = [publish_large(cls.note, cls.scratch, *size) for size in ((12, 20), (13, 20), (32, 100))]
+        return [*cls.castings, *slips, *large, try_names(cls.note, cls.scratch)]
 
     @classmethod
     def publish(cls, election):
@@ -88,10 +192,65 @@ class FoldersTest(looks.LooksTest):
             result_checks.try_published(self.expect, folder.name, folder, casting)
 
     @looks.NEEDS_BROWSER
-    def test_bars(self):
-        self.check_bars()
-
-    @looks.NEEDS_BROWSER
     @looks.NEEDS_PICTURES
     def test_pictures(self):
-        self.check_pictures({True, False})
+        """A picture fits its page, or scrolls by itself and is no smaller than three quarters of what was drawn; dark ones are light."""
+        inks, kinds, large = set(), set(), set()
+        for look in self.looks():
+            if look["picture"]:
+                width, region, drawn, ink = look["picture"]
+                fits = width <= region + 1
+                self.expect(f"{look['folder']}: a picture in {region}", fits or abs(width - round(drawn * 0.75)) <= 1, True)
+                self.expect(f"{look['folder']}: a picture of {drawn} is not blown up", width <= drawn + 1, True)
+                (large if "12-options" in look["folder"].name else kinds).add(fits)
+                inks.add(ink)
+        self.expect("pictures that fit and that scroll", (kinds, large), ({True, False}, {False}))
+        self.expect("pictures have one ink in light and another in dark", len(inks), 2)
+
+    @looks.NEEDS_BROWSER
+    def test_bars(self):
+        """Each bar is as long as its number says, is seen on the ground of the page by its edge, and its number can be read."""
+        fills = set()
+        for look in self.looks():
+            for bar in look["bars"]:
+                fill, edge, ink = bar["colours"]
+                name, wanted = f"{look['folder']}: a bar of {bar['number']} of {bar['whole']}", 1000 * bar["number"] / bar["whole"]
+                # one that is folded has no width
+                self.expect(name, bar["share"] is None or abs(bar["share"] - wanted) <= 10, True)
+                self.expect(f"{name} can be seen", looks.contrast(edge, look["paper"]) >= 3, True)
+                self.expect(f"the number of {name} can be read", looks.contrast(ink, fill) >= 4.5, True)
+                fills.add((look["is_dark"], bar["isFor"], fill))
+        self.expect("bars for and against have each one fill in light and one in dark", len(fills), 4)
+
+    @looks.NEEDS_BROWSER
+    def test_doubts(self):
+        """The doubts of each page are seen in the first window, and can be read on their own ground, light and dark."""
+        grounds, doubtful = set(), {folder for folder in self.folders if page_parts.doubts_of((folder / "index.html").read_text())}
+        self.expect("doubtful pages", len(doubtful) >= 3, True)
+        for look in self.looks():
+            if look["folder"] not in doubtful or look["width"] not in looks.DOUBT_WIDTHS:
+                continue
+            is_seen, ground, ink, word = look["doubts"]
+            is_read = min(looks.contrast(ground, ink), looks.contrast(ground, word)) >= 4.5
+            self.expect(f"{look['folder']}: doubts", (is_seen, is_read, ground != look["paper"]), (True, True, True))
+            grounds.add(ground)
+        self.expect("doubts have one ground in light and another in dark", len(grounds), 2)
+
+
+class LargestTest(looks.LooksTest):
+    widths = looks.DOUBT_WIDTHS
+
+    @classmethod
+    def made(cls):
+        return [publish_large(cls.note, cls.scratch, 32, ELECTORS)]
+
+
+class RandomTest(publishing.PublishTest):
+    """Random polls, whose data, sentences and pages are met with the second count."""
+
+    def test_random_polls(self):
+        # no random poll leaves as many options in a tie
+        many = "rounds-cycle-of-31-options"
+        poll, ballots, _ = examples.of_case(many, self.scratch)
+        publishing.publish_files(poll, ballots, self.scratch / many)
+        result_checks.try_random_polls(self.expect, result_checks.try_published(self.expect, many, self.scratch / many, None))

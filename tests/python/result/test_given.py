@@ -1,55 +1,15 @@
-"""What stands on a page beside the count: names and texts as people read them, whose words they are, and the refused lines.
-
-Names in any language stand as text, whatever they have in them. Of a folder each command of the page is typed.
-"""
+"""What stands on a page beside the count: whose words they are, and the refused lines; and each command of a page, as it is typed in its folder."""
 
 import hashlib
 import html
-import json
 import os
 import re
 import shutil
 import subprocess
 
-from tests.support import looks, page_parts as pages, publishing
+from tests.support import page_parts as pages, publishing
 from tests.support.publishing import FILES, HAS_PICTURES, PATH, PROGRAM, SECONDS, plain_room, publish, room_with
 
-HOSTILE = "</b><script>alert(1)</script> & \"'<img src=x onerror=alert(1)>"
-
-
-# ---------------------------------------------------------------- names and texts
-def try_names(expect, scratch):
-    """The names that people read stand where names stand, and the plain ones in the list of the options alone. Returns the folder."""
-    room = room_with(scratch / "names", "supermajority_and_recasts")
-    names = [HOSTILE, "72 Euro", "דיון נוסף"]
-    texts = ["Changes § 4.\n\n\u200fÜber <b>alles</b>.", ""]
-    keys = {"shown_title": "Ob die Satzung geändert wird", "shown_options": names, "explanations": texts}
-    keys |= {"deadline": "2026-12-04T18:00:00+01:00", "note": "not kept"}
-    poll = (room / "poll.toml").read_text()
-    (room / "poll.toml").write_text("".join(f"{key} = {json.dumps(value, ensure_ascii=False)}\n" for key, value in keys.items()) + poll)
-    expect("names: its status", publish(room, *FILES, "result")[1:], ("", 0))
-    expect("names: the poll keeps what is sealed", "note" in (room / "result" / "poll.toml").read_text(), False)
-    page = (room / "result" / "index.html").read_text()
-    for name, wanted in [
-        ("the window", "<title>Result: Ob die Satzung geändert wird</title>"),
-        *([("the picture", "The picture has the plain names.")] if HAS_PICTURES else []),
-        ("a text", f'<p class="whose">About <b data-option="1">Option 1: <bdi>{pages.escaped(HOSTILE)}</bdi></b>, in the words of those who publish this page.'),
-        ("its paragraphs", '<p class="about"><bdi>\u200fÜber &lt;b&gt;alles&lt;/b&gt;.</bdi></p>'),
-    ]:
-        expect(f"names: {name}", wanted in page, True)
-    shown = page.partition('id="Poll-file"')[0]
-    for name in ("Amend it", "Write guidelines", "Further discussion"):
-        # in the picture each is a text of its own
-        found = re.finditer(f"(?<!>)(?<!>\\d: )(?<!default option ){name}", shown)
-        expect(f"names: {name} once", [shown[match.start() - 40 : match.end()] for match in found][1:], [])
-    expect("names: nothing runs", (page.count("<script"), "<script>alert" in page, "<img" in page), (1, False, False))
-    expect("names: the sheet has none", "Satzung" in (room / "result" / "sheet.txt").read_text(), False)
-    letter = (room / "result" / "letter.txt").read_text()
-    expect("names: the letter", ("Ob die Satzung geändert wird" in letter, "Winner: Option 2: 72 Euro" in letter), (True, True))
-    return room / "result"
-
-
-# ---------------------------------------------------------------- what is known, and who says it
 REFUSED_TEXTS = [
     'line 4: ada;1,2,3: bad shape: column 4: ";"; a ballot has a space there, or more of the name: a to z, 0 to 9, . or -',
     'line 5: <b>ada</b> 1,2,3: bad shape: column 1: "<"; a ballot has the name there: a to z, 0 to 9, . or -',
@@ -66,16 +26,7 @@ REFUSED_TEXTS = [
 ]
 
 
-# ---------------------------------------------------------------- modes and bytes
-class GivenTest(looks.LooksTest):
-    """What stands on a page beside the count; the page is read in a browser too."""
-
-    @classmethod
-    def made(cls):
-        return [try_names(cls.note, cls.scratch)]
-
-
-class WordsTest(publishing.PublishTest):
+class GivenTest(publishing.PublishTest):
     def test_honest_words(self):
         """The page says what it knows, what it does not, and what is enough for an elector."""
         room = room_with(self.scratch / "honest", "supermajority_and_recasts")
@@ -106,8 +57,7 @@ class WordsTest(publishing.PublishTest):
         verify = sections["How-to-verify"]
         heads = [head.text() for head in verify.all("h4")]
         program = subprocess.run([PROGRAM, "--version"], capture_output=True, text=True).stdout.strip()
-        wanted = ["To count again", f"With the program {program}", "Without debvote"]
-        self.expect("how to verify: its parts", heads, wanted)
+        self.expect("how to verify: its parts", heads, ["To count again", f"With the program {program}", "Without debvote"])
         own, winner, sums, letter, again = [" ".join(entry.text().split()) for entry in sections["Check-it"].one("ol").all("li")]
         poll_sum = hashlib.sha256((room / "result" / "poll.toml").read_bytes()).hexdigest()
         self.expect("check it: one's own ballot", own.startswith("Is your ballot as you sent it? Find your ballot shows it. If you did not vote"), True)
@@ -127,16 +77,6 @@ class WordsTest(publishing.PublishTest):
         self.expect("ballots in the order of what?", ("in the order in which they were entered" in whole, "they came" in whole), (True, False))
         self.expect("nothing is said to be announced", "announced" in whole, False)
 
-    def test_a_name_with_words_of_the_sheet(self):
-        """An option whose name has the words of a casting vote outside of a tie, and which wins, is told as the winner alone."""
-        room = room_with(self.scratch / "words", "plain_win")
-        poll = (room / "poll.toml").read_text()
-        first = re.search(r'options\s*=\s*\["(.*?)"', poll)[1]
-        (room / "poll.toml").write_text(poll.replace(f'"{first}"', '"A, casting option 2 is not among them"'))
-        self.expect("words of the sheet: the status", publish(room, *FILES, "result")[2], 0)
-        outcome = json.loads((room / "result" / "result.json").read_text())["outcome"]
-        self.expect("words of the sheet: the outcome", (outcome["winner"], outcome["casting_vote_outside"]), (1, None))
-
     def test_refused_texts(self):
         """Each refused line stands there with its text, escaped and cut, and with the words that belong to it."""
         room = self.scratch / "refused-texts"
@@ -148,8 +88,7 @@ class WordsTest(publishing.PublishTest):
         (room / "ballots").write_text((room / "ballots").read_text() + "".join(f"{line}\n" for line in lines))
         self.expect("refused texts: the status", publish(room, *FILES, "result")[2], 0)
         page = (room / "result" / "index.html").read_text()
-        found = [entry.text() for entry in pages.sections_of(page)["Refused-lines"].all("li")]
-        self.expect("refused texts", found, REFUSED_TEXTS)
+        self.expect("refused texts", [entry.text() for entry in pages.sections_of(page)["Refused-lines"].all("li")], REFUSED_TEXTS)
         (room / "ballots").write_text((room / "ballots").read_text() + "".join(f"y{place}{'z' * 150}\n" for place in range(8_000)))
         self.expect("many refused texts: the status", publish(room, *FILES, "many")[2], 0)
         page = (room / "many" / "index.html").read_text()
@@ -176,8 +115,6 @@ class WordsTest(publishing.PublishTest):
         ]
         self.expect("refused in German", found, wanted)
 
-
-class FilesTest(publishing.PublishTest):
     def test_commands(self):
         """Each command of the page is typed in the folder; what it answers is what the page says."""
         room = room_with(self.scratch / "commands", "cycle_and_casting_vote")

@@ -1,6 +1,5 @@
 """`publish`: the files, what was done, doubts, casting votes, secret votes, and the same bytes again."""
 
-import contextlib
 import datetime
 import email.utils
 import hashlib
@@ -11,14 +10,12 @@ import re
 import shutil
 import subprocess
 import signal
-import sqlite3
 import tomllib
 import unittest.mock
 from time import sleep
 
 from debvote_tools import files
 from debvote_tools.book import queries
-from debvote_tools.book.book import open_book
 from debvote_tools.cli import command_line
 from debvote_tools.inbox.letter import parse
 from debvote_tools.inbox.letter_lines import to_json
@@ -29,6 +26,7 @@ from debvote_tools.text.language import ENGLISH
 from debvote_tools.text.rendering import templates_of
 
 from tests.support import elections, expecting, page_parts as pages
+from tests.support.called import CalledTest
 
 POLL = """title = "Wo wir uns treffen: Größe"
 options = ["72 Euro", "Größe"]
@@ -38,16 +36,10 @@ quorum = 0
 """
 MEMBERS = "who,mail,name\nAda <Lovelace>,ada@x.example,\nZoë Müller,zoe@x.example,\nCleo,cleo@x.example,cleo\nDan,,dan\n"
 TIE = "ada-lovelace 1,2,3\nzoe-mueller 2,1,3\n"
-NOTHING_DONE = "nothing was published"
 TEXT = "Who certifies this: <b>Anna</b>.\n"
 
 
-def hostile_name(folder):
-    """The plain name of the first option of a called election."""
-    return tomllib.loads((folder / "call" / "poll.toml").read_text())["options"][0]
-
-
-class OfElections(elections.ElectionTest, expecting.Expecting):
+class OfElections(CalledTest, expecting.Expecting):
     """An election in a folder of its own for each test."""
 
     poll, members, new_words, call_words = POLL, MEMBERS, ("--language", "de"), None
@@ -57,10 +49,6 @@ class OfElections(elections.ElectionTest, expecting.Expecting):
         super().setUp()
         if "secret" in self.poll:
             self.say("codes")
-
-    def state_of_this(self):
-        """This process finds the programs, and its notes of books."""
-        return unittest.mock.patch.dict(os.environ, elections.environment() | {"XDG_STATE_HOME": str(self.state)})
 
     def say(self, *words, status=0, **how):
         """Runs a command, which has to end so, and returns what it printed."""
@@ -72,8 +60,7 @@ class OfElections(elections.ElectionTest, expecting.Expecting):
         """Runs a command that has to stop with these words; it makes no folder and no act."""
         acts, before = len(self.acts()), (self.folder / folder).exists()
         ended = self.election(*words, **how)
-        missing = [text for text in said if text not in ended.faults]
-        self.expect(f"{words}: {ended.faults}", (ended.output, missing, ended.status), ("", [], status))
+        self.expect(f"{words}: {ended.faults}", (ended.output, [text for text in said if text not in ended.faults], ended.status), ("", [], status))
         self.expect(f"{words}: nothing is made", (len(self.acts()), (self.folder / folder).exists()), (acts, before))
 
     def replace(self, *words, **how):
@@ -99,15 +86,16 @@ class OfElections(elections.ElectionTest, expecting.Expecting):
 
     def late_letters(self, *letters):
         """Letters that were entered late: how many seconds after the close each arrived, and its line."""
-        book = open_book(self.folder / "election.db")
+        book = self.book
         close = book.last_act().time
-        with self.state_of_this(), contextlib.closing(book.connection), book.act("add") as act:
+        with book.act("add") as act:
             for seconds, line in letters:
                 time = close + datetime.timedelta(seconds=seconds)
                 data = b"Received: by mx; %s\nFrom: x@x.example\n\n%s\n" % (email.utils.format_datetime(time).encode(), line)
                 letter = queries.keep_letter(act, "letter.eml", data, "", to_json(parse(RawLetter("letter.eml", data))))
                 queries.decide(act, letter, "entered")
-                queries.add_envelopes(act, [queries.NewEnvelope(line, letter=letter, time=time)], [None], is_late=True)
+                elector = queries.elector_numbers(book, [line.decode().split()[0]]).values()
+                queries.add_envelopes(act, [queries.NewEnvelope(line, letter=letter, time=time)], elector, is_late=True)
         return close
 
     def other_debvote(self, text):
@@ -126,16 +114,14 @@ class OfElections(elections.ElectionTest, expecting.Expecting):
                 os.chdir(self.folder)
                 for output in (1, 2):
                     os.dup2(os.open(os.devnull, os.O_WRONLY), output)
-                with self.state_of_this(), patch:
+                with unittest.mock.patch.dict(os.environ, elections.environment()), patch:
                     os._exit(command_line.main(elections.PROGRAM.parent, list(words)))
             finally:
                 os._exit(70)
         return os.waitstatus_to_exitcode(os.waitpid(child, 0)[1])
 
     def acts(self):
-        book = open_book(self.folder / "election.db")
-        with contextlib.closing(book.connection):
-            return book.acts()
+        return self.book.acts()
 
     def sections(self, folder="result"):
         return pages.sections_of((self.folder / folder / "index.html").read_text())
@@ -146,9 +132,13 @@ class OfElections(elections.ElectionTest, expecting.Expecting):
     def files(self, folder="result"):
         return {file.name: file.read_bytes() for file in (self.folder / folder).iterdir()}
 
+    def items(self, part):
+        """The texts of a list of the page."""
+        return [item.text() for item in self.sections()[part].all("li")]
+
     def what_was_done(self):
         """The acts that the page tells, without their times."""
-        return [item.text().partition("): ")[2] for item in self.sections()["What-was-done"].all("li")]
+        return [text.partition("): ")[2] for text in self.items("What-was-done")]
 
     def texts_of_messages(self):
         """The texts of the messages with the result that go out."""
@@ -158,13 +148,11 @@ class OfElections(elections.ElectionTest, expecting.Expecting):
 
     def checksums_of_letters(self, files, ballots):
         """The checksums of the page are those of the letters, each in its place."""
-        answers = re.findall(r"<pre><code>([0-9a-f]{64})  (\S+)</code></pre>", files["index.html"].decode())
-        shown = {name: checksum for checksum, name in answers}
+        shown = {name: checksum for checksum, name in re.findall(r"<pre><code>([0-9a-f]{64})  (\S+)</code></pre>", files["index.html"].decode())}
         closed = re.findall(r"(?m)^  ([0-9a-f]{64})$", files["closed.txt"].decode())
         called = re.findall(r"\b[0-9a-f]{64}\b", (self.folder / "call" / "call.txt").read_text())
         named = re.findall(r"(?m)^  ([0-9a-f]{64})  (\S+)$", self.letter())
-        wanted = [(hashlib.sha256(files[name]).hexdigest(), name) for name in ("SHA256SUMS", "index.html")]
-        self.expect("the letter of the result", named, wanted)
+        self.expect("the letter of the result", named, [(hashlib.sha256(files[name]).hexdigest(), name) for name in ("SHA256SUMS", "index.html")])
         self.expect("the letter of the call", set(called), {shown["poll.toml"]})
         self.expect("the letter of the close", closed[:2], [shown["poll.toml"], shown[ballots]])
 
@@ -197,25 +185,17 @@ class OfOpenVotes(OfElections):
         names = {"poll.toml", "ballots.txt", "late.txt", "sheet.txt", "standing.txt", "result.json", "votes.csv", "recount.py"}
         names |= {"recount.js", "closed.txt", "READING-A-SHEET.md", "SHA256SUMS", "index.html"}
         self.expect("the files", set(files), names | ({"picture.svg"} if elections.HAS_PICTURES else set()))
-        for name, source in [
-            ("poll.toml", "call/poll.toml"),
-            ("poll.toml", "exported/poll.toml"),
-            ("ballots.txt", "exported/ballots.txt"),
-            ("late.txt", "exported/late.txt"),
-            ("closed.txt", "letters/closed.txt"),
-        ]:
-            self.expect(f"{name} is {source}", files[name], (self.folder / source).read_bytes())
+        for place in ("call/poll.toml", "exported/poll.toml", "exported/ballots.txt", "exported/late.txt", "letters/closed.txt"):
+            self.expect(place, files[place.partition("/")[2]], (self.folder / place).read_bytes())
         self.expect("the lines in time that are not struck", files["ballots.txt"], b"ada-lovelace 1,2,3\nno-one 1,2,3\ncleo 2,1,3\n")
         self.expect("late lines", files["late.txt"], b"dan 3,2,1\n")
         label = json.loads(files["result.json"])["options"][1]
         self.expect("names as data", (label["name"], label["label"]), ("Groesse", "Größe"))
-        sections = self.sections()
-        voted = [item.text() for item in sections["Who-voted"].all("li")]
-        self.expect("real names", voted, ["ada-lovelace Ada <Lovelace>", "cleo Cleo", "zoe-mueller Zoë Müller", "dan Dan"])
-        refused = [item.text() for item in sections["Refused-lines"].all("li")]
+        self.expect("real names", self.items("Who-voted"), ["ada-lovelace Ada <Lovelace>", "cleo Cleo", "zoe-mueller Zoë Müller", "dan Dan"])
+        refused = self.items("Refused-lines")
         self.expect("refused and late lines", (len(refused), refused[-1]), (2, "line 1: dan 3,2,1"))
-        self.expect("about", TEXT.strip() in sections["About-this-vote"].text(), True)
-        done = [item.text().partition("): ")[2] for item in sections["What-was-done"].all("li")]
+        self.expect("about", TEXT.strip() in self.sections()["About-this-vote"].text(), True)
+        done = self.what_was_done()
         struck = "The secretary struck envelope 3: its line does not count. The reason, in the secretary's words: Zoë has sent it <b>twice</b>"
         self.expect("what was done", done[:2], ["The call was made; it named no time until which one could vote.", struck])
         tie = "No option has won yet: Option 1: 72 Euro and Option 2: Größe are tied. The casting vote has to choose one of them. "
@@ -226,20 +206,31 @@ class OfOpenVotes(OfElections):
         self.checksums_of_letters(files, "ballots.txt")
         last = self.acts()[-1]
         self.expect("the act", (last.name, last.detail["checksums"]["ballots.txt"]), ("publish", checksum))
+        self.expect("each file that is changed is shown", [name for name in (None, *sorted(files)) if self.is_shown(name) is (name is None)], [])
+
+    def is_shown(self, name):
+        """Whether the command of the letter shows that somebody has changed a file; with None nobody has."""
+        [command] = re.findall(r"(?m)^  (sha256sum .*)$", self.letter())
+        wanted, place = re.findall(r"(?m)^  ([0-9a-f]{64}  \S+)$", self.letter()), self.folder / "downloaded"
+        shutil.copytree(self.folder / "result", place)
+        if name is not None:
+            data = (place / name).read_bytes()
+            (place / name).write_bytes(data.replace(b"3", b"4", 1) if b"3" in data else data + b"\n")
+        ended = subprocess.run(["sh", "-c", command], cwd=place, capture_output=True, text=True)
+        shutil.rmtree(place)
+        lines = ended.stdout.splitlines()
+        return lines[:2] != wanted or ended.returncode != 0 or not all(line.endswith(": OK") for line in lines[2:])
 
     def test_the_same_bytes_again(self):
-        self.say("call", "--until", "2099-12-04 18:00", "--zone", "Europe/Berlin")
+        self.say("call", "--until", "2099-12-04 18:00", "--zone", "Europe/Berlin", "--at", "https://x.example/")
         self.add("ada-lovelace 1,2,3\n")
         self.say("close", "--early")
         (self.folder / "about").write_text(TEXT)
         self.say("publish", "--about", "about")
         files, acts = self.files(), len(self.acts())
         (self.folder / "about").unlink()
-        umask = os.umask(0o077)
-        try:
-            said = self.say("publish")
-        finally:
-            os.umask(umask)
+        self.addCleanup(os.umask, os.umask(0o077))
+        said = self.say("publish")
         self.expect("no act", (len(self.acts()), "Made the folder result, as it was published before; " in said), (acts, True))
         self.whole()
         shutil.rmtree(self.folder / "result")
@@ -252,22 +243,20 @@ class OfOpenVotes(OfElections):
         self.expect("other words are an act", (len(self.acts()), self.files() == files), (acts + 1, False))
         self.expect("nothing is left beside it", [name for name in os.listdir(self.folder) if name.startswith(".")], [])
         self.expect("real names are not published", "Lovelace" in (self.folder / "elsewhere" / "index.html").read_text(), False)
+        self.check_closed_early()
 
-    def test_another_folder_stays(self):
+    def test_no_other_result_is_replaced(self):
+        """Neither that of another election, nor an earlier one of this, nor one that somebody has changed. An empty folder is taken."""
         self.closed()
         (self.folder / "result").mkdir()
         self.say("publish")
         (self.folder / "result" / "notes").write_text("mine")
         self.stops("publish", "--language", "en", said=["result: it exists already, and is not what this election has published last", "as result-2"], status=2)
+        (self.folder / "result" / "notes").unlink()
         (self.folder / "mine").mkdir()
         (self.folder / "mine" / "a").write_text("b")
-        self.stops("publish", "mine", said=["mine: it exists already"], status=2, folder="mine")
-        self.stops("publish", "members.csv", said=["members.csv: it exists already"], status=2)
-
-    def test_no_other_result_is_replaced(self):
-        """Neither that of another election, nor an earlier one of this, nor one that somebody has changed."""
-        self.closed()
-        self.say("publish")
+        for name in ("mine", "members.csv"):
+            self.stops("publish", name, said=[f"{name}: it exists already"], status=2, folder=name)
         (self.folder / "result" / "picture.svg").unlink(missing_ok=True)
         self.say("publish", "--language", "en")
         other = self.scratch / "another election"
@@ -289,7 +278,7 @@ class OfOpenVotes(OfElections):
         shutil.rmtree(self.folder / "result-2")
         (self.folder / "result-2").mkdir()
         for name, data in files.items():
-            (self.folder / "result-2" / name).write_bytes(data)
+            self.write(f"result-2/{name}", data)
         self.stops("publish", "result-2", said=[said], status=2, folder="result-2")
         for change in ("index.html", "mine"):
             shutil.rmtree(self.folder / "result-2")
@@ -299,7 +288,7 @@ class OfOpenVotes(OfElections):
         self.expect("what somebody wrote is there", (self.folder / "result-2" / "mine").read_text(), "mine")
 
     def test_made_again_otherwise(self):
-        """What was published is not made otherwise in silence; it can be published once more, with its letter."""
+        """What was published is not made otherwise in silence; it can be published once more, with its letter. After another close it is new."""
         self.closed(TIE, "--at", "https://x.example/")
         self.say("publish", "--casting", "72 Euro", "--cast-by", "Anna", "--cast-on", "2026-11-20")
         files, letter, acts = self.files(), self.letter(), len(self.acts())
@@ -312,46 +301,23 @@ class OfOpenVotes(OfElections):
         self.expect("one of its own", (last.name, last.number, last.detail["casting"]), ("publish", acts + 2, "72 Euro"))
         self.checksums_of_letters(self.files(), "ballots.txt")
         self.expect("with its letter", self.letter() == letter, False)
-        said = self.say("publish")
-        self.expect("and again", ("as it was published before" in said, len(self.acts())), (True, acts + 2))
+        self.expect("and again", ("as it was published before" in self.say("publish"), len(self.acts())), (True, acts + 2))
+        self.add("cleo 1,2,3\n")
+        self.say("reopen", "--because", "a lost letter", "--in-time", "3")
+        self.say("strike", "1", "--because", "twice")
+        self.say("close")
+        self.expect("a tie again, without a casting vote", self.replace(status=1).splitlines()[0], "Tie: 1 2")
 
-    def test_the_letter_binds_each_file(self):
-        """Whatever file somebody changes, the command of the letter shows it."""
-        self.closed()
-        self.add("dan 3,2,1\n")
-        self.say("publish", "--language", "en")
-        [command] = re.findall(r"(?m)^  (sha256sum .*)$", self.letter())
-        wanted = re.findall(r"(?m)^  ([0-9a-f]{64}  \S+)$", self.letter())
-
-        def shown(name=None):
-            place = self.folder / "downloaded"
-            shutil.copytree(self.folder / "result", place)
-            if name is not None:
-                data = (place / name).read_bytes()
-                (place / name).write_bytes(data.replace(b"3", b"4", 1) if b"3" in data else data + b"\n")
-            ended = subprocess.run(["sh", "-c", command], cwd=place, capture_output=True, text=True)
-            shutil.rmtree(place)
-            lines = ended.stdout.splitlines()
-            return lines[:2] != wanted or ended.returncode != 0 or not all(line.endswith(": OK") for line in lines[2:])
-
-        self.expect("as it was published", shown(), False)
-        names = sorted(self.files())
-        self.expect("each that is changed", [name for name in names if not shown(name)], [])
-        self.expect("how many", len(names), 14 if elections.HAS_PICTURES else 13)
-
-    def test_closed_early(self):
-        self.say("call", "--until", "2099-12-04 18:00", "--zone", "Europe/Berlin", "--at", "https://x.example/")
-        self.add("ada-lovelace 1,2,3\n")
-        self.say("close", "--early")
+    def check_closed_early(self):
+        """That is a doubt, and each letter tells until when one should have been able to vote."""
         self.reopened_with("zoe-mueller 1,2,3\n", words=("--early",))
-        self.say("publish", "--language", "en")
+        self.replace("--language", "en")
         end = "one should have been able to vote until Friday, 4 December 2099, 18:00 (UTC+01:00)."
         [doubt] = self.doubts()
         self.expect(f"the doubt: {doubt}", doubt.startswith("The vote was closed on ") and doubt.endswith(f"before its announced end: {end}"), True)
         self.expect("the letter of the result", doubt in " ".join(self.letter().split()), True)
         self.say("publish", "--language", "de")
-        texts = self.texts_of_messages()
-        until = "Freitag, 4. Dezember 2099, 18:00 (UTC+01:00)"
+        texts, until = self.texts_of_messages(), "Freitag, 4. Dezember 2099, 18:00 (UTC+01:00)"
         for text in (*texts, (self.folder / "letters" / "closed.txt").read_text()):
             self.expect(f"until when: {text}", until in " ".join(text.split()), True)
         self.expect("letters", len(texts), 3)
@@ -366,8 +332,7 @@ class OfOpenVotes(OfElections):
         nobody = "No elector has a ballot that counts: nobody's vote has decided this."
         refused = "More than half of the lines of the ballot file are refused: 1 of 1."
         self.expect("doubts", self.doubts(), [nobody, refused, "The vote was not closed when this page was made: more ballots may come in."])
-        page = pages.tree_of((self.folder / "result" / "index.html").read_text())
-        given = [text.text() for text in next(page.all("div", "given")).all("p")]
+        given = [text.text() for text in next(pages.tree_of((self.folder / "result" / "index.html").read_text()).all("div", "given")).all("p")]
         self.expect("the reason", given[1:], ["A <test>.", "No more."])
         self.expect("it is in the act", [doubt["kind"] for doubt in self.acts()[-1].detail["doubts"]], ["no ballot", "mostly refused", "not closed"])
         self.add("ada-lovelace 1,2,3\n")
@@ -394,11 +359,8 @@ class OfOpenVotes(OfElections):
         self.say("strike", "1", "--because", "wrong hand")
         checksum = hashlib.sha256(b"zoe-mueller 1,2,3\ncleo 1,2,3\n").hexdigest()
         close = {"lines": 2, "checksum": checksum, "early": True, "waiting": 2, "after_end": 1, "because": "in a hurry"}
-        book = open_book(self.folder / "election.db")
-        with self.state_of_this(), contextlib.closing(book.connection):
-            for name, detail in [("extend", {"keyring": "a checksum"}), ("close", close)]:
-                with book.act(name, detail):
-                    pass
+        self.act("extend", {"keyring": "a checksum"})
+        self.act("close", close)
         self.say("publish", "--language", "en")
         because = " The reason, in the secretary's words:"
         end = "one could vote until Friday, 4 December 2099, 18:00 (UTC+01:00)."
@@ -441,30 +403,6 @@ class OfOpenVotes(OfElections):
             self.expect(done, act.is_quiet, done in plain)
             self.expect(f"{done}, in words", told.dated(act).startswith("Friday, 4 December 2026, 00:00 (UTC): "), True)
 
-    def test_a_moved_book(self):
-        self.closed()
-        self.state = self.scratch / "other computer"
-        self.stops("publish", said=["this computer has never seen this election"])
-        self.say("publish", "--moved", "--because", "a new <laptop>", "--language", "en")
-        done = self.sections()["What-was-done"].text()
-        self.expect("moved", ("that did not know it yet. The reason, in the secretary's words: a new <laptop>" in done), True)
-        with self.changed_book() as connection:
-            last = connection.execute("SELECT max(act) FROM act").fetchone()[0]
-            connection.execute("UPDATE act SET detail = '{}' WHERE act = ?", (last - 2,))
-        self.stops("publish", said=["does not match its digest"])
-
-    @contextlib.contextmanager
-    def changed_book(self):
-        """The book, in which another program changes what it likes; its triggers are there again afterwards."""
-        with contextlib.closing(sqlite3.connect(self.folder / "election.db")) as connection:
-            triggers = connection.execute("SELECT name, sql FROM sqlite_master WHERE type = 'trigger'").fetchall()
-            for name, _ in triggers:
-                connection.execute(f"DROP TRIGGER {name}")
-            yield connection
-            for _, sql in triggers:
-                connection.execute(sql)
-            connection.commit()
-
     def test_late_letters(self):
         self.closed()
         # each is a doubt, also two of the same minute; the fourth arrives between the first close and the second
@@ -483,15 +421,7 @@ class OfOpenVotes(OfElections):
     def test_a_late_letter_before_a_later_ballot(self):
         """It would not count, and `reopen` would refuse it: so it is no doubt, as that of who has no ballot is, or a refused line."""
         self.closed("ada-lovelace 1,2,3\ndan 9\n")
-        book = open_book(self.folder / "election.db")
-        time = book.last_act().time - datetime.timedelta(seconds=60)
-        with self.state_of_this(), contextlib.closing(book.connection), book.act("add") as act:
-            for name in ("ada-lovelace", "cleo", "dan"):
-                data = b"Received: by mx; %s\nFrom: %s@x.example\n\n" % (email.utils.format_datetime(time).encode(), name.encode())
-                letter = queries.keep_letter(act, "a.eml", data, "", to_json(parse(RawLetter("a.eml", data))))
-                queries.decide(act, letter, "entered")
-                new = queries.NewEnvelope(f"{name} 3,2,1".encode(), letter=letter, time=time)
-                queries.add_envelopes(act, [new], queries.elector_numbers(book, [name]).values(), is_late=True)
+        self.late_letters(*((-60, f"{name} 3,2,1".encode()) for name in ("ada-lovelace", "cleo", "dan")))
         late = ["the ballot of letter 2 is late", "reopen --in-time 4 --because", "the ballot of letter 3 is late", "reopen --in-time 5 --because"]
         self.stops("publish", said=late)
         self.assertNotIn("letter 1", self.election("publish").faults)
@@ -526,18 +456,8 @@ class OfOpenVotes(OfElections):
         back = f"12:50 (UTC): The clock of the secretary's computer went back: the act before has a later time, {later}."
         self.expect("a clock that went back", back in done, True)
 
-    def test_words_of_a_publication_end_with_its_close(self):
-        """Without words the last publication is made again; after another close it is a new one, without a casting vote."""
-        self.closed(TIE)
-        self.say("publish", "--casting", "72 Euro", "--cast-by", "Anna", "--cast-on", "2026-11-20")
-        self.add("cleo 1,2,3\n")
-        self.say("reopen", "--because", "a lost letter", "--in-time", "3")
-        self.say("strike", "1", "--because", "twice")
-        self.say("close")
-        self.expect("a tie again", self.replace(status=1).splitlines()[0], "Tie: 1 2")
-
-    def test_bad_texts(self):
-        self.closed()
+    def test_bad_texts_and_a_folder_that_is_counted_otherwise(self):
+        self.closed(TIE.replace("2,1,3", "1,2,3"))
         for data, said in [
             (b"Anna\nM\xfcller\n", "about:2: it is not in UTF-8"),
             (b"A\n\x1b[1m", "about:2: it has the character U+001B, which no plain text has"),
@@ -554,6 +474,17 @@ class OfOpenVotes(OfElections):
         self.say("publish", "--about", "about", "--language", "en")
         about = [text.text() for text in self.sections()["About-this-vote"].all("p", "about")]
         self.expect("the paragraphs of a text", about, ["One", "\u05d3 <i>two</i>"])
+        # a folder that is counted otherwise takes no place
+        files, acts = self.files(), len(self.acts())
+        for task, answer in [("verify", 'echo "differs at line 1"; exit 9'), ("standing", 'echo "ada-lovelace 3,2,1"; exit')]:
+            ended = self.election("publish", "--language", "es", path=self.other_debvote(f"case $1 in {task}) {answer} ;; esac"))
+            self.expect(f"{task}: {ended.faults}", (ended.status, "nothing was published" in ended.faults), (9, True))
+            self.expect(f"{task}: nothing was changed", (self.files() == files, len(self.acts())), (True, acts))
+        # and that the book was moved stands there, with its reason
+        self.state = self.scratch / "other computer"
+        self.say("publish", "--moved", "--because", "a new <laptop>", "--language", "en")
+        moved = "that did not know it yet. The reason, in the secretary's words: a new <laptop>"
+        self.expect("moved", self.what_was_done()[-1].endswith(moved), True)
 
     def test_casting_votes(self):
         self.closed(TIE)
@@ -584,10 +515,8 @@ class OfOpenVotes(OfElections):
         self.expect("one that decides nothing is not told", ["casting vote" in text for text in texts], [False, False])
         self.reopened_with("dan 2,1,3\n")
         self.replace("--casting", "Groesse", *cast, "--force", "--because", "She had meant this", "--language", "en")
-        earlier = ["An earlier result of this vote was published with another casting vote, for 72 Euro."]
-        self.expect("another casting vote", self.doubts(), earlier)
-        letter = self.letter()
-        self.expect("the letter says whom it chose", "Winner: Option 2: Größe by casting vote" in letter, True)
+        self.expect("another casting vote", self.doubts(), ["An earlier result of this vote was published with another casting vote, for 72 Euro."])
+        self.expect("the letter says whom it chose", "Winner: Option 2: Größe by casting vote" in self.letter(), True)
         files = self.files()
         self.say("publish")
         self.expect("and again", self.files() == files, True)
@@ -596,24 +525,34 @@ class OfOpenVotes(OfElections):
         return [name for name in os.listdir(self.folder) if name.startswith(".")]
 
     def test_a_publication_that_is_killed_after_its_act(self):
-        """Made again it comes back in its place, whatever a kill has left there, and nothing else is left."""
+        """Made again it comes back in its place, whatever a kill has left there, and nothing else is left. One that fails has left the old one."""
         self.closed()
-        rename, moved = pathlib.Path.rename, []
 
         def kill(*_):
             os.kill(os.getpid(), signal.SIGKILL)
 
-        def kill_between(file, target):
-            moved.append(kill() if moved else rename(file, target))
+        def fail():
+            raise OSError(28, "No space left on device", "result")
 
-        for language, patch, is_there, left in [
-            ("de", unittest.mock.patch.object(Made, "take_place", kill), False, 1),
-            ("en", unittest.mock.patch.object(Made, "take_place", kill), True, 1),
-            ("fr", unittest.mock.patch.object(pathlib.Path, "rename", kill_between), False, 2),
+        def at_second_rename(end, rename=pathlib.Path.rename):
+            moved = []
+
+            def renamed(file, target):
+                moved.append(file)
+                return end() if len(moved) == 2 else rename(file, target)
+
+            return unittest.mock.patch.object(pathlib.Path, "rename", renamed)
+
+        for language, patch, status, is_there, left in [
+            ("de", unittest.mock.patch.object(Made, "take_place", kill), -signal.SIGKILL, False, 1),
+            ("en", unittest.mock.patch.object(Made, "take_place", kill), -signal.SIGKILL, True, 1),
+            ("fr", at_second_rename(kill), -signal.SIGKILL, False, 2),
+            ("es", at_second_rename(fail), 7, True, 1),
         ]:
             before, acts = {} if language == "de" else self.files(), len(self.acts())
-            self.expect(f"{language}: killed", self.in_child(patch, "publish", "--language", language), -signal.SIGKILL)
+            self.expect(f"{language}: it ends", self.in_child(patch, "publish", "--language", language), status)
             self.expect(f"{language}: what is left", ((self.folder / "result").exists(), len(self.left())), (is_there, left))
+            self.expect(f"{language}: the old one", not is_there or self.files() == before, True)
             self.say("publish")
             sums = {name: hashlib.sha256(data).hexdigest() for name, data in self.files().items()}
             last = self.acts()[-1].detail["checksums"]
@@ -626,35 +565,6 @@ class OfOpenVotes(OfElections):
         with files.locked(lasting, is_directory=True):
             self.say("publish")
         self.expect("that of a run that lasts", self.left(), [lasting.name])
-
-    def test_a_folder_that_can_not_take_its_place(self):
-        """The one that was there comes back; once it can, the new one takes its place."""
-        self.closed()
-        self.say("publish")
-        before, rename, moved = self.files(), pathlib.Path.rename, []
-
-        def fail_second(file, target):
-            moved.append(file)
-            if len(moved) == 2:
-                raise OSError(28, "No space left on device", str(file))
-            return rename(file, target)
-
-        patch = unittest.mock.patch.object(pathlib.Path, "rename", fail_second)
-        self.expect("it fails", self.in_child(patch, "publish", "--language", "en"), 7)
-        self.expect("the old one is back", self.files() == before, True)
-        self.say("publish")
-        self.expect("the new one", (self.files() == before, self.left()), (False, []))
-
-    def test_a_folder_that_is_counted_otherwise_takes_no_place(self):
-        self.say("call")
-        self.add("ada-lovelace 1,2,3\nzoe-mueller 1,2,3\n")
-        self.say("close")
-        self.say("publish")
-        files, acts = self.files(), len(self.acts())
-        for task, answer in [("verify", 'echo "differs at line 1"; exit 9'), ("standing", 'echo "ada-lovelace 3,2,1"; exit')]:
-            ended = self.election("publish", "--language", "es", path=self.other_debvote(f"case $1 in {task}) {answer} ;; esac"))
-            self.expect(f"{task}: {ended.faults}", (ended.status, NOTHING_DONE in ended.faults), (9, True))
-            self.expect(f"{task}: nothing was changed", (self.files() == files, len(self.acts())), (True, acts))
 
     def test_hostile_texts(self):
         """Each text of a person stands as text on the page, whatever is in it, and in the letters."""
@@ -673,7 +583,8 @@ class OfOpenVotes(OfElections):
         self.say("reopen", "--because", f"reopen {hostile}")
         self.say("close")
         (self.folder / "about").write_text(f"about {hostile}")
-        cast = ("--casting", hostile_name(self.folder), "--cast-by", f"by {hostile}", "--cast-on", "2026-11-20")
+        plain = tomllib.loads((self.folder / "call" / "poll.toml").read_text())["options"][0]
+        cast = ("--casting", plain, "--cast-by", f"by {hostile}", "--cast-on", "2026-11-20")
         self.say("publish", *cast, "--about", "about", "--force", "--because", f"force {hostile}", "--language", "en")
         pages.try_page(self.expect, "hostile", self.folder / "result")
         seen = ["Result", "Why", "Find-your-ballot", "Check-it", "About-this-vote"]
@@ -683,7 +594,7 @@ class OfOpenVotes(OfElections):
         for text in (f"{hostile} 1", *(f"{word} {hostile}" for word in ("text", "strike", "reopen", "about", "by", "force"))):
             self.expect(text, text in shown, True)
         self.expect("real names", [hostile in name.text() for name in page.all("li") if name.text().startswith("ada </p>")], [True])
-        refused = [line.text() for line in self.sections()["Refused-lines"].all("li")]
+        refused = self.items("Refused-lines")
         about = [" ".join(text.text().split()) for text in self.sections()["Options"].all("div", "given")]
         whose = f"About Option 1: {hostile} 1, in the words of those who publish this page. The program has not checked them:"
         self.expect("the text about an option", [text.startswith(whose) and text.endswith(f"text {hostile}") for text in about], [True])
@@ -697,24 +608,17 @@ class OfSecretVotes(OfElections):
         self.say("call")
         self.add("ada-lovelace 3,2,9\nzoe-mueller 2,1,3\nada-lovelace 17,33,99\nno-one 1,2,3\ncleo 1,2,x\n")
 
-    def secrets(self):
-        book = open_book(self.folder / "election.db")
-        with contextlib.closing(book.connection):
-            return queries.electors(book)
-
-    def test_nothing_before_the_close(self):
+    def test_the_files(self):
         self.called()
         for words in (("count",), ("publish",), ("publish", "--force", "--because", "x", "--yes")):
             self.stops(*words, said=["the vote is secret, and can be counted only after the close"])
-
-    def test_the_files(self):
-        self.called()
         self.say("strike", "1", "--because", "private reason")
         self.say("close")
+        self.check_what_a_close_tells()
         self.add("dan 3,2,1\n")
         self.say("publish", "--language", "en", status=1)
         self.whole()
-        files, electors = self.files(), self.secrets()
+        files, electors = self.files(), queries.electors(self.book)
         aliases = {elector.name: elector.alias for elector in electors}
         ballots = sorted([f"{aliases['ada-lovelace']} 1,2,3\n", f"{aliases['zoe-mueller']} 2,1,3\n"])
         self.expect("the poll of the call", files["poll.toml"], (self.folder / "call" / "poll.toml").read_bytes())
@@ -730,13 +634,24 @@ class OfSecretVotes(OfElections):
             words = [word for word in words if not (word == "17,33" and name in ("index.html", "READING-A-SHEET.md"))]
             self.expect(f"{name} tells nothing", [word for word in words if word.lower() in text], [])
         private = self.election("count").output
-        public = files["sheet.txt"].decode()
-        self.expect("the sheet from Voters on", public.partition("\nVoters")[2], private.partition("\nVoters")[2])
+        self.expect("the sheet from Voters on", files["sheet.txt"].decode().partition("\nVoters")[2], private.partition("\nVoters")[2])
         sections = self.sections()
         self.expect("numbers alone", "3 lines that came were refused: 2 as invalid, and 1 because" in sections["Refused-lines"].text(), True)
         struck = "The secretary struck an envelope: its line does not count."
         self.expect("a strike without number and reason", [struck in item.text() for item in sections["What-was-done"].all("li")].count(True), 1)
         self.expect("who voted is not told", "Who-voted" in sections, False)
+
+    def check_what_a_close_tells(self):
+        """Neither the log nor a letter has the seal, or a checksum of the ballots without it; the poll that is exported is that of the ballots."""
+        self.say("export", "exported")
+        ballots, seal = (self.folder / "exported" / "ballots.txt").read_bytes(), self.acts()[-1].detail["seal"]
+        aliases = {elector.name: elector.alias for elector in queries.electors(self.book)}
+        published = "".join(sorted(f"{aliases[name]} {ranks}\n" for name, ranks in (("ada-lovelace", "1,2,3"), ("zoe-mueller", "2,1,3"))))
+        told = self.say("log") + "".join(file.read_text() for file in (self.folder / "letters").iterdir() if file.is_file())
+        secrets = [seal, *(hashlib.sha256(data).hexdigest() for data in (ballots, published.encode()))]
+        self.expect("what is told at the close", [text in told for text in secrets], [False] * 3)
+        steps = self.debvote("steps", "--poll", "exported/poll.toml", "--ballots", "exported/ballots.txt").output
+        self.expect("what debvote replies to what came", re.findall("(?m)^\\d+ (\\w+)", steps), ["counted", "counted", "bad", "bad"])
 
     def test_doubts_about_what_came(self):
         """The doubts are about the lines that came, and not about those that are published."""
@@ -762,10 +677,9 @@ class OfSecretVotes(OfElections):
         self.expect(f"a reason of --moved: {output} {faults}", ("these texts may tell" in faults, faults.count("  of <Ada>\n"), status), (True, 1, 9))
         self.expect("is an act, and no publication", [act.name for act in self.acts()[acts:]], ["moved"])
         self.say("publish", "--force", "--yes", status=1)
-        digest = hashlib.sha256(b"of <Ada>").hexdigest()
-        self.expect("the act keeps what was agreed to", self.acts()[-1].detail["agreed"], [digest])
+        self.expect("the act keeps what was agreed to", self.acts()[-1].detail["agreed"], [hashlib.sha256(b"of <Ada>").hexdigest()])
         self.say("publish", "--language", "fr", status=1)
-        code = self.secrets()[0].code
+        code = queries.electors(self.book)[0].code
         (self.folder / "about").write_text(f"x {code}\n")
         self.stops("publish", "--about", "about", "--yes", said=["index.html would have the code of an elector in it"])
 
@@ -773,13 +687,12 @@ class OfSecretVotes(OfElections):
         """There they become public; later they are not asked about again."""
         (self.folder / "texts").mkdir()
         (self.folder / "texts" / "1.txt").write_text("Zoë is for it.\n")
-        acts = len(self.acts())
-        ended = self.election("call")
+        acts, ended = len(self.acts()), self.election("call")
         output, faults, status = ended.output, ended.faults, ended.status
         shown = "texts/1.txt:\n  Zoë is for it.\n"
         self.expect(f"it stops: {output} {faults}", (faults.startswith(shown), "--yes" in faults, status), (True, True, 9))
         self.expect("nothing is made", (len(self.acts()), (self.folder / "call").exists()), (acts, False))
-        code = self.secrets()[0].code
+        code = queries.electors(self.book)[0].code
         (self.folder / "texts" / "2.txt").write_text(f"x {code}\n")
         self.expect("a code", " would have the code of an elector in it" in self.election("call", "--yes").faults, True)
         (self.folder / "texts" / "2.txt").unlink()
@@ -801,29 +714,13 @@ class OfSecretVotes(OfElections):
         """A call that did not ask leaves the question to the publication."""
         (self.folder / "texts").mkdir()
         (self.folder / "texts" / "1.txt").write_text("Zoë is for it.\n")
-        unasked = unittest.mock.patch("debvote_tools.commands.call.agreed_texts", return_value=[])
-        self.expect("called", self.in_child(unasked, "call"), 0)
+        self.expect("called", self.in_child(unittest.mock.patch("debvote_tools.commands.call.agreed_texts", return_value=[]), "call"), 0)
         self.add("ada-lovelace 3,2,9\n")
         self.say("close")
         self.stops("publish", said=["texts/1.txt:\n  Zoë is for it.\n", "these texts may tell who voted what"])
         self.say("publish", "--yes")
 
     def test_two_results_that_can_be_compared(self):
-        self.called()
-        self.say("close")
-        self.say("publish", status=1)
-        # that of Zoë has the same order, which is published as it was
-        self.add("cleo 1,2,3\nzoe-mueller 5,4,6\ndan 1,2,3\n")
-        self.say("reopen", "--because", "Cleo's letter", "--in-time", "6", "7", "8")
-        self.say("close")
-        said = "a comparison with the earlier result shows how these voted: cleo, dan"
-        self.stops("publish", "result-2", said=[said], folder="result-2")
-        self.say("publish", "--yes", "result-2")
-        self.expect("cleo and dan count", len((self.folder / "result-2" / "ballots.txt").read_text().splitlines()), 4)
-        self.checksums_of_letters(self.files("result-2"), "-")
-        self.expect("the reason stays in the log", "Cleo" in (self.folder / "result-2" / "index.html").read_text(), False)
-
-    def test_a_sheet_that_is_not_that_of_the_votes(self):
         self.called()
         self.say("close")
         # answers for the private files that are not theirs
@@ -833,3 +730,13 @@ class OfSecretVotes(OfElections):
         ]:
             other = f'case "$*" in "{task} "*/dev/stdin*) {elections.PROGRAM} "$@" | sed "{change}"; exit ;; esac'
             self.stops("publish", path=self.other_debvote(other), said=[said])
+        self.say("publish", status=1)
+        # that of Zoë has the same order, which is published as it was; that of Ada has another one
+        self.add("cleo 1,2,3\nzoe-mueller 5,4,6\nada-lovelace 2,1,3\n")
+        self.say("reopen", "--because", "Cleo's letter", "--in-time", "6", "7", "8")
+        self.say("close")
+        self.stops("publish", "result-2", said=["a comparison with the earlier result shows how these voted: ada-lovelace, cleo"], folder="result-2")
+        self.say("publish", "--yes", "result-2")
+        self.expect("Cleo counts, too", len((self.folder / "result-2" / "ballots.txt").read_text().splitlines()), 3)
+        self.checksums_of_letters(self.files("result-2"), "-")
+        self.expect("the reason stays in the log", "Cleo" in (self.folder / "result-2" / "index.html").read_text(), False)

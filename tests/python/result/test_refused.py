@@ -7,7 +7,7 @@ import subprocess
 import sys
 import time
 
-from tests.support import publishing
+from tests.support import page_parts, publishing
 
 
 def stand_in(folder, text):
@@ -22,17 +22,14 @@ def try_stand_ins(expect, poll, ballots, room, scratch):
     """Other programs in place of debvote, no Graphviz, and a run that is asked to end."""
     words = [sys.executable, publishing.PUBLISH, "--poll", poll, "--ballots", ballots]
     as_it_is = f'*) exec {publishing.PROGRAM} "$@" ;; esac'
-    differs = stand_in(scratch / "differs", f'case $1 in verify) echo "differs at line 1"; exit 9 ;; {as_it_is}')
-    found = publishing.run([*words, room / "result"], path=differs)
-    expect("a sheet that is not verified", (found[2], os.listdir(room)), (9, ["full"]))
-    killed = stand_in(scratch / "killed", f'case $1 in count) echo "Poll: half"; kill -KILL $$ ;; {as_it_is}')
-    found = publishing.run([*words, room / "result"], path=killed)
-    expect("a count that is killed", (found[2], os.listdir(room)), (128 + signal.SIGKILL, ["full"]))
-    other = stand_in(scratch / "other", f'case $1 in count) echo "Result: 1" ;; verify) echo verified ;; {as_it_is}')
-    found = publishing.run([*words, room / "result"], path=other)
-    expect("a sheet of another format", (found[2], os.listdir(room)), (10, ["full"]))
-    plain = stand_in(scratch / "plain", f'exec {publishing.PROGRAM} "$@"')
-    found = publishing.run([*words, room / "result"], path=plain)
+    for name, text, status in [
+        ("a sheet that is not verified", 'verify) echo "differs at line 1"; exit 9 ;;', 9),
+        ("a count that is killed", 'count) echo "Poll: half"; kill -KILL $$ ;;', 128 + signal.SIGKILL),
+        ("a sheet of another format", 'count) echo "Result: 1" ;; verify) echo verified ;;', 10),
+    ]:
+        found = publishing.run([*words, room / "result"], path=stand_in(scratch / name, f"case $1 in {text} {as_it_is}"))
+        expect(name, (found[2], os.listdir(room)), (status, ["full"]))
+    found = publishing.run([*words, room / "result"], path=stand_in(scratch / "plain", f'exec {publishing.PROGRAM} "$@"'))
     is_told = "Graphviz" in found[1] and "There is no picture" in (room / "result" / "index.html").read_text()
     expect("no Graphviz", (found[2], is_told, (room / "result" / "picture.svg").exists()), (0, True, False))
     slow = stand_in(scratch / "slow", f'case "$*" in *ballots.txt*) exec /bin/sleep 60 ;; {as_it_is}')
@@ -40,8 +37,7 @@ def try_stand_ins(expect, poll, ballots, room, scratch):
     while len(os.listdir(room)) < 3 and started.poll() is None:
         time.sleep(0.05)
     started.terminate()
-    status = started.wait(publishing.SECONDS)
-    expect("a run that is asked to end", (status, sorted(os.listdir(room))), (128 + signal.SIGTERM, ["full", "result"]))
+    expect("a run that is asked to end", (started.wait(publishing.SECONDS), sorted(os.listdir(room))), (128 + signal.SIGTERM, ["full", "result"]))
 
 
 class RefusedTest(publishing.PublishTest):
@@ -82,11 +78,9 @@ class RefusedTest(publishing.PublishTest):
         _, faults, status = publishing.publish_files(poll, ballots, room / "result" / "x")
         words = f"debvote-publish: {room}/result/x: it would be in {room}/result, whose files are published as they are; nothing was published: "
         self.expect("a folder in a published one", (faults, status), (f"{words}name a folder outside of it\n", 2))
-        now = {file.name: file.read_bytes() for file in (room / "result").iterdir()}
-        self.expect("the published one", now == before, True)
+        self.expect("the published one", {file.name: file.read_bytes() for file in (room / "result").iterdir()} == before, True)
         shutil.rmtree(room / "result")
-        nowhere = publishing.publish_files(poll, ballots, room / "result", path="/nowhere")
-        self.expect("no program", (nowhere[2], os.listdir(room)), (127, ["full"]))
+        self.expect("no program", (publishing.publish_files(poll, ballots, room / "result", path="/nowhere")[2], os.listdir(room)), (127, ["full"]))
         try_stand_ins(self.expect, poll, ballots, room, self.scratch)
 
     def test_an_empty_folder(self):
@@ -106,5 +100,37 @@ class RefusedTest(publishing.PublishTest):
             poll.write_text(f"{publishing.PLAIN_POLL}note = {number}\n")
             words = ["count", "--poll", poll, "--ballots", self.scratch / "none"]
             found = [publishing.run([*program, *words])[1:] for program in ([publishing.PROGRAM], [sys.executable, "-I", publishing.ROOT / "tests" / "reference.py"])]
-            wanted = ("", 0) if is_taken else ("debvote: poll refused: syntax\n", 3)
-            self.expect(number, found, [wanted] * 2)
+            self.expect(number, found, [("", 0) if is_taken else ("debvote: poll refused: syntax\n", 3)] * 2)
+
+    def test_refused_polls(self):
+        """Where the poll is refused, the fault says what tells more (also that two files are exchanged), and nothing is made."""
+        room = publishing.plain_room(self.scratch / "refused")
+        (room / "bad.toml").write_text("title = 1\n")
+        (room / "new.toml").write_text(publishing.PLAIN_POLL + 'note = "\\e"\n')
+        for poll, ballots, wanted in [
+            ("ballots", "poll.toml", "ballots: poll refused: syntax; nothing was published: debvote explain --poll ballots says what"),
+            ("bad.toml", "ballots", "bad.toml: poll refused: key title; nothing was published: debvote explain --poll bad.toml says what"),
+            ("new.toml", "ballots", "new.toml: it can't be read (Unescaped '\\' in a string"),
+        ]:
+            output, faults, status = publishing.run([sys.executable, publishing.PUBLISH, "--poll", poll, "--ballots", ballots, "result"], cwd=room)
+            self.expect(f"{poll} and {ballots}: {faults}", (output, faults.startswith(f"debvote-publish: {wanted}"), status), ("", True, 3))
+        self.expect("what is left", sorted(os.listdir(room)), ["bad.toml", "ballots", "new.toml", "poll.toml"])
+
+    def test_secret_votes(self):
+        """A poll that says that its vote is secret is published with aliases alone."""
+        # one name is enough
+        room = publishing.plain_room(self.scratch / "secret", poll=publishing.PLAIN_POLL.replace('"ada"', f'"{"0" * 32}"') + "secret = true\n")
+        output, faults, status = publishing.publish(room, *publishing.FILES, "result")
+        wanted = "poll.toml: the vote is secret, and this would publish each name with its vote; publish it from its election, "
+        self.expect(f"a secret vote with names: {faults}", (output, faults.startswith(f"debvote-publish: {wanted}"), status), ("", True, 9))
+        roll = ["0" * 31 + digit for digit in "0123"]
+        poll = publishing.PLAIN_POLL.replace('["ada", "ben", "cleo", "dan"]', str(roll).replace("'", '"')) + "secret = true\n"
+        twice = publishing.plain_room(self.scratch / "twice", poll=poll, ballots=f"{roll[0]} 1,2,3\n{roll[1]} 2,1,3\n{roll[0]} 2,1,3\n")
+        output, faults, status = publishing.publish(twice, *publishing.FILES, "result")
+        self.expect(f"an alias twice: {faults}", ("a line of this secret vote does not count, or counts more than once" in faults, status), (True, 9))
+        room = publishing.plain_room(self.scratch / "aliases", poll=poll, ballots=f"{roll[0]} 1,2,3\n{roll[1]} 2,1,3\n{roll[2]} 1,2,3\n")
+        self.expect("a secret vote with aliases", publishing.publish(room, *publishing.FILES, "result")[1:], ("", 0))
+        sections = page_parts.sections_of((room / "result" / "index.html").read_text())
+        self.expect("nobody is listed as one who voted", "Who-voted" in sections, False)
+        self.expect("the refused lines", "What was refused or came late is not published." in sections["Refused-lines"].text(), True)
+        self.expect("those who did not vote", [item.text() for item in sections["Find-your-ballot"].all("li")], [roll[3]])
