@@ -8,10 +8,10 @@ have a bar before them. So whoever answers a letter and quotes it does not vote 
 import dataclasses
 import datetime
 import functools
+import re
 from collections.abc import Collection, Sequence
 
 from debvote_tools.book.queries import Elector
-from debvote_tools.cli.console import shown_line
 from debvote_tools.inbox.rules import Outcome
 from debvote_tools.inbox.fates import Became, Fate
 from debvote_tools.inbox.reasons import for_elector
@@ -27,6 +27,9 @@ PACKAGE = "debvote_tools.outbox"
 
 # how many lines two sides of A4 have, as letter.css prints them
 TWO_SIDES = 112
+
+# a refused line that a letter quotes: a name, and what has no words, since anybody may have written it
+QUOTED = re.compile(rb"[A-Za-z0-9.-]{1,32}[0-9 ,;:._-]{0,100}")
 
 # the letters that go out, as the command and the book name them, with their subjects
 SUBJECTS = {
@@ -123,7 +126,7 @@ class Composer:
         return self.text("receipts.txt", elector, fates=fates, has_right_line=has_right_line)
 
     def text(self, template: str, elector: Elector, **values: object) -> str:
-        ways = {"said_of": self.said_of, "shown_line": shown_line}
+        ways = {"said_of": self.said_of, "quotation_of": quotation_of}
         return self.rendered(PACKAGE, template, elector, **ways, **values)
 
     def rendered(self, package: str, template: str, elector: Elector, **values: object) -> str:
@@ -193,6 +196,12 @@ class Composer:
         elif fate.became is Became.REFUSED:
             sentences += faults_of(fate.answer, name, language)
         return " ".join(sentences)
+
+
+def quotation_of(fate: Fate) -> str:
+    """A refused line behind a bar, with which it is no ballot; empty if it may have words."""
+    line = fate.envelope.line if fate.envelope is not None and fate.answer is not None else b""
+    return f"|{line.decode()}" if QUOTED.fullmatch(line) else ""
 
 
 def is_on_paper(elector: Elector) -> bool:

@@ -504,17 +504,16 @@ class ReceiptsAndReminders(OutTest):
         self.assertIn(said, self.texts("receipts")["ada"])
 
     def test_a_line_that_was_refused_is_quoted_and_votes_for_nobody(self) -> None:
-        """Nor does it where the receipt is answered, with or without a ballot, and the quotation has no marks."""
-        lines = [f"ada {RANKS},1", f"ben\u202e {RANKS} or dan {RANKS}", "cleo " + "1," * 60]
+        """Nor does it where the receipt is answered, with or without a ballot, and the quotation has no marks. One with words is not quoted."""
+        lines = [f"ada {RANKS},1", f"ben {RANKS} or http://x.example", "cleo " + "1," * 60, f"dan\u202e {RANKS}", "eve 1; 2;3"]
         self.add_lines(*lines, words=("--force",))
         found = self.written("receipts")
-        quoted = [f"|{lines[0]}", f"|ben\\u202E {RANKS} or\n|dan {RANKS}", f"|{lines[2][:100]}.."]
-        for (name, message), line in zip(found.items(), quoted, strict=True):
-            self.assertIn(f"\n\n{line}\n\nIf you have not sent this", message.get_content())
+        for (name, message), line in zip(found.items(), (f"|{lines[0]}\n\n", "", "", "", "|eve 1; 2;3\n\n"), strict=True):
+            self.assertIn(f".\n\n{line}If you have not sent this", message.get_content())
             head = f"In-Reply-To: {message['Message-ID']}\nSubject: Re: {message['Subject']}\n"
             for number, ballot in enumerate(("", f"{name} {OTHER_RANKS}\n\nThe secretary wrote:\n")):
                 self.add(letter(name, f"{ballot}{message.get_content()}", number=number, head=head, time=EARLIER))
-        self.assertEqual(self.exported()[0].splitlines()[3:], [f"{name} {OTHER_RANKS}" for name in found])
+        self.assertEqual(self.exported()[0].splitlines()[5:], [f"{name} {OTHER_RANKS}" for name in found])
 
     def test_to_whom_reminders_go(self) -> None:
         self.add_lines(f"ada {RANKS}")
