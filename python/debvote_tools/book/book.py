@@ -73,8 +73,8 @@ ActName = (
 #   add, desk: came_before_close, after reopen
 #   set aside, put back: letters; enter: letter or letters, and lines, empty if the ballot was typed
 #   undo: act, that it takes back; strike: envelope
-#   close: lines, checksum, seal, early, waiting, after_end, before_call; left, the letters that had
-#     arrived in time and wait
+#   close: lines, checksum, seal, early; left, the letters that had arrived in time and wait, and
+#     waiting, how many these are; after_end and before_call, how many others wait
 #   reopen: in_time, the late envelopes that were entered anew; force
 #   publish: words, casting, checksums, doubts, left
 #   letters out: kind, letters; letter sent: kind, server, user

@@ -91,7 +91,8 @@ CREATE TABLE sent (
   detail TEXT NOT NULL                  -- JSON: Message-ID, address, act that it belongs to, what it was about, what the server said
 ) STRICT;
 
--- The electors and the letters as they are now.
+-- The electors and the letters as they are now. Of a letter that `waits` no act has decided: whether it waits, goes in or is a copy,
+-- `judging.py` says.
 CREATE VIEW elector_now AS
   SELECT elector, name, position, who, mail, key, code, alias, mark FROM elector JOIN elector_state USING (elector)
   WHERE elector_state.act = (SELECT max(act) FROM elector_state AS later WHERE later.elector = elector.elector);

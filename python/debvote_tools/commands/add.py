@@ -74,6 +74,7 @@ def run(election: Election, arguments: Arguments) -> None:
         election.demand_right_book(arguments)
     vote = Vote(election, election.history())
     found = given_files.read_files(election, arguments.files, is_table=arguments.csv)
+    # stops at letters beside other files, so in the one case there are no folders
     if not given_files.are_all_letters(found):
         files = [one for one in found.values() if isinstance(one, GivenFile)]
         take_lines(vote, files, arguments)

@@ -88,7 +88,9 @@ def demand_yes(command: str, question: str, when: str) -> None:
 
 
 def what_is_taken_back(vote: Vote) -> TakenBack:
-    """The last act that entered lines, and what changes. Stops if there is none, or at a close."""
+    """The last act that entered lines, and what changes. Of a `reopen` only its lines are taken back:
+    the vote stays open. Stops if there is none, or at a close.
+    """
     book, election = vote.book, vote.election
     with book.snapshot():
         history = History(book.acts())

@@ -45,6 +45,7 @@ def agreed_act(
 
     `act` gets the number of the last act before the plan, and raises `Overtaken` if others came
     since. Then the plan is made anew, and shown again if it differs: what was agreed to is done.
+    Only `add` of lines, whose plan asks debvote nothing, compares it within the act (`is_same`).
     """
     shown: Plan | None = None
     while True:
@@ -75,8 +76,8 @@ def enter_lines(
     """The act that enters lines, and what `report_on` says of it, by the numbers of the envelopes
     and the replies. `envelopes` gives what goes in, and may write rows of its own.
 
-    If other acts came since the one that was seen, `is_same` says within the act whether the plan
-    would be the same.
+    If other acts came since the one that was seen, it is overtaken, unless `is_same` says within the
+    act that the plan would be the same.
     """
     book = vote.book
     with contextlib.ExitStack() as stack:

@@ -158,7 +158,7 @@ def judge_all(
 def set_outcomes(cases: Sequence[LetterCase], box: Box) -> None:
     """Sets what becomes of letters, by their times. What an act decided holds; a letter that breaks
     a rule waits. Of the letters of one identity, mostly one alone, the first that breaks none goes
-    in, and into the box, unless its elector has a later ballot; the others are its copies.
+    in, and into the box, unless its elector has a later ballot. `set_copies` does the others.
     """
     by_identity: dict[str, list[LetterCase]] = collections.defaultdict(list)
     for case in cases:
@@ -168,19 +168,19 @@ def set_outcomes(cases: Sequence[LetterCase], box: Box) -> None:
         else:
             case.outcome, case.reason = DECIDED[case.decision]
     firsts: set[LetterCase] = set()
-    at_once: dict[tuple[str, datetime.datetime | None], set[str]] = collections.defaultdict(set)
+    at_its_time: dict[tuple[str, datetime.datetime | None], set[str]] = collections.defaultdict(set)
     undecided = [
         group for group in by_identity.values() if any(case.decision is None for case in group)
     ]
     for group in undecided:
-        # unless an act decided of one that hides it
-        is_hidden = any(case.decision is not None and case.hides for case in group)
+        # an act decided of one that hides the others
+        is_settled = any(case.decision is not None and case.hides for case in group)
         may_go_in = (one for one in group if one.decision is None and one.first_broken_rule is None)
-        for case in () if is_hidden else itertools.islice(may_go_in, 1):
+        for case in () if is_settled else itertools.islice(may_go_in, 1):
             firsts.add(case)
-            at_once[case.elector, case.time].add(case.ballots[0].ballot)
+            at_its_time[case.elector, case.time].add(case.ballots[0].ballot)
     for case in filter(firsts.__contains__, cases):
-        case.reason = why_not_latest(case, box, at_once[case.elector, case.time])
+        case.reason = why_not_latest(case, box, at_its_time[case.elector, case.time])
         if case.reason is None and case.time is not None:
             case.outcome = Outcome.GOES_IN
             box[case.elector].append(Ballot(case.time, case.ballots[0].ballot))

@@ -1,6 +1,6 @@
 """The rules of a letter. If one does not hold, it waits, with the reason of the first. If all hold,
-it goes in by itself, unless it is a copy, its elector has a later ballot, or an act decided of it
-(`judging.py`).
+it goes in by itself, unless its elector has a later ballot. A copy of another letter does neither,
+and what an act decided holds, whatever the rules say (`judging.py`).
 
 They say what a letter has to be. No list of what may be wrong with a letter, or of what a quotation
 looks like, can be complete, so there is none.
@@ -227,7 +227,9 @@ class LetterCase:
 
     @property
     def hides(self) -> bool:
-        """Whether all its copies are ignored: it went in once, or breaks no rule."""
+        """Whether copies of it are ignored: all of them if it went in once, goes in or was decided of;
+        else, if it breaks no rule, those that break none.
+        """
         went_in = (queries.ENTERED, queries.TAKEN_BACK, queries.STRUCK)
         return self.decision in went_in or self.first_broken_rule is None
 

@@ -115,8 +115,8 @@ class Composer:
         return self.text("reminders.txt", elector, fates=fates, has_come=has_come)
 
     def receipt(self, elector: Elector, fates: Sequence[Fate]) -> str:
-        """What became of what came from an elector. It has the right line if the last of it was refused
-        or waits. What was struck, taken back or late asks nobody to vote again.
+        """What became of what came from an elector. It has the right line if the last of it was
+        refused, waits or was set aside. What was struck, taken back or late asks nobody to vote again.
         """
         decides = (
             one for one in fates if one.is_own or one.became in (Became.COUNTS, Became.REFUSED)

@@ -184,8 +184,10 @@ def in_time_and_entered_late(election: Election, history: History) -> list[Doubt
     if history.closes:
         late = queries.envelopes(book, f"{queries.LATE} AND letter IS NOT NULL")
     if late:
-        counting = {line: number for number, line in queries.numbered_lines_in_time(book)}
-        late = [envelope for envelope in late if counting.get(envelope.line, 0) < envelope.number]
+        last_in_time = {line: number for number, line in queries.numbered_lines_in_time(book)}
+        late = [
+            envelope for envelope in late if last_in_time.get(envelope.line, 0) < envelope.number
+        ]
         later = Vote(election, history).later_ballots(late)
         late = [envelope for envelope in late if envelope.number not in later]
     if not late:
