@@ -641,7 +641,7 @@ class OfSecretVotes(OfElections):
         self.expect("who voted is not told", "Who-voted" in sections, False)
 
     def check_what_a_close_tells(self, said):
-        """Neither its words nor the log nor a letter have the seal, or a checksum of the ballots without it; the poll that is exported is that of the ballots."""
+        """Neither its words nor log and letters have the seal, or a checksum without it; the poll that is exported is that of the ballots."""
         self.say("export", "exported")
         ballots, seal = (self.folder / "exported" / "ballots.txt").read_bytes(), self.acts()[-1].detail["seal"]
         aliases = {elector.name: elector.alias for elector in queries.electors(self.book)}
