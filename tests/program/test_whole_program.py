@@ -237,8 +237,7 @@ class WordsTest(WholeTest):
             broken = subprocess.Popen(["true"], stdin=subprocess.PIPE)
             broken.wait(SECONDS)
             self.expect(f"{words[0]} into a closed pipe", run(words, stdout=broken.stdin), (None, fault("output failed"), 7))
-            closed = run(words, stdout=None, before=lambda: os.close(1))
-            self.expect(f"{words[0]} into a closed output", closed, (None, fault("output failed"), 7))
+            self.expect(f"{words[0]} into a closed output", run(words, stdout=None, before=lambda: os.close(1)), (None, fault("output failed"), 7))
         self.expect("a closed input", run([], stdin=None, before=lambda: os.close(0)), refused("ballots unreadable", 4))
         self.expect("a fault into closed faults", run(["check", "--poll", "none"], before=lambda: os.close(2)), (b"", b"", 3))
 

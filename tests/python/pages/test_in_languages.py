@@ -133,8 +133,7 @@ class InBrowser(languages.LanguageTest):
         first, *_, last = found = find("Person 02")
         self.assertEqual((first, len(found), last), (said("counts", name="e02"), 6, said("line", line="e02 2,1,4,3")))
         # what came from e05 was entered after the close
-        uncounted = said("uncounted", lines=self.language.say("Refused and late lines"))
-        self.assertEqual(find("e05"), [said("no_ballot", name="e05"), uncounted])
+        self.assertEqual(find("e05"), [said("no_ballot", name="e05"), said("uncounted", lines=self.language.say("Refused and late lines"))])
         self.assertEqual(find("nobody") + find(""), [said("no_elector", name="nobody"), said("type_name")])
 
     def check_find_in_secret(self, place: pathlib.Path) -> None:

@@ -97,8 +97,7 @@ class ScriptsTest(publishing.PublishTest):
         """Whoever may be meant is named, with the real name where the page has it, and nobody is told that the name is wrong."""
         poll = re.sub("roll = .*", 'roll = ["anna-meier", "ben-lee", "eve-lee", "dan"]', publishing.PLAIN_POLL)
         room = plain_room(self.scratch / "family", poll, "anna-meier 1,2,3\ndan 1,2\ndan-x 1,2,3\nEVE-LEE 1;2\n")
-        made = self.published(room, "family-names", real_names={"anna-meier": "Anna Meier", "dan": "Dan"})
-        window = self.page_of(made)
+        window = self.page_of(self.published(room, "family-names", real_names={"anna-meier": "Anna Meier", "dan": "Dan"}))
         self.expect("one", window.find("Meier"), ["Do you mean anna-meier (Anna Meier)?"])
         self.expect("several", window.find("lee"), ["Do you mean ben-leeeve-lee?"])
         self.expect("none", window.find("Meyer"), ["No elector has the name meyer. Type it as it is on the roll."])
@@ -173,8 +172,7 @@ class ScriptsTest(publishing.PublishTest):
         """In a secret vote it covers the random line, too."""
         folder, seal = self.secret / "result", "5" * 32
         secret = SecretVote(codes=frozenset(), seal=seal, sheet_text=(folder / "sheet.txt").read_text(), late=0)
-        room = self.published(self.secret, "sealed", secret=secret)
-        window = self.page_of(room)
+        window = self.page_of(self.published(self.secret, "sealed", secret=secret))
         sealed = hashlib.sha256(f"{seal}\n".encode() + (folder / "ballots.txt").read_bytes()).hexdigest()
         rows = [row for row in window.count_again(sealed) if "as the letter of the close has to have it" in row]
         said = f"The checksum of seal.txt and the ballots, as the letter of the close has to have it, is {sealed}."
@@ -182,8 +180,7 @@ class ScriptsTest(publishing.PublishTest):
 
     def test_what_is_typed(self):
         """Enter shows the ballot, and an answer goes when another name is typed; of two with one real name both are shown."""
-        room = self.published(self.room, "real names", real_names={"ada": "Zoë", "ben": "Zoë", "dan": "Dan"})
-        window = self.page_of(room)
+        window = self.page_of(self.published(self.room, "real names", real_names={"ada": "Zoë", "ben": "Zoë", "dan": "Dan"}))
         counts = [said for said in window.find("zoe") if said.startswith("This ballot counts")]
         self.expect("one real name", counts, ["This ballot counts for ada:", "This ballot counts for ben:"])
         window.ask("document.getElementById('Name').focus()")
@@ -249,8 +246,7 @@ class ScriptsTest(publishing.PublishTest):
             "the ballot of ada": ("</bdi>; then Option 1: <bdi>72 Euro</bdi>; not", "</bdi>; then Option 1: <bdi>73 Euro</bdi>; not"),
         }
         for what, change in changes.items():
-            window = self.page_of(change=change)
-            said = [row for row in window.count_again() if row.startswith("This page does not show what its files come to: ")]
+            said = [row for row in self.page_of(change=change).count_again() if row.startswith("This page does not show what its files come to: ")]
             self.expect(f"changed: {what}", [what.strip() in row for row in said], [True])
 
     def test_files_from_the_disk(self):

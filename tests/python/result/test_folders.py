@@ -169,8 +169,7 @@ class FoldersTest(looks.LooksTest):
     @classmethod
     def made(cls):
         # an option whose name has the words of a casting vote outside of a tie, and which wins, is told as the winner alone
-        named = publishing.PLAIN_POLL.replace('"A"', '"A, casting option 2 is not among them"')
-        room = publishing.plain_room(cls.scratch / "of-words", named)
+        room = publishing.plain_room(cls.scratch / "of-words", publishing.PLAIN_POLL.replace('"A"', '"A, casting option 2 is not among them"'))
         words = "words-of-the-sheet", room / "poll.toml", room / "ballots", []
         published = publishing.side_by_side(cls.publish, [*examples.elections(cls.scratch), words])
         cls.castings = {folder: casting for folder, casting in published if folder.exists()}

@@ -10,19 +10,17 @@ import subprocess
 from tests.support import page_parts as pages, publishing
 from tests.support.publishing import FILES, HAS_PICTURES, PATH, PROGRAM, SECONDS, plain_room, publish, room_with
 
+MORE = "a ballot has a space there, or more of the name: a to z, 0 to 9, . or -"
 REFUSED_TEXTS = [
-    'line 4: ada;1,2,3: bad shape: column 4: ";"; a ballot has a space there, or more of the name: a to z, 0 to 9, . or -',
+    f'line 4: ada;1,2,3: bad shape: column 4: ";"; {MORE}',
     'line 5: <b>ada</b> 1,2,3: bad shape: column 1: "<"; a ballot has the name there: a to z, 0 to 9, . or -',
     "line 6: (an empty line): bad shape: column 1: end of line; a ballot has the name there: a to z, 0 to 9, . or -",
     'line 7: ben 1.,2,3: bad shape: column 6: "."; a ballot has a comma or its end there, or a second digit of the rank',
     "lines 8 to 9: zoe 1,2,3: bad not on roll: zoe is not on the roll",
-    f'line 10: {"x" * 100} (the first 100 of 381 characters): bad shape: column 33: "x"; '
-    "a ballot has a space there: a name has at most 32 bytes",
+    f"line 10: {'x' * 100} (the first 100 of 381 characters): bad shape: column 33: \"x\"; a ballot has a space there: a name has at most 32 bytes",
     "line 11: ada 1,2: bad rank count: 2 ranks, the poll has 3 options",
-    "line 12: café\\u202E 1,2,3: bad shape: column 4: Latin letter beyond a to z; "
-    "a ballot has a space there, or more of the name: a to z, 0 to 9, . or -",
-    "line 13: cleo 1,\\u00092,3: bad shape: column 8: tab; a ballot has a rank there: a number from 1 to 99, or a hyphen",
-    "line 15: cleo 1,\\u00092,3: bad shape: column 8: tab; a ballot has a rank there: a number from 1 to 99, or a hyphen",
+    f"line 12: café\\u202E 1,2,3: bad shape: column 4: Latin letter beyond a to z; {MORE}",
+    *(f"line {n}: cleo 1,\\u00092,3: bad shape: column 8: tab; a ballot has a rank there: a number from 1 to 99, or a hyphen" for n in (13, 15)),
 ]
 
 
@@ -33,11 +31,15 @@ class GivenTest(publishing.PublishTest):
         self.expect("honest words: the status", publish(room, *FILES, "result")[2], 0)
         page = (room / "result" / "index.html").read_text()
         sections = pages.sections_of(page)
-        said = "This is the count of the files in this folder. No count shows whether they are what the electors sent; see "
-        self.expect("honest words: below what is checked", said in sections["Check-it"].text(), True)
-        unseen = sections["What-nobody-can-see-from-here"]
+        counted = "This is the count of the files in this folder. No count shows whether they are what the electors sent; see "
+        for part, texts in {
+            "Check-it": [counted, "Your browser can count the ballots again", "a second opinion from the same web site", "Nothing is sent."],
+            "How-to-verify": ["Ask your secretary where to get it", "It is better taken from elsewhere", "/usr/share/doc/debvote/reference.py"],
+        }.items():
+            self.expect(part, [said for said in texts if said not in sections[part].text()], [])
+        self.expect("it promises no proof", re.search("(?i)prove|verified|certain", sections["Check-it"].text()), None)
         # a line feed is a space to a reader
-        rows = [" ".join(entry.text().split()) for entry in unseen.all("li")]
+        rows = [" ".join(entry.text().split()) for entry in sections["What-nobody-can-see-from-here"].all("li")]
         for start, check in [
             ("A ballot that came and was left out, if its elector does not look. ", "Look for your own ballot under Find your ballot"),
             ("A vote in the name of an elector who did not vote. ", "you must be among those who did not"),
@@ -54,8 +56,7 @@ class GivenTest(publishing.PublishTest):
         self.expect("the order of the parts", list(sections), [*seen, *folded])
         heads = {name: [head.one("h3").attributes["id"] for head in part.all("summary") if list(head.all("h3"))] for name, part in sections.items()}
         self.expect("what is folded, under its heading", {name: head for name, head in heads.items() if head}, {name: [name] for name in folded})
-        verify = sections["How-to-verify"]
-        heads = [head.text() for head in verify.all("h4")]
+        heads = [head.text() for head in sections["How-to-verify"].all("h4")]
         program = subprocess.run([PROGRAM, "--version"], capture_output=True, text=True).stdout.strip()
         self.expect("how to verify: its parts", heads, ["To count again", f"With the program {program}", "Without debvote"])
         own, winner, sums, letter, again = [" ".join(entry.text().split()) for entry in sections["Check-it"].one("ol").all("li")]
@@ -64,15 +65,8 @@ class GivenTest(publishing.PublishTest):
         self.expect("check it: the winner", winner.startswith("Does your letter of the result name the same winner? "), True)
         self.expect("check it: both checksums", sums.startswith("Does it have the checksums of SHA256SUMS and index.html, this page, "), True)
         self.expect("check it: one's own letter", letter, f"Does your letter of the call have this checksum, the poll's? {poll_sum}")
-        text = verify.text()
-        for said in ["Ask your secretary where to get it", "It is better taken from elsewhere", "/usr/share/doc/debvote/reference.py"]:
-            self.expect(f"how to verify: {said}", said in text, True)
-        again = sections["Check-it"]
-        links = {link.attributes["href"]: "download" in link.attributes for link in again.all("a")}
+        links = {link.attributes["href"]: "download" in link.attributes for link in sections["Check-it"].all("a")}
         self.expect("check it: what is downloaded", [name for name, is_loaded in links.items() if is_loaded], ["SHA256SUMS", "index.html"])
-        for said in ["Your browser can count the ballots again", "a second opinion from the same web site", "Nothing is sent."]:
-            self.expect(f"count again here: {said}", said in again.text(), True)
-        self.expect("count again here: it promises no proof", re.search("(?i)prove|verified|certain", again.text()), None)
         whole = pages.tree_of(page).text()
         self.expect("ballots in the order of what?", ("in the order in which they were entered" in whole, "they came" in whole), (True, False))
         self.expect("nothing is said to be announced", "announced" in whole, False)

@@ -613,8 +613,7 @@ class OfSecretVotes(OfElections):
         for words in (("count",), ("publish",), ("publish", "--force", "--because", "x", "--yes")):
             self.stops(*words, said=["the vote is secret, and can be counted only after the close"])
         self.say("strike", "1", "--because", "private reason")
-        self.say("close")
-        self.check_what_a_close_tells()
+        self.check_what_a_close_tells(self.say("close"))
         self.add("dan 3,2,1\n")
         self.say("publish", "--language", "en", status=1)
         self.whole()
@@ -641,13 +640,13 @@ class OfSecretVotes(OfElections):
         self.expect("a strike without number and reason", [struck in item.text() for item in sections["What-was-done"].all("li")].count(True), 1)
         self.expect("who voted is not told", "Who-voted" in sections, False)
 
-    def check_what_a_close_tells(self):
-        """Neither the log nor a letter has the seal, or a checksum of the ballots without it; the poll that is exported is that of the ballots."""
+    def check_what_a_close_tells(self, said):
+        """Neither its words nor log and letters have the seal, or a checksum without it; the poll that is exported is that of the ballots."""
         self.say("export", "exported")
         ballots, seal = (self.folder / "exported" / "ballots.txt").read_bytes(), self.acts()[-1].detail["seal"]
         aliases = {elector.name: elector.alias for elector in queries.electors(self.book)}
         published = "".join(sorted(f"{aliases[name]} {ranks}\n" for name, ranks in (("ada-lovelace", "1,2,3"), ("zoe-mueller", "2,1,3"))))
-        told = self.say("log") + "".join(file.read_text() for file in (self.folder / "letters").iterdir() if file.is_file())
+        told = said + self.say("log") + "".join(file.read_text() for file in (self.folder / "letters").iterdir() if file.is_file())
         secrets = [seal, *(hashlib.sha256(data).hexdigest() for data in (ballots, published.encode()))]
         self.expect("what is told at the close", [text in told for text in secrets], [False] * 3)
         steps = self.debvote("steps", "--poll", "exported/poll.toml", "--ballots", "exported/ballots.txt").output
