@@ -90,8 +90,12 @@ def folder_beside(place: pathlib.Path) -> pathlib.Path:
 
 
 def left_beside(place: pathlib.Path) -> list[pathlib.Path]:
-    """The folders beside a place that runs have made and filled."""
-    return [left for left in place.parent.glob(f"{BESIDE_PLACE}*") if any(left.iterdir())]
+    """The folders beside a place that runs have made and filled. Another run may take one away."""
+    found = []
+    for left in place.parent.glob(f"{BESIDE_PLACE}*"):
+        with contextlib.suppress(FileNotFoundError):
+            found += [left] if any(left.iterdir()) else []
+    return found
 
 
 def is_free(target_folder: pathlib.Path) -> bool:

@@ -1,11 +1,15 @@
 """What debvote-publish refuses, and that a run that fails leaves nothing."""
 
 import os
+import pathlib
 import shutil
 import signal
 import subprocess
 import sys
 import time
+from unittest import mock
+
+from debvote_tools.result.folder import left_beside
 
 from tests.support import page_parts, publishing
 
@@ -134,3 +138,7 @@ class RefusedTest(publishing.PublishTest):
         self.expect("nobody is listed as one who voted", "Who-voted" in sections, False)
         self.expect("the refused lines", "What was refused or came late is not published." in sections["Refused-lines"].text(), True)
         self.expect("those who did not vote", [item.text() for item in sections["Find-your-ballot"].all("li")], [roll[3]])
+
+    def test_a_folder_that_another_run_takes_away(self):
+        with mock.patch.object(pathlib.Path, "glob", return_value=[self.scratch / "gone", self.scratch.parent]):
+            self.expect("what is left", left_beside(self.scratch), [self.scratch.parent])
