@@ -367,7 +367,7 @@ class Held(LettersTest):
             self.add(letter("eve", "We could not deliver this:\n\neve 1,2\n", sender=sender, number=number))
             shown = self.told("held", number)
             self.assertEqual("eve 1,2`" in shown, number == 4, shown)
-        # hTML that repeats the text is listed once
+        # HTML that repeats the text is listed once
         for name, text in (("cleo", f"3 of us\ncleo {RANKS}\neve {OTHER}"), ("dan", "dan 1,2")):
             self.add(letters.alternatives(name, text, text.replace("\n", "<br>")))
         listed = self.told("held")

@@ -54,7 +54,7 @@ class Files(unittest.TestCase):
         for line in (b"From ben\n", b"From - Mo Nov 23 10:00:00 2026\n", b"from ben\n", b">From - Mon Nov 23 10:00:00 2026\n"):
             for above in (ADA, PARTS, LINE + ADA, LINE + PARTS):
                 self.assert_becomes(above + b"\n" + line + CODED, PARTED)
-        # thunderbird and others put fields of their own above all that the mail server wrote
+        # Thunderbird and others put fields of their own above all that the mail server wrote
         line = b"From ben 2026-11-23T10:00:00\n"
         for field in (b"X-Mozilla-Status: 0001\n", b"X-UID: 7\n", b"Delivery-Date: x\n", b"Status: RO\n", b"To: vote\n", b"Subject: x\n"):
             below = b"\n" + line + field + CODED
@@ -73,7 +73,7 @@ class Files(unittest.TestCase):
         # without an empty line between, and as text of a letter that is not in a mailbox
         self.assert_becomes(b"From \n" + ADA + b"From \n" + BEN, IN_ADA, PARTED)
         self.assert_becomes(ADA + b"\nFrom \n" + BEN, PARTED)
-        # lotus Notes writes boundaries with a blank
+        # Lotus Notes writes boundaries with a blank
         notes = "=_alternative 004A8E32C1256F5A_="
         for kind in (f'multipart/alternative; boundary="{notes}"', f'multipart/alternative; boundary="{notes} "'):
             self.assert_becomes(mailbox(letter("ada", f"--{notes}\n\nada {RANKS}\n--{notes}--\n", kind=kind), BEN), IN_ADA, IN_BEN)
