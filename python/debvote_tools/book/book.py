@@ -64,8 +64,8 @@ ActName = (
 # given. `letters` and `lines` are how many came; of set aside, put back and enter their numbers
 #   new: language
 #   roll, addresses: electors, how many; codes: codes, how many, and on_roll
-#   call, extend, announce: until, zone, to, to_name, at, as the command line names them; form,
-#     names, marked, signed, keyring, codes_on_roll, quorum_votes
+#   call, extend, announce: to, to_name, at, as the command line names them; form, names, marked,
+#     signed, keyring, codes_on_roll, quorum_votes; call, extend: until, zone
 #   call, announce, publish: agreed, the checksums of texts that a secret vote may make public
 #   take back: call, its act; codes, how many have lapsed
 #   letters: letters; add: files, lines, letters, unsigned, passed_over, how many came before, and

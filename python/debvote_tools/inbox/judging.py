@@ -80,12 +80,14 @@ def read_kept(vote: Vote, kept: Sequence[KeptLetter]) -> list[ReadLetter]:
     sealed = queries.last_act_that_sealed(vote.book, KEYRING)
 
     def check_again(of_waiting: bool) -> None:
-        """Reads letters again, for their signatures."""
+        """Reads letters again, for their signatures: those that may wait, or the others if they have
+        no good one.
+        """
         raws = {}
         for index, (one, letter) in enumerate(zip(kept, found)):
             is_old = one.act < sealed and not letter.is_never_signed
-            is_unsigned = of_waiting or letter.signature is None
-            if (is_old or letter.is_slow) and one.may_wait == of_waiting and is_unsigned:
+            is_meant = one.may_wait if of_waiting else not one.may_wait and letter.signature is None
+            if is_meant and (is_old or letter.is_slow):
                 data = queries.source_of(vote.book, one.source)
                 raws[index] = RawLetter(letter.where, data, letter.is_parted_off)
         for index, read in zip(raws, read_letters(vote, [*raws.values()])):
@@ -179,8 +181,13 @@ def set_outcomes(cases: Sequence[LetterCase], box: Box) -> None:
         for case in () if is_settled else itertools.islice(may_go_in, 1):
             firsts.add(case)
             at_its_time[case.elector, case.time].add(case.ballots[0].ballot)
+    # copies of these are not known as such, while gpgv does not answer
+    unchecked = [case for case in cases if case.decision is not None and case.read.is_slow]
+    unchecked_ballots = {line.ballot for case in unchecked for line in case.ballots}
     for case in filter(firsts.__contains__, cases):
         case.reason = why_not_latest(case, box, at_its_time[case.elector, case.time])
+        if case.ballots[0].ballot in unchecked_ballots:
+            case.reason = Reason.PERHAPS_COPY()
         if case.reason is None and case.time is not None:
             case.outcome = Outcome.GOES_IN
             box[case.elector].append(Ballot(case.time, case.ballots[0].ballot))

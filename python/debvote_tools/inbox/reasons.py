@@ -197,6 +197,10 @@ class Reason(enum.Enum):
     )
     UNREAD_SIGNATURE = "gpgv can't check its signature", SIGNATURE_UNREAD
     SLOW_SIGNATURE = "gpgv did not answer about its signature in time", SIGNATURE_UNREAD
+    PERHAPS_COPY = (
+        "it may be a copy of a letter that was dealt with, about which gpgv did not answer in time",
+        LOOKED_AT,
+    )
     EXPIRED_SIGNATURE = "its signature has expired", marked(
         "The reason: its signature has expired."
     )

@@ -649,15 +649,22 @@ class Signed(LettersTest):
         for number, copy in enumerate((b"X-Status: R\n" + self.signed("ben"), self.signed("ben", number=2)), start=1):
             self.assertIn(f"{number} cop{'y' if number == 1 else 'ies'} passed over", self.add(copy))
         self.assertEqual((self.exported()[0], self.numbers()["waiting"]), ("", 0))
+        # nor does a copy go in while nobody can say that it is one
+        said = self.while_gpgv_is_slow("add", "--yes", str(self.box(self.signed("ada"))))
+        self.assertIn("it may be a copy of a letter that was dealt with, about which gpgv did not answer in time", said)
+        self.assertEqual(self.exported()[0], "")
 
-    def test_one_about_which_gpgv_was_slow(self) -> None:
+    def while_gpgv_is_slow(self, *words: str) -> str:
         place = self.scratch / "slow"
         place.mkdir()
         (place / "gpgv").write_text("#!/bin/sh\nexec sleep 60\n")
         (place / "gpgv").chmod(0o755)
-        words = ("add", "--yes", str(self.box(self.signed("ada"))))
         with mock.patch.object(signature, "SECONDS", 0.2):
-            self.assertIn("gpgv did not answer about its signature in time", self.in_this_process(*words, path=f"{place}:"))
+            return self.in_this_process(*words, path=f"{place}:")
+
+    def test_one_about_which_gpgv_was_slow(self) -> None:
+        words = ("add", "--yes", str(self.box(self.signed("ada"))))
+        self.assertIn("gpgv did not answer about its signature in time", self.while_gpgv_is_slow(*words))
         self.assertIn("1 counted  ada: ", self.told(*words))
 
     def test_a_copy_that_only_its_signature_shows_stops_no_close(self) -> None:
