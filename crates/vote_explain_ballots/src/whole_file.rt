@@ -41,7 +41,8 @@ fn are_printable(text: &[u8]) -> bool
 fn is_remark(text: &str) -> bool
     ensures { IsTrue result → IsRemark text.now }
 {
-    text.len() <= MOST_REMARK && are_printable(text.as_bytes())
+    let is_short = text.len() <= MOST_REMARK;
+    is_short && are_printable(text.as_bytes())
 }
 
 /// Adds a remark. What is none is left out.
