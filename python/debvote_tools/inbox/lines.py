@@ -99,8 +99,10 @@ class Line(NamedTuple):
         )
 
     @property
-    def without_frame(self) -> bytes:
-        """The line without such a mark and carriage return, which are told once for a file."""
+    def as_reported(self) -> bytes:
+        """With what a report of changes begins: the line as it came, but without a mark and a carriage
+        return, which are told once for a file.
+        """
         return self.unframed if self.had_mark or self.had_return else self.as_it_came
 
 

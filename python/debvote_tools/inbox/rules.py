@@ -227,8 +227,8 @@ class LetterCase:
 
     @property
     def hides(self) -> bool:
-        """Whether copies of it are ignored: all of them if it went in once, goes in or was decided of;
-        else, if it breaks no rule, those that break none.
+        """Whether it can hide copies: it went in once, or breaks no rule. Which of them it hides,
+        `set_copies` says.
         """
         went_in = (queries.ENTERED, queries.TAKEN_BACK, queries.STRUCK)
         return self.decision in went_in or self.first_broken_rule is None

@@ -267,7 +267,7 @@ def frame_words(lines: Iterable[Line]) -> Iterator[str]:
 
 
 def change_words(line: CheckedLine) -> Iterator[str]:
-    before = line.original.without_frame
+    before = line.original.as_reported
     if before != line.as_entered:
         how = ", ".join(differences(before, line.as_entered))
         yield f"{line.original.where}: `{shown_line(before)}` was changed to `{shown_line(line.as_entered)}` ({how})"

@@ -65,7 +65,7 @@ class Lines(unittest.TestCase):
         self.assertEqual((line.as_it_came, line.unframed), (mark + b"Ada;1\r", b"Ada;1"))
         lines = lines_in(b"\xef\xbb\xbfAda 1\r\nben 2\r\ncleo  3\n", "f")
         self.assertEqual([(line.had_mark, line.had_return) for line in lines], [(True, True), (False, True), (False, False)])
-        self.assertEqual([line.without_frame for line in lines], [b"Ada 1", b"ben 2", b"cleo  3"])
+        self.assertEqual([line.as_reported for line in lines], [b"Ada 1", b"ben 2", b"cleo  3"])
 
     def test_nothing_steers_the_terminal_and_a_long_line_is_cut(self) -> None:
         self.assertEqual(shown_line(b"a\x1b[2Jb\t\r\n\x00\xff"), "a\\u001B[2Jb\\t\\r\\n\\u0000\\xff")
