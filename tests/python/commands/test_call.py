@@ -85,13 +85,6 @@ class Open(CallTest):
         self.assertEqual([part in line for part, line in zip(parts, ended.faults.splitlines(), strict=True)], [True] * 6, ended.faults)
         self.assertFalse((self.folder / "call").exists())
 
-    def test_an_end_that_the_call_did_not_say(self) -> None:
-        self.done("call", "--to", "vote@club.example")
-        self.done("call", *UNTIL)
-        text = " ".join(self.read("letters/extension.txt").decode().split())
-        self.assertIn("You can now vote until the time below.", text)
-        self.assertIn(f"Vote until: {FIRST} The call did not", text)
-
 
 class Again(CallTest):
     def setUp(self) -> None:
@@ -139,19 +132,16 @@ class Again(CallTest):
         self.assert_fault(self.election("call", *UNTIL[:1], "2026-11-01 10:00"), 2, "is past")
 
     def test_not_taken_back_once_something_came(self) -> None:
-        self.write("lines", "ada 1,2,3,4\n")
-        self.done("add", "--yes", "lines")
+        self.done("desk", given="ada 1,2,3,4\n")
         self.done("undo", "--yes")
         self.assert_fault(self.election("call", "--take-back"), 9, "have come")
 
     def test_not_taken_back_once_a_letter_waits(self) -> None:
         """Also if it was set aside since."""
-        self.write("letter.eml", "From: stranger@example.org\nDate: Fri, 27 Nov 2026 09:30:00 +0000\n\nada 1,2,3,4\n")
-        self.set_clock("2026-11-27T10:00:00+00:00")
-        self.done("add", "--yes", "letter.eml")
-        self.assert_fault(self.election("call", "--take-back"), 9, "have come")
-        self.done("held", "1", "--set-aside")
-        self.assert_fault(self.election("call", "--take-back"), 9, "have come")
+        self.write("letter.eml", "From: stranger@example.org\nDate: Fri, 27 Nov 2026 08:30:00 +0000\n\nada 1,2,3,4\n")
+        for words in (("add", "--yes", "letter.eml"), ("held", "1", "--set-aside")):
+            self.done(*words)
+            self.assert_fault(self.election("call", "--take-back"), 9, "have come")
 
 
 class Letters(CallTest):

@@ -2,12 +2,11 @@
 
 import contextlib
 import hashlib
-import io
 import os
+import unittest
 from collections.abc import Iterator
 from unittest import mock
 
-from debvote_tools.cli import command_line
 from debvote_tools.commands import close
 from debvote_tools.result import folder as result_folder
 
@@ -16,6 +15,7 @@ from tests.support.called import LettersTest
 from tests.support.terminal import Terminal
 
 UNTIL = ("--until", "2026-12-04 18:00", "--zone", "Europe/Berlin")
+MEANWHILE = "another command changed the election meanwhile; nothing was changed"
 
 
 class CloseTest(LettersTest):
@@ -65,18 +65,13 @@ class Close(CloseTest):
         self.assertIn("1 line came after the end, and is in time, since the vote was not closed yet.", self.read("result/index.html").decode())
 
 
+@unittest.skipIf(os.environ.get("DEBVOTE_FORKS") == "0", "what a test has patched is in its forks alone")
 class Meanwhile(CloseTest):
     """What others do while a vote is closed or published."""
 
-    def in_this_process(self, *words: str) -> tuple[int, str, str]:
-        """Runs a command here, where a test can put something between two of its steps."""
-        env = elections.environment() | {"XDG_STATE_HOME": str(self.state)}
-        output, faults = io.TextIOWrapper(io.BytesIO()), io.TextIOWrapper(io.BytesIO())
-        with mock.patch.dict(os.environ, env), contextlib.chdir(self.folder):
-            with contextlib.redirect_stdout(output), contextlib.redirect_stderr(faults):
-                status = command_line.main(elections.ELECTION.parent, words)
-        said = [stream.buffer.getvalue().decode() for stream in (output, faults)]
-        return status, said[0], said[1]
+    def entered(self, line: str) -> None:
+        """A desk enters a line. It is a new process: a fork of a fork shares its input."""
+        self.desk().communicate(f"{line}\n")
 
     def closing_after(self, lines: Iterator[str]) -> mock._patch:
         """Before each close that is decided, a desk enters the next of these lines."""
@@ -85,7 +80,7 @@ class Meanwhile(CloseTest):
         def after_a_desk(*found: object) -> object:
             detail = fixed(*found)
             if (line := next(lines, None)) is not None:
-                self.done("desk", given=f"{line}\n")
+                self.entered(line)
             return detail
 
         return mock.patch.object(close, "fixed", after_a_desk)
@@ -94,8 +89,7 @@ class Meanwhile(CloseTest):
         """The close is decided anew, with the line."""
         self.add("ada 1,2,3,4")
         with self.closing_after(iter(["ben 1,2,3,4", "cleo 2,1,3,4"])):
-            status, said, faults = self.in_this_process("close")
-        self.assertEqual((status, faults), (0, ""), said)
+            said = self.told("close")
         ballots = "ada 1,2,3,4\nben 1,2,3,4\ncleo 2,1,3,4\n"
         self.assertEqual(self.exported(), (ballots, ""))
         self.assertIn(hashlib.sha256(ballots.encode()).hexdigest(), self.read("letters/closed.txt").decode())
@@ -104,9 +98,8 @@ class Meanwhile(CloseTest):
 
     def test_a_desk_that_never_stops(self) -> None:
         with mock.patch.object(close, "TRIES", 2), self.closing_after(iter(["ada 1,2,3,4"] * 9)):
-            status, _, faults = self.in_this_process("close")
-        self.assertEqual((status, self.numbers()["stage"]), (9, "called"))
-        self.assertIn("another command changed the election meanwhile; nothing was changed", faults)
+            self.assert_fault(self.election("close"), 9, MEANWHILE)
+        self.assertEqual(self.numbers()["stage"], "called")
 
     def test_a_line_while_it_is_published(self) -> None:
         """What is late by then is in no folder that does not say so; without new words the folder is that of the book, too."""
@@ -117,7 +110,7 @@ class Meanwhile(CloseTest):
         @contextlib.contextmanager
         def before_a_line(*found: object) -> Iterator[object]:
             with made(*found) as folder:
-                self.done("desk", given="dan 1,2,3,4\n")
+                self.entered("dan 1,2,3,4")
                 yield folder
 
         for is_made_again in (False, True):
@@ -125,9 +118,7 @@ class Meanwhile(CloseTest):
                 self.done("publish")
             files = {name: data for name, data in self.contents().items() if name.startswith("result/")}
             with mock.patch.object(result_folder, "made", before_a_line):
-                status, _, faults = self.in_this_process("publish")
-            self.assertEqual(status, 9, faults)
-            self.assertIn("another command changed the election meanwhile; nothing was changed", faults)
+                self.assert_fault(self.election("publish"), 9, MEANWHILE)
             self.assertEqual({name: data for name, data in self.contents().items() if name.startswith("result/")}, files)
 
     def test_a_fault_after_the_act(self) -> None:
@@ -149,12 +140,10 @@ class Asked(CloseTest):
         self.set_clock("2026-12-02T18:30:00+00:00")
         self.done("desk", given="ben 1,2,3,4\n")
         last = "Added last: 2026-12-01 17:00:00 UTC. Entered last at a desk: 2026-12-02 18:30:00 UTC."
+        asked = "Is that all? It is if the mailbox was added just now, all paper is entered, and no desk is open."
         for answer in ("n\n", "\x04"):
             terminal = Terminal(self, "close")
-            shown = terminal.until("[y/n] ")
-            self.assertIn(f"Until now 2 lines came in time. {last}", shown)
-            self.assertIn("mailbox", shown)
-            self.assertIn("desk is open", shown)
+            self.assertEqual(terminal.until("[y/n] "), f"Until now 2 lines came in time. {last}\n{asked} [y/n] ")
             terminal.type(answer)
             self.assertIn("you did not say that this is all; nothing was changed", terminal.end()[0])
         self.assertEqual(self.numbers()["stage"], "called")

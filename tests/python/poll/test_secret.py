@@ -2,7 +2,6 @@
 
 import csv
 import dataclasses
-import datetime
 import hashlib
 import html
 import io
@@ -18,28 +17,19 @@ from collections.abc import Sequence
 from debvote_tools.book.queries import Elector
 from debvote_tools.inbox.lines import has_code
 from debvote_tools.poll.call import CallData
-from debvote_tools.poll.sealed import SealedPoll, read_plain
+from debvote_tools.poll.sealed import read_plain
 from debvote_tools.poll.secret import BY_OPENSSL, BY_PYTHON, NUMBER, alias_of, aliased_ballots, aliased_poll, codes_csv, new_code, seal_line, sealed_checksum, slips
 from debvote_tools.text.language import LANGUAGES, language_of
 
-from tests.support.at_browser import BROWSER, Window
+from tests.support import calls
+from tests.support.at_browser import NEEDS_BROWSER, Window
+from tests.support.calls import ROLL
 
-ROLL = ("ada", "ben", "cleo", "dan")
 CODES = {name: f"{number:x}" * 32 for number, name in enumerate(ROLL, start=10)}
 ALIASES = {name: alias_of(code, name) for name, code in CODES.items()}
-POLL = SealedPoll(
-    title="Where we meet",
-    options=("At the lake", "72 Euro"),
-    ratios=(1, 3),
-    default="None of the above",
-    quorum=1,
-    roll=ROLL,
-    deadline="2026-12-04T18:00:00+01:00",
-    secret=True,
-    explanations=("Nice", ""),
-)
-UNTIL = datetime.datetime(2026, 12, 4, 18, tzinfo=datetime.timezone(datetime.timedelta(hours=1)))
-CALL = CallData(language_of("en"), POLL, 0, UNTIL, "v@example.org", has_aliases=True)
+NAMES = {"options": ("At the lake", "72 Euro"), "ratios": (1, 3), "explanations": ("Nice", "")}
+POLL = dataclasses.replace(calls.POLL, **NAMES, address=None, secret=True)
+CALL = dataclasses.replace(calls.CALL, poll=POLL, to="v@example.org", at=None, has_aliases=True)
 
 
 def elector(name: str, who: str, mail: str, code: str, alias: str) -> Elector:
@@ -58,18 +48,16 @@ def run(*words: str, given: str = "", folder: pathlib.Path | None = None) -> str
 
 class Codes(unittest.TestCase):
     def test_the_alias_is_the_one_that_an_elector_finds(self) -> None:
-        for name, code in CODES.items():
-            self.assertEqual(run("sh", "-c", BY_OPENSSL.replace("NAME", name).replace("CODE", code)), ALIASES[name] + "\n")
-            spaced = " ".join(re.findall("....", code))
-            self.assertEqual(run("sh", "-c", BY_PYTHON, given=f"{spaced}\n{name}\n"), f"Code: Name: {ALIASES[name]}\n")
         self.assertNotEqual(alias_of(CODES["ada"], "ben"), ALIASES["ada"])
         # whatever lies in the folder
-        with tempfile.TemporaryDirectory(prefix="debvote-alias-") as name:
-            folder = pathlib.Path(name)
+        with tempfile.TemporaryDirectory(prefix="debvote-alias-") as place:
+            folder = pathlib.Path(place)
             for file in ("hmac.py", "hashlib.py", "sitecustomize.py", "codecs.py", "openssl.cnf", "printf", "cut"):
                 (folder / file).write_text("import os; os._exit(1)\n")
-            self.assertEqual(run("sh", "-c", BY_OPENSSL.replace("NAME", "ada").replace("CODE", CODES["ada"]), folder=folder), ALIASES["ada"] + "\n")
-            self.assertEqual(run("sh", "-c", BY_PYTHON, given=f"{CODES['ada']}\nada\n", folder=folder), f"Code: Name: {ALIASES['ada']}\n")
+            for name, code in CODES.items():
+                spaced = " ".join(re.findall("....", code))
+                self.assertEqual(run("sh", "-c", BY_OPENSSL.replace("NAME", name).replace("CODE", code), folder=folder), ALIASES[name] + "\n")
+                self.assertEqual(run("sh", "-c", BY_PYTHON, given=f"{spaced}\n{name}\n", folder=folder), f"Code: Name: {ALIASES[name]}\n")
 
     def test_codes_are_sixteen_bytes_of_the_generator_that_nobody_can_guess(self) -> None:
         with unittest.mock.patch("secrets.token_hex", return_value="c" * 32) as drawn:
@@ -196,7 +184,7 @@ class Slips(unittest.TestCase):
                 ended = subprocess.run(["tidy", "-q", "-e"], input=page.encode(), capture_output=True)
                 self.assertEqual((ended.stderr.decode(), ended.returncode), ("", 0))
 
-    @unittest.skipUnless(BROWSER, "chromium is not installed")
+    @NEEDS_BROWSER
     def test_they_fit_a_narrow_window_and_no_slip_is_printed_over_two_pages(self) -> None:
         with tempfile.TemporaryDirectory(prefix="debvote-slips-") as folder, Window(390, 800) as window:
             for code in LANGUAGES:

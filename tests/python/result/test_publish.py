@@ -8,22 +8,19 @@ import os
 import pathlib
 import re
 import shutil
-import subprocess
 import signal
+import subprocess
+import time
 import tomllib
-import unittest.mock
-from time import sleep
+import unittest
+from unittest import mock
 
 from debvote_tools import files
 from debvote_tools.book import queries
-from debvote_tools.cli import command_line
 from debvote_tools.inbox.letter import parse
 from debvote_tools.inbox.letter_lines import to_json
 from debvote_tools.inbox.mailbox import RawLetter
-from debvote_tools.result.facts import Act
 from debvote_tools.result.folder import Made
-from debvote_tools.text.language import ENGLISH
-from debvote_tools.text.rendering import templates_of
 
 from tests.support import elections, expecting, page_parts as pages
 from tests.support.called import CalledTest
@@ -37,6 +34,8 @@ quorum = 0
 MEMBERS = "who,mail,name\nAda <Lovelace>,ada@x.example,\nZoë Müller,zoe@x.example,\nCleo,cleo@x.example,cleo\nDan,,dan\n"
 TIE = "ada-lovelace 1,2,3\nzoe-mueller 2,1,3\n"
 TEXT = "Who certifies this: <b>Anna</b>.\n"
+
+FORKED = unittest.skipIf(os.environ.get("DEBVOTE_FORKS") == "0", "what a test has patched is in its forks alone")
 
 
 class OfElections(CalledTest, expecting.Expecting):
@@ -68,9 +67,13 @@ class OfElections(CalledTest, expecting.Expecting):
         shutil.rmtree(self.folder / "result")
         return self.say("publish", *words, **how)
 
-    def add(self, lines, words=(), **how):
-        (self.folder / "lines").write_text(lines)
-        return self.say("add", "lines", *words, **how)
+    def add(self, lines, words=()):
+        self.write("lines", lines)
+        self.say("add", "lines", *words)
+
+    def text_of_option(self, number, text):
+        (self.folder / "texts").mkdir(exist_ok=True)
+        self.write(f"texts/{number}.txt", text)
 
     def reopened_with(self, lines, words=()):
         """Opens the vote for lines that had come before the close, and closes it again."""
@@ -100,34 +103,21 @@ class OfElections(CalledTest, expecting.Expecting):
 
     def other_debvote(self, text):
         """A folder with a program debvote that does this first; what it does not end is done by the program itself."""
-        program = self.folder / "bin"
-        program.mkdir(exist_ok=True)
-        (program / "debvote").write_text(f'#!/bin/sh\n{text}\nexec {elections.PROGRAM} "$@"\n')
-        (program / "debvote").chmod(0o755)
-        return program
-
-    def in_child(self, patch, *words):
-        """Runs a command in a child with this patch, and returns the status of the child."""
-        child = os.fork()
-        if child == 0:
-            try:
-                os.chdir(self.folder)
-                for output in (1, 2):
-                    os.dup2(os.open(os.devnull, os.O_WRONLY), output)
-                with unittest.mock.patch.dict(os.environ, elections.environment()), patch:
-                    os._exit(command_line.main(elections.PROGRAM.parent, list(words)))
-            finally:
-                os._exit(70)
-        return os.waitstatus_to_exitcode(os.waitpid(child, 0)[1])
+        (self.folder / "bin").mkdir(exist_ok=True)
+        self.write("bin/debvote", f'#!/bin/sh\n{text}\nexec {elections.PROGRAM} "$@"\n').chmod(0o755)
+        return self.folder / "bin"
 
     def acts(self):
         return self.book.acts()
 
-    def sections(self, folder="result"):
-        return pages.sections_of((self.folder / folder / "index.html").read_text())
+    def page(self):
+        return (self.folder / "result" / "index.html").read_text()
+
+    def sections(self):
+        return pages.sections_of(self.page())
 
     def doubts(self):
-        return pages.doubts_of((self.folder / "result" / "index.html").read_text())
+        return pages.doubts_of(self.page())
 
     def files(self, folder="result"):
         return {file.name: file.read_bytes() for file in (self.folder / folder).iterdir()}
@@ -176,15 +166,15 @@ class OfOpenVotes(OfElections):
         self.say("strike", "3", "--because", "Zoë has sent it <b>twice</b>")
         self.say("close")
         self.add("dan 3,2,1\n")
-        (self.folder / "about").write_text(TEXT)
+        self.write("about", TEXT)
         said = self.say("publish", "--about", "about", "--language", "en", status=1)
         self.expect("what is said", said.splitlines()[:3], ["Tie: 1 2", "verified", "Made the folder result."])
         self.whole()
         self.say("export", "exported")
         files = self.files()
-        names = {"poll.toml", "ballots.txt", "late.txt", "sheet.txt", "standing.txt", "result.json", "votes.csv", "recount.py"}
-        names |= {"recount.js", "closed.txt", "READING-A-SHEET.md", "SHA256SUMS", "index.html"}
-        self.expect("the files", set(files), names | ({"picture.svg"} if elections.HAS_PICTURES else set()))
+        names = "poll.toml ballots.txt late.txt sheet.txt standing.txt result.json votes.csv recount.py recount.js closed.txt READING-A-SHEET.md "
+        names += "SHA256SUMS index.html" + " picture.svg" * elections.HAS_PICTURES
+        self.expect("the files", set(files), set(names.split()))
         for place in ("call/poll.toml", "exported/poll.toml", "exported/ballots.txt", "exported/late.txt", "letters/closed.txt"):
             self.expect(place, files[place.partition("/")[2]], (self.folder / place).read_bytes())
         self.expect("the lines in time that are not struck", files["ballots.txt"], b"ada-lovelace 1,2,3\nno-one 1,2,3\ncleo 2,1,3\n")
@@ -194,18 +184,16 @@ class OfOpenVotes(OfElections):
         self.expect("real names", self.items("Who-voted"), ["ada-lovelace Ada <Lovelace>", "cleo Cleo", "zoe-mueller Zoë Müller", "dan Dan"])
         refused = self.items("Refused-lines")
         self.expect("refused and late lines", (len(refused), refused[-1]), (2, "line 1: dan 3,2,1"))
-        self.expect("about", TEXT.strip() in self.sections()["About-this-vote"].text(), True)
         done = self.what_was_done()
         struck = "The secretary struck envelope 3: its line does not count. The reason, in the secretary's words: Zoë has sent it <b>twice</b>"
         self.expect("what was done", done[:2], ["The call was made; it named no time until which one could vote.", struck])
-        tie = "No option has won yet: Option 1: 72 Euro and Option 2: Größe are tied. The casting vote has to choose one of them. "
-        tie += "Option 1: 72 Euro against Option 2: Größe: 1 to 1."
+        tie = "Option 1: 72 Euro and Option 2: Größe are tied. The casting vote has to choose one of them. "
+        tie = f"No option has won yet: {tie}Option 1: 72 Euro against Option 2: Größe: 1 to 1."
         self.expect("the letter has the numbers of a tie", tie in self.letter().replace("\n", " "), True)
         checksum = hashlib.sha256(files["ballots.txt"]).hexdigest()
         self.expect("the close", done[2:], [f"The vote was closed. Lines in time: 3. Checksum: {checksum}."])
         self.checksums_of_letters(files, "ballots.txt")
-        last = self.acts()[-1]
-        self.expect("the act", (last.name, last.detail["checksums"]["ballots.txt"]), ("publish", checksum))
+        self.expect("the act", self.acts()[-1].detail["checksums"]["ballots.txt"], checksum)
         self.expect("each file that is changed is shown", [name for name in (None, *sorted(files)) if self.is_shown(name) is (name is None)], [])
 
     def is_shown(self, name):
@@ -225,7 +213,7 @@ class OfOpenVotes(OfElections):
         self.say("call", "--until", "2099-12-04 18:00", "--zone", "Europe/Berlin", "--at", "https://x.example/")
         self.add("ada-lovelace 1,2,3\n")
         self.say("close", "--early")
-        (self.folder / "about").write_text(TEXT)
+        self.write("about", TEXT)
         self.say("publish", "--about", "about")
         files, acts = self.files(), len(self.acts())
         (self.folder / "about").unlink()
@@ -237,8 +225,8 @@ class OfOpenVotes(OfElections):
         said = self.say("publish", "elsewhere")
         self.expect("no late lines", files["late.txt"], b"")
         self.expect("a new folder", "Made the folder elsewhere, as it was published before; " in said, True)
-        self.expect("the same bytes", (self.files("elsewhere") == files, (self.folder / "result").exists()), (True, False))
-        self.expect("still no act", len(self.acts()), acts)
+        found = self.files("elsewhere") == files, (self.folder / "result").exists(), len(self.acts())
+        self.expect("the same bytes, and no act", found, (True, False, acts))
         self.say("publish", "--language", "fr")
         self.expect("other words are an act", (len(self.acts()), self.files() == files), (acts + 1, False))
         self.expect("nothing is left beside it", [name for name in os.listdir(self.folder) if name.startswith(".")], [])
@@ -251,7 +239,8 @@ class OfOpenVotes(OfElections):
         (self.folder / "result").mkdir()
         self.say("publish")
         (self.folder / "result" / "notes").write_text("mine")
-        self.stops("publish", "--language", "en", said=["result: it exists already, and is not what this election has published last", "as result-2"], status=2)
+        said = ["result: it exists already, and is not what this election has published last", "as result-2"]
+        self.stops("publish", "--language", "en", said=said, status=2)
         (self.folder / "result" / "notes").unlink()
         (self.folder / "mine").mkdir()
         (self.folder / "mine" / "a").write_text("b")
@@ -292,7 +281,7 @@ class OfOpenVotes(OfElections):
         self.closed(TIE, "--at", "https://x.example/")
         self.say("publish", "--casting", "72 Euro", "--cast-by", "Anna", "--cast-on", "2026-11-20")
         files, letter, acts = self.files(), self.letter(), len(self.acts())
-        (self.folder / "members.csv").write_text(MEMBERS.replace("zoe@x", "zoe@y"))
+        self.write("members.csv", MEMBERS.replace("zoe@x", "zoe@y"))
         self.say("roll", "--yes")
         self.stops("publish", said=[f"the result would differ from the one that was published (act {acts})", "--force"])
         self.expect("nothing was made", (self.files() == files, self.letter()), (True, letter))
@@ -348,19 +337,16 @@ class OfOpenVotes(OfElections):
         for day in (4, 5):
             self.say("call", "--until", f"2099-12-0{day} 18:00", "--zone", "Europe/Berlin", "--at", "https://x.example/")
         self.add("ada-lovelace 1,2,3\n")
-        members = MEMBERS
-        for before, after in (("zoe@x", "zoe@y"), ("@x.example", "@z.example")):
-            members = members.replace(before, after)
-            (self.folder / "members.csv").write_text(members)
+        for other in ("@y.example", "@z.example"):
+            self.write("members.csv", MEMBERS.replace("zoe@x.example", f"zoe{other}").replace("ada@x.example", f"ada{other.replace('y', 'x')}"))
             self.say("roll", "--yes")
         self.say("close", "--early")
         self.add("zoe-mueller 1,2,3\ncleo 1,2,3\n")
         self.say("reopen", "--because", "Zoë's letter lay in the <hall>", "--in-time", "2", "3")
         self.say("strike", "1", "--because", "wrong hand")
         checksum = hashlib.sha256(b"zoe-mueller 1,2,3\ncleo 1,2,3\n").hexdigest()
-        close = {"lines": 2, "checksum": checksum, "early": True, "waiting": 2, "after_end": 1, "because": "in a hurry"}
         self.act("extend", {"keyring": "a checksum"})
-        self.act("close", close)
+        self.act("close", {"lines": 2, "checksum": checksum, "early": True, "waiting": 2, "after_end": 1, "because": "in a hurry"})
         self.say("publish", "--language", "en")
         because = " The reason, in the secretary's words:"
         end = "one could vote until Friday, 4 December 2099, 18:00 (UTC+01:00)."
@@ -390,19 +376,6 @@ class OfOpenVotes(OfElections):
         words = ("2 rechtzeitig eingetroffene Schreiben", "1 Schreiben, das nach dem Ende", "(in a hurry)")
         self.expect(f"the close: {close}", [word in close for word in words], [True] * 3)
 
-    def test_what_the_letter_tells_of_what_was_done(self):
-        """All but what is plain: also that the clock went back."""
-        time = datetime.datetime(2026, 12, 4, tzinfo=datetime.UTC)
-        plain = {"called", "called until", "taken back", "keyring"}
-        places = {"until": time, "before": time, "number": 1, "envelope": 1, "noted": 1, "there": 1}
-        told = templates_of("debvote_tools.result", ENGLISH, is_page=False).get_template("told.jinja").module
-        kinds = {*told.DONE, "roll changed"}
-        self.expect("how many kinds", (len(kinds), plain <= kinds), (13, True))
-        for done in kinds:
-            act = Act(time, done, places)
-            self.expect(done, act.is_quiet, done in plain)
-            self.expect(f"{done}, in words", told.dated(act).startswith("Friday, 4 December 2026, 00:00 (UTC): "), True)
-
     def test_late_letters(self):
         self.closed()
         # each is a doubt, also two of the same minute; the fourth arrives between the first close and the second
@@ -412,7 +385,7 @@ class OfOpenVotes(OfElections):
         self.say("publish", "--force", "--because", "so be it", "--language", "en")
         self.expect("doubts", [text.partition("before")[0].partition("on ")[0] for text in self.doubts()], ["A letter arrived "] * 3)
         self.say("reopen", "--because", "they were in time", "--in-time", "2", "4", "6")
-        sleep(max(0, (close + datetime.timedelta(seconds=1) - datetime.datetime.now(datetime.UTC)).total_seconds()))
+        time.sleep(max(0, (close + datetime.timedelta(seconds=1) - datetime.datetime.now(datetime.UTC)).total_seconds()))
         self.say("close")
         self.expect("the close after that letter", self.acts()[-1].time > close, True)
         self.replace("--language", "en")
@@ -465,7 +438,7 @@ class OfOpenVotes(OfElections):
             (b" \n", "about: it is empty"),
             (b"x" * 65_537, "about: it is longer than 65536 bytes"),
         ]:
-            (self.folder / "about").write_bytes(data)
+            self.write("about", data)
             self.stops("publish", "--about", "about", said=[said], status=2)
         self.stops("publish", "--about", "none", said=["none: No such file or directory"], status=2)
         for text, said in [("a\u202eb", "the text has the character U+202E"), ("x" * 2001, "the text has 2001 characters; at most 2000 are allowed")]:
@@ -475,11 +448,11 @@ class OfOpenVotes(OfElections):
         about = [text.text() for text in self.sections()["About-this-vote"].all("p", "about")]
         self.expect("the paragraphs of a text", about, ["One", "\u05d3 <i>two</i>"])
         # a folder that is counted otherwise takes no place
-        files, acts = self.files(), len(self.acts())
+        files = self.files()
         for task, answer in [("verify", 'echo "differs at line 1"; exit 9'), ("standing", 'echo "ada-lovelace 3,2,1"; exit')]:
-            ended = self.election("publish", "--language", "es", path=self.other_debvote(f"case $1 in {task}) {answer} ;; esac"))
-            self.expect(f"{task}: {ended.faults}", (ended.status, "nothing was published" in ended.faults), (9, True))
-            self.expect(f"{task}: nothing was changed", (self.files() == files, len(self.acts())), (True, acts))
+            path = self.other_debvote(f"case $1 in {task}) {answer} ;; esac")
+            self.stops("publish", "--language", "es", said=["nothing was published"], path=path)
+            self.expect(f"{task}: nothing was changed", self.files() == files, True)
         # and that the book was moved stands there, with its reason
         self.state = self.scratch / "other computer"
         self.say("publish", "--moved", "--because", "a new <laptop>", "--language", "en")
@@ -503,11 +476,8 @@ class OfOpenVotes(OfElections):
         self.say("publish", "--casting", "72 Euro", *cast, "--language", "en")
         said = 'The secretary says that the casting vote was that of "Anna <b>", given on 20 November 2026. No count can show this.'
         self.expect("on the page", said in self.sections()["Result"].text(), True)
-        self.expect("in the letter", said in self.letter().replace("\n", " "), True)
-        said = "Winner: Option 1: 72 Euro by casting vote"
-        self.expect("so does the letter say who has won", said in self.letter(), True)
-        numbers = f"{said}. These options were left: Option 1: 72 Euro and Option 2: Größe."
-        self.expect("with what decides it", numbers in self.letter().replace("\n", " "), True)
+        won = "Winner: Option 1: 72 Euro by casting vote. These options were left: Option 1: 72 Euro and Option 2: Größe."
+        self.expect("in the letter", [text in self.letter().replace("\n", " ") for text in (said, won)], [True, True])
         self.stops("publish", "--casting", "Groesse", *cast, said=["an earlier publication has a casting vote for 72 Euro"])
         self.reopened_with("cleo 1,2,3\n")
         self.replace("--casting", "72 Euro", *cast, "--language", "en")
@@ -521,9 +491,7 @@ class OfOpenVotes(OfElections):
         self.say("publish")
         self.expect("and again", self.files() == files, True)
 
-    def left(self):
-        return [name for name in os.listdir(self.folder) if name.startswith(".")]
-
+    @FORKED
     def test_a_publication_that_is_killed_after_its_act(self):
         """Made again it comes back in its place, whatever a kill has left there, and nothing else is left. One that fails has left the old one."""
         self.closed()
@@ -541,48 +509,51 @@ class OfOpenVotes(OfElections):
                 moved.append(file)
                 return end() if len(moved) == 2 else rename(file, target)
 
-            return unittest.mock.patch.object(pathlib.Path, "rename", renamed)
+            return mock.patch.object(pathlib.Path, "rename", renamed)
 
-        for language, patch, status, is_there, left in [
-            ("de", unittest.mock.patch.object(Made, "take_place", kill), -signal.SIGKILL, False, 1),
-            ("en", unittest.mock.patch.object(Made, "take_place", kill), -signal.SIGKILL, True, 1),
+        def left():
+            return [name for name in os.listdir(self.folder) if name.startswith(".")]
+
+        for language, patch, status, is_there, how_many in [
+            ("de", mock.patch.object(Made, "take_place", kill), -signal.SIGKILL, False, 1),
+            ("en", mock.patch.object(Made, "take_place", kill), -signal.SIGKILL, True, 1),
             ("fr", at_second_rename(kill), -signal.SIGKILL, False, 2),
             ("es", at_second_rename(fail), 7, True, 1),
         ]:
             before, acts = {} if language == "de" else self.files(), len(self.acts())
-            self.expect(f"{language}: it ends", self.in_child(patch, "publish", "--language", language), status)
-            self.expect(f"{language}: what is left", ((self.folder / "result").exists(), len(self.left())), (is_there, left))
+            with patch:
+                self.expect(f"{language}: it ends", self.election("publish", "--language", language).status, status)
+            self.expect(f"{language}: what is left", ((self.folder / "result").exists(), len(left())), (is_there, how_many))
             self.expect(f"{language}: the old one", not is_there or self.files() == before, True)
             self.say("publish")
             sums = {name: hashlib.sha256(data).hexdigest() for name, data in self.files().items()}
             last = self.acts()[-1].detail["checksums"]
             self.expect(f"{language}: it came back", ({name: sums[name] for name in last}, len(self.acts())), (last, acts + 1))
-            self.expect(f"{language}: it is the new one", (self.files() == before, self.left()), (False, []))
+            self.expect(f"{language}: it is the new one", (self.files() == before, left()), (False, []))
         # a run that lasts keeps its folder
         lasting = self.folder / ".debvote-result-lasting"
         lasting.mkdir()
         (lasting / "poll.toml").touch()
         with files.locked(lasting, is_directory=True):
             self.say("publish")
-        self.expect("that of a run that lasts", self.left(), [lasting.name])
+        self.expect("that of a run that lasts", left(), [lasting.name])
 
     def test_hostile_texts(self):
         """Each text of a person stands as text on the page, whatever is in it, and in the letters."""
         hostile = "</p></b><script>alert(1)</script> & <img src=x onerror=alert(1)>{{ say }}{% endblock %}"
-        (self.folder / "poll.toml").write_text(f"title = '{hostile}'\noptions = ['{hostile} 1', '{hostile} 2']\nratios = [1, 1]\ndefault = 'N'\nquorum = 0\n")
-        (self.folder / "members.csv").write_text(f'who,mail,name\n"{hostile}",ada@x.example,ada\nB,b@x.example,b\n{hostile} c,,c\n')
-        (self.folder / "texts").mkdir()
-        (self.folder / "texts" / "1.txt").write_text(f"text {hostile}")
+        options = f"options = ['{hostile} 1', '{hostile} 2']\nratios = [1, 1]\ndefault = 'N'\nquorum = 0\n"
+        self.write("poll.toml", f"title = '{hostile}'\n{options}")
+        self.write("members.csv", f'who,mail,name\n"{hostile}",ada@x.example,ada\nB,b@x.example,b\n{hostile} c,,c\n')
+        self.text_of_option(1, f"text {hostile}")
         self.say("roll")
         self.say("call", "--names")
-        (self.folder / "lines").write_text("ada 1,2,3\nb 2,1,3\nada 2,1,3\n" + "".join(f"ada {number} {hostile}\n" for number in range(4)))
-        self.say("add", "lines", "--force")
+        self.add("ada 1,2,3\nb 2,1,3\nada 2,1,3\n" + "".join(f"ada {number} {hostile}\n" for number in range(4)), words=("--force",))
         self.say("strike", "3", "--because", f"strike {hostile}")
         self.say("close")
         self.add(f"c {hostile}\n")
         self.say("reopen", "--because", f"reopen {hostile}")
         self.say("close")
-        (self.folder / "about").write_text(f"about {hostile}")
+        self.write("about", f"about {hostile}")
         plain = tomllib.loads((self.folder / "call" / "poll.toml").read_text())["options"][0]
         cast = ("--casting", plain, "--cast-by", f"by {hostile}", "--cast-on", "2026-11-20")
         self.say("publish", *cast, "--about", "about", "--force", "--because", f"force {hostile}", "--language", "en")
@@ -652,19 +623,10 @@ class OfSecretVotes(OfElections):
         steps = self.debvote("steps", "--poll", "exported/poll.toml", "--ballots", "exported/ballots.txt").output
         self.expect("what debvote replies to what came", re.findall("(?m)^\\d+ (\\w+)", steps), ["counted", "counted", "bad", "bad"])
 
-    def test_doubts_about_what_came(self):
-        """The doubts are about the lines that came, and not about those that are published."""
-        self.say("call")
-        self.add("ada-lovelace 1,2,3\nno-one 1,2,3\ncleo 1,2\n", words=("--force",))
-        self.say("close")
-        self.stops("publish", said=["more than half of the lines are refused, 2 of 3"])
-        self.say("publish", "--force", "--because", "so be it", "--yes", "--language", "en")
-        self.expect("without numbers", self.doubts(), ["More than half of the lines that came are refused."])
-
     def test_texts_are_asked_for(self):
         self.called()
         self.say("close")
-        (self.folder / "about").write_text(TEXT)
+        self.write("about", TEXT)
         self.stops("publish", "--about", "about", said=["these texts may tell who voted what", "--yes"])
         self.say("publish", "--about", "about", "--yes", status=1)
         files, acts = self.files(), len(self.acts())
@@ -672,34 +634,26 @@ class OfSecretVotes(OfElections):
         self.expect("the same again is not asked for", (self.files() == files, len(self.acts())), (True, acts))
         self.state = self.scratch / "other computer of a secret vote"
         ended = self.election("publish", "--moved", "--because", "of <Ada>")
-        output, faults, status = ended.output, ended.faults, ended.status
-        self.expect(f"a reason of --moved: {output} {faults}", ("these texts may tell" in faults, faults.count("  of <Ada>\n"), status), (True, 1, 9))
+        found = "these texts may tell" in ended.faults, ended.faults.count("  of <Ada>\n"), ended.status
+        self.expect(f"a reason of --moved: {ended}", found, (True, 1, 9))
         self.expect("is an act, and no publication", [act.name for act in self.acts()[acts:]], ["moved"])
         self.say("publish", "--force", "--yes", status=1)
         self.expect("the act keeps what was agreed to", self.acts()[-1].detail["agreed"], [hashlib.sha256(b"of <Ada>").hexdigest()])
         self.say("publish", "--language", "fr", status=1)
-        code = queries.electors(self.book)[0].code
-        (self.folder / "about").write_text(f"x {code}\n")
+        self.write("about", f"x {queries.electors(self.book)[0].code}\n")
         self.stops("publish", "--about", "about", "--yes", said=["index.html would have the code of an elector in it"])
 
     def test_texts_of_options_are_asked_for_before_the_call(self):
         """There they become public; later they are not asked about again."""
-        (self.folder / "texts").mkdir()
-        (self.folder / "texts" / "1.txt").write_text("Zoë is for it.\n")
-        acts, ended = len(self.acts()), self.election("call")
-        output, faults, status = ended.output, ended.faults, ended.status
-        shown = "texts/1.txt:\n  Zoë is for it.\n"
-        self.expect(f"it stops: {output} {faults}", (faults.startswith(shown), "--yes" in faults, status), (True, True, 9))
-        self.expect("nothing is made", (len(self.acts()), (self.folder / "call").exists()), (acts, False))
-        code = queries.electors(self.book)[0].code
-        (self.folder / "texts" / "2.txt").write_text(f"x {code}\n")
-        self.expect("a code", " would have the code of an elector in it" in self.election("call", "--yes").faults, True)
+        self.text_of_option(1, "Zoë is for it.\n")
+        self.stops("call", said=["texts/1.txt:\n  Zoë is for it.\n", "--yes"], folder="call")
+        self.text_of_option(2, f"x {queries.electors(self.book)[0].code}\n")
+        self.stops("call", "--yes", said=[" would have the code of an elector in it"], folder="call")
         (self.folder / "texts" / "2.txt").unlink()
         self.say("call", "--yes")
         self.expect("the act", self.acts()[-1].detail["agreed"], [hashlib.sha256("Zoë is for it.\n".encode()).hexdigest()])
-        (self.folder / "letter.txt").write_text("Zoë counts.\n")
-        faults = self.election("call").faults
-        self.expect(f"so does letter.txt: {faults}", (faults.startswith("letter.txt:\n  Zoë counts.\n"), "--yes" in faults), (True, True))
+        self.write("letter.txt", "Zoë counts.\n")
+        self.stops("call", said=["letter.txt:\n  Zoë counts.\n", "--yes"])
         self.say("call", "--yes")
         self.say("call")
         self.say("call", "--take-back")
@@ -709,15 +663,19 @@ class OfSecretVotes(OfElections):
         self.say("close")
         self.say("publish")
 
+    @FORKED
     def test_a_text_of_an_option_that_nobody_was_asked_about(self):
         """A call that did not ask leaves the question to the publication."""
-        (self.folder / "texts").mkdir()
-        (self.folder / "texts" / "1.txt").write_text("Zoë is for it.\n")
-        self.expect("called", self.in_child(unittest.mock.patch("debvote_tools.commands.call.agreed_texts", return_value=[]), "call"), 0)
-        self.add("ada-lovelace 3,2,9\n")
+        self.text_of_option(1, "Zoë is for it.\n")
+        with mock.patch("debvote_tools.commands.call.agreed_texts", return_value=[]):
+            self.say("call")
+        # doubts are about the lines that came, and not about those that are published
+        self.add("ada-lovelace 1,2,3\nno-one 1,2,3\ncleo 1,2\n", words=("--force",))
         self.say("close")
         self.stops("publish", said=["texts/1.txt:\n  Zoë is for it.\n", "these texts may tell who voted what"])
-        self.say("publish", "--yes")
+        self.stops("publish", "--yes", said=["more than half of the lines are refused, 2 of 3"])
+        self.say("publish", "--force", "--because", "so be it", "--yes", "--language", "en")
+        self.expect("without numbers", self.doubts(), ["More than half of the lines that came are refused."])
 
     def test_two_results_that_can_be_compared(self):
         self.called()

@@ -45,6 +45,10 @@ def try_stand_ins(expect, poll, ballots, room, scratch):
 
 
 class RefusedTest(publishing.PublishTest):
+    def assert_refused(self, found, status, said):
+        """A run ended with this status, and its fault begins with these words."""
+        self.expect(f"{found[1]}", (found[0], found[1].startswith(f"debvote-publish: {said}"), found[2]), ("", True, status))
+
     def test_what_is_refused(self):
         """What is refused leaves no folder, and nothing beside it."""
         example = publishing.EXAMPLES / "plain_win"
@@ -78,11 +82,10 @@ class RefusedTest(publishing.PublishTest):
         said = ended.stderr.splitlines()[-1:]
         words = f"debvote-publish: the output failed; the folder {room / 'result'} was made nevertheless: look at its page index.html"
         self.expect("a full disk for what is said", (ended.returncode, said), (7, [words]))
-        before = {file.name: file.read_bytes() for file in (room / "result").iterdir()}
-        _, faults, status = publishing.publish_files(poll, ballots, room / "result" / "x")
-        words = f"debvote-publish: {room}/result/x: it would be in {room}/result, whose files are published as they are; nothing was published: "
-        self.expect("a folder in a published one", (faults, status), (f"{words}name a folder outside of it\n", 2))
-        self.expect("the published one", {file.name: file.read_bytes() for file in (room / "result").iterdir()} == before, True)
+        before = {file: file.read_bytes() for file in (room / "result").iterdir()}
+        words = f"{room}/result/x: it would be in {room}/result, whose files are published as they are; nothing was published: name a folder outside of"
+        self.assert_refused(publishing.publish_files(poll, ballots, room / "result" / "x"), 2, words)
+        self.expect("the published one", {file: file.read_bytes() for file in (room / "result").iterdir()} == before, True)
         shutil.rmtree(room / "result")
         self.expect("no program", (publishing.publish_files(poll, ballots, room / "result", path="/nowhere")[2], os.listdir(room)), (127, ["full"]))
         try_stand_ins(self.expect, poll, ballots, room, self.scratch)
@@ -99,11 +102,11 @@ class RefusedTest(publishing.PublishTest):
     def test_numbers_that_no_float_holds(self):
         """The second count takes and refuses the same ones as debvote."""
         (self.scratch / "none").touch()
+        poll, second = self.scratch / "numbers.toml", [sys.executable, "-I", publishing.ROOT / "tests" / "reference.py"]
         for number, is_taken in {"1e309": False, "-0.1e999": False, "[{a = 1_0e400}]": False, "1e308": True, "1e-400": True, "-inf": True}.items():
-            poll = self.scratch / "numbers.toml"
             poll.write_text(f"{publishing.PLAIN_POLL}note = {number}\n")
             words = ["count", "--poll", poll, "--ballots", self.scratch / "none"]
-            found = [publishing.run([*program, *words])[1:] for program in ([publishing.PROGRAM], [sys.executable, "-I", publishing.ROOT / "tests" / "reference.py"])]
+            found = [publishing.run([*program, *words])[1:] for program in ([publishing.PROGRAM], second)]
             self.expect(number, found, [("", 0) if is_taken else ("debvote: poll refused: syntax\n", 3)] * 2)
 
     def test_refused_polls(self):
@@ -116,21 +119,19 @@ class RefusedTest(publishing.PublishTest):
             ("bad.toml", "ballots", "bad.toml: poll refused: key title; nothing was published: debvote explain --poll bad.toml says what"),
             ("new.toml", "ballots", "new.toml: it can't be read (Unescaped '\\' in a string"),
         ]:
-            output, faults, status = publishing.run([sys.executable, publishing.PUBLISH, "--poll", poll, "--ballots", ballots, "result"], cwd=room)
-            self.expect(f"{poll} and {ballots}: {faults}", (output, faults.startswith(f"debvote-publish: {wanted}"), status), ("", True, 3))
+            self.assert_refused(publishing.publish(room, "--poll", poll, "--ballots", ballots, "result"), 3, wanted)
         self.expect("what is left", sorted(os.listdir(room)), ["bad.toml", "ballots", "new.toml", "poll.toml"])
 
     def test_secret_votes(self):
         """A poll that says that its vote is secret is published with aliases alone."""
         # one name is enough
         room = publishing.plain_room(self.scratch / "secret", poll=publishing.PLAIN_POLL.replace('"ada"', f'"{"0" * 32}"') + "secret = true\n")
-        output, faults, status = publishing.publish(room, *publishing.FILES, "result")
         wanted = "poll.toml: the vote is secret, and this would publish each name with its vote; publish it from its election, "
-        self.expect(f"a secret vote with names: {faults}", (output, faults.startswith(f"debvote-publish: {wanted}"), status), ("", True, 9))
+        self.assert_refused(publishing.publish(room, *publishing.FILES, "result"), 9, wanted)
         roll = ["0" * 31 + digit for digit in "0123"]
         poll = publishing.PLAIN_POLL.replace('["ada", "ben", "cleo", "dan"]', str(roll).replace("'", '"')) + "secret = true\n"
         twice = publishing.plain_room(self.scratch / "twice", poll=poll, ballots=f"{roll[0]} 1,2,3\n{roll[1]} 2,1,3\n{roll[0]} 2,1,3\n")
-        output, faults, status = publishing.publish(twice, *publishing.FILES, "result")
+        _, faults, status = publishing.publish(twice, *publishing.FILES, "result")
         self.expect(f"an alias twice: {faults}", ("a line of this secret vote does not count, or counts more than once" in faults, status), (True, 9))
         room = publishing.plain_room(self.scratch / "aliases", poll=poll, ballots=f"{roll[0]} 1,2,3\n{roll[1]} 2,1,3\n{roll[2]} 1,2,3\n")
         self.expect("a secret vote with aliases", publishing.publish(room, *publishing.FILES, "result")[1:], ("", 0))

@@ -5,20 +5,29 @@ import datetime
 from debvote_tools.result.facts import Act
 from debvote_tools.result.page import share
 from debvote_tools.text.ballots import ranks_in_words
-from debvote_tools.text.language import language_of
+from debvote_tools.text.language import ENGLISH, language_of
+from debvote_tools.text.rendering import templates_of
 
 from tests.support import expecting
 
 
 class WordsTest(expecting.Expecting):
-    def test_plain_closes(self):
-        """The letters of the result tell each close of which more is to be told than its time."""
-        time = datetime.datetime.now(datetime.UTC)
-        plain = {"lines": 1, "checksum": "", "early": False, "waiting": 0, "after_end": 0, "came": None, "struck": None}
-        self.expect("a plain close", Act(time, "closed", plain).is_quiet, True)
-        self.expect("a close with a reason", Act(time, "closed", plain, "a reason").is_quiet, False)
+    def test_what_letters_tell_of_what_was_done(self):
+        """All but what is plain: also that the clock went back, and each close of which more is to be told than its time."""
+        time, plain = datetime.datetime(2026, 12, 4, tzinfo=datetime.UTC), {"called", "called until", "taken back", "keyring"}
+        places = {"until": time, "before": time, "number": 1, "envelope": 1, "noted": 1, "there": 1}
+        told = templates_of("debvote_tools.result", ENGLISH, is_page=False).get_template("told.jinja").module
+        kinds = {*told.DONE, "roll changed"}
+        self.expect("how many kinds", (len(kinds), plain <= kinds), (13, True))
+        for done in kinds:
+            act = Act(time, done, places)
+            found = act.is_quiet, told.dated(act).startswith("Friday, 4 December 2026, 00:00 (UTC): ")
+            self.expect(done, found, (done in plain, True))
+        places = {"lines": 1, "checksum": "", "early": False, "waiting": 0, "after_end": 0, "came": None, "struck": None}
+        self.expect("a plain close", Act(time, "closed", places).is_quiet, True)
+        self.expect("a close with a reason", Act(time, "closed", places, "a reason").is_quiet, False)
         for more in ({"early": True}, {"waiting": 1}, {"after_end": 1}, {"came": 0, "struck": 0}):
-            self.expect(f"a close with {more}", Act(time, "closed", plain | more).is_quiet, False)
+            self.expect(f"a close with {more}", Act(time, "closed", places | more).is_quiet, False)
 
     def test_ballots_in_words(self):
         """What other commands say of a ballot: equal options and unranked ones are told from the others."""
