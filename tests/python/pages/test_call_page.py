@@ -17,6 +17,8 @@ from debvote_tools.text.language import ENGLISH, LANGUAGES, language_of
 
 from tests.support.at_browser import NEEDS_BROWSER, Window
 from tests.support.calls import CALL, KINDS, POLL, SECRET, WITH_CODES
+from tests.support.looks import contrast
+from tests.support.page_parts import in_words
 from tests.support.program import PROGRAM
 
 # how many ballots of how many options
@@ -40,17 +42,12 @@ COPY = """(() => { window.clip = null;
   document.getElementById("Copied").replaceChildren(); document.getElementById("Copy").click(); })()"""
 REFUSES, TAKES = "throw 1", "window.clip = text"
 
-# the lowest contrast of a text that is seen with what lies behind it
-CONTRAST = """(() => {
-  const light = (colour) => colour.match(/[\\d.]+/g).slice(0, 3).map((part) => part / 255)
-    .map((part) => part <= 0.04045 ? part / 12.92 : ((part + 0.055) / 1.055) ** 2.4)
-    .reduce((sum, part, place) => sum + part * [0.2126, 0.7152, 0.0722][place], 0);
+# the colours of each text that is seen, and of what lies behind it
+COLOURS = """(() => {
   const behind = (node) => { const colour = getComputedStyle(node).backgroundColor;
     return colour === "rgba(0, 0, 0, 0)" && node.parentElement ? behind(node.parentElement) : colour; };
-  const texts = [...document.querySelectorAll("main *")].filter((node) => node.checkVisibility() &&
-    [...node.childNodes].some((part) => part.nodeType === 3 && part.data.trim()));
-  return Math.min(...texts.map((node) => { const both = [light(getComputedStyle(node).color), light(behind(node))];
-    return (Math.max(...both) + 0.05) / (Math.min(...both) + 0.05); }));
+  return [...document.querySelectorAll("main *")].filter((node) => node.checkVisibility() &&
+    [...node.childNodes].some((part) => part.nodeType === 3 && part.data.trim())).map((node) => [getComputedStyle(node).color, behind(node)]);
 })()"""
 
 # what has the focus: its kind and its name, whether it lies in the window, and how the focus is shown
@@ -69,9 +66,8 @@ def text_of(place: str) -> str:
 
 
 def names_of(size: int) -> list[str]:
-    """Names of options, hostile ones first, all of forty characters where they are filled up."""
-    own = [f"{number} option with a long name, and so on.......".ljust(40, ".")[:40] for number in range(1, size + 1)]
-    return [*HOSTILE, *own[len(HOSTILE) :]][: size - 1] + ["None of the above"]
+    """Names of options, hostile ones first."""
+    return [*HOSTILE, *(f"{number} option with a long name, and so on".ljust(40, ".") for number in range(6, 32))][: size - 1] + ["None of the above"]
 
 
 def poll_of(names: list[str], electors: int, *more: str) -> SealedPoll:
@@ -90,26 +86,14 @@ def choices_of(size: int, many: int, chance: random.Random) -> list[tuple[str, l
     return chosen
 
 
-def order_of(ranks: list[str]) -> tuple[list[list[int]], list[int]]:
-    """The options that some ranks order, from the first preference on, equal ones together; and those that have no rank."""
-    by_rank: dict[str, list[int]] = {}
+def words_of(ranks: list[str]) -> str:
+    """The order of some ranks in words, in which each option has its number."""
+    by_rank: dict[str, list[str]] = {}
     for number, rank in enumerate(ranks, start=1):
-        by_rank.setdefault(rank, []).append(number)
+        by_rank.setdefault(rank, []).append(f"{{{number}}}")
     unranked = by_rank.pop("-", [])
-    return [by_rank[rank] for rank in sorted(by_rank, key=int)], unranked
-
-
-def order_in(words: str) -> tuple[list[list[int]], list[int]]:
-    """What the words say: the options from the first preference on, equal ones together, and those without a rank."""
-
-    def numbers(text: str) -> list[int]:
-        return [int(number) for number in re.findall(r"\{(\d+)\}", text)]
-
-    ranked, _, unranked = words.partition("; not ranked: ")
-    steps = ranked.split("; then ")
-    if any(step.startswith("equally ") != (len(numbers(step)) > 1) for step in steps):
-        raise AssertionError(f"equal options are not told as that: {words}")
-    return [numbers(step) for step in steps], numbers(unranked)
+    steps = [("equally " if by_rank[rank][1:] else "") + in_words(by_rank[rank]) for rank in sorted(by_rank, key=int)]
+    return "; then ".join(steps) + (f"; not ranked: {in_words(unranked)}" if unranked else "")
 
 
 @NEEDS_BROWSER
@@ -172,8 +156,7 @@ class Lines(PageTest):
             self.assertEqual((selected, said.startswith("The line is selected"), self.window.faults), (line, True, []))
 
     def check_result(self, names: list[str], mark: str, ranks: list[str], result: dict) -> None:
-        """The words say the order that the ranks have, and the letter has the line."""
-        self.assertEqual(order_in(result["words"]), order_of(ranks))
+        self.assertEqual(result["words"], words_of(ranks))
         self.assertEqual(result["names"], {str(number): f"Option {number}: {name}" for number, name in enumerate(names, start=1)})
         found = result["missing"], result["said"], result["ready"], result["invalid"], result["long"]
         self.assertEqual(found, ("", "", True, "false", len(result["line"]) > 72))
@@ -185,13 +168,11 @@ class Lines(PageTest):
         self.open(CALL)
         for name, part in {**odd, "": "", "   ": ""}.items():
             # each after a good line, so that nothing of it stays
-            good = self.window.ballot("ada", "1234")
-            self.assertEqual((good["line"], good["ready"], good["body"]), ("ada 1,2,3,4", True, "ada 1,2,3,4\r\n"))
+            self.assertEqual(self.window.ballot("ada", "1234")["body"], "ada 1,2,3,4\r\n")
             result = self.window.ballot(name, "213-")
-            self.assertEqual((result["line"], result["ready"], bool(result["letter"])), ("", False, False), name)
+            found = result["line"], result["ready"], bool(result["letter"]), result["missing"], result["invalid"]
+            self.assertEqual(found, ("", False, False, "Type your name.", "true" if name.strip() else "false"), name)
             self.assertIn(part, result["said"])
-            self.assertTrue(result["missing"])
-            self.assertEqual(result["invalid"], "true" if name.strip() else "false")
         result = self.window.ballot("ada", "----")
         self.assertEqual((result["line"], result["missing"], result["words"]), ("", "Give at least one option a rank.", ""))
 
@@ -201,15 +182,7 @@ class Lines(PageTest):
           document.querySelectorAll(".rank").forEach((rank, place) => { rank.querySelectorAll("input")[place].checked = true; });
           dispatchEvent(new Event("pageshow"));""")
         self.assertEqual(self.window.ask(text_of("Line")), "ada 1,2,3,4")
-        for ranks, words in {
-            "21-3": "{2}; then {1}; then {4}; not ranked: {3}",
-            "1111": "equally {1}, {2}, {3} and {4}",
-            "1---": "{1}; not ranked: {2}, {3} and {4}",
-            "1-1-": "equally {1} and {3}; not ranked: {2} and {4}",
-            "441-": "{3}; then equally {1} and {2}; not ranked: {4}",
-            "2112": "equally {2} and {3}; then equally {1} and {4}",
-        }.items():
-            self.assertEqual(self.window.ballot("ada", ranks)["words"], words)
+        self.assertEqual(self.window.ballot("ada", "441-")["words"], "{3}; then equally {1} and {2}; not ranked: {4}")
         # a letter that is to be signed has the mark below the ballot
         self.open(KINDS["signed"])
         self.assertEqual(self.window.ballot("ada", "1234")["body"], f"ada 1,2,3,4\r\n[{POLL.mark}]\r\n")
@@ -225,8 +198,8 @@ class Lines(PageTest):
         for gap, data in {"NAME": SECRET, "CODE": WITH_CODES}.items():
             page = (self.open(data) / "index.html").read_text()
             found = [self.window.ballot(None, ranks) for ranks in ("1234", "----", "213-")]
-            self.assertEqual([result["line"] for result in found], [f"{gap} 1,2,3,4", "", f"{gap} 2,1,3,-"])
-            self.assertEqual([result["missing"] for result in found], ["", "Give at least one option a rank.", ""])
+            wanted = [(f"{gap} 1,2,3,4", ""), ("", "Give at least one option a rank."), (f"{gap} 2,1,3,-", "")]
+            self.assertEqual([(result["line"], result["missing"]) for result in found], wanted)
             self.assertEqual((found[2]["body"], found[2]["wide"], self.window.faults), (f"{gap} 2,1,3,-\r\n", 360, []))
             self.assertNotRegex(page, '<textarea|<datalist|<input (?!type="radio")')
             self.assertRegex(page, rf"In the letter, and not on this page, write your \w+ in the place of <code>{gap}</code>")
@@ -342,8 +315,7 @@ class Names(PageTest):
         self.assertEqual(line_letter_and_hint(None), ("ada 2,1,-,3", True, False))
         below = "[...document.querySelectorAll('.unmarked')].filter((node) => node.checkVisibility()).length"
         self.assertEqual(self.window.ask(below), 0)
-        self.assertEqual(line_letter_and_hint("ben"), ("ben 2,1,-,3", False, True))
-        self.assertEqual(self.window.ask(below), 2)
+        self.assertEqual((line_letter_and_hint("ben"), self.window.ask(below)), (("ben 2,1,-,3", False, True), 2))
         of_secret = (self.open(secret) / "index.html").read_text()
         self.assertEqual(line_letter_and_hint(None), ("NAME 2,1,-,3", False, True))
         self.assertNotIn('href="mailto:', page + of_secret)
@@ -371,7 +343,7 @@ class Looks(PageTest):
                 found = self.window.ballot(name, ranks)
                 self.assertEqual((found["line"], found["wide"]), (f"{name} {','.join(ranks)}", width))
             self.window.ask("document.querySelectorAll('details').forEach((node) => { node.open = true; })")
-            self.assertGreaterEqual(self.window.ask(CONTRAST), 4.5, is_dark)
+            self.assertGreaterEqual(min(contrast(*colours) for colours in self.window.ask(COLOURS)), 4.5, is_dark)
             colours.add((is_dark, self.window.ask("(({ color, backgroundColor }) => color + backgroundColor)(getComputedStyle(document.body))")))
         self.assertEqual((len(colours), len({colour for _, colour in colours})), (2, 2))
 
