@@ -143,7 +143,6 @@ class Window:
             raise AssertionError(f"it does not become true: {script}")
 
     def press(self, key: str, shift: bool = False) -> None:
-        """Presses a key and lets it go."""
         code, text = KEYS[key]
         name = f"Digit{key}" if key.isdigit() else {" ": "Space"}.get(key, key)
         known = {"key": key, "code": name, "windowsVirtualKeyCode": code, "modifiers": 8 if shift else 0}

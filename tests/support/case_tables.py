@@ -52,7 +52,6 @@ class Row:
         return POLL, self.called or BALLOTS
 
     def words(self) -> list[str]:
-        """The arguments of the command line."""
         if self.args is not None:
             return self.args
         poll, ballots = self.names()
@@ -76,7 +75,6 @@ class Row:
 
 
 def read_table(file: pathlib.Path) -> dict[str, Row]:
-    """The cases of a table, by their names."""
     table = tomllib.loads(file.read_bytes().decode())
     given = {"command": table.pop("command"), "about": None, "poll": table.pop("poll", None), "ballots": None}
     return {name: Row(**given | row) for name, row in table.items()}

@@ -96,8 +96,6 @@ class Node:
 
 
 class Builder(html.parser.HTMLParser):
-    """Builds the tree of a page."""
-
     def __init__(self):
         super().__init__()
         self.root = Node("page", [])

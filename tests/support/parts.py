@@ -63,7 +63,6 @@ class Part:
             self.process = subprocess.Popen([ROOT / "tests" / "times", self.seconds, *words], cwd=cwd, **output)
 
     def text(self) -> str:
-        """Its output."""
         return self.told.read_text(encoding="utf-8", errors="replace")
 
     def count(self) -> Count:

@@ -28,12 +28,10 @@ roll = ["ada", "ben", "cleo", "dan"]
 """
 PLAIN_BALLOTS = "ada 1,2,3\nben 2,1,3\ncleo 1,2,3\n"
 
-# the two files of an election, in its folder
 FILES = ["--poll", "poll.toml", "--ballots", "ballots"]
 
 
 def run(words, path=PATH, **how):
-    """The output of a run, and its status."""
     given = {"capture_output": True, "text": True, "timeout": SECONDS, "env": {**os.environ, "PATH": path}}
     ended = forks.run(list(map(str, words)), **given, **how)
     return ended.stdout, ended.stderr, ended.returncode
@@ -59,7 +57,6 @@ def room_with(folder, example):
 
 
 def plain_room(folder, poll=PLAIN_POLL, ballots=PLAIN_BALLOTS):
-    """A folder with these two files."""
     folder.mkdir(parents=True)
     (folder / "poll.toml").write_bytes(poll.encode())
     (folder / "ballots").write_bytes(ballots.encode())

@@ -137,7 +137,6 @@ class Again(CallTest):
         self.assert_fault(self.election("call", "--take-back"), 9, "have come")
 
     def test_not_taken_back_once_a_letter_waits(self) -> None:
-        """Also if it was set aside since."""
         self.write("letter.eml", "From: stranger@example.org\nDate: Fri, 27 Nov 2026 08:30:00 +0000\n\nada 1,2,3,4\n")
         for words in (("add", "--yes", "letter.eml"), ("held", "1", "--set-aside")):
             self.done(*words)
@@ -148,7 +147,6 @@ class Letters(CallTest):
     """What letters to electors are told by the call: a name to come from, own marks, and a text of the secretary."""
 
     def marks(self) -> dict[str, str]:
-        """The own mark of each elector."""
         return dict(self.rows("SELECT name, mark FROM elector_state JOIN elector USING (elector) ORDER BY elector_state.rowid"))
 
     def announced(self, key: str) -> object:

@@ -67,8 +67,6 @@ class Close(CloseTest):
 
 @unittest.skipIf(os.environ.get("DEBVOTE_FORKS") == "0", "what a test has patched is in its forks alone")
 class Meanwhile(CloseTest):
-    """What others do while a vote is closed or published."""
-
     def entered(self, line: str) -> None:
         """A desk enters a line. It is a new process: a fork of a fork shares its input."""
         self.desk().communicate(f"{line}\n")
@@ -86,7 +84,6 @@ class Meanwhile(CloseTest):
         return mock.patch.object(close, "fixed", after_a_desk)
 
     def test_a_line_between_checksum_and_close(self) -> None:
-        """The close is decided anew, with the line."""
         self.add("ada 1,2,3,4")
         with self.closing_after(iter(["ben 1,2,3,4", "cleo 2,1,3,4"])):
             said = self.told("close")
@@ -190,7 +187,6 @@ class Reopen(CloseTest):
         self.assertIn("3 lines came in time", self.read("letters/closed.txt").decode())
 
     def test_a_result_before_the_last_close_is_not_the_result(self) -> None:
-        """`status` says whether the vote is open, and whether it is published."""
         self.assertRegex(self.done("status").output, r"\nClosed: at [^\n]* UTC\nQuorum")
         self.done("publish")
         self.assertEqual(self.numbers()["stage"], "published")

@@ -209,7 +209,6 @@ class NamesAreCompleted(TerminalTest):
 
 class FromAPipe(CalledTest):
     def test_each_line_is_answered_at_once(self) -> None:
-        """A close while it waits makes what comes then late."""
         desk = self.desk()
         for number, name in enumerate(("ada", "ben", "cleo"), start=1):
             self.assertEqual((self.answer(desk, f"{name} {RANKS}\n"), len(self.lines())), (f"{number} counted  {name}: {LAKE}\n", number))
@@ -297,7 +296,6 @@ class FromAPipe(CalledTest):
         self.assertEqual((len(faults.splitlines()), self.lines()), (1, ["ada 1,2,4,3", "ben 1,2,4,3"]))
 
     def test_an_add_beside_desks(self) -> None:
-        """A file goes in although desks cast all the time."""
         desk = self.desk()
         self.write("many", "".join(f"ben {a},{b},1,2\n" for a in range(1, 40) for b in range(1, 40)))
         words = [sys.executable, elections.ELECTION, "add", "many"]

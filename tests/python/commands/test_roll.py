@@ -10,7 +10,6 @@ class RollTest(elections.ElectionTest):
     call_words = None
 
     def roll(self, *rows: str, head: str = "who,mail") -> elections.Ended:
-        """Reads a list of members."""
         self.write("members.csv", "\n".join([head, *rows, ""]))
         return self.election("roll")
 

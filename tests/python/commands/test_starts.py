@@ -62,7 +62,6 @@ class Starts(elections.ElectionTest):
         return "".join([*letters, letter_of(20, "ida", "<p>ida 1,2,3,4</p>", mark, "html")])
 
     def votes(self) -> None:
-        """What comes, what is looked at, and what is corrected."""
         self.write("lines", LINES)
         self.write("table.csv", TABLE)
         self.write("mail", self.mailbox())

@@ -21,7 +21,6 @@ class Strike(CalledTest):
         self.assertIn("The current ballot of ada: none\n", self.told("strike", 1, *WHY))
         self.assertIn("Struck envelope 4: `x`, because: it was pencil\nA strike cannot be undone", self.told("strike", 4, *WHY))
         self.assertEqual(self.lines(), [f"ben {RANKS}"])
-        # the envelopes are still there, and keep their numbers
         self.assertEqual([envelope.struck is None for envelope in self.envelopes()], [False, True, False, False])
         self.assertIn("5 counted  cleo: ", self.told("desk", given=f"cleo {RANKS}\n"))
         # a letter is set aside

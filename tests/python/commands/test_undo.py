@@ -8,7 +8,6 @@ from tests.support.terminal import Terminal
 
 class Undo(CalledTest):
     def test_one_after_the_other(self) -> None:
-        """What was taken back did not come, and gets new numbers."""
         self.told("add", given=f"ada {RANKS}\nben {RANKS}\n")
         self.write("monday", f"ada {OTHER_RANKS}\ncleo {RANKS}\nx\n")
         first = self.first_act
@@ -26,7 +25,6 @@ class Undo(CalledTest):
         self.assertEqual(self.lines(), [])
         self.assert_stops(self.election("undo"), self.last_act(), 9, "undo: there is nothing to take back; nothing was changed: ")
         self.assertEqual([detail for name, detail in self.acts() if name == "undo"], [{"act": first + number} for number in (1, 3, 5, 0)])
-        # nothing is gone
         self.assertEqual([envelope.struck for envelope in self.envelopes()], [first + 7] * 2 + [first + 2] * 3 + [first + 4] * 3 + [first + 6])
         self.book.demand_whole()
 

@@ -66,7 +66,6 @@ def text_of(place: str) -> str:
 
 
 def names_of(size: int) -> list[str]:
-    """Names of options, hostile ones first."""
     return [*HOSTILE, *(f"{number} option with a long name, and so on".ljust(40, ".") for number in range(6, 32))][: size - 1] + ["None of the above"]
 
 
@@ -129,8 +128,6 @@ class PageTest(unittest.TestCase):
 
 
 class Lines(PageTest):
-    """The line of a ballot, and the letter with it."""
-
     def test_each_line_is_read_as_what_was_chosen(self) -> None:
         chance = random.Random(2026)
         for size, many in SIZES.items():
@@ -206,8 +203,6 @@ class Lines(PageTest):
 
 
 class Names(PageTest):
-    """What is typed as a name, and what the address of the page fills in."""
-
     def test_names_on_the_roll_are_offered_and_what_is_typed_is_folded(self) -> None:
         code = "0123456789abcdef" * 2
         roll = ["zoe", "ada-angstrom", "ada.lovelace", "strasse", "oedipus", "-", "anna-1", "anna-2", "anna-3", "eve-arnold", "ben-lee", "ben-lee-2", code]
@@ -257,7 +252,6 @@ class Names(PageTest):
         }.items():  # fmt: skip
             found = self.window.ballot(typed, "1234")
             self.assertEqual((found["suggested"], found["line"]), (suggested, ""), typed)
-        # those that look like one another
         names = {"ben": "Zo\u00eb \u00c5ngstr\u00f6m", "cleo": "Zoe Angstr\u00f6mer"}
         self.open(dataclasses.replace(CALL, real_names=names))
 
@@ -325,8 +319,6 @@ class Names(PageTest):
 
 
 class Looks(PageTest):
-    """What is seen on screens of several sizes, in the dark, on paper and without a script."""
-
     def test_widths_and_contrast(self) -> None:
         long_names = dataclasses.replace(POLL, shown_options=("\u05d0\u05d1 " * 60, "Donaudampfschifffahrt" * 9, "72 \u20ac", "{name} $& $1"))
         polls = [(poll_of(names_of(size), 9, "x" * 32), "x" * 32) for size in (4, 32)] + [(long_names, "ada")]
@@ -358,7 +350,6 @@ class Looks(PageTest):
         self.assertEqual((self.window.ask(shown), self.window.ask(f"{buttons}.length")), ([True, True], 0))
 
     def test_texts_leave_room_for_the_ranks_on_a_telephone(self) -> None:
-        """With texts, too, the ranks of four options lie above the line that is always seen."""
         free = """document.getElementById("Bottom").getBoundingClientRect().top
           - [...document.querySelectorAll("div.rank")].at(-1).getBoundingClientRect().bottom"""
         poll = dataclasses.replace(POLL, explanations=("A long text. " * 40,) * 3)
@@ -392,8 +383,6 @@ class Looks(PageTest):
 
 
 class ByKeys(PageTest):
-    """By the keyboard alone an elector types the name, chooses the ranks, and takes the line."""
-
     def tab_to(self, name: str, shift: bool = False) -> list[dict]:
         """Presses Tab until this has the focus; says what had it on the way."""
         way: list[dict] = []

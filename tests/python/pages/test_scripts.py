@@ -21,8 +21,6 @@ LETTER_OTHER = "None of these is the checksum that you typed."
 
 @at_browser.NEEDS_BROWSER
 class ScriptsTest(publishing.PublishTest):
-    """A vote that is not secret, and one that is, each on its page."""
-
     code = "0123456789abcdef" * 2
 
     @classmethod
@@ -115,7 +113,6 @@ class ScriptsTest(publishing.PublishTest):
         window.until("document.getElementById('Refused-lines').closest('details').open")
 
     def test_the_table_of_votes_breaks_no_word(self):
-        """With eight options, on a telephone; the numbers go on beside the names."""
         names = [f"Ausflug {name}" for name in "Schwarzwald Bodensee Nordseebad Alpenvorland Spreewald Rheintal Sauerland".split()]
         poll = re.sub("options = .*", f"options = {json.dumps(names)}", publishing.PLAIN_POLL).replace("[1, 1]", f"{[1] * 7}")
         room = plain_room(self.scratch / "eight", poll, "ada 1,2,3,4,5,6,7,8\n")

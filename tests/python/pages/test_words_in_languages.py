@@ -53,8 +53,6 @@ def words_of(said: str) -> str:
 
 
 class Marked(languages.LanguageTest):
-    """Elections in a language whose words are all marked."""
-
     @classmethod
     def setUpClass(cls) -> None:
         super().setUpClass()
@@ -67,14 +65,12 @@ class Marked(languages.LanguageTest):
         return said
 
     def check(self, text: str, name: str) -> None:
-        """A page or a letter."""
         with self.subTest(name):
             self.assertIn(BEGIN, text)
             self.assertEqual(unsaid(text) if name.endswith(".html") else unmarked(text), [])
             self.assertEqual('<html lang="de">' in text, name.endswith(".html"))
 
     def check_files(self, place: pathlib.Path, *files: str) -> None:
-        """These pages and letters of an election."""
         for name in files:
             self.check((place / name).read_text(encoding="utf-8"), f"{place.name}/{name}")
 

@@ -43,7 +43,6 @@ def as_read(text: str) -> str:
 
 
 def read(data: CallData) -> page_parts.Builder:
-    """The elements of the page."""
     return page_parts.built(call_files(data)["index.html"].decode())
 
 
@@ -57,8 +56,6 @@ def data_of(data: CallData) -> dict[str, str]:
 
 
 class Files(unittest.TestCase):
-    """The files of the folder."""
-
     maxDiff = None
 
     def test_the_poll_is_the_sealed_one_and_its_checksum_is_said(self) -> None:
@@ -108,7 +105,6 @@ class Files(unittest.TestCase):
         self.assertFalse(dataclasses.replace(CALL, until=UNTIL.astimezone(datetime.UTC)).is_extended)
 
     def test_where_to(self) -> None:
-        """Subjects end with the mark."""
         mark = f"[{POLL.mark}]"
         self.assertIn(f"Send your line to {ADDRESS} in a letter whose subject ends with {mark}.", page_of(CALL))
         self.assertIn("Send your ballot as the secretary announces. ", page_of(dataclasses.replace(CALL, at=None, to=None)))

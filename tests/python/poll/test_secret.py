@@ -86,8 +86,6 @@ class Codes(unittest.TestCase):
 
 
 class Published(unittest.TestCase):
-    """What is published under aliases."""
-
     def test_the_poll_has_aliases_in_an_order_that_tells_no_name(self) -> None:
         poll = aliased_poll(POLL, ALIASES | {"eve": "0" * 32})
         self.assertEqual(poll.roll, tuple(sorted(ALIASES.values())))
@@ -215,8 +213,6 @@ class Slips(unittest.TestCase):
 
 
 class Table(unittest.TestCase):
-    """The table of codes."""
-
     def cells(self, row: Elector) -> list[str]:
         head, cells = csv.reader(io.StringIO(codes_csv([row]).decode(), newline=""))
         self.assertEqual(head, ["name", "who", "mail", "code", "alias"])

@@ -245,8 +245,6 @@ class LargestTest(looks.LooksTest):
 
 
 class RandomTest(publishing.PublishTest):
-    """Random polls, whose data, sentences and pages are met with the second count."""
-
     def test_random_polls(self):
         # no random poll leaves as many options in a tie
         many = "rounds-cycle-of-31-options"

@@ -34,7 +34,6 @@ class GivenTest(publishing.PublishTest):
         return [entry.text() for entry in pages.sections_of(page)["Refused-lines"].all("li")]
 
     def test_honest_words(self):
-        """The page says what it knows, what it does not, and what is enough for an elector."""
         room = room_with(self.scratch / "honest", "supermajority_and_recasts")
         page = self.page_of(room, "result")
         sections = pages.sections_of(page)
@@ -77,7 +76,6 @@ class GivenTest(publishing.PublishTest):
         self.expect("nothing is said to be announced", "announced" in whole, False)
 
     def test_refused_texts(self):
-        """Each refused line stands there with its text, escaped and cut, and with the words that belong to it."""
         room = plain_room(self.scratch / "refused-texts")
         long = "x" * 180 + ">" + "y" * 200
         lines = ["ada;1,2,3", "<b>ada</b> 1,2,3", "", "ben 1.,2,3", "zoe 1,2,3", "zoe 1,2,3", long, "ada 1,2", "caf\u00e9\u202e 1,2,3", "cleo 1,\t2,3"]

@@ -39,8 +39,6 @@ FORKED = unittest.skipIf(os.environ.get("DEBVOTE_FORKS") == "0", "what a test ha
 
 
 class OfElections(CalledTest, expecting.Expecting):
-    """An election in a folder of its own for each test."""
-
     poll, members, new_words, call_words = POLL, MEMBERS, ("--language", "de"), None
 
     def setUp(self):
@@ -123,7 +121,6 @@ class OfElections(CalledTest, expecting.Expecting):
         return {file.name: file.read_bytes() for file in (self.folder / folder).iterdir()}
 
     def items(self, part):
-        """The texts of a list of the page."""
         return [item.text() for item in self.sections()[part].all("li")]
 
     def what_was_done(self):
@@ -147,7 +144,6 @@ class OfElections(CalledTest, expecting.Expecting):
         self.expect("the letter of the close", closed[:2], [shown["poll.toml"], shown[ballots]])
 
     def letter(self):
-        """The letter of the result for all."""
         return (self.folder / "letters" / "result.txt").read_text()
 
     def whole(self, folder="result"):
@@ -331,7 +327,6 @@ class OfOpenVotes(OfElections):
         self.expect("force where nothing stops", (self.doubts(), "nothing" in self.sections()["Result"].text()), ([], False))
 
     def test_each_act_is_told(self):
-        """Each kind of act is told on the page, and all but what is plain in the letters of the result."""
         self.say("call")
         self.say("call", "--take-back")
         for day in (4, 5):

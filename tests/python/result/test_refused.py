@@ -123,7 +123,6 @@ class RefusedTest(publishing.PublishTest):
         self.expect("what is left", sorted(os.listdir(room)), ["bad.toml", "ballots", "new.toml", "poll.toml"])
 
     def test_secret_votes(self):
-        """A poll that says that its vote is secret is published with aliases alone."""
         # one name is enough
         room = publishing.plain_room(self.scratch / "secret", poll=publishing.PLAIN_POLL.replace('"ada"', f'"{"0" * 32}"') + "secret = true\n")
         wanted = "poll.toml: the vote is secret, and this would publish each name with its vote; publish it from its election, "
