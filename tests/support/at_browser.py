@@ -61,7 +61,7 @@ BROKEN_WORDS = r"""((nodes) => nodes.flatMap((node) => {
 class Window:
     """A window with one page. It is closed with `with`."""
 
-    def __init__(self, width: int, height: int, is_dark: bool = False) -> None:
+    def __init__(self, width: int, height: int) -> None:
         self.numbers = itertools.count(1)
         self.faults: list[str] = []
         self.room = tempfile.mkdtemp(prefix="debvote-browser-")
@@ -78,7 +78,7 @@ class Window:
         self.session = self.tell("Target.attachToTarget", targetId=page["targetId"], flatten=True)["sessionId"]
         self.tell("Log.enable")
         self.tell("Runtime.enable")
-        self.show(is_dark=is_dark)
+        self.show()
         self.resize(width, height)
 
     def __enter__(self) -> "Window":
@@ -151,11 +151,6 @@ class Window:
 
     def type(self, text: str) -> None:
         self.tell("Input.insertText", text=text)
-
-    def type_keys(self, keys: str) -> None:
-        """Presses these keys, one after the other: a drop-down list takes keys, not text."""
-        for key in keys:
-            self.press(key)
 
     def broken_words(self, nodes: str) -> list[str]:
         """The words within nodes, which a script returns, that are on two lines."""

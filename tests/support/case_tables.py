@@ -47,9 +47,7 @@ class Row:
 
     def names(self) -> tuple[str, str]:
         """The names of the poll and of the ballots."""
-        if self.ballots is None:
-            return self.called or POLL, BALLOTS
-        return POLL, self.called or BALLOTS
+        return (self.called or POLL, BALLOTS) if self.ballots is None else (POLL, self.called or BALLOTS)
 
     def words(self) -> list[str]:
         if self.args is not None:
@@ -68,8 +66,7 @@ class Row:
     def files(self) -> dict[str, bytes]:
         """The files that the program reads, by their names."""
         head = "" if self.about is None else f"# {self.about}\n"
-        poll, ballots = self.names()
-        swapped = self.swapped_poll()
+        (poll, ballots), swapped = self.names(), self.swapped_poll()
         texts = {poll: swapped and head + swapped, ballots: self.ballots, SHEET: self.sheet}
         return {name: text.encode() for name, text in texts.items() if text is not None}
 

@@ -93,6 +93,7 @@ class LooksTest(publishing.PublishTest):
         pairs = {(look["is_dark"], *look["own"]) for look in self.looks()}
         self.expect("colours of the pages", (len(pairs), len({pair[1:] for pair in pairs})), (2, 2))
 
+
 def contrast(one, other):
     """The contrast of two colours as rgb(1,2,3), from 1 to 21; 4.5 is what a text needs."""
     lights = []

@@ -401,7 +401,7 @@ class ByKeys(PageTest):
         self.assertEqual(self.window.ask("document.getElementById('Name').value"), "ada")
         for option, rank in enumerate("21-3", start=1):
             self.tab_to(f"Rank-{option}")
-            self.window.type_keys(rank.strip("-"))
+            self.window.press(rank)
         self.assertEqual(self.window.ask(f"[{text_of('Line')}, {text_of('Missing')}]"), ["ada 2,1,-,3", ""])
         self.assertTrue(self.window.ask(text_of("Words")).startswith("Option 2: 72 Euro; then Option 1: At the lake; then "))
         self.tab_to("Letter")
@@ -434,7 +434,7 @@ class ByKeys(PageTest):
             self.window.type("ada")
             for number in range(1, 5):
                 way += self.tab_to(f"Rank-{number}")
-                self.window.type_keys("1")
+                self.window.press("1")
             way += self.tab_to("Copy")
             self.assertEqual([place["name"] for place in way], ["Name", "Rank-1", "Rank-2", "Rank-3", "Rank-4", "Read on", "Letter", "Copy"])
             for place in way:
