@@ -4,6 +4,7 @@ but what is no word of ours, as the names of options and electors, the commands,
 import email
 import email.policy
 import html
+import json
 import pathlib
 import re
 
@@ -47,9 +48,7 @@ def unsaid(page: str) -> list[str]:
 
 def words_of(said: str) -> str:
     """The sentences of a script, or an attribute as it is."""
-    if not said.startswith("{"):
-        return said
-    return "\n".join(re.sub(r"\{\w+\}", " ", found) for found in re.findall(r'": "((?:[^"\\]|\\.)*)"', said)).replace("\\n", " ")
+    return re.sub(r"\{\w+\}", " ", "\n".join(json.loads(said).values())) if said.startswith("{") else said
 
 
 class Marked(languages.LanguageTest):
@@ -91,10 +90,10 @@ class Marked(languages.LanguageTest):
         self.assertEqual(unsaid(f"<title>{BEGIN}x{END_MARK}</title><p>has <b>1</b></p>"), ["has"])
 
     def test_from_the_beginning_to_the_end(self) -> None:
+        files = ["call/index.html", "call/call.txt", *(f"letters/{name}.txt" for name in ("extension", "closed", "result"))]
         for name, more in (("open", ()), ("secret", ("private/slips.html",))):
             place = self.held(name, "de", is_secret=name == "secret")
-            self.check_files(place, "call/index.html", "call/call.txt", *more, "letters/extension.txt", "letters/closed.txt")
-            self.check_files(place, "result/index.html", "letters/result.txt", "result/closed.txt")
+            self.check_files(place, *files, "result/index.html", "result/closed.txt", *more)
             self.check_messages(place, "call", "receipts", "reminders", "closed", "result")
 
     def test_other_calls(self) -> None:

@@ -18,8 +18,7 @@ from tests.support import examples, looks, page_parts, publishing, result_checks
 ELECTORS = int(os.environ.get("DEBVOTE_LARGEST_ELECTORS", "10000"))
 
 # the files of a folder, but for picture, sums and letter
-FILES = {"poll.toml", "ballots.txt", "sheet.txt", "standing.txt", "result.json", "votes.csv", "recount.py", "index.html"}
-FILES |= {"READING-A-SHEET.md", "recount.js"}
+FILES = "poll.toml ballots.txt sheet.txt standing.txt result.json votes.csv recount.py recount.js READING-A-SHEET.md index.html"
 
 
 def try_folder(expect, name, poll, ballots, more, folder):
@@ -33,22 +32,21 @@ def try_folder(expect, name, poll, ballots, more, folder):
         return False
     verified = publishing.run([publishing.PROGRAM, "verify", *files, "--sheet", folder / "sheet.txt"])[0]
     expect(f"{name}: what is said", output, sheet.splitlines()[-1] + "\n" + verified)
-    texts = [(folder / file).read_bytes() for file in ("ballots.txt", "sheet.txt", "standing.txt")]
-    expect(f"{name}: its files", texts, [ballots.read_bytes(), sheet.encode(), publishing.run([publishing.PROGRAM, "standing", *files])[0].encode()])
-    expect(f"{name}: its poll is in plain form", (folder / "poll.toml").read_bytes(), plain_bytes(poll.read_bytes()))
-    page, given, plain = ((file.read_bytes()) for file in (folder / "index.html", poll, folder / "poll.toml"))
-    sums = [hashlib.sha256(data).hexdigest() for data in (given, plain)]
+    made = {file.name: file.read_bytes() for file in folder.iterdir()}
+    wanted = {"ballots.txt": ballots.read_bytes(), "sheet.txt": sheet.encode(), "poll.toml": plain_bytes(poll.read_bytes())}
+    wanted["standing.txt"] = publishing.run([publishing.PROGRAM, "standing", *files])[0].encode()
+    wanted["READING-A-SHEET.md"] = (publishing.ROOT / "docs" / "READING-A-SHEET.md").read_bytes()
+    expect(f"{name}: its files", {file: made[file] for file in wanted}, wanted)
+    sums = [hashlib.sha256(data).hexdigest() for data in (poll.read_bytes(), made["poll.toml"])]
     named = [f"has the checksum (SHA-256) <code>{sums[0]}</code>", f"have this checksum, the poll's? <code>{sums[1]}</code>"]
-    expect(f"{name}: the checksums of the poll", [text.encode() in page for text in named], [given != plain, True])
-    expect(f"{name}: its guide", (folder / "READING-A-SHEET.md").read_bytes(), (publishing.ROOT / "docs" / "READING-A-SHEET.md").read_bytes())
-    found = {file.name: hashlib.sha256(file.read_bytes()).hexdigest() for file in folder.iterdir()}
+    expect(f"{name}: the checksums of the poll", [text.encode() in made["index.html"] for text in named], [sums[0] != sums[1], True])
+    found = {file: hashlib.sha256(data).hexdigest() for file, data in made.items()}
     # the letter has the checksum of the checksums
-    letter = (folder / "letter.txt").read_text()
+    letter = made["letter.txt"].decode()
     expect(f"{name}: its letter", [f"{found[file]}  {file}\n" in letter for file in ("SHA256SUMS", "index.html")], [True, True])
     del found["SHA256SUMS"], found["letter.txt"]
-    sums = dict(reversed(line.split("  ")) for line in (folder / "SHA256SUMS").read_text().splitlines())
-    expect(f"{name}: its sums", sums, found)
-    expect(f"{name}: its names", set(found), FILES | ({"picture.svg"} if publishing.HAS_PICTURES else set()))
+    expect(f"{name}: its sums", dict(reversed(line.split("  ")) for line in made["SHA256SUMS"].decode().splitlines()), found)
+    expect(f"{name}: its names", set(found), {*FILES.split(), *["picture.svg"] * publishing.HAS_PICTURES})
     modes = {file.stat().st_mode & 0o777 for file in folder.iterdir()}
     expect(f"{name}: it can be read by all", (folder.stat().st_mode & 0o777, modes), (0o755, {0o644}))
     return True
@@ -91,8 +89,7 @@ def try_names(expect, scratch):
         # in the picture each is a text of its own
         found = re.finditer(f"(?<!>)(?<!>\\d: )(?<!default option ){name}", shown)
         expect(f"names: {name} once", [shown[match.start() - 40 : match.end()] for match in found][1:], [])
-    expect("names: nothing runs", (page.count("<script"), "<script>alert" in page, "<img" in page), (1, False, False))
-    expect("names: the sheet has none", "Satzung" in (room / "result" / "sheet.txt").read_text(), False)
+    expect("names: nothing runs", (page.count("<script"), "<img" in page), (1, False))
     letter = (room / "result" / "letter.txt").read_text()
     expect("names: the letter", ("Ob die Satzung geändert wird" in letter, "Winner: Option 2: 72 Euro" in letter), (True, True))
     return room / "result"
@@ -134,10 +131,8 @@ def large_poll(options, electors):
     """A poll with names of the greatest length, and ballots that make a cycle."""
     rng, names = random.Random(1), [f"{number} {'WMwm' * 10}"[:40] for number in range(1, options + 1)]
     roll = [f"elector-{number}-".ljust(32, "m") for number in range(electors)]
-    *others, default = names
-    listed = [", ".join(f'"{name}"' for name in texts) for texts in (others, roll)]
-    poll = f'title = "{"W" * 80}"\noptions = [{listed[0]}]\nratios = [{", ".join("1" for _ in others)}]\n'
-    poll += f'default = "{default}"\nquorum = 1\nroll = [{listed[1]}]\n'
+    poll = f'title = "{"W" * 80}"\noptions = {json.dumps(names[:-1])}\nratios = {[1] * (options - 1)}\n'
+    poll += f'default = "{names[-1]}"\nquorum = 1\nroll = {json.dumps(roll)}\n'
     ballots = ""
     for name in roll:
         turn, ranks = rng.choice([0, options // 3, 2 * options // 3]), list(range(1, options))
@@ -148,11 +143,7 @@ def large_poll(options, electors):
 def publish_large(expect, scratch, options, electors):
     """Publishes a large election, and says how many bytes it has. Returns the folder."""
     name = f"{options}-options-{electors}-electors"
-    room = scratch / name
-    room.mkdir()
-    poll, ballots = large_poll(options, electors)
-    (room / "poll.toml").write_text(poll)
-    (room / "ballots").write_text(ballots)
+    room = publishing.plain_room(scratch / name, *large_poll(options, electors))
     # whether it is a tie does not matter here
     expect(f"{name}: its status", publishing.publish(room, *publishing.FILES, name)[2] in (0, 1), True)
     sizes = {file.name: file.stat().st_size for file in (room / name).iterdir()}
