@@ -171,8 +171,7 @@ class Letters(CallTest):
     def test_own_marks_stay_until_the_call_is_taken_back(self) -> None:
         self.done("call", *UNTIL)
         first = self.marks()
-        self.assertTrue(all(re.fullmatch("[2-9a-hj-km-np-z]{10}", mark) for mark in first.values()), first)
-        self.assertEqual(len(set(first.values())), 9)
+        self.assertEqual(len({mark for mark in first.values() if re.fullmatch("[2-9a-hj-km-np-z]{10}", mark)}), 9, first)
         self.done("call", "--until", "2026-12-05 18:00", "--zone", "Europe/Berlin")
         self.assertEqual(self.marks(), first)
         self.done("call", "--take-back")
@@ -347,9 +346,8 @@ class Secret(CallTest):
         slip, aliases = self.read("private/slips.html").decode(), self.published_codes()
         self.assertIn(f"<b>[{read_plain(self.read('call/poll.toml')).mark}]</b>", slip)
         self.assertNotIn(" is void", slip + self.texts())
-        said = self.done("call", "--take-back").output
-        self.assertIn("All 9 codes are void", said)
-        self.assertIn("Next: put right what was wrong, then run debvote-election codes\n", said)
+        said = r"All 9 codes are void(?s:.*)\nNext: put right what was wrong, then run debvote-election codes\n"
+        self.assertRegex(self.done("call", "--take-back").output, said)
         self.assertEqual([*(self.folder / "private").iterdir()], [])
         self.write("members.csv", elections.members_of([*elections.NAMES, "jan"]))
         self.done("roll")

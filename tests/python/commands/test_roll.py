@@ -59,11 +59,10 @@ class Roll(RollTest):
         self.roll("Anna Meier,a@club.example", "Ben,b@club.example")
         self.roll("Ben,new@club.example", "Zoe,z@club.example", "Anna  Meier,a@club.example")
         self.assertEqual(self.on_roll(), ["ben", "zoe", "anna-meier"])
-        ended = self.roll("chair,Anna Meier,a@club.example", ",Ben,b@club.example", head="name,who,mail")
-        self.assertEqual(self.on_roll(), ["chair", "ben"])
-        self.assertIn("No longer on the list: zoe (Zoe)", ended.output)
-        ended = self.roll("Cleo,c@club.example")
-        self.assertIn("No longer on the list: chair (Anna Meier)\nNo longer on the list: ben (Ben)\n", ended.output)
+        output = self.roll("chair,Anna Meier,a@club.example", ",Ben,b@club.example", head="name,who,mail").output
+        self.assertEqual((self.on_roll(), "No longer on the list: zoe (Zoe)" in output), (["chair", "ben"], True))
+        gone = "No longer on the list: chair (Anna Meier)\nNo longer on the list: ben (Ben)\n"
+        self.assertIn(gone, self.roll("Cleo,c@club.example").output)
 
     def test_all_names_are_printed_if_asked(self) -> None:
         self.roll(*(f"Elector {number},e{number}@club.example" for number in range(201)))

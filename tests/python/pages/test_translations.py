@@ -33,8 +33,7 @@ class Translations(languages.LanguageTest):
             with self.subTest(language=code):
                 self.assertEqual(sorted(entry.texts for entry in entries[1:]), sorted(self.said), "twice, not translated, or not in the code")
                 for entry in entries[1:]:
-                    self.assertTrue(all(entry.forms), entry.texts)
-                    self.assertFalse(entry.is_fuzzy or entry.is_obsolete, entry.texts)
+                    self.assertEqual((all(entry.forms), entry.is_fuzzy, entry.is_obsolete), (True, False, False), entry.texts)
 
     def test_each_translation_has_the_places_the_tags_and_the_end_of_its_sentence(self) -> None:
         ends = re.compile(r"([.:?])(?:</\w+>)?$")

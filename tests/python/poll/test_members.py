@@ -32,11 +32,9 @@ class MembersTest(unittest.TestCase):
             faults = self.read(content).faults
         except Fault as fault:
             faults = (fault, *fault.others)
-        self.assertEqual(len(faults), len(wanted), [fault.words for fault in faults])
+        self.assertEqual([fault.status for fault in faults], [Status.DOUBT] * len(wanted), [fault.words for fault in faults])
         for fault, parts in zip(faults, wanted):
-            self.assertEqual(fault.status, Status.DOUBT)
-            self.assertIn("then run debvote-election roll again", str(fault.words))
-            for part in parts:
+            for part in (*parts, "then run debvote-election roll again"):
                 self.assertIn(part, str(fault.words))
 
 

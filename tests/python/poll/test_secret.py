@@ -144,8 +144,7 @@ class Slips(unittest.TestCase):
             self.assertIn("Vote untilas the call for votes says Send your ballot toas the call for votes says", text)
         shown = dataclasses.replace(POLL, shown_title="Wohin?", shown_options=("Am See", "72 \u20ac", "Keine"))
         for text in self.each(dataclasses.replace(CALL, poll=shown)):
-            self.assertIn("1 Am See 2 72 \u20ac 3 Keine", text)
-            self.assertIn("L. Wohin? Name", text)
+            self.assertRegex(text, "L\\. Wohin\\? Name.* 1 Am See 2 72 \u20ac 3 Keine")
 
     def test_with_codes_on_the_roll_nobody_has_a_name(self) -> None:
         for code, text in zip(CODES.values(), self.each(WITH_CODES, CODES_ON_ROLL), strict=True):

@@ -227,7 +227,16 @@ class OfOpenVotes(OfElections):
         self.expect("other words are an act", (len(self.acts()), self.files() == files), (acts + 1, False))
         self.expect("nothing is left beside it", [name for name in os.listdir(self.folder) if name.startswith(".")], [])
         self.expect("real names are not published", "Lovelace" in (self.folder / "elsewhere" / "index.html").read_text(), False)
-        self.check_closed_early()
+        # a close before the end is a doubt, and each letter tells until when one should have been able to vote
+        self.reopened_with("zoe-mueller 1,2,3\n", words=("--early",))
+        self.replace("--language", "en")
+        end = "one should have been able to vote until Friday, 4 December 2099, 18:00 (UTC+01:00)."
+        [doubt] = self.doubts()
+        self.assertRegex(doubt, f"^The vote was closed on .*before its announced end: {re.escape(end)}$")
+        self.expect("the letter of the result", doubt in " ".join(self.letter().split()), True)
+        self.say("publish", "--language", "de")
+        texts, until = [*self.texts_of_messages(), self.read("letters/closed.txt").decode()], "Freitag, 4. Dezember 2099, 18:00 (UTC+01:00)"
+        self.expect(f"until when: {texts}", [until in " ".join(text.split()) for text in texts], [True] * 4)
 
     def test_no_other_result_is_replaced(self):
         """Neither that of another election, nor an earlier one of this, nor one that somebody has changed. An empty folder is taken."""
@@ -288,18 +297,6 @@ class OfOpenVotes(OfElections):
         self.say("strike", "1", "--because", "twice")
         self.say("close")
         self.expect("a tie again, without a casting vote", self.replace(status=1).splitlines()[0], "Tie: 1 2")
-
-    def check_closed_early(self):
-        """That is a doubt, and each letter tells until when one should have been able to vote."""
-        self.reopened_with("zoe-mueller 1,2,3\n", words=("--early",))
-        self.replace("--language", "en")
-        end = "one should have been able to vote until Friday, 4 December 2099, 18:00 (UTC+01:00)."
-        [doubt] = self.doubts()
-        self.assertRegex(doubt, f"^The vote was closed on .*before its announced end: {re.escape(end)}$")
-        self.expect("the letter of the result", doubt in " ".join(self.letter().split()), True)
-        self.say("publish", "--language", "de")
-        texts, until = [*self.texts_of_messages(), self.read("letters/closed.txt").decode()], "Freitag, 4. Dezember 2099, 18:00 (UTC+01:00)"
-        self.expect(f"until when: {texts}", [until in " ".join(text.split()) for text in texts], [True] * 4)
 
     def test_doubts_are_told_at_once(self):
         self.say("call")
