@@ -1,7 +1,4 @@
-"""A page in chromium that a test uses as a reader does: real keys, real touches, a window of a given size.
-
-It speaks chromium's own protocol through a pipe, and needs only Python.
-"""
+"""A page in chromium that a test uses as a reader does, by real keys in a window of a given size, through chromium's own protocol on a pipe."""
 
 import base64
 import itertools

@@ -64,7 +64,6 @@ class Row:
         return poll
 
     def files(self) -> dict[str, bytes]:
-        """The files that the program reads, by their names."""
         head = "" if self.about is None else f"# {self.about}\n"
         (poll, ballots), swapped = self.names(), self.swapped_poll()
         texts = {poll: swapped and head + swapped, ballots: self.ballots, SHEET: self.sheet}
@@ -87,14 +86,12 @@ def written(text: str) -> str:
 
 
 def written_in_one_line(text: str) -> str:
-    """The text as a TOML string without a line feed."""
     if "'" not in text and '"' in text and text.isprintable():
         return f"'{text}'"
     return '"' + "".join(map(spelled, text)).replace("\n", "\\n") + '"'
 
 
 def spelled(sign: str) -> str:
-    """A character as it is written in a quoted TOML string."""
     known = {"\\": "\\\\", '"': '\\"', "\r": "\\r", "\t": "\\t", "\n": "\n"}
     if sign in known:
         return known[sign]

@@ -69,7 +69,6 @@ class LooksTest(publishing.PublishTest):
 
     @classmethod
     def note(cls, *fact):
-        """Keeps a fact for the test of all facts."""
         cls.facts.append(fact)
 
     def looks(self):

@@ -65,7 +65,6 @@ def demand_equal(what, found, wanted):
 
 
 def escaped(text):
-    """A text as it stands in a page."""
     return html.escape(text).replace("&quot;", "&#34;").replace("&#x27;", "&#39;")
 
 
@@ -107,9 +106,6 @@ class Builder(html.parser.HTMLParser):
         self.open[-1].inner.append(node)
         if tag not in EMPTY_TAGS:
             self.open.append(node)
-
-    def handle_startendtag(self, tag, attributes):
-        self.open[-1].inner.append(Node(tag, attributes))
 
     def handle_endtag(self, tag):
         if tag not in EMPTY_TAGS:
@@ -170,7 +166,6 @@ class Parts:
         self.met = collections.Counter()
 
     def name(self, option):
-        """An option as the page calls it."""
         return f"Option {option}: {self.names.get(option, self.count.poll.names[option])}"
 
     def entries(self, heading, kind="ul"):
@@ -209,7 +204,6 @@ class Parts:
         demand_equal("the facts", found, [f"{len(count.last)} of {len(poll.roll)} voted", *quorum, lines])
 
     def lines(self):
-        """How many lines there are, and where voters and valid lines differ."""
         count, poll, valid = self.count, self.count.poll, self.count.valid
         are = "is" if len(count.lines) == 1 else "are"
         wanted = f"{counted(len(count.lines), 'line')} {are} in the ballot file: {valid} valid, {len(count.lines) - valid} refused."
@@ -221,7 +215,6 @@ class Parts:
         demand_equal("the lines", " ".join(next(self.sections["Refused-lines"].all("p")).text().split()), wanted)
 
     def rule(self):
-        """The wording of majorities, and the quorum, below the options."""
         poll, said = self.count.poll, self.sections["Options"].text()
         at_least = "At least the ratio times as many electors must prefer it as prefer the default option, and in any case more."
         more_than = "More than the ratio times as many electors must prefer it as prefer the default option."
@@ -290,7 +283,6 @@ class Parts:
             yield self.say("lost by the casting vote", winner=self.name(count.winner))
 
     def against(self, option, other):
-        """Two options that are left."""
         is_removed = any({(option, other), (other, option)} & gone for _, gone in self.count.rounds)
         return self.say("left with a removed defeat" if is_removed else "left in a tie", (option, other))
 
@@ -323,7 +315,6 @@ class Parts:
         demand_equal("what decides it", text, wanted)
 
     def deciding_alone(self, winner):
-        """What is said of an option that is left alone."""
         count, default = self.count, self.count.poll.default
         if winner == default:
             demand_equal("all others were dropped", set(count.dropped), set(count.poll.options) - {default})
@@ -386,7 +377,6 @@ class Parts:
         demand_equal("Rounds", self.entries("Defeats", "ol"), wanted)
 
     def ballots(self):
-        """Each ballot with its place, its ranks and its words."""
         count = self.count
         found, wanted = [(entry.attributes["id"], entry.text()) for entry in self.sections["Ballots"].all("li")], []
         for voter, ranks in sorted(count.last.items()):

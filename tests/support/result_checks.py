@@ -1,8 +1,5 @@
 """Compares what debvote-publish makes with tests/reference.py on random polls: the data, the parts of the page, the refused lines.
 
-`result.json` and `votes.csv` are made a second time from the count of the reference, and each part of the page is compared with it
-(page_parts.py). The refused lines have to be those of `tests/reference_checks.py`. In each fifth folder `recount.py` must print the sheet.
-
 DEBVOTE_PUBLISHED_POLLS is the number of random polls to publish, by default 200.
 """
 
@@ -124,7 +121,6 @@ def try_refused(page, count):
 
 
 def line_shown(line):
-    """A line as the page shows it."""
     text = line.decode("utf-8", "backslashreplace")
     seen = "".join(sign if sign.isprintable() else f"\\u{ord(sign):04X}" for sign in text[:100])
     return seen + (f" (the first 100 of {len(text)} characters)" if len(text) > 100 else "") if line else "(an empty line)"

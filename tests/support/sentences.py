@@ -92,7 +92,6 @@ def places_in(text: str) -> set[str]:
 
 
 def as_po(texts: tuple[str, ...], forms: tuple[str, ...]) -> str:
-    """An entry as a `.po` file has it."""
     keywords = ["msgid"] if len(texts) == 1 else ["msgid", "msgid_plural"]
     names = ["msgstr"] if len(texts) == 1 else [f"msgstr[{number}]" for number in range(len(forms))]
     return "".join(f"{keyword} {quoted(text)}\n" for keyword, text in zip([*keywords, *names], [*texts, *forms], strict=True))

@@ -146,8 +146,8 @@ class Asked(LettersTest):
 
     def test_yes(self) -> None:
         output, status = Terminal(self, "close", "--yes").end()
-        self.assertEqual((status, "[y/n]" in output), (0, False))
-        self.assertIn("Until now 0 lines came in time. Added last: never. Entered last at a desk: never.", output)
+        said = "Until now 0 lines came in time. Added last: never. Entered last at a desk: never."
+        self.assertEqual((status, said in output, "[y/n]" in output), (0, True, False))
 
 
 class Reopen(LettersTest):
@@ -177,8 +177,8 @@ class Reopen(LettersTest):
         self.done("publish")
         self.assertEqual(self.numbers()["stage"], "published")
         self.assertTrue(self.done("status").output.endswith(", then debvote-election letters result\n"))
-        self.assert_fault(self.election("reopen"), 2, "reason")
-        self.assert_fault(self.election("reopen", "--because", "x", "--in-time", "1"), 2, "envelope 1 is not one of the late lines")
+        for words, said in (((), "reason"), (("--because", "x", "--in-time", "1"), "envelope 1 is not one of the late lines")):
+            self.assert_fault(self.election("reopen", *words), 2, said)
         self.done("reopen", "--because", "x")
         self.assert_fault(self.election("reopen", "--because", "x"), 9, "not closed")
         self.assertEqual(self.numbers()["stage"], "called")

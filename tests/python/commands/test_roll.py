@@ -40,14 +40,11 @@ class Roll(RollTest):
         unsent = "Without an address that every mail server takes (letters to them are printed): cleo\n"
         together = f"Note: these look like several people, who have one ballot together: {people}. Give each a line of their own.\n"
         for rows, said, unsaid in [
-            # names that were cut, or that are similar
             (["Maximiliane Theodora Louise Schulz,"], [cut], []),
             (["Dr. Anna Meier,", '"Maier, Anna",', "Meier Anna,"], [similar], []),
             (["Jo Meier,", "Jo-Meier,"], [], ["cut:", "mistaken"]),
-            # an address that not every mail server takes, and one that several have
             (["Cleo,cléo@club.example", "Ben,bén@club.example b@club.example"], [unsent], ["Without an address ("]),
             (shared, ["Note: several electors have the address home@club.example: ada, ben. Is that one person?\n"], ["address e@"]),
-            # real names that look alike, and several people in one cell
             (["Zo\u00eb,z@club.example", "zoe,", "Zo\u00eb L,"], ["Note: these real names look alike: zoe-1, zoe-2. Is that one person?\n"], []),
             (of_several, [together], []),
         ]:

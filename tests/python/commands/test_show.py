@@ -37,7 +37,6 @@ class Show(CalledTest):
         ]
         self.assertEqual((self.shown(), self.shown("ben")[1:]), (wanted, [f"  envelope 2, TIME: {LAKE}", f"The current ballot: {LAKE}"]))
         self.assertEqual(self.shown("cleo"), ["cleo: Cleo cleo@club.example", "The current ballot: none"])
-
         # a ballot of a letter has the time of the letter
         with self.book.act("add") as act:
             time = act.time.replace(year=2020)

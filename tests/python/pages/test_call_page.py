@@ -229,10 +229,9 @@ class Names(PageTest):
         for name, (found, suggested) in wanted.items():
             result = self.window.ballot(name, "1234")
             self.assertEqual((result["line"], result["suggested"]), (f"{found} 1,2,3,4" if found else "", suggested), name)
-            self.assertEqual(result["invalid"], "false" if found else "true", name)
-            self.assertEqual("is not on the roll of this poll" in result["said"], not found and not suggested, name)
-            self.assertEqual(result["said"].startswith("On the roll: "), bool(suggested), name)
-            self.assertEqual(result["missing"], "" if found else "Type your name.", name)
+            self.assertEqual((result["invalid"], result["missing"]), ("false", "") if found else ("true", "Type your name."), name)
+            starts = result["said"].startswith("On the roll: "), "is not on the roll of this poll" in result["said"]
+            self.assertEqual(starts, (bool(suggested), not found and not suggested), name)
         # without the roll each name that one may have gets its line, and none is told
         self.open(dataclasses.replace(CALL, poll=with_roll(POLL, [f"x{number}" for number in range(2_001)])))
         self.assertEqual(self.window.ask(offered), [])
@@ -255,17 +254,17 @@ class Names(PageTest):
         names = {"ben": "Zo\u00eb \u00c5ngstr\u00f6m", "cleo": "Zoe Angstr\u00f6mer"}
         self.open(dataclasses.replace(CALL, real_names=names))
 
-        def line_and_said(typed: str | None) -> tuple[str, str]:
+        def assert_answer(typed: str | None, *answer: str) -> None:
             found = self.window.ballot(typed, "1234")
-            return found["line"], found["said"]
+            self.assertEqual((found["line"], found["said"]), answer)
 
-        self.assertEqual(line_and_said("Zoe Angstrom"), ("ben 1,2,3,4", "On the roll: ben"))
-        self.assertEqual(line_and_said("Zoe"), ("", "On the roll: bencleo"))
+        assert_answer("Zoe Angstrom", "ben 1,2,3,4", "On the roll: ben")
+        assert_answer("Zoe", "", "On the roll: bencleo")
         offered = self.window.ask("[...document.getElementById('Name').list.options].map((option) => [option.value, option.label])")
         self.assertEqual(offered[1:3], [["ben", names["ben"]], ["cleo", names["cleo"]]])
         self.window.ask("document.querySelectorAll('#Name-said button')[1].click()")
-        self.assertEqual(line_and_said(None), ("cleo 1,2,3,4", ""))
-        self.assertEqual(line_and_said("eve"), ("", "eve is not on the roll of this poll; the names on the roll are below."))
+        assert_answer(None, "cleo 1,2,3,4", "")
+        assert_answer("eve", "", "eve is not on the roll of this poll; the names on the roll are below.")
 
     def test_the_personal_link(self) -> None:
         # by the place: the name that is filled in, and the own mark in the subject

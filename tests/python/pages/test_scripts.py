@@ -98,17 +98,15 @@ class ScriptsTest(publishing.PublishTest):
         poll = re.sub("roll = .*", 'roll = ["anna-meier", "ben-lee", "eve-lee", "dan"]', publishing.PLAIN_POLL)
         room = plain_room(self.scratch / "family", poll, "anna-meier 1,2,3\ndan 1,2\ndan-x 1,2,3\nEVE-LEE 1;2\n")
         window = self.page_of(self.published(room, "family-names", real_names={"anna-meier": "Anna Meier", "dan": "Dan"}))
-        self.expect("one", window.find("Meier"), ["Do you mean anna-meier (Anna Meier)?"])
-        self.expect("several", window.find("lee"), ["Do you mean ben-leeeve-lee?"])
-        self.expect("none", window.find("Meyer"), ["No elector has the name meyer. Type it as it is on the roll."])
-        window.find("Meier")
+        none = "No elector has the name meyer. Type it as it is on the roll."
+        for typed, said in {"Meyer": none, "lee": "Do you mean ben-leeeve-lee?", "Meier": "Do you mean anna-meier (Anna Meier)?"}.items():
+            self.expect(typed, window.find(typed), [said])
         window.ask("document.querySelector('#Answer button').click()")
         window.until("document.getElementById('Answer').textContent.startsWith('This ballot counts for anna-meier:')")
         # of whoever has a line that does not count the page says where it is
-        for name, more in {"dan": True, "ben-lee": False, "eve-lee": True}.items():
-            no = [f"{name} is on the roll, and no ballot counts for this name."]
-            no += ["A line with this name came, and does not count: Refused and late lines"] * more
-            self.expect(f"no ballot of {name}", window.find(name), no)
+        came = "A line with this name came, and does not count: Refused and late lines"
+        for name, more in {"dan": [came], "ben-lee": [], "eve-lee": [came]}.items():
+            self.expect(f"no ballot of {name}", window.find(name), [f"{name} is on the roll, and no ballot counts for this name.", *more])
         window.ask("document.querySelector('#Answer a').click()")
         window.until("document.getElementById('Refused-lines').closest('details').open")
 

@@ -101,11 +101,9 @@ class Unread(MembersTest):
         for content, *wanted in [
             (b"", ("members.csv: it is empty",)),
             (b"\xef\xbb\xbf\r\n ,,\r\n", ("it is empty",)),
-            # what is no CSV
             (b"PK\x03\x04\x14\0", ("a ZIP", "not CSV", "save it again as CSV in UTF-8")),
             (b"\xd0\xcf\x11\xe0\xa1\xb1", ("spreadsheet, not CSV",)),
             (b"%PDF-1.7", ("a PDF",)),
-            # another encoding
             ("who,mail\nZoë,z@x\n".encode("latin-1"), ("members.csv:2: ", "Latin-1", "Zoë,z@x", "UTF-8")),
             ("who,mail\nZoë,z@x\n".encode("utf-16-le"), ("nor in UTF-16 with a byte-order mark",)),
             (codecs.BOM_UTF16_LE + "who,mail\n".encode("utf-16-le") + b"x", ("UTF-16",)),

@@ -3,8 +3,8 @@
 import re
 import unittest
 
-from debvote_tools.poll import plain_names
-from debvote_tools.poll.plain_names import alike, bad_options, bad_title, elector_name, made_different, plain_options, plain_title, similar_names
+from debvote_tools.poll.plain_names import alike, bad_options, bad_title, elector_name, is_elector_name, made_different, plain_options
+from debvote_tools.poll.plain_names import plain_title, similar_names
 
 OPTION = re.compile(r"[!-~]([ -~]{0,38}[!-~])?")
 
@@ -59,7 +59,7 @@ class Electors(unittest.TestCase):
             "İpek Işık": "ipek-isik", "Þór Æsir": "thor-aesir", "ﬁnn Ａｄａ": "finn-ada", "-x_y-": "x-y", "Zoe\u0308": "zoe",
             "3rd": "3rd", "李 Li": "li", "李": "", "...": "", ",": "",
         }.items():  # fmt: skip
-            self.assertEqual((elector_name(who, "en"), plain_names.is_elector_name(name)), (name, bool(name)), who)
+            self.assertEqual((elector_name(who, "en"), is_elector_name(name)), (name, bool(name)), who)
         self.assertEqual(elector_name("ZOË Müller-Groß", "de"), "zoe-mueller-gross")
 
     def test_the_family_name_comes_last(self) -> None:
@@ -94,7 +94,7 @@ class Electors(unittest.TestCase):
 
     def test_what_a_roll_allows(self) -> None:
         names = ("a", "0.-", "a" * 32, "", "A", "a b", "ä", "a_b", "a" * 33, "a\n")
-        self.assertEqual(tuple(filter(plain_names.is_elector_name, names)), names[:3])
+        self.assertEqual(tuple(filter(is_elector_name, names)), names[:3])
 
     def test_numbers(self) -> None:
         self.assertEqual(made_different(["a", "a", "b"], ["a-1"], 32, "-"), ["a-2", "a-3", "b"])

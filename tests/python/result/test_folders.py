@@ -1,8 +1,5 @@
 """The folders and the pages of examples, of cases, of slips of the hand, of large elections, and of names that are made to hurt a page.
 
-In each folder the files must be what the program writes, with their sums; page_parts.py and result_checks.py say what must stand on the
-page. All pages are read in one browser.
-
 DEBVOTE_LARGEST_ELECTORS says how many electors the largest election has; 10000 if it is not given.
 """
 
@@ -19,10 +16,11 @@ ELECTORS = int(os.environ.get("DEBVOTE_LARGEST_ELECTORS", "10000"))
 
 # the files of a folder, but for picture, sums and letter
 FILES = "poll.toml ballots.txt sheet.txt standing.txt result.json votes.csv recount.py recount.js READING-A-SHEET.md index.html"
+# the keys of a poll in plain form, in their order
+KEYS = "title options ratios default quorum wording roll last_envelope deadline address secret shown_title shown_options explanations"
 
 
 def try_folder(expect, name, poll, ballots, more, folder):
-    """The files of a folder: the inputs, what the program writes of them, and their checksums."""
     files = ["--poll", poll, "--ballots", ballots]
     sheet, _, wanted = publishing.run([publishing.PROGRAM, "count", *files, *more])
     output, faults, status = publishing.publish_files(poll, ballots, folder, "--desks", "3", *more)
@@ -33,7 +31,9 @@ def try_folder(expect, name, poll, ballots, more, folder):
     verified = publishing.run([publishing.PROGRAM, "verify", *files, "--sheet", folder / "sheet.txt"])[0]
     expect(f"{name}: what is said", output, sheet.splitlines()[-1] + "\n" + verified)
     made = {file.name: file.read_bytes() for file in folder.iterdir()}
-    wanted = {"ballots.txt": ballots.read_bytes(), "sheet.txt": sheet.encode(), "poll.toml": plain_bytes(poll.read_bytes())}
+    document = tomllib.loads(poll.read_bytes().decode("utf-8-sig"))
+    plain = [f"{key} = {json.dumps(document[key], ensure_ascii=False)}\n" for key in KEYS.split() if key in document]
+    wanted = {"ballots.txt": ballots.read_bytes(), "sheet.txt": sheet.encode(), "poll.toml": "".join(plain).replace("\x7f", "\\u007f").encode()}
     wanted["standing.txt"] = publishing.run([publishing.PROGRAM, "standing", *files])[0].encode()
     wanted["READING-A-SHEET.md"] = (publishing.ROOT / "docs" / "READING-A-SHEET.md").read_bytes()
     expect(f"{name}: its files", {file: made[file] for file in wanted}, wanted)
@@ -52,17 +52,6 @@ def try_folder(expect, name, poll, ballots, more, folder):
     return True
 
 
-# the keys of a poll in plain form, in their order
-KEYS = "title options ratios default quorum wording roll last_envelope deadline address secret shown_title shown_options explanations"
-
-
-def plain_bytes(poll_bytes):
-    """The poll in plain form, without keys that a sealed poll does not have."""
-    document = tomllib.loads(poll_bytes.decode("utf-8-sig"))
-    lines = (f"{key} = {json.dumps(document[key], ensure_ascii=False)}\n" for key in KEYS.split() if key in document)
-    return "".join(lines).replace("\x7f", "\\u007f").encode()
-
-
 HOSTILE = "</b><script>alert(1)</script> & \"'<img src=x onerror=alert(1)>"
 
 
@@ -77,13 +66,13 @@ def try_names(expect, scratch):
     expect("names: the poll keeps what is sealed", "note" in (room / "result" / "poll.toml").read_text(), False)
     page = (room / "result" / "index.html").read_text()
     whose = f"About <b data-option=\"1\">Option 1: <bdi>{page_parts.escaped(HOSTILE)}</bdi></b>, in the words of those who publish this page."
-    for name, wanted in [
-        ("the window", "<title>Result: Ob die Satzung geändert wird</title>"),
-        *([("the picture", "The picture has the plain names.")] if publishing.HAS_PICTURES else []),
-        ("a text", f'<p class="whose">{whose}'),
-        ("its paragraphs", '<p class="about"><bdi>\u200fÜber &lt;b&gt;alles&lt;/b&gt;.</bdi></p>'),
-    ]:
-        expect(f"names: {name}", wanted in page, True)
+    for wanted in (
+        "<title>Result: Ob die Satzung geändert wird</title>",
+        *["The picture has the plain names."] * publishing.HAS_PICTURES,
+        f'<p class="whose">{whose}',
+        '<p class="about"><bdi>\u200fÜber &lt;b&gt;alles&lt;/b&gt;.</bdi></p>',
+    ):
+        expect(f"names: {wanted}", wanted in page, True)
     shown = page.partition('id="Poll-file"')[0]
     for name in ("Amend it", "Write guidelines", "Further discussion"):
         # in the picture each is a text of its own
@@ -95,33 +84,31 @@ def try_names(expect, scratch):
     return room / "result"
 
 
-NOBODY = "No elector has a ballot that counts: nobody's vote has decided this."
-NOBODY_TOLD = "no elector has a ballot that counts; check that these are the ballots of this poll"
-MOSTLY_REFUSED = "More than half of the lines of the ballot file are refused: {} of {}."
-MOSTLY_REFUSED_TOLD = "more than half of the lines are refused, {} of {}; debvote explain says why"
-
 # what is told of ballots, and what the page says
+NOBODY = ("no elector has a ballot that counts; check that these are the ballots of this poll",
+          "No elector has a ballot that counts: nobody's vote has decided this.")
+REFUSED = ("more than half of the lines are refused, {}; debvote explain says why", "More than half of the lines of the ballot file are refused: {}.")
 SLIPS = {
-    "an empty file": ("", [NOBODY_TOLD], [NOBODY]),
-    "names of another roll": ("zoe 1,2,3\nyan 2,1,3\n", [NOBODY_TOLD, MOSTLY_REFUSED_TOLD.format(2, 2)], [NOBODY, MOSTLY_REFUSED.format(2, 2)]),
-    "more refused lines than ballots": ("ada 1,2,3\nben 1,2\nCleo 1,2,3\n", [MOSTLY_REFUSED_TOLD.format(2, 3)], [MOSTLY_REFUSED.format(2, 3)]),
-    "as many refused lines as ballots": ("ada 1,2,3\nben 1,2\n", [], []),
-    "hyphens alone": ("ada -,-,-\n", [], []),
+    "an empty file": ("", [NOBODY], ""),
+    "names of another roll": ("zoe 1,2,3\nyan 2,1,3\n", [NOBODY, REFUSED], "2 of 2"),
+    "more refused lines than ballots": ("ada 1,2,3\nben 1,2\nCleo 1,2,3\n", [REFUSED], "2 of 3"),
+    "as many refused lines as ballots": ("ada 1,2,3\nben 1,2\n", [], ""),
+    "hyphens alone": ("ada -,-,-\n", [], ""),
 }
 
 
 def try_slip(expect, name, scratch):
     """What is told of the ballots, and what stands on the page. Returns the folder."""
-    ballots, told, shown = SLIPS[name]
+    ballots, doubts, number = SLIPS[name]
+    told, shown = ([pair[place].format(number) for pair in doubts] for place in (0, 1))
     room = publishing.plain_room(scratch / "slips" / name.replace(" ", "-"), ballots=ballots)
     output, faults, status = publishing.publish(room, *publishing.FILES, "result")
     expect(f"{name}: what is told", faults, "".join(f"Note: {line}; the result page says so\n" for line in told))
     sheet, _, wanted = publishing.run([publishing.PROGRAM, "count", *publishing.FILES], cwd=room)
     expect(f"{name}: how it ended", (output, status), (sheet.splitlines()[-1] + "\nverified\n", wanted))
-    text = (room / "result" / "index.html").read_text(encoding="utf-8")
-    expect(f"{name}: what the page says", page_parts.doubts_of(text), shown)
+    text = (room / "result" / "index.html").read_text()
     is_below = "doubts" in text.partition("<body>")[2].partition("</section>")[2].partition("<script>")[0]
-    expect(f"{name}: doubts stand in the part of the result alone", is_below, False)
+    expect(f"{name}: what the page says, in the part of the result alone", (page_parts.doubts_of(text), is_below), (shown, False))
     page_parts.try_page(expect, name, room / "result")
     result_checks.try_published(expect, name, room / "result", None)
     return room / "result"

@@ -22,28 +22,6 @@ def stand_in(folder, text):
     return str(folder)
 
 
-def try_stand_ins(expect, poll, ballots, room, scratch):
-    """Other programs in place of debvote, no Graphviz, and a run that is asked to end."""
-    words = [sys.executable, publishing.PUBLISH, "--poll", poll, "--ballots", ballots]
-    as_it_is = f'*) exec {publishing.PROGRAM} "$@" ;; esac'
-    for name, text, status in [
-        ("a sheet that is not verified", 'verify) echo "differs at line 1"; exit 9 ;;', 9),
-        ("a count that is killed", 'count) echo "Poll: half"; kill -KILL $$ ;;', 128 + signal.SIGKILL),
-        ("a sheet of another format", 'count) echo "Result: 1" ;; verify) echo verified ;;', 10),
-    ]:
-        found = publishing.run([*words, room / "result"], path=stand_in(scratch / name, f"case $1 in {text} {as_it_is}"))
-        expect(name, (found[2], os.listdir(room)), (status, ["full"]))
-    found = publishing.run([*words, room / "result"], path=stand_in(scratch / "plain", f'exec {publishing.PROGRAM} "$@"'))
-    is_told = "Graphviz" in found[1] and "There is no picture" in (room / "result" / "index.html").read_text()
-    expect("no Graphviz", (found[2], is_told, (room / "result" / "picture.svg").exists()), (0, True, False))
-    slow = stand_in(scratch / "slow", f'case "$*" in *ballots.txt*) exec /bin/sleep 60 ;; {as_it_is}')
-    started = subprocess.Popen(list(map(str, [*words, room / "late"])), env={"PATH": slow}, start_new_session=True)
-    while len(os.listdir(room)) < 3 and started.poll() is None:
-        time.sleep(0.05)
-    started.terminate()
-    expect("a run that is asked to end", (started.wait(publishing.SECONDS), sorted(os.listdir(room))), (128 + signal.SIGTERM, ["full", "result"]))
-
-
 class RefusedTest(publishing.PublishTest):
     def assert_refused(self, found, status, said):
         """A run ended with this status, and its fault begins with these words."""
@@ -75,20 +53,37 @@ class RefusedTest(publishing.PublishTest):
             output, faults, status = publishing.publish_files(*words)
             self.expect(f"{name}: its status", (output, status, bool(faults)), ("", wanted, True))
             self.expect(f"{name}: what is left", sorted(os.listdir(room)), ["full"])
+        words = [sys.executable, publishing.PUBLISH, "--poll", poll, "--ballots", ballots]
         with open("/dev/full", "w") as full:
-            words = [sys.executable, publishing.PUBLISH, "--poll", poll, "--ballots", ballots, room / "result"]
             where = {**os.environ, "PATH": publishing.PATH}
-            ended = subprocess.run(words, stdout=full, stderr=subprocess.PIPE, text=True, timeout=publishing.SECONDS, env=where)
-        said = ended.stderr.splitlines()[-1:]
-        words = f"debvote-publish: the output failed; the folder {room / 'result'} was made nevertheless: look at its page index.html"
-        self.expect("a full disk for what is said", (ended.returncode, said), (7, [words]))
+            ended = subprocess.run([*words, room / "result"], stdout=full, stderr=subprocess.PIPE, text=True, timeout=publishing.SECONDS, env=where)
+        said = f"debvote-publish: the output failed; the folder {room / 'result'} was made nevertheless: look at its page index.html"
+        self.expect("a full disk for what is said", (ended.returncode, ended.stderr.splitlines()[-1:]), (7, [said]))
         before = {file: file.read_bytes() for file in (room / "result").iterdir()}
-        words = f"{room}/result/x: it would be in {room}/result, whose files are published as they are; nothing was published: name a folder outside of"
-        self.assert_refused(publishing.publish_files(poll, ballots, room / "result" / "x"), 2, words)
+        said = f"{room}/result/x: it would be in {room}/result, whose files are published as they are; nothing was published: name a folder outside"
+        self.assert_refused(publishing.publish_files(poll, ballots, room / "result" / "x"), 2, said)
         self.expect("the published one", {file: file.read_bytes() for file in (room / "result").iterdir()} == before, True)
         shutil.rmtree(room / "result")
         self.expect("no program", (publishing.publish_files(poll, ballots, room / "result", path="/nowhere")[2], os.listdir(room)), (127, ["full"]))
-        try_stand_ins(self.expect, poll, ballots, room, self.scratch)
+        # other programs in place of debvote, no Graphviz, and a run that is asked to end
+        as_it_is = f'*) exec {publishing.PROGRAM} "$@" ;; esac'
+        for name, text, status in [
+            ("a sheet that is not verified", 'verify) echo "differs at line 1"; exit 9 ;;', 9),
+            ("a count that is killed", 'count) echo "Poll: half"; kill -KILL $$ ;;', 128 + signal.SIGKILL),
+            ("a sheet of another format", 'count) echo "Result: 1" ;; verify) echo verified ;;', 10),
+        ]:
+            found = publishing.run([*words, room / "result"], path=stand_in(self.scratch / name, f"case $1 in {text} {as_it_is}"))
+            self.expect(name, (found[2], os.listdir(room)), (status, ["full"]))
+        found = publishing.run([*words, room / "result"], path=stand_in(self.scratch / "plain", f'exec {publishing.PROGRAM} "$@"'))
+        is_told = "Graphviz" in found[1] and "There is no picture" in (room / "result" / "index.html").read_text()
+        self.expect("no Graphviz", (found[2], is_told, (room / "result" / "picture.svg").exists()), (0, True, False))
+        slow = stand_in(self.scratch / "slow", f'case "$*" in *ballots.txt*) exec /bin/sleep 60 ;; {as_it_is}')
+        started = subprocess.Popen(list(map(str, [*words, room / "late"])), env={"PATH": slow}, start_new_session=True)
+        while len(os.listdir(room)) < 3 and started.poll() is None:
+            time.sleep(0.05)
+        started.terminate()
+        found = started.wait(publishing.SECONDS), sorted(os.listdir(room))
+        self.expect("a run that is asked to end", found, (128 + signal.SIGTERM, ["full", "result"]))
 
     def test_an_empty_folder(self):
         """A folder that is there and empty is taken, by any name; and an input may come from /dev/stdin."""
@@ -100,7 +95,6 @@ class RefusedTest(publishing.PublishTest):
         self.expect("an empty folder by a link", (found[2], (self.scratch / "empty" / "index.html").exists()), (0, True))
 
     def test_numbers_that_no_float_holds(self):
-        """The second count takes and refuses the same ones as debvote."""
         (self.scratch / "none").touch()
         poll, second = self.scratch / "numbers.toml", [sys.executable, "-I", publishing.ROOT / "tests" / "reference.py"]
         for number, is_taken in {"1e309": False, "-0.1e999": False, "[{a = 1_0e400}]": False, "1e308": True, "1e-400": True, "-inf": True}.items():
