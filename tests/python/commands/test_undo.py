@@ -31,7 +31,8 @@ class Undo(CalledTest):
     def test_an_envelope_that_was_struck_already(self) -> None:
         self.told("add", given=f"ada {RANKS}\nben {RANKS}\ncleo {RANKS}\n")
         self.told("strike", 2, "--because", "a test")
-        self.assertRegex(self.told("undo"), r"^Took back 2 lines \(act .*, envelopes 1, 3\)\.\n  ada: no ballot is left\n  cleo: no ballot is left\nNext: ")
+        left = "  ada: no ballot is left\n  cleo: no ballot is left\n"
+        self.assertRegex(self.told("undo"), rf"^Took back 2 lines \(act .*, envelopes 1, 3\)\.\n{left}Next: ")
         self.assertEqual([envelope.struck for envelope in self.envelopes()], [self.first_act + 2, self.first_act + 1, self.first_act + 2])
 
     def test_after_the_close_and_after_reopen(self) -> None:
